@@ -1,5 +1,5 @@
 -- What contracts see of a proof that is read and checked: which steps were read, and what an answer means.
-use Rattle.std.specs.Prelude.{ℕ, ◌≡◌, ◌≢◌, ◌+◌, ◌*◌, ◌≤◌, ◌⊎◌, false, true, List, [], ◌∷◌, ◌++◌, length, Result, Ok, Err}
+use Rattle.std.specs.Prelude.{ℕ, ◌≡◌, ◌≢◌, ◌+◌, ◌*◌, ◌≤◌, ◌<◌, ◌⊎◌, false, true, List, [], ◌∷◌, ◌++◌, length, Result, Ok, Err}
 use Rattle.std.specs.List.{AllByRecursion}
 use Rattle.sat_base.specs.device.Device.{Reader, GaveFront, FewReads, IsOver, ReadFails, most_reads, piece_size}
 use Rattle.sat_base.specs.steps.Formats.{IsProperFront, Open, Spoilt}
@@ -56,6 +56,10 @@ pub record ReadsProofPart {L : Type 0} (old new : Seen L) (from to : Reader) (ea
 -- no read failed
 abbrev pub NoReadFailed : Reader → Reader → Type 0
 NoReadFailed from to = to.failures ≡ from.failures
+
+-- No read since found the end.
+abbrev pub FoundNoEnd : Reader → Reader → Type 0
+FoundNoEnd from to = from.calls < to.calls → to.ended ≡ true → ⊥
 
 module _ {L : Type 0} (Hears : L → Told → Result Unit ProcessingError → L → Type 0) (before : List Told) (begun : L) where
   -- these steps stand, and it goes on

@@ -31,7 +31,7 @@ use sat_base::{HashBits, Lit, Var};
 use std::alloc::{AllocError, Global};
 
 /// Why a clause can't be stored.
-#[derive(Clone, Copy, Drop)]
+#[derive(Clone, Copy, Debug, Drop)]
 pub enum StoreError {
     OutOfMemory,
     CounterEnd,

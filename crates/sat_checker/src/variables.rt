@@ -13,7 +13,7 @@ use sat_base::{ClauseHash, Lit, Table, Var};
 use std::alloc::{AllocError, Global};
 
 /// What a variable is to the user's formula.
-#[derive(Clone, Copy)]
+#[derive(Clone, Copy, PartialEq, Eq)]
 pub enum SamplingMode {
     Sample,
     Witness,

@@ -42,6 +42,10 @@ is_final unread.HasFailed = false
 abbrev pub bytes_left : Source → ℕ
 bytes_left s = piece_size * (most_reads - s.reads) + length s.waiting
 
+-- the calls of the reader are the reads of the source
+abbrev pub CountsReads : Source → Source → Type 0
+CountsReads old new = new.reader.calls + old.reads ≡ old.reader.calls + new.reads
+
 -- a checker, and the source of its steps
 pub record CheckerAtSource (L : Type 0) : Type 0 where
   pub checker : Seen L

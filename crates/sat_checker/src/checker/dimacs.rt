@@ -1,10 +1,12 @@
 //! Formulas' texts, clause by clause.
-ghost use Rattle.std.specs.Prelude.{◌≡◌, false};
+ghost use Rattle.std.specs.Prelude.{◌≡◌, ◌≤◌, ◌+◌, false};
+ghost use Rattle.sat_base.specs.device.Device.{most_reads};
 ghost use Rattle.sat_base.specs.dimacs.Parsing.{all_taken, no_progress};
-ghost use Rattle.sat_checker.specs.CheckerView.{has_failed, seen_of, FailsAgain};
+ghost use Rattle.sat_checker.specs.CheckerView.{has_failed, kernel_of, seen_of, FailsAgain};
 ghost use Rattle.sat_checker.specs.declared.error.CheckerDimacsError.TheVariants as errors;
 ghost use Rattle.sat_checker.specs.declared.error.CheckerError.TheVariants.{HasFailed};
 ghost use Rattle.sat_checker.specs.DimacsView.{AddsDimacs, DimacsFaultsOfSomebody};
+ghost use Rattle.sat_checker.specs.KernelView.{looks_of};
 ghost use Rattle.sat_checker.specs.inner.DimacsPieces.{AddsRead, is_want};
 ghost use Rattle.sat_checker.specs.telling.ProcessingView.{HearsEach};
 
@@ -43,6 +45,8 @@ impl<P: ProofProcessor, T: ProofTranscriptProcessor> Checker<P, T> {
     ) -> Result<(), CheckerDimacsError>
         ensures adds { AddsDimacs (HearsEach P.takes T.reads)
             result (seen_of self.old) (seen_of self.new) (R.seen reader.old) (R.seen reader.new) }
+        ensures reads { (R.seen reader.new).calls ≤ (R.seen reader.old).calls + most_reads }
+        ensures rise { looks_of (kernel_of self.old) ≤ looks_of (kernel_of self.new) }
         ensures faults { DimacsFaultsOfSomebody result self.old }
         ensures failed { FailsAgain (errors.Checker HasFailed) result self.old self.new }
     {
@@ -61,8 +65,10 @@ impl<P: ProofProcessor, T: ProofTranscriptProcessor> Checker<P, T> {
     ) -> Result<(), CheckerDimacsError>
         requires well { has_failed (seen_of self.old) ≡ false }
         requires fresh { parser.old ≡ no_progress }
-        ensures { AddsDimacs (HearsEach P.takes T.reads)
+        ensures adds { AddsDimacs (HearsEach P.takes T.reads)
             result (seen_of self.old) (seen_of self.new) (R.seen reader.old) (R.seen reader.new) }
+        ensures reads { (R.seen reader.new).calls ≤ (R.seen reader.old).calls + most_reads }
+        ensures rise { looks_of (kernel_of self.old) ≤ looks_of (kernel_of self.new) }
     {
         let mut piece = [0; PIECE];
         for _ in 0..MAX_READS {
@@ -90,6 +96,7 @@ impl<P: ProofProcessor, T: ProofTranscriptProcessor> Checker<P, T> {
         ensures taken { parser.new ≡ all_taken parser.old }
         ensures adds { AddsRead (HearsEach P.takes T.reads)
             result answer parser.old (seen_of self.old) (seen_of self.new) }
+        ensures rise { looks_of (kernel_of self.old) ≤ looks_of (kernel_of self.new) }
     {
         let formula = parser.take_formula();
         if let Err(error) = self.add_formula(&formula) {

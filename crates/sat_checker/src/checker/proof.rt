@@ -1,16 +1,16 @@
 //! Whole proofs, read step by step.
-ghost use Rattle.std.specs.Prelude.{◌≡◌, ◌≢◌, ◌≤◌, ◌<◌, false, MatchBool, Ok, OnOk};
+ghost use Rattle.std.specs.Prelude.{◌≡◌, ◌≢◌, ◌≤◌, ◌<◌, false, MatchBool, Ok, OnOk, IsErrOf};
 ghost use Rattle.sat_base.specs.device.Device.{most_reads};
-ghost use Rattle.sat_base.specs.device.Reading.{unread};
+ghost use Rattle.sat_base.specs.device.Reading.{unread, AtEnd};
 ghost use Rattle.sat_base.specs.steps.Steps.{End};
 ghost use Rattle.sat_base.specs.steps.StepReading.{reader_source, reader_name, has_reader_failed as is_stopped};
 ghost use Rattle.sat_base.specs.steps.StepViews.{step_of};
-ghost use Rattle.sat_checker.specs.KernelView.{has_failed};
+ghost use Rattle.sat_checker.specs.KernelView.{has_failed, looks_of};
 ghost use Rattle.sat_checker.specs.CheckerView.{kernel_of, seen_of, seen_with, FaultsOfSomebody, FailsAgain};
-ghost use Rattle.sat_checker.specs.declared.error.CheckerError.TheVariants.{HasFailed};
+ghost use Rattle.sat_checker.specs.declared.error.CheckerError.TheVariants.{HasFailed, OutOfMemory};
 ghost use Rattle.sat_checker.specs.announcements.Announcements.{Told};
-ghost use Rattle.sat_checker.specs.ProofView.{ChecksProof};
-ghost use Rattle.sat_checker.specs.inner.ProofSteps.{TurnsOn, error_of, is_final, at_source, bytes_left};
+ghost use Rattle.sat_checker.specs.ProofView.{ChecksProof, FoundNoEnd};
+ghost use Rattle.sat_checker.specs.inner.ProofSteps.{TurnsOn, CountsReads, error_of, is_final, at_source, bytes_left};
 ghost use Rattle.sat_checker.specs.telling.Hearing.{HearsFirst};
 ghost use Rattle.sat_checker.specs.telling.ProcessingView.{HearsEach};
 
@@ -61,6 +61,8 @@ impl<P: ProofProcessor, T: ProofTranscriptProcessor> Checker<P, T> {
     pub fn check_proof<R: CountedRead>(&mut self, reader: &mut R) -> Result<(), CheckerError>
         ensures proof { ChecksProof (HearsEach P.takes T.reads)
             result (seen_of self.old) (seen_of self.new) (R.seen reader.old) (R.seen reader.new) }
+        ensures unended { IsErrOf result OutOfMemory → FoundNoEnd (R.seen reader.old) (R.seen reader.new) }
+        ensures rise { looks_of (kernel_of self.old) ≤ looks_of (kernel_of self.new) }
         ensures faults { FaultsOfSomebody result self.old }
         ensures failed { FailsAgain HasFailed result self.old self.new }
     {
@@ -76,6 +78,8 @@ impl<P: ProofProcessor, T: ProofTranscriptProcessor> Checker<P, T> {
     ) -> Result<(), CheckerError>
         ensures proof { ChecksProof (HearsFirst O.takes (HearsEach P.takes T.reads))
             result (seen_with own.old self.old) (seen_with own.new self.new) (R.seen reader.old) (R.seen reader.new) }
+        ensures unended { IsErrOf result OutOfMemory → FoundNoEnd (R.seen reader.old) (R.seen reader.new) }
+        ensures rise { looks_of (kernel_of self.old) ≤ looks_of (kernel_of self.new) }
         ensures failed { FailsAgain HasFailed result self.old self.new }
     {
         self.check_proof_by(reader, own, true)
@@ -90,6 +94,8 @@ impl<P: ProofProcessor, T: ProofTranscriptProcessor> Checker<P, T> {
         requires { has_own ≡ false → (v : _) (t : Told) → O.takes v t (Ok tt) v }
         ensures proof { ChecksProof (HearsFirst O.takes (HearsEach P.takes T.reads))
             result (seen_with own.old self.old) (seen_with own.new self.new) (R.seen reader.old) (R.seen reader.new) }
+        ensures unended { IsErrOf result OutOfMemory → FoundNoEnd (R.seen reader.old) (R.seen reader.new) }
+        ensures rise { looks_of (kernel_of self.old) ≤ looks_of (kernel_of self.new) }
         ensures failed { FailsAgain HasFailed result self.old self.new }
     {
         if self.kernel.failed {
@@ -114,6 +120,9 @@ impl<P: ProofProcessor, T: ProofTranscriptProcessor> Checker<P, T> {
         ensures proof { ChecksProof (HearsFirst O.takes (HearsEach P.takes T.reads))
             result (seen_with own.old self.old) (seen_with own.new self.new)
             (reader_source R.seen steps.old).reader (reader_source R.seen steps.new).reader }
+        ensures unended { IsErrOf result OutOfMemory
+            → FoundNoEnd (reader_source R.seen steps.old).reader (reader_source R.seen steps.new).reader }
+        ensures rise { looks_of (kernel_of self.old) ≤ looks_of (kernel_of self.new) }
     {
         loop {
             if self.check_next(steps, own, has_own)? {
@@ -140,6 +149,12 @@ impl<P: ProofProcessor, T: ProofTranscriptProcessor> Checker<P, T> {
         ensures steps_on { TurnsOn (HearsFirst O.takes (HearsEach P.takes T.reads))
             result (at_source (seen_with own.old self.old) (reader_source R.seen steps.old))
             (at_source (seen_with own.new self.new) (reader_source R.seen steps.new)) }
+        ensures calls { CountsReads (reader_source R.seen steps.old) (reader_source R.seen steps.new) }
+        ensures unended { OnOk result (AtEnd (reader_source R.seen steps.new)
+            → AtEnd (reader_source R.seen steps.old)) }
+        ensures starved { IsErrOf result OutOfMemory
+            → AtEnd (reader_source R.seen steps.new) → AtEnd (reader_source R.seen steps.old) }
+        ensures rise { looks_of (kernel_of self.old) ≤ looks_of (kernel_of self.new) }
     {
         if let Err(error) = steps.advance() {
             self.kernel.failed = is_final(error);

@@ -11,9 +11,9 @@ use Rattle.sat_base.specs.declared.steps.error.StepError.TheVariants as unread_b
 use Rattle.sat_base.specs.declared.steps.reader.StepReader.{StepReader}
 use Rattle.sat_base.specs.declared.steps.reader.Buffers.{Buffers}
 use Rattle.sat_base.specs.device.Device.{Reader, IsOver, ReadFails, most_reads, piece_size}
-use Rattle.sat_base.specs.device.Reading.{Source, PassesBut, Passes, Faults, AllTaken, giving, unread}
+use Rattle.sat_base.specs.device.Reading.{Source, PassesBut, Passes, Faults, AllTaken, AtEnd, giving, unread}
 use Rattle.sat_base.specs.steps.Formats.{Format, Items, IsProperFront}
-use Rattle.sat_base.specs.steps.StepReading.{reader_source, Next}
+use Rattle.sat_base.specs.steps.StepReading.{reader_source, AnswersUnlessFailed, Next}
 use Rattle.sat_base.specs.steps.StepReading as reading
 use Rattle.sat_base.specs.steps.Steps.{Step, End}
 use Rattle.sat_base.specs.steps.StepText.{tag_of, SpellsStep, SpellsSteps}
@@ -22,8 +22,8 @@ use Rattle.sat_checker.specs.Accepts.{ready_after}
 use Rattle.sat_checker.specs.Looks.{most_looks}
 use Rattle.sat_checker.specs.CheckerView.{Seen, has_failed, looks_of, IsSettled, HasAccepted, FailsBeforeStep, AnswersStep}
 use Rattle.sat_checker.specs.inner.DimacsPieces.{with_flag}
-use Rattle.sat_checker.specs.ProofView.{taken_after, most_bytes, most_looks_behind, GaveSteps, ReadsProofPart, StandsUnfailed, AnswersProof}
-use Rattle.sat_checker.specs.inner.ProofSteps.{CheckerAtSource, at_source, TriesStep, StepsOn, TakesStepsBeforeEnd, error_of, is_final, bytes_left}
+use Rattle.sat_checker.specs.ProofView.{taken_after, most_bytes, most_looks_behind, GaveSteps, ReadsProofPart, StandsUnfailed, FoundNoEnd, AnswersProof}
+use Rattle.sat_checker.specs.inner.ProofSteps.{CountsReads, CheckerAtSource, at_source, TriesStep, StepsOn, TakesStepsBeforeEnd, error_of, is_final, bytes_left}
 use Rattle.sat_checker.specs.announcements.Announcements.{Told}
 use Rattle.sat_checker.specs.declared.processing.ProcessingError.{ProcessingError}
 use Rattle.sat_checker.proofs.lemmas.telling.Heard.{heard_some}
@@ -92,6 +92,44 @@ ended false x e h = absurd (let g : ◌≡◌ {A = Bool} true false = sym e in c
 pub not_ended : (b : Bool) (x : Step) → b ≡ false → MatchBool b (x ≡ End) (x ≢ End) → x ≢ End
 not_ended false x e h = h
 not_ended true x e h = absurd (let g : ◌≡◌ {A = Bool} true false = e in cc)
+
+-- READS
+
+pub calls_of : (r : Result Step StepError) (s t : Source) → AnswersUnlessFailed r s t → CountsReads s t
+calls_of (Ok step) s t a = a.1.calls
+calls_of (Err unread_by.Ends) s t a = a.0.calls
+calls_of (Err unread_by.Cut) s t a = a.2.0.calls
+calls_of (Err unread_by.BadByte) s t a = a.2.calls
+calls_of (Err unread_by.Read) s t a = a.1.calls
+calls_of (Err unread_by.OutOfMemory) s t a = a.2.calls
+calls_of (Err unread_by.HasFailed) s t a = rw a (omega arith)
+
+-- where memory ran out as a step was read, no read since found the end
+pub starved_going : (e : StepError) (s t : Source) → error_of e ≡ errors.OutOfMemory → AnswersUnlessFailed (Err e) s t → AtEnd t → AtEnd s
+starved_going unread_by.OutOfMemory s t h a = a.2.going refl
+starved_going e s t h a = let k : error_of e ≡ errors.OutOfMemory = h in absurd cc
+
+-- the answer of a `?` is that of the call
+pub same_error : {A B : Type 0} (r : Result A CheckerError) (y e x : CheckerError) → r ≡ Err y → y ≡ e → r ≡ Err x → ◌≡◌ {A = Result B CheckerError} (Err e) (Err x)
+same_error {A} r y e x p q h =
+    let g : ◌≡◌ {A = Result A CheckerError} (Err y) (Err x) = sym p ∙ h in
+    let k : y ≡ x = cc in ap Err (sym q ∙ k)
+
+pub error_of_err : {A : Type 0} {x y : CheckerError} → ◌≡◌ {A = Result A CheckerError} (Err x) (Err y) → x ≡ y
+error_of_err e = cc
+
+-- nor has one at the start
+pub fresh_unended : (s : Source) → s ≡ unread s.reader → AtEnd s → ⊥
+fresh_unended s e h = let z : s.reads ≡ 0 = ap (λ (t : Source). t.reads) e in let k : 0 < s.reads = h.0 in absurd (omega arith)
+
+pub fresh_counts : (s : Source) → CountsReads s s
+fresh_counts s = refl
+
+pub counts_more : (s t u : Source) → CountsReads s t → CountsReads t u → CountsReads s u
+counts_more s t u h k = omega (arith, h, k)
+
+pub none_found : (s t : Source) → s ≡ unread s.reader → CountsReads s t → (AtEnd t → ⊥) → FoundNoEnd s.reader t.reader
+none_found s t e c n = λ h k. n (let z : s.reads ≡ 0 = ap (λ (x : Source). x.reads) e in omega (arith, z, c, h), k)
 
 -- WHAT WAS READ, AS A READER SEES IT
 

@@ -1,7 +1,7 @@
 use Rattle.std.proofs.Common.{◌+◌, ℕ, [], ◌++◌, inl, inr, refl, ap, sym, subst, ◌∙◌, take, length-append, rules, arith}
 use Rattle.std.proofs.lemmas.Result.{err_from_is_err_and}
 use Rattle.sat_base.specs.dimacs.Parsing.{Progress, IsSoundSoFar}
-use Rattle.sat_base.proofs.lemmas.device.Given.{gave_none, gave_more, gave_still, gave_to_end, not_ended, few_front}
+use Rattle.sat_base.proofs.lemmas.device.Given.{gave_none, gave_more, gave_still, gave_to_end, not_ended, few_front, calls_within, calls_upto}
 use Rattle.sat_base.proofs.lemmas.dimacs.Parsed.{stands_of, piece_given, sound_none}
 use Rattle.sat_checker.specs.CheckerView.{seen_of}
 use Rattle.sat_checker.specs.telling.ProcessingView.{HearsEach}
@@ -16,6 +16,7 @@ loop-init g c = record {
   open_yet = λ h. absurd (omega arith);
   failures = refl;
   calls = omega arith;
+  rise = omega arith;
   added = start (HearsEach g.P.ProofProcessor.takes g.T.ProofTranscriptProcessor.reads) (seen_of c.args.self.now) c.args.parser.now c.requires.well c.requires.fresh;
 }
 
@@ -34,11 +35,12 @@ loop-preserved g c =
       open_yet = λ h. not_ended (S c.loop.reader) (S c.read_counted.new.self) c.in-Ok.count c.read_counted.new.buf once (search rules);
       failures = once.failures.0 ∙ c.loop.invariant.failures;
       calls = omega (arith, once.calls, c.loop.invariant.calls);
+      rise = omega (arith, c.loop.invariant.rise, c.in_ok-add_read-in-Ok.ensures.rise);
       added = more.2;
     }
 
-pub returns-in-Ok-eq0 : goal.returns-in-Ok-eq0
-returns-in-Ok-eq0 g c =
+pub returns-in-Ok-eq0-clause-adds : goal.returns-in-Ok-eq0-clause-adds
+returns-in-Ok-eq0-clause-adds g c =
     let S = g.R.CountedRead.seen in
     let b = c.loop.invariant.bytes in
     let once = c.in-Ok-eq0.ensures.once in
@@ -46,8 +48,8 @@ returns-in-Ok-eq0 g c =
     end_answers (HearsEach g.P.ProofProcessor.takes g.T.ProofTranscriptProcessor.reads) c.add_read.result c.finish-answer.result (seen_of c.args.self.now) (seen_of c.loop.self) (seen_of c.add_read.new.self) (S c.args.reader.now) (S c.read_counted.new.self) b.0 c.loop.parser c.finish-answer.new.self b.1 c.finish-answer.ensures
     (once.failures.0 ∙ c.loop.invariant.failures) all c.loop.invariant.added c.add_read.ensures.adds
 
-pub returns-in_err-add_read-in-Ok : goal.returns-in_err-add_read-in-Ok
-returns-in_err-add_read-in-Ok g c =
+pub returns-in_err-add_read-in-Ok-clause-adds : goal.returns-in_err-add_read-in-Ok-clause-adds
+returns-in_err-add_read-in-Ok-clause-adds g c =
     let S = g.R.CountedRead.seen in
     let p = err_from_is_err_and c.from_residual.result c.from_residual.ensures.1 in
     let b = c.loop.invariant.bytes in
@@ -60,8 +62,8 @@ returns-in_err-add_read-in-Ok g c =
     (omega (arith, once.calls, c.loop.invariant.calls, b.3, length-append b.0 piece))
     c.loop.invariant.added c.in_err-add_read-in-Ok.ensures.adds)
 
-pub returns-in-Err : goal.returns-in-Err
-returns-in-Err g c =
+pub returns-in-Err-clause-adds : goal.returns-in-Err-clause-adds
+returns-in-Err-clause-adds g c =
     let S = g.R.CountedRead.seen in
     let b = c.loop.invariant.bytes in
     let once = c.in-Err.ensures.once in
@@ -70,10 +72,22 @@ returns-in-Err g c =
     (inl (once.failures.0 ∙ ap (λ (n : ℕ). n + 1) c.loop.invariant.failures, once.failures.1), few_front _ _ b.0 front (omega (arith, once.calls, c.loop.invariant.calls, b.3)))
     front c.loop.invariant.sound b.4 c.loop.invariant.added
 
-pub returns : goal.returns
-returns g c =
+pub returns-clause-adds : goal.returns-clause-adds
+returns-clause-adds g c =
     let S = g.R.CountedRead.seen in
     let b = c.loop.invariant.bytes in
     read_answers (HearsEach g.P.ProofProcessor.takes g.T.ProofTranscriptProcessor.reads) (seen_of c.args.self.now) (seen_of c.loop.self) (S c.args.reader.now) (S c.loop.reader) b.0 c.loop.parser b.1
     (inr (c.loop.invariant.failures, omega (arith, c.loop.invariant.calls)), few_front _ _ b.0 b.2 (omega (arith, c.loop.invariant.calls, b.3)))
     b.2 c.loop.invariant.sound b.4 c.loop.invariant.added
+
+pub returns-in-Ok-eq0-clause-reads : goal.returns-in-Ok-eq0-clause-reads
+returns-in-Ok-eq0-clause-reads g c = calls_within _ _ _ c.loop.counter c.in-Ok-eq0.ensures.once.calls c.loop.invariant.calls c.loop-test.true
+
+pub returns-in_err-add_read-in-Ok-clause-reads : goal.returns-in_err-add_read-in-Ok-clause-reads
+returns-in_err-add_read-in-Ok-clause-reads g c = calls_within _ _ _ c.loop.counter c.in-Ok.ensures.once.calls c.loop.invariant.calls c.loop-test.true
+
+pub returns-in-Err-clause-reads : goal.returns-in-Err-clause-reads
+returns-in-Err-clause-reads g c = calls_within _ _ _ c.loop.counter c.in-Err.ensures.once.calls c.loop.invariant.calls c.loop-test.true
+
+pub returns-clause-reads : goal.returns-clause-reads
+returns-clause-reads g c = calls_upto _ _ c.loop.counter c.loop.invariant.calls c.loop.auto.counter-end

@@ -4,7 +4,8 @@ use Rattle.sat_base.specs.dimacs.Dimacs.{dimacs, settled}
 use Rattle.sat_base.specs.dimacs.Parsing.{IsSoundSoFar}
 use Rattle.sat_base.specs.steps.Steps.{Step}
 use Rattle.sat_base.proofs.lemmas.dimacs.Parsed.{HasAccepted as HasFed}
-use Rattle.sat_checker.specs.CheckerView.{has_failed, seen_of, HasAccepted}
+use Rattle.sat_checker.specs.CheckerView.{has_failed, kernel_of, seen_of, HasAccepted}
+use Rattle.sat_checker.specs.KernelView.{looks_of}
 use Rattle.sat_checker.specs.telling.ProcessingView.{HearsEach}
 use Rattle.sat_checker.specs.ClausesView.{AnswersClauses}
 use Rattle.sat_checker.proofs.checker.Checker.add_text.Given as goal
@@ -19,5 +20,6 @@ invariant-loop g l = record {
   open_yet : 0 < l.counter → (g.R.CountedRead.seen l.reader).ended ≡ false;
   failures : (g.R.CountedRead.seen l.reader).failures ≡ (g.R.CountedRead.seen l.fn.reader).failures;
   calls : (g.R.CountedRead.seen l.reader).calls ≡ (g.R.CountedRead.seen l.fn.reader).calls + l.counter;
+  rise : looks_of (kernel_of l.fn.self) ≤ looks_of (kernel_of l.self);
   added : (before : _) (begun : _) (earlier : List Step) → HasAccepted (HearsEach g.P.ProofProcessor.takes g.T.ProofTranscriptProcessor.reads) before begun (seen_of l.fn.self) earlier → AnswersClauses (HearsEach g.P.ProofProcessor.takes g.T.ProofTranscriptProcessor.reads) before begun (Ok tt) (seen_of l.fn.self) (seen_of l.self) l.parser.taken earlier;
 }
