@@ -1,19 +1,21 @@
 //! The stored formula: clauses, units, and what is recorded of them.
 ghost use Rattle.std.specs.Prelude.{◌≡◌, ◌+◌, ◌-◌, ◌≤◌, ◌*◌, [], ◌∷◌, length, IfOk, OnOk, OnErr, IsErrOf};
-ghost use Rattle.std.specs.Prelude.{None, IsTrue, ◌↔◌, MatchBool, MatchResult, map, not, ◌&&◌, false};
+ghost use Rattle.std.specs.Prelude.{ℕ, List, None, IsTrue, ◌↔◌, MatchBool, MatchResult, map, not, ◌&&◌, false};
+ghost use Rattle.std.specs.Prelude.{if◌then◌else◌};
 ghost use Rattle.sat_base.specs.steps.Steps.{DeleteClause, Redundant, Satisfied, Simplified};
 ghost use Rattle.sat_base.specs.steps.StepViews.{deletion_of};
 ghost use Rattle.std.specs.List.{list_any};
 ghost use Rattle.sat_base.specs.values.Literals.{negated};
 ghost use Rattle.sat_checker.specs.inner.Looking.{LooksOver};
 ghost use Rattle.sat_checker.specs.inner.ModelTests.{are_all_true};
-ghost use Rattle.sat_checker.specs.LiteralSets.{canonical, is_among};
+ghost use Rattle.sat_checker.specs.LiteralSets.{canonical, is_among, is_tautology};
 ghost use Rattle.sat_checker.specs.Accepts.{PassesByHashes, PassInTurn, IsStrictSubset, FitsModel, VariablesApart};
 ghost use Rattle.sat_checker.specs.Stored.{Stored, nothing_stored};
 ghost use Rattle.sat_checker.specs.Looks.{literal_count};
 ghost use Rattle.sat_checker.specs.Storing.{settled, with_unit, with_contradiction, with_canonical, with_stored};
 ghost use Rattle.sat_checker.specs.Storing.{with_input, with_units, last_literals, without_variable};
-ghost use Rattle.sat_checker.specs.announcements.Announcements.{derived, derived_units};
+ghost use Rattle.sat_checker.specs.announcements.Announcements.{derived, derived_set, derived_units, id_of_set};
+ghost use Rattle.sat_checker.specs.announcements.Needed.{propagations};
 ghost use Rattle.sat_checker.specs.inner.Reasons.{noted_length};
 ghost use Rattle.sat_checker.specs.inner.StoreView.{TakesCount, with_less};
 ghost use Rattle.sat_checker.specs.inner.Marks.{IsIncreasing};
@@ -22,15 +24,16 @@ ghost use Rattle.sat_checker.specs.inner.FormulaView.{KeepsFormula, refiled_in, 
 ghost use Rattle.sat_checker.specs.inner.FormulaView.{TurnsIf, Deletes, Explained};
 ghost use Rattle.sat_checker.specs.inner.InTurn.{PassBehind};
 ghost use Rattle.sat_checker.specs.inner.Room.{signed, HasRoomFor};
-ghost use Rattle.sat_checker.specs.telling.AnnouncingView.{AreLong};
-ghost use Rattle.sat_checker.specs.telling.NotedView.{AppendsNews};
+ghost use Rattle.sat_checker.specs.telling.AnnouncingView.{stored_as, AreLong};
+ghost use Rattle.sat_checker.specs.telling.NotedView.{AppendsNews, ChangesSet};
 
 pub(crate) mod in_room;
 
+use crate::announce::announcing::{Change, change_of};
 use crate::announce::notes::Notes;
 use crate::looks::Looks;
 use crate::rup::passed::Passed;
-use crate::sorted_lits::{has_both_signs, is_subset, sorted_set};
+use crate::sorted_lits::{has_both_signs, is_subset};
 use crate::state::status::{LastClause, Status};
 use crate::store::{Store, StoreError};
 use crate::units::Units;
@@ -51,7 +54,7 @@ pub(crate) struct Formula {
 }
 
 impl Formula {
-    /// No clause, and hashes of 64 bits.
+    /// Makes a formula without clauses, and with hashes of 64 bits.
     pub fn new(alloc: Global) -> Formula
         ensures { KeepsFormula result nothing_stored }
     {
@@ -64,7 +67,7 @@ impl Formula {
         }
     }
 
-    /// Files the stored clauses by the hashes of now, where they wait for it. It takes no memory.
+    /// Files the stored clauses by the current hashes, if they wait for it. It does not allocate.
     #[inline(always)]
     pub fn file(&mut self, looks: &mut Looks)
         ensures kept { (f : Stored) → KeepsFormula (refiled_in self.old) f → KeepsFormula self.new f }
@@ -73,8 +76,8 @@ impl Formula {
         self.store.file(looks);
     }
 
-    /// The propagation check of a clause of these literals, or of their negations, under hashes, whatever the ids of
-    /// clauses and units are. What it notes is kept, if a listener needs it.
+    /// Checks by propagation, under hashes, a clause of these literals, or of their negations. The ids of clauses and
+    /// units do not matter. What it notes is kept, if a listener needs it.
     pub fn check(
         &mut self,
         literals: &[Lit],
@@ -104,7 +107,7 @@ impl Formula {
         )
     }
 
-    /// The empty clause of a pending unit conflict takes the next id.
+    /// Gives the empty clause of a pending unit conflict the next id.
     pub fn settle(&mut self) -> Result<(), StoreError>
         ensures settles { Becomes result (refiled_in self.old) settled (refiled_in self.new) }
         ensures none { OnOk result (self.new.status.conflict ≡ None) }
@@ -117,7 +120,7 @@ impl Formula {
         Ok(())
     }
 
-    /// Stores a unit. Where that fails, the units stay.
+    /// Stores a unit. If that fails, the units stay.
     pub fn store_unit(&mut self, lit: Lit) -> Result<(), StoreError>
         ensures stored { Becomes result self.old (with_unit lit) self.new }
         ensures kept { OnErr result ((f : Stored) → ChecksAs self.old f → ChecksAs self.new f) }
@@ -133,7 +136,7 @@ impl Formula {
         Ok(())
     }
 
-    /// A unit whose negation is stored takes an id, and records unsat and a unit conflict.
+    /// Gives an id to a unit whose negation is stored, and records unsat and a unit conflict.
     fn store_contradiction(&mut self, lit: Lit) -> Result<(), StoreError>
         ensures stored { Becomes result self.old (with_contradiction lit) self.new }
         ensures kept { OnErr result ((f : Stored) → ChecksAs self.old f → ChecksAs self.new f) }
@@ -145,28 +148,31 @@ impl Formula {
         Ok(())
     }
 
-    /// Stores an empty clause, which is new each time.
-    fn store_empty(&mut self, redundant: bool) -> Result<(), StoreError>
-        ensures { Becomes result self.old (with_canonical redundant []) self.new }
+    /// Stores an empty clause, which is new every time.
+    fn store_empty(&mut self, redundant: bool) -> Result<Change, StoreError>
+        ensures stored { Becomes result self.old (with_canonical redundant []) self.new }
+        ensures change { ChangesSet result redundant [] self.old }
     {
         let id = self.status.take_id()?;
         self.status.unsat = true;
         self.status.note_last(redundant, LastClause::Empty(id));
-        Ok(())
+        Ok(Change::New)
     }
 
     /// Stores a clause of one literal.
-    fn store_single(&mut self, redundant: bool, lit: Lit) -> Result<(), StoreError>
-        ensures { Becomes result self.old (with_canonical redundant (lit ∷ [])) self.new }
+    fn store_single(&mut self, redundant: bool, lit: Lit) -> Result<Change, StoreError>
+        ensures stored { Becomes result self.old (with_canonical redundant (lit ∷ [])) self.new }
+        ensures change { ChangesSet result redundant (lit ∷ []) self.old }
     {
+        let change = self.unit_change(lit);
         self.store_unit(lit)?;
         if redundant {
-            return Ok(());
+            return Ok(change);
         }
         if let Some(id) = self.units.id(lit) {
             self.status.last = LastClause::Single(id, lit);
         }
-        Ok(())
+        Ok(change)
     }
 
     /// Makes room for all that is assumed of a clause.
@@ -185,10 +191,11 @@ impl Formula {
         redundant: bool,
         literals: &[Lit],
         looks: &mut Looks,
-    ) -> Result<(), StoreError>
+    ) -> Result<Change, StoreError>
         requires increasing { IsIncreasing literals.now }
         requires long { 2 ≤ length literals.now }
         ensures stored { Becomes result self.old (with_canonical redundant literals.now) self.new }
+        ensures change { ChangesSet result redundant literals.now self.old }
         ensures looks { LooksOver (KeepsFormula self.old) literal_count looks.old looks.new }
     {
         self.make_room(literals)?;
@@ -196,18 +203,22 @@ impl Formula {
         let placed = self.store.store_clause(id, redundant, literals, looks)?;
         self.status
             .note_last(redundant, LastClause::Long(placed.id));
-        self.status.take_id_if(placed.is_new)
+        match self.status.take_id_if(placed.is_new) {
+            Ok(()) => Ok(change_of(redundant, placed)),
+            Err(error) => Err(error),
+        }
     }
 
-    /// Stores sorted literals without repeats.
+    /// Stores sorted literals without repeats. Returns what that changes.
     pub fn store_canonical(
         &mut self,
         redundant: bool,
         literals: &[Lit],
         looks: &mut Looks,
-    ) -> Result<(), StoreError>
+    ) -> Result<Change, StoreError>
         requires { IsIncreasing literals.now }
         ensures stored { Becomes result self.old (with_canonical redundant literals.now) self.new }
+        ensures change { ChangesSet result redundant literals.now self.old }
         ensures looks { LooksOver (KeepsFormula self.old) literal_count looks.old looks.new }
     {
         if literals.is_empty() {
@@ -219,43 +230,66 @@ impl Formula {
         self.store_long(redundant, literals, looks)
     }
 
-    /// Stores a derived clause, unless it is a tautology. The buffer is for its sorted literals.
-    #[tactic(auto, using(crate::proofs::lemmas::sets::Canonical::canonical_increasing))]
+    /// Stores the sorted literals of a clause, unless it is a tautology. Returns what that changes.
     pub fn store_clause(
         &mut self,
         redundant: bool,
-        clause: &[Lit],
-        buffer: &mut Vec<Lit>,
+        literals: &[Lit],
         looks: &mut Looks,
-    ) -> Result<(), StoreError>
-        ensures stored { Becomes result self.old (with_stored redundant clause.now) self.new }
+    ) -> Result<Change, StoreError>
+        requires { IsIncreasing literals.now }
+        ensures stored { (clause : List ℕ) → literals.now ≡ canonical clause
+            → Becomes result self.old (with_stored redundant clause) self.new }
+        ensures change { IfOk result (λ change. (f : Stored) → KeepsFormula self.old f → AreLong f → (ids : List ℕ)
+            → stored_as change f.next_id redundant literals.now ids ≡ (if is_tautology literals.now then []
+            else derived_set redundant literals.now ids f (id_of_set literals.now f))) }
         ensures looks { LooksOver (KeepsFormula self.old) literal_count looks.old looks.new }
     {
-        let literals = sorted_set(buffer, clause)?;
         if has_both_signs(literals) {
-            return Ok(());
+            return Ok(Change::Neither);
         }
         self.store_canonical(redundant, literals, looks)
     }
 
-    /// Stores a clause of the formula, which takes an id whatever becomes of it.
-    pub fn store_input(
-        &mut self,
-        clause: &[Lit],
-        buffer: &mut Vec<Lit>,
-        looks: &mut Looks,
-    ) -> Result<(), StoreError>
-        ensures stored { Becomes result self.old (with_input clause.now) self.new }
+    /// Stores the sorted literals of a clause of the formula, which gets an id in any case.
+    pub fn store_input(&mut self, literals: &[Lit], looks: &mut Looks) -> Result<(), StoreError>
+        requires { IsIncreasing literals.now }
+        ensures stored { (clause : List ℕ) → literals.now ≡ canonical clause
+            → Becomes result self.old (with_input clause) self.new }
         ensures looks { LooksOver (KeepsFormula self.old) literal_count looks.old looks.new }
     {
         let id = self.status.next_id;
-        self.store_clause(false, clause, buffer, looks)?;
+        self.store_clause(false, literals, looks)?;
         let unnumbered = self.status.next_id == id;
         self.status.take_id_if(unnumbered)
     }
 
-    /// Checks a unit under its one hash, and stores it. The answer is whether it passes. It does where it can't be
-    /// noted or stored.
+    /// Stores the sorted literals of a derived clause, and notes what that announces. The ids that the clause rests on
+    /// are listed before.
+    pub fn store_derived(
+        &mut self,
+        redundant: bool,
+        literals: &[Lit],
+        notes: &mut Notes,
+        looks: &mut Looks,
+    ) -> Result<(), StoreError>
+        requires { IsIncreasing literals.now }
+        ensures stored { (clause : List ℕ) → literals.now ≡ canonical clause
+            → Becomes result self.old (with_stored redundant clause) self.new }
+        ensures noted { OnOk result ((f : Stored) (clause hashes : List ℕ) → KeepsFormula self.old f → AreLong f
+            → literals.now ≡ canonical clause
+            → (IsTrue notes.old.hears → notes.old.rests_on.ids.items ≡ propagations f clause hashes)
+            → AppendsNews notes.old (derived redundant clause hashes f) notes.new) }
+        ensures looks { LooksOver (KeepsFormula self.old) literal_count looks.old looks.new }
+    {
+        let id = self.status.next_id;
+        let change = self.store_clause(redundant, literals, looks)?;
+        notes.derived(change, id, redundant, literals)?;
+        Ok(())
+    }
+
+    /// Checks a unit under its one hash, and stores it. Returns whether it passes. It does if it can't be noted or
+    /// stored.
     fn store_checked(
         &mut self,
         lit: Lit,
@@ -280,7 +314,7 @@ impl Formula {
         Ok(true)
     }
 
-    /// Whether units pass in turn behind the first of them. They aren't stored.
+    /// Whether units pass in turn after the first of them. They are not stored.
     fn pass_in_turn(
         &mut self,
         units: &[(Lit, ClauseHash)],
@@ -296,7 +330,7 @@ impl Formula {
             .pass_in_turn(&self.store, units, &mut self.passed, looks)
     }
 
-    /// Answers a fault that was met at the first of the units, unless one behind it is refused.
+    /// Returns a fault that occurred at the first of the units, unless one after it is refused.
     fn fail_unless_refused(
         &mut self,
         fault: StoreError,
@@ -316,7 +350,7 @@ impl Formula {
         Err(fault)
     }
 
-    /// Checks and stores units in turn. The answer is whether each passes.
+    /// Checks and stores units in turn. Returns whether all of them pass.
     pub fn store_units(
         &mut self,
         units: &[(Lit, ClauseHash)],
@@ -345,7 +379,7 @@ impl Formula {
         Ok(true)
     }
 
-    /// Takes a count from sorted literals. The answer is whether they have one.
+    /// Removes one count of sorted literals. Returns whether they had one.
     fn take_count(&mut self, redundant: bool, literals: &[Lit], looks: &mut Looks) -> bool
         ensures decides { (f : Stored) → KeepsFormula self.old f
             → TakesCount result redundant literals.now f (KeepsFormula self.new (with_less redundant literals.now f)) }
@@ -354,14 +388,14 @@ impl Formula {
         self.store.delete_clause(redundant, literals, looks)
     }
 
-    /// Drops clauses that are gone, where they are too many. Where memory is wanted all stay.
+    /// Drops removed clauses, if there are too many. If memory runs out, all stay.
     pub fn compact(&mut self) -> Result<(), AllocError>
         ensures { (f : Stored) → KeepsFormula self.old f → KeepsFormula self.new f }
     {
         self.store.compact()
     }
 
-    /// Deletes a clause, which has these sorted literals, by this proof. The answer is whether it may be deleted so.
+    /// Deletes a clause, which has these sorted literals, by this proof. Returns whether it may be deleted so.
     pub fn delete(
         &mut self,
         clause: &[Lit],
@@ -389,7 +423,7 @@ impl Formula {
         self.take_count(true, literals, looks)
     }
 
-    /// Deletes an irredundant clause in which a unit is true.
+    /// Deletes an irredundant clause that a unit satisfies.
     fn delete_satisfied(&mut self, clause: &[Lit], literals: &[Lit], looks: &mut Looks) -> bool
         requires { literals.now ≡ canonical clause.now }
         ensures decides { Deletes result self.old (DeleteClause clause.now Satisfied) self.new }
@@ -401,7 +435,8 @@ impl Formula {
         self.take_count(false, literals, looks)
     }
 
-    /// Whether the last irredundant clause stored is there, and is a part of these sorted literals but not all of them.
+    /// Whether the last irredundant clause stored is there, and its literals are some of these sorted literals, but not
+    /// all of them.
     fn has_last_within(&self, literals: &[Lit], looks: &mut Looks) -> bool
         requires { IsIncreasing literals.now }
         ensures part { (f : Stored) → KeepsFormula self.now f
@@ -422,7 +457,7 @@ impl Formula {
         }
     }
 
-    /// Deletes an irredundant clause of which the last irredundant clause stored is a part.
+    /// Deletes an irredundant clause that the last irredundant clause stored is a part of.
     fn delete_simplified(&mut self, clause: &[Lit], literals: &[Lit], looks: &mut Looks) -> bool
         requires { literals.now ≡ canonical clause.now }
         ensures decides { Deletes result self.old (DeleteClause clause.now Simplified) self.new }
@@ -434,7 +469,7 @@ impl Formula {
         self.take_count(false, literals, looks)
     }
 
-    /// Forgets the unit of a variable, which is deleted.
+    /// Removes the unit of a variable, which is deleted.
     pub fn forget(&mut self, var: Var)
         ensures { (f : Stored) → KeepsFormula (refiled_in self.old) f
             → KeepsFormula (refiled_in self.new) (without_variable var f) }

@@ -1,4 +1,4 @@
-//! The part of a checker that judges steps, and tells what they announce.
+//! The part of a checker that judges steps, and notifies listeners of what they announce.
 ghost use Rattle.std.specs.Prelude.{List, ◌≤◌, ◌≡◌, true, false, [], None, Ok, Err, OnOk, IsTrue, MatchResult};
 ghost use Rattle.sat_base.specs.steps.StepViews.{step_of};
 ghost use Rattle.sat_checker.specs.KernelView as kernels;
@@ -26,7 +26,7 @@ use crate::variables::Variables;
 use sat_base::ProofStep;
 use std::alloc::Global;
 
-/// What a checker answers where not everybody was told.
+/// Returns the checker's error if not all listeners were notified.
 fn fault(error: ProcessingError) -> CheckerError
     ensures { result ≡ fault_of error }
 {
@@ -38,7 +38,7 @@ fn fault(error: ProcessingError) -> CheckerError
     }
 }
 
-/// The variable whose name or mode a step may change, with what is kept of it. It is asked for where somebody listens.
+/// Returns the variable whose name or mode a step may change, with its current data, if a listener needs it.
 fn changed(variables: &Variables, step: &ProofStep<'_>, hears: bool) -> Option<Was>
     ensures { IsTrue hears → was_of result ≡ changed_by (variable_at variables.now) (step_of step.now) }
 {
@@ -65,7 +65,7 @@ fn changed(variables: &Variables, step: &ProofStep<'_>, hears: bool) -> Option<W
     }
 }
 
-/// Whether somebody listens: a processor of the caller's own, or one of the others.
+/// Whether there is a listener: the caller's own processor, or one of the others.
 fn listens<P: ProofProcessor, T: ProofTranscriptProcessor>(
     has_own: bool,
     others: &Processing<P, T>,
@@ -76,8 +76,8 @@ fn listens<P: ProofProcessor, T: ProofTranscriptProcessor>(
     has_own || !others.is_quiet()
 }
 
-/// Tells announcements in order, up to the first fault.
-#[inline(never)]
+/// Notifies the listeners of announcements, in order, up to the first fault.
+#[inline(always)]
 fn tell_news<O: ProofProcessor, P: ProofProcessor, T: ProofTranscriptProcessor>(
     news: &News,
     names: CheckerData<'_>,
@@ -98,13 +98,14 @@ fn tell_news<O: ProofProcessor, P: ProofProcessor, T: ProofTranscriptProcessor>(
     Ok(())
 }
 
-/// Why a step is not accepted, where no listener is notified.
+/// Why a step is not accepted, if no listener is notified.
 #[derive(Clone, Copy, Drop)]
 pub enum StepRefusal {
     /// The checker has failed before.
     HasFailed,
     /// The step is refused.
     CheckFailed,
+    /// Memory ran out.
     OutOfMemory,
     /// The last id, 2^64-2, was given, or a clause was stored 2^64-1 times.
     CounterEnd,
@@ -120,20 +121,20 @@ fn refusal(error: StoreError) -> StepRefusal
     }
 }
 
-/// A checker without those who listen.
+/// A checker without its listeners.
 #[derive(Drop)]
 pub(crate) struct Kernel {
     pub(crate) state: State,
-    /// What was recorded after the last step that was accepted.
+    /// What was recorded after the last accepted step.
     pub(crate) records: Records,
     pub(crate) failed: bool,
     pub(crate) looks: Looks,
-    /// What the step in hand announces.
+    /// What the current step announces.
     notes: Notes,
 }
 
 impl Kernel {
-    /// No step yet. Nothing is allocated.
+    /// Makes a kernel that has accepted no step. It does not allocate.
     pub fn new(alloc: Global) -> Kernel
         ensures stands { HasAccepted result [] }
         ensures goes_on { has_failed result ≡ false }
@@ -149,8 +150,8 @@ impl Kernel {
         }
     }
 
-    /// Checks the next step, takes it in if it is accepted, and tells what it announces: first to a processor of the
-    /// caller's own, where it has one.
+    /// Checks the next step, accepts it if it passes, and notifies the listeners of what it announces: first the
+    /// caller's own processor, if there is one.
     pub fn check_step<O: ProofProcessor, P: ProofProcessor, T: ProofTranscriptProcessor>(
         &mut self,
         step: &ProofStep<'_>,
@@ -158,7 +159,7 @@ impl Kernel {
         has_own: bool,
         others: &mut Processing<P, T>,
     ) -> Result<(), CheckerError>
-        // Who is no processor of the caller's own takes everything and stays as it was.
+        // Without a processor of the caller, `own` accepts everything and does not change.
         requires { has_own ≡ false → (v : _) (t : Told) → O.takes v t (Ok tt) v }
         ensures judges { kernels.ChecksStep result self.old (step_of step.now) self.new }
         ensures goes_on { OnOk result (has_failed self.new ≡ false) }
@@ -182,7 +183,7 @@ impl Kernel {
         }
     }
 
-    /// Checks the next step, and accepts it if it passes. No listener is notified.
+    /// Checks the next step, and accepts it if it passes. It notifies no listener.
     pub fn accept_step(&mut self, step: &ProofStep<'_>) -> Result<(), StepRefusal>
         ensures judges { kernels.ChecksStep (kernels.answer_of result) self.old (step_of step.now) self.new }
         ensures looks { kernels.LooksAtMost self.old (step_of step.now) self.new }
@@ -199,7 +200,7 @@ impl Kernel {
         }
     }
 
-    /// Gives the empty clause of a pending unit conflict the next id. No listener is notified.
+    /// Gives the empty clause of a pending unit conflict the next id. It notifies no listener.
     fn settle_alone(&mut self) -> Result<(), StepRefusal>
         requires { has_failed self.old ≡ false }
         ensures judges { kernels.ChecksDelayed (kernels.answer_of result) self.old self.new }
@@ -217,7 +218,7 @@ impl Kernel {
         Ok(())
     }
 
-    /// Checks the next step, where no unit conflict is pending. No listener is notified.
+    /// Checks the next step, while no unit conflict is pending. It notifies no listener.
     fn step_alone(&mut self, step: &ProofStep<'_>) -> Result<(), StepRefusal>
         requires well { has_failed self.old ≡ false }
         requires settled { self.old.state.formula.status.conflict ≡ None }
@@ -243,7 +244,7 @@ impl Kernel {
         }
     }
 
-    /// The empty clause of a pending unit conflict takes the next id, and is told.
+    /// Gives the empty clause of a pending unit conflict the next id, and announces it.
     #[inline(always)]
     pub fn settle<O: ProofProcessor, P: ProofProcessor, T: ProofTranscriptProcessor>(
         &mut self,
@@ -264,8 +265,8 @@ impl Kernel {
         self.settle_conflict(own, others)
     }
 
-    /// The empty clause of a pending unit conflict takes the next id, and is told. Steps that follow none don't come
-    /// here.
+    /// Gives the empty clause of a pending unit conflict the next id, and announces it. It is only called if one is
+    /// pending.
     #[inline(never)]
     fn settle_conflict<O: ProofProcessor, P: ProofProcessor, T: ProofTranscriptProcessor>(
         &mut self,
@@ -303,7 +304,7 @@ impl Kernel {
         }
     }
 
-    /// Checks the next step, where no unit conflict is pending. Somebody listens, or nobody.
+    /// Checks the next step, while no unit conflict is pending, with or without listeners.
     fn step<O: ProofProcessor, P: ProofProcessor, T: ProofTranscriptProcessor>(
         &mut self,
         step: &ProofStep<'_>,
@@ -338,7 +339,7 @@ impl Kernel {
         }
     }
 
-    /// Records what an accepted step leaves, and tells what it has noted, where somebody listens.
+    /// Records what an accepted step leaves, and notifies the listeners, if any, of what was noted.
     #[inline(always)]
     fn take_in<O: ProofProcessor, P: ProofProcessor, T: ProofTranscriptProcessor>(
         &mut self,
@@ -359,10 +360,14 @@ impl Kernel {
         if !hears {
             return Ok(());
         }
+        // Without an announcement, no result has to be made for one.
+        if self.notes.news.is_empty() {
+            return Ok(());
+        }
         self.tell(was, own, others)
     }
 
-    /// Tells what an accepted step, which is recorded, has noted.
+    /// Notifies the listeners of what was noted of an accepted step, which is recorded.
     #[inline(never)]
     fn tell<O: ProofProcessor, P: ProofProcessor, T: ProofTranscriptProcessor>(
         &mut self,

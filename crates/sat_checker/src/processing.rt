@@ -1,4 +1,4 @@
-//! Who is told what the checker announces: processors, and transcripts.
+//! Listeners: processors, and transcripts.
 ghost use Rattle.std.specs.Prelude.{◌≡◌, ◌++◌, ◌∷◌, [], true, IfErr, OnOk, OnErr, Result, Some};
 ghost use Rattle.anyhow.specs.declared.error.Error.{Error as Cause};
 ghost use Rattle.sat_checker.specs.announcements.Announcements.{Told};
@@ -18,11 +18,12 @@ use crate::variables::Variables;
 use std::alloc::{AllocError, Global};
 use thiserror::Error;
 
-/// What is told what the checker announces.
+/// Receives what a checker announces.
 pub trait ProofProcessor: Drop {
     /// From the value before, this announcement was answered so, to the value after.
     ghost takes: { Self → Told → Result (Unit {0}) Cause → Self → Type 0 };
 
+    /// Receives an announcement, and what can be looked up about variables meanwhile.
     fn process_step(
         &mut self,
         step: &CheckedProofStep<'_>,
@@ -31,6 +32,7 @@ pub trait ProofProcessor: Drop {
         ensures { takes self.old (told_of step.now names.entry) result self.new };
 }
 
+/// Notifies the processors of an announcement, in order, up to the first fault.
 fn tell_processors<P: ProofProcessor>(
     processors: &mut [P],
     step: &CheckedProofStep<'_>,
@@ -50,6 +52,7 @@ fn tell_processors<P: ProofProcessor>(
     Ok(())
 }
 
+/// Notifies the transcripts of a step, in order, up to the first fault.
 fn tell_transcripts<T: ProofTranscriptProcessor>(
     transcripts: &mut [T],
     step: &ProofTranscriptStep<'_>,
@@ -68,12 +71,13 @@ fn tell_transcripts<T: ProofTranscriptProcessor>(
     Ok(())
 }
 
-/// Why not everybody was told.
+/// Why not all listeners were notified.
 #[derive(Debug, Drop, Error)]
 pub enum ProcessingError {
+    /// Memory ran out.
     #[error("out of memory")]
     OutOfMemory,
-    /// A processor or a transcript answered a fault.
+    /// A processor or a transcript returned a fault.
     #[error("Error in proof processor: {cause}")]
     ProofProcessorError { cause: anyhow::Error },
 }
@@ -89,7 +93,7 @@ impl From<AllocError> for ProcessingError {
     }
 }
 
-/// As `tell_transcripts`, with the error of an announcement.
+/// Notifies the transcripts like `tell_transcripts`, with the error of an announcement.
 fn tell_all<T: ProofTranscriptProcessor>(
     transcripts: &mut [T],
     step: &ProofTranscriptStep<'_>,
@@ -103,7 +107,7 @@ fn tell_all<T: ProofTranscriptProcessor>(
     }
 }
 
-/// Tells the transcripts what they say of an announcement.
+/// Notifies the transcripts of what they say of an announcement, if anything.
 fn transcribe<T: ProofTranscriptProcessor>(
     made: &mut Transcript,
     transcripts: &mut [T],
@@ -123,14 +127,14 @@ fn transcribe<T: ProofTranscriptProcessor>(
     }
 }
 
-/// Processors and transcripts, each in the order in which they were added.
+/// Processors and transcripts, both in the order in which they were added.
 #[derive(Drop)]
 pub struct Processors<P: ProofProcessor, T: ProofTranscriptProcessor> {
     pub processors: Vec<P>,
     pub transcripts: Vec<T>,
 }
 
-/// Who listens to a checker.
+/// The listeners of a checker.
 #[derive(Drop)]
 pub struct Processing<P: ProofProcessor, T: ProofTranscriptProcessor> {
     processors: Vec<P>,
@@ -139,7 +143,7 @@ pub struct Processing<P: ProofProcessor, T: ProofTranscriptProcessor> {
 }
 
 impl<P: ProofProcessor, T: ProofTranscriptProcessor> Processing<P, T> {
-    /// Nobody listens yet. Nothing is allocated.
+    /// Makes listeners without any processor or transcript. It does not allocate.
     pub fn new(alloc: Global) -> Processing<P, T>
         ensures { listeners_of result ≡ record { processors = []; transcripts = [] } }
     {
@@ -150,7 +154,7 @@ impl<P: ProofProcessor, T: ProofTranscriptProcessor> Processing<P, T> {
         }
     }
 
-    /// These listen, each list in its order. Nothing is allocated.
+    /// Makes listeners of these lists, in their order. It does not allocate.
     pub fn again(alloc: Global, listeners: Processors<P, T>) -> Processing<P, T>
         ensures { listeners_of result
             ≡ record { processors = listeners.processors.items; transcripts = listeners.transcripts.items } }
@@ -166,7 +170,7 @@ impl<P: ProofProcessor, T: ProofTranscriptProcessor> Processing<P, T> {
         }
     }
 
-    /// Without memory the processor is dropped.
+    /// Adds a processor. If memory runs out, it is dropped.
     pub fn add_processor(&mut self, processor: P) -> Result<(), AllocError>
         ensures ok { OnOk result (listeners_of self.new
             ≡ record (listeners_of self.old) { processors = (listeners_of self.old).processors ++ processor ∷ [] }) }
@@ -176,7 +180,7 @@ impl<P: ProofProcessor, T: ProofTranscriptProcessor> Processing<P, T> {
         Ok(())
     }
 
-    /// Without memory the transcript is dropped.
+    /// Adds a transcript. If memory runs out, it is dropped.
     pub fn add_transcript(&mut self, transcript: T) -> Result<(), AllocError>
         ensures ok { OnOk result (listeners_of self.new
             ≡ record (listeners_of self.old) { transcripts = (listeners_of self.old).transcripts ++ transcript ∷ [] }) }
@@ -186,15 +190,16 @@ impl<P: ProofProcessor, T: ProofTranscriptProcessor> Processing<P, T> {
         Ok(())
     }
 
-    /// Whether nobody listens.
+    /// Whether there is no listener.
     pub fn is_quiet(&self) -> bool
         ensures { result ≡ true → listeners_of self.now ≡ record { processors = []; transcripts = [] } }
     {
         self.processors.is_empty() && self.transcripts.is_empty()
     }
 
-    /// Tells an announcement to the processors, and its transcript to the transcripts, in the order in which they were
-    /// added. The first fault ends it.
+    /// Notifies the processors of an announcement, and then the transcripts of its transcript, in the order in which
+    /// they were added, up to the first fault.
+    #[inline(never)]
     pub fn step(
         &mut self,
         step: &CheckedProofStep<'_>,
@@ -208,8 +213,8 @@ impl<P: ProofProcessor, T: ProofTranscriptProcessor> Processing<P, T> {
         }
     }
 
-    /// Tells an announcement to a processor of the caller's own, and then as `step` does.
-    #[inline(never)]
+    /// Notifies the caller's own processor of an announcement, and then the others, as `step` does.
+    #[inline(always)]
     pub fn step_with<O: ProofProcessor>(
         &mut self,
         own: &mut O,
@@ -220,12 +225,17 @@ impl<P: ProofProcessor, T: ProofTranscriptProcessor> Processing<P, T> {
             (hearers own.old self.old) (told_of step.now names.entry) result (hearers own.new self.new) }
     {
         match own.process_step(step, names) {
-            Ok(()) => self.step(step, names),
+            Ok(()) => {
+                if self.is_quiet() {
+                    return Ok(());
+                }
+                self.step(step, names)
+            }
             Err(cause) => Err(ProcessingError::ProofProcessorError { cause }),
         }
     }
 
-    /// Those who listen, each list in the order in which they were added.
+    /// Returns the listeners, both lists in the order in which they were added.
     pub fn into_processors(self) -> Processors<P, T>
         ensures processors { result.processors.items ≡ (listeners_of self).processors }
         ensures transcripts { result.transcripts.items ≡ (listeners_of self).transcripts }
@@ -242,13 +252,14 @@ impl<P: ProofProcessor, T: ProofTranscriptProcessor> Processing<P, T> {
     }
 }
 
-/// A processor and a transcript that takes everything and does nothing.
+/// A processor and a transcript that accepts everything and does nothing.
 #[derive(Drop)]
 pub struct Nobody {}
 
 impl ProofProcessor for Nobody {
     ghost takes = { takes_all };
 
+    /// Notifies all listeners of an announcement, while these variables can be looked up.
     fn process_step(
         &mut self,
         _step: &CheckedProofStep<'_>,

@@ -1,5 +1,5 @@
-//! The checker's state, and what each step makes of it.
-ghost use Rattle.std.specs.Prelude.{None, Some, MatchBool};
+//! The checker's state, and how every step changes it.
+ghost use Rattle.std.specs.Prelude.{ℕ, List, ◌≡◌, ◌+◌, ◌*◌, false, None, Some, MatchBool, OnOk};
 ghost use Rattle.sat_checker.specs.Stored.{Stored, nothing_stored};
 ghost use Rattle.sat_checker.specs.Looks.{literal_count};
 ghost use Rattle.sat_checker.specs.Accepts.{MayBeDeleted, MayBeAdded};
@@ -7,10 +7,14 @@ ghost use Rattle.sat_base.specs.steps.Steps.{SolverVarName, UserVarName, ChangeS
 ghost use Rattle.sat_base.specs.steps.Steps.{ChangeHashBits, Assumptions, End, UnitClauses, DeleteClause, Model};
 ghost use Rattle.sat_base.specs.steps.Steps.{FailedAssumptions, DeleteVar};
 ghost use Rattle.sat_base.specs.steps.StepViews.{deletion_of, step_of};
+ghost use Rattle.sat_checker.specs.announcements.Announcements.{derived, input};
+ghost use Rattle.sat_checker.specs.inner.FormulaView.{Explained};
 ghost use Rattle.sat_checker.specs.inner.Looking.{LooksOver};
+ghost use Rattle.sat_checker.specs.inner.Reasons.{noted_length};
 ghost use Rattle.sat_checker.specs.inner.StateView.{KeepsStored, KeepsFiled, ChangesStored, with_added, with_derived};
 ghost use Rattle.sat_checker.specs.inner.StateView.{Decides, LooksWithin};
-ghost use Rattle.sat_checker.specs.telling.NotedView.{Announces};
+ghost use Rattle.sat_checker.specs.telling.AnnouncingView.{AreLong};
+ghost use Rattle.sat_checker.specs.telling.NotedView.{Announces, AppendsNews};
 
 pub(crate) mod lit_set;
 pub(crate) mod status;
@@ -37,6 +41,7 @@ pub(crate) struct State {
 }
 
 impl State {
+    /// Judges a `SolverVarName`.
     fn solver_var_name(&mut self, var: Var, name: Option<Var>) -> Result<bool, StoreError>
         ensures { Decides result self.old (SolverVarName var name) self.new }
     {
@@ -49,6 +54,7 @@ impl State {
         Ok(true)
     }
 
+    /// Judges a `UserVarName`.
     fn user_var_name(
         &mut self,
         var: Var,
@@ -66,6 +72,7 @@ impl State {
         Ok(true)
     }
 
+    /// Judges a `ChangeSamplingMode`.
     fn change_sampling_mode(
         &mut self,
         var: Var,
@@ -83,6 +90,7 @@ impl State {
         Ok(true)
     }
 
+    /// Judges an `AddClause`.
     fn add_clause(
         &mut self,
         clause: &[Lit],
@@ -100,20 +108,29 @@ impl State {
             return Ok(false);
         }
         self.formula.file(looks);
-        self.formula.note_input(clause, notes, looks)?;
-        self.store_input(clause, looks)?;
+        self.store_input(clause, notes, looks)?;
         Ok(true)
     }
 
-    /// Stores a clause of the formula, which may be added.
-    fn store_input(&mut self, clause: &[Lit], looks: &mut Looks) -> Result<(), StoreError>
+    /// Stores a clause of the formula, which may be added, and notes what it announces.
+    fn store_input(
+        &mut self,
+        clause: &[Lit],
+        notes: &mut Notes,
+        looks: &mut Looks,
+    ) -> Result<(), StoreError>
         ensures stored { ChangesStored result self.old (with_added clause.now) self.new }
-        ensures looks { LooksOver (KeepsFiled self.old) literal_count looks.old looks.new }
+        ensures noted { OnOk result ((f : Stored) → KeepsFiled self.old f
+            → AppendsNews notes.old (input clause.now f) notes.new) }
+        ensures looks { LooksOver (KeepsFiled self.old) (λ f. 2 * literal_count f) looks.old looks.new }
     {
+        let literals = sorted_set(&mut self.buffer, clause)?;
+        self.formula.note_input(literals, notes, looks)?;
         self.variables.learn(clause)?;
-        self.formula.store_input(clause, &mut self.buffer, looks)
+        self.formula.store_input(literals, looks)
     }
 
+    /// Judges an `AtClause`.
     fn at_clause(
         &mut self,
         redundant: bool,
@@ -133,26 +150,37 @@ impl State {
         {
             return Ok(false);
         }
-        self.formula.note_derived(redundant, clause, notes, looks)?;
-        self.store_derived(redundant, clause, looks)?;
+        self.store_derived(redundant, clause, notes, looks)?;
         Ok(true)
     }
 
-    /// Stores a derived clause that passed the check.
+    /// Stores a derived clause that passed the last propagation check, and notes what it announces.
     fn store_derived(
         &mut self,
         redundant: bool,
         clause: &[Lit],
+        notes: &mut Notes,
         looks: &mut Looks,
     ) -> Result<(), StoreError>
+        requires { self.old.formula.passed.lost ≡ false
+            → (hashes : List ℕ) × Explained self.old.formula clause.now hashes }
         ensures stored { ChangesStored result self.old (with_derived redundant clause.now) self.new }
-        ensures looks { LooksOver (KeepsFiled self.old) literal_count looks.old looks.new }
+        ensures noted { OnOk result ((f : Stored) (hashes : List ℕ) → KeepsFiled self.old f → AreLong f
+            → (self.old.formula.passed.lost ≡ false → Explained self.old.formula clause.now hashes)
+            → AppendsNews notes.old (derived redundant clause.now hashes f) notes.new) }
+        ensures looks { LooksOver (KeepsFiled self.old)
+            (λ f. noted_length self.old.formula.store.clauses self.old.formula.passed + literal_count f)
+            looks.old looks.new }
     {
+        let literals = sorted_set(&mut self.buffer, clause)?;
+        self.formula
+            .note_propagations(clause, literals, notes, looks)?;
         self.variables.learn(clause)?;
         self.formula
-            .store_clause(redundant, clause, &mut self.buffer, looks)
+            .store_derived(redundant, literals, notes, looks)
     }
 
+    /// Judges a `ChangeHashBits`.
     fn change_hash_bits(&mut self, bits: HashBits) -> Result<bool, StoreError>
         ensures { Decides result self.old (ChangeHashBits bits) self.new }
     {
@@ -160,6 +188,7 @@ impl State {
         Ok(true)
     }
 
+    /// Judges an `Assumptions`.
     fn assumptions(&mut self, literals: &[Lit], notes: &mut Notes) -> Result<bool, StoreError>
         ensures decides { Decides result self.old (Assumptions literals.now) self.new }
         ensures noted { Announces result self.old (Assumptions literals.now) notes.old notes.new }
@@ -170,6 +199,7 @@ impl State {
         Ok(true)
     }
 
+    /// Judges an `End`.
     fn end(&mut self) -> Result<bool, StoreError>
         ensures { Decides result self.old End self.new }
     {
@@ -177,6 +207,7 @@ impl State {
         Ok(true)
     }
 
+    /// Judges a `UnitClauses`.
     fn unit_clauses(
         &mut self,
         units: &[(Lit, ClauseHash)],
@@ -195,7 +226,7 @@ impl State {
         Ok(true)
     }
 
-    /// Deletes a clause. Where memory is wanted for its sorted literals, it is judged without them.
+    /// Judges a `DeleteClause`. If there is no memory for its sorted literals, it is judged without them.
     fn delete_clause(
         &mut self,
         clause: &[Lit],
@@ -220,6 +251,7 @@ impl State {
         Ok(true)
     }
 
+    /// Judges a `Model`.
     fn model(
         &mut self,
         assignment: &[Lit],
@@ -238,6 +270,7 @@ impl State {
         Ok(true)
     }
 
+    /// Judges a `FailedAssumptions`.
     fn failed_assumptions(
         &mut self,
         core: &[Lit],
@@ -264,7 +297,7 @@ impl State {
         Ok(true)
     }
 
-    /// No clause is looked at.
+    /// Judges a `DeleteVar`. No clause is looked at.
     fn delete_var(&mut self, var: Var, notes: &mut Notes) -> Result<bool, StoreError>
         ensures decides { Decides result self.old (DeleteVar var) self.new }
         ensures noted { Announces result self.old (DeleteVar var) notes.old notes.new }
@@ -296,7 +329,7 @@ impl State {
         !self.formula.store.mention(var)
     }
 
-    /// Nothing is stored yet.
+    /// Makes a state in which nothing is stored.
     pub fn new(alloc: Global) -> State
         ensures { KeepsStored result nothing_stored }
     {
@@ -309,8 +342,7 @@ impl State {
         }
     }
 
-    /// Checks the next step, and takes it in if it is accepted. The answer is whether it is. What it announces is
-    /// noted.
+    /// Checks the next step, and applies it if it is accepted. Returns whether it is. What it announces is noted.
     pub fn step(
         &mut self,
         step: &ProofStep<'_>,

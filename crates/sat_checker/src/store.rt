@@ -33,7 +33,9 @@ use std::alloc::{AllocError, Global};
 /// Why a clause can't be stored.
 #[derive(Clone, Copy, Debug, Drop)]
 pub enum StoreError {
+    /// Memory ran out.
     OutOfMemory,
+    /// The last id was given, or a count is at 2^64-1.
     CounterEnd,
 }
 
@@ -48,14 +50,15 @@ impl From<AllocError> for StoreError {
     }
 }
 
-/// The id of a clause that is stored, and whether it is new.
+/// The id of a clause that is stored, whether it is new, and how often it was stored as irredundant before.
 #[derive(Clone, Copy)]
 pub struct Placed {
     pub id: u64,
     pub is_new: bool,
+    pub irredundant: u64,
 }
 
-/// A stored clause that was found by its literals.
+/// A stored clause that was found by its literals, with its counts.
 #[derive(Clone, Copy)]
 pub struct Found {
     pub id: u64,
@@ -63,17 +66,17 @@ pub struct Found {
     pub redundant: u64,
 }
 
-/// Clauses, and the hasher of now. A checker lends none of it.
+/// Clauses, and the current hasher. A checker lends none of it.
 #[derive(Drop)]
 pub struct Store {
     pub clauses: Clauses,
     pub hasher: ClauseHasher,
-    /// Whether the clauses wait to be filed by the hashes of now.
+    /// Whether the clauses wait to be filed by the current hashes.
     pub stale: bool,
 }
 
 impl Store {
-    /// No clause, and hashes of 64 bits.
+    /// Makes a store without clauses, and with hashes of 64 bits.
     pub fn new(alloc: Global) -> Store
         ensures kept { KeepsClauses result nothing_stored }
         ensures ids { slot_ids result.clauses ≡ [] }
@@ -85,8 +88,8 @@ impl Store {
         }
     }
 
-    /// Files the clauses by the hashes of now, where they wait for it. Hashes are looked up behind that. It takes no
-    /// memory.
+    /// Files the clauses by the current hashes, if they wait for it. Hashes are looked up only after this. It does not
+    /// allocate.
     #[inline(always)]
     pub fn file(&mut self, looks: &mut Looks)
         ensures filed { self.new ≡ refiled self.old }
@@ -98,7 +101,7 @@ impl Store {
         self.file_anew(looks);
     }
 
-    /// Files the clauses by the hashes of now.
+    /// Files the clauses by the current hashes.
     #[inline(never)]
     fn file_anew(&mut self, looks: &mut Looks)
         requires { self.old.stale ≡ true }
@@ -109,8 +112,7 @@ impl Store {
         self.stale = false;
     }
 
-    /// Stores sorted literals without repeats once more, under this id where they are new. The answer is under which id
-    /// they are stored.
+    /// Stores sorted literals without repeats once more, under this id if they are new. Returns how they are stored.
     pub fn store_clause(
         &mut self,
         id: u64,
@@ -122,7 +124,9 @@ impl Store {
         ensures ok { IfOk result (λ placed. (f : Stored) → KeepsClauses self.old f
             → Stores self.new f id redundant literals.now placed.id placed.is_new) }
         ensures placed { IfOk result (λ placed. PlacesIds self.old.clauses self.new.clauses id placed.is_new) }
-        // A count is at its end.
+        ensures counted { IfOk result (λ placed. (f : Stored) → KeepsClauses self.old f
+            → count_in false (clause_with literals.now f.clauses) ≡ placed.irredundant) }
+        // A count has reached its end.
         ensures full { result ≡ Err StoreError.CounterEnd → (f : Stored) → KeepsClauses self.old f
             → 2 ^ 64 ≤ count_in redundant (clause_with literals.now f.clauses) + 1 }
         ensures looks { LooksOver (KeepsClauses self.old) literal_count looks.old looks.new }
@@ -130,19 +134,25 @@ impl Store {
         let hash = self.hasher.clause_hash(literals);
         let Some(place) = self.clauses.find(hash, literals, looks) else {
             self.clauses.push(id, redundant, hash, literals)?;
-            return Ok(Placed { id, is_new: true });
+            return Ok(Placed {
+                id,
+                is_new: true,
+                irredundant: 0,
+            });
         };
         if self.clauses.count(place, redundant) == u64::MAX {
             return Err(StoreError::CounterEnd);
         }
+        let irredundant = self.clauses.count(place, false);
         self.clauses.add_count(place, redundant);
         Ok(Placed {
             id: self.clauses.id(place),
             is_new: false,
+            irredundant,
         })
     }
 
-    /// The clause with these literals.
+    /// Returns the clause with these literals, if it is stored.
     #[inline(never)]
     pub fn stored(&self, literals: &[Lit], looks: &mut Looks) -> Option<Found>
         ensures found { (f : Stored) → KeepsClauses self.now f
@@ -160,7 +170,7 @@ impl Store {
         })
     }
 
-    /// Takes a count from sorted literals without repeats. The answer is whether they have one.
+    /// Removes one count of sorted literals without repeats. Returns whether they had one.
     pub fn delete_clause(&mut self, redundant: bool, literals: &[Lit], looks: &mut Looks) -> bool
         ensures deleted { (f : Stored) → KeepsClauses self.old f
             → TakesCount result redundant literals.now f (KeepsClauses self.new (with_less redundant literals.now f)) }
@@ -178,8 +188,8 @@ impl Store {
         true
     }
 
-    /// Drops the clauses that are gone, where more than half of all are, or more than half of the buffer is theirs. The
-    /// places of others change by that. Where memory is wanted all stay.
+    /// Drops the removed clauses, if they are more than half of all, or fill more than half of the buffer. This changes
+    /// the places of others. If memory runs out, all stay.
     pub fn compact(&mut self) -> Result<(), AllocError>
         ensures kept { (f : Stored) → KeepsClauses self.old f → KeepsClauses self.new f }
         ensures ids { KeepsIds self.old.clauses self.new.clauses }
@@ -188,7 +198,7 @@ impl Store {
         self.clauses.compact()
     }
 
-    /// So many bits of each hash are kept from here on. No clause is looked at before a hash is looked up.
+    /// Sets how many bits of every hash are kept from now on. No clause is looked at until a hash is looked up.
     pub fn set_bits(&mut self, bits: HashBits)
         ensures set { (f : Stored) → KeepsClauses (refiled self.old) f
             → KeepsClauses (refiled self.new) (record f { width = bits }) }
@@ -201,7 +211,7 @@ impl Store {
         self.stale = true;
     }
 
-    /// A variable has this solver name or none from here on. No clause is looked at before a hash is looked up.
+    /// Sets or removes the solver's name of a variable. No clause is looked at until a hash is looked up.
     pub fn set_solver_name(&mut self, var: Var, name: Option<Var>) -> Result<(), AllocError>
         ensures set { OnOk result ((f : Stored) → KeepsClauses (refiled self.old) f
             → KeepsClauses (refiled self.new) (with_solver_name var name f)) }
@@ -218,15 +228,15 @@ impl Store {
         Ok(())
     }
 
-    /// Whether the clause with this id isn't gone, and is a part of these sorted literals but not all of them. Ids rise
-    /// by place.
+    /// Whether the clause with this id is not removed, and its literals are some of these sorted literals, but not all
+    /// of them. Ids increase by place.
     pub fn has_strict_part(&self, id: u64, literals: &[Lit], looks: &mut Looks) -> bool
         requires { IsIncreasing literals.now }
         ensures part { IsIncreasing (slot_ids self.now.clauses) → MatchBool result
             (IsStrictSubset (clause_numbered id (live self.now.clauses)) literals.now)
             (IsStrictSubset (clause_numbered id (live self.now.clauses)) literals.now → ⊥) }
         ensures looks { LooksOver (KeepsClauses self.now) literal_count looks.old looks.new }
-        // The clause is looked at where it stands.
+        // The clause is looked at in its place.
         ensures lent { (c : List ℕ) → IsIncreasing (slot_ids self.now.clauses)
             → clause_numbered id (live self.now.clauses) ≡ Some c → looks.new ≡ looks.old + length c }
     {
@@ -237,8 +247,8 @@ impl Store {
         is_subset(self.clauses.literals(place, looks), literals, true)
     }
 
-    /// Whether the clause with this id isn't gone, and is a part of the assumed literals but not all of them. Ids rise
-    /// by place.
+    /// Whether the clause with this id is not removed, and its literals are some of the assumed ones, but not all of
+    /// them. Ids increase by place.
     pub fn has_part_assumed(&self, id: u64, assigned: &Assigned, looks: &mut Looks) -> bool
         ensures part { IsIncreasing (slot_ids self.now.clauses) → MatchBool result
             (IsStrictSubset (clause_numbered id (live self.now.clauses)) assigned.now.literals)
@@ -252,8 +262,8 @@ impl Store {
         is_strictly_assumed(assigned, self.clauses.literals(place, looks))
     }
 
-    /// How often the clause of just the assumed literals stands as redundant, or as irredundant. It is found without
-    /// its hash.
+    /// Returns how often the clause of exactly the assumed literals is stored as redundant, or as irredundant. It is
+    /// found without its hash.
     pub fn assumed_count(&self, redundant: bool, assigned: &Assigned, looks: &mut Looks) -> u64
         ensures found { (f : Stored) → KeepsClauses self.now f
             → result ≡ count_in redundant (clause_with (canonical assigned.now.literals) f.clauses) }
@@ -270,12 +280,12 @@ impl Store {
         self.clauses.mention(var)
     }
 
-    /// Whether each clause that stands as irredundant has an assumed literal.
+    /// Whether every clause that is stored as irredundant has an assumed literal.
     pub fn are_satisfied(&self, assigned: &Assigned, looks: &mut Looks) -> bool
         ensures found { (f : Stored) → KeepsClauses (refiled self.now) f
             → result ≡ are_all_true assigned.now.literals f.clauses }
         ensures looks { LooksOver (KeepsClauses (refiled self.now)) literal_count looks.old looks.new }
-        // All irredundant ones were looked at where they are.
+        // All irredundant ones were looked at in their places.
         ensures all { (f : Stored) → KeepsClauses (refiled self.now) f → result ≡ true
             → looks.new ≡ looks.old + irredundant_length f.clauses }
     {

@@ -1,9 +1,9 @@
-//! What a step announces, by what is stored and known before it.
-ghost use Rattle.std.specs.Prelude.{ℕ, List, ◌≡◌, ◌+◌, ◌++◌, ◌∷◌, [], OnOk, OnErr, if◌then◌else◌};
+//! What a step announces, given what is stored and known before it.
+ghost use Rattle.std.specs.Prelude.{◌≡◌, ◌+◌, ◌++◌, ◌∷◌, [], OnOk, OnErr, if◌then◌else◌};
 ghost use Rattle.sat_checker.specs.Looks.{literal_count};
 ghost use Rattle.sat_checker.specs.Stored.{Stored};
 ghost use Rattle.sat_checker.specs.announcements.Announcements as told;
-ghost use Rattle.sat_checker.specs.announcements.Announcements.{derived_set, id_of_set, input_set, irredundant_deleted};
+ghost use Rattle.sat_checker.specs.announcements.Announcements.{id_of_set, input_set, irredundant_deleted};
 ghost use Rattle.sat_checker.specs.announcements.Announcements.{is_sample, is_witness, last_id, mode_change, naming};
 ghost use Rattle.sat_checker.specs.announcements.Announcements.{one, redundant_deleted, renaming};
 ghost use Rattle.sat_checker.specs.inner.FormulaView.{last_in, KeepsFormula};
@@ -11,19 +11,19 @@ ghost use Rattle.sat_checker.specs.inner.Looking.{LooksOver};
 ghost use Rattle.sat_checker.specs.inner.StoreView.{found_in};
 ghost use Rattle.sat_checker.specs.inner.VariablesView.{mode_in, variable_of};
 ghost use Rattle.sat_checker.specs.telling.AnnouncementView.{is_sampling};
-ghost use Rattle.sat_checker.specs.telling.AnnouncingView.{stored_as, deletion_told, AreLong};
+ghost use Rattle.sat_checker.specs.telling.AnnouncingView.{stored_as, change_in, deletion_told};
 
 use crate::announce::announcement::{CheckedSamplingMode, CheckedUserVar};
 use crate::announce::news::News;
 use crate::formula::Formula;
 use crate::looks::Looks;
 use crate::state::status::LastClause;
-use crate::store::Found;
+use crate::store::{Found, Placed};
 use crate::variables::{SamplingMode, VarData};
 use sat_base::{Lit, Var};
 use std::alloc::AllocError;
 
-/// What storing a derived clause changes: it is new, or becomes irredundant under its id, or none of both.
+/// What storing a derived clause changes: it is new, or becomes irredundant under its id, or neither.
 #[derive(Clone, Copy)]
 pub(crate) enum Change {
     New,
@@ -31,7 +31,7 @@ pub(crate) enum Change {
     Neither,
 }
 
-/// A clause that is to be deleted, as it stands, and the id that it follows from where it is irredundant.
+/// A clause that is to be deleted, as it is stored, and the id that it follows from if it is irredundant.
 #[derive(Clone, Copy)]
 pub(crate) struct Deletion {
     pub(crate) redundant: bool,
@@ -40,7 +40,7 @@ pub(crate) struct Deletion {
 }
 
 impl Formula {
-    /// The id under which sorted literals are stored.
+    /// Returns the id under which sorted literals are stored.
     pub fn id_of_set(&self, literals: &[Lit], looks: &mut Looks) -> Option<u64>
         ensures id { (f : Stored) → KeepsFormula self.now f → result ≡ id_of_set literals.now f }
         ensures looks { LooksOver (KeepsFormula self.now) literal_count looks.old looks.new }
@@ -56,33 +56,25 @@ impl Formula {
             None => None,
         }
     }
-
-    /// What storing sorted literals as a derived clause will change.
-    pub fn change(&self, redundant: bool, literals: &[Lit], looks: &mut Looks) -> Change
-        ensures change { (f : Stored) → KeepsFormula self.now f → AreLong f → (ids : List ℕ) →
-            stored_as result f.next_id redundant literals.now ids
-            ≡ derived_set redundant literals.now ids f (id_of_set literals.now f) }
-        ensures looks { LooksOver (KeepsFormula self.now) literal_count looks.old looks.new }
-    {
-        if literals.len() < 2 {
-            return match self.id_of_set(literals, looks) {
-                None => Change::New,
-                Some(_) => Change::Neither,
-            };
-        }
-        let Some(clause) = self.store.stored(literals, looks) else {
-            return Change::New;
-        };
-        if redundant {
-            return Change::Neither;
-        }
-        if clause.irredundant == 0 {
-            return Change::Irredundant(clause.id);
-        }
-        Change::Neither
-    }
 }
 
+/// Returns what storing a derived clause of two literals or more changed, from how it was placed.
+pub(crate) fn change_of(redundant: bool, placed: Placed) -> Change
+    ensures { result ≡ change_in redundant placed }
+{
+    if placed.is_new {
+        return Change::New;
+    }
+    if redundant {
+        return Change::Neither;
+    }
+    if placed.irredundant == 0 {
+        return Change::Irredundant(placed.id);
+    }
+    Change::Neither
+}
+
+/// Returns the mode that is announced of a variable with a name.
 fn checked_mode(mode: SamplingMode) -> CheckedSamplingMode
     ensures { is_sampling result ≡ is_sample (mode_in mode) }
 {
@@ -92,6 +84,7 @@ fn checked_mode(mode: SamplingMode) -> CheckedSamplingMode
     }
 }
 
+/// Returns `Sample` or `Witness`.
 fn mode_of(sampling: bool) -> CheckedSamplingMode
     ensures { is_sampling result ≡ sampling }
 {
@@ -103,7 +96,7 @@ fn mode_of(sampling: bool) -> CheckedSamplingMode
 }
 
 impl LastClause {
-    /// The id of the last irredundant clause stored.
+    /// Returns the id of the last irredundant clause stored.
     pub fn id(self) -> Option<u64>
         ensures { result ≡ last_id (last_in self) }
     {
@@ -114,7 +107,7 @@ impl LastClause {
     }
 }
 
-/// Whether it is a sampling one, or where that isn't asked a witness.
+/// Whether the mode is `Sample`, or, if that is not asked, `Witness`.
 fn has_mode(mode: SamplingMode, sampling: bool) -> bool
     ensures { result ≡ (if sampling then is_sample (mode_in mode) else is_witness (mode_in mode)) }
 {
@@ -126,8 +119,8 @@ fn has_mode(mode: SamplingMode, sampling: bool) -> bool
 }
 
 impl News {
-    /// A clause of the formula that takes this id. Its sorted literals have both signs of a variable, or are stored
-    /// under an id or not.
+    /// Adds the announcement of a clause of the formula that gets this id. Its sorted literals have both signs of a
+    /// variable, or are stored under an id or not.
     pub fn input(
         &mut self,
         id: u64,
@@ -148,7 +141,7 @@ impl News {
         }
     }
 
-    /// A derived clause that changed what is stored so.
+    /// Adds the announcement of a derived clause that changed what is stored in this way.
     pub fn derived(
         &mut self,
         change: Change,
@@ -167,7 +160,7 @@ impl News {
         }
     }
 
-    /// One redundant count was taken from a clause that was stored so.
+    /// Adds the announcement of a clause that lost a redundant count.
     pub fn redundant_deleted(
         &mut self,
         literals: &[Lit],
@@ -185,7 +178,7 @@ impl News {
         Ok(())
     }
 
-    /// One irredundant count was taken from a clause that was stored so, and follows from the one with this id.
+    /// Adds the announcement of a clause that lost an irredundant count, and follows from the one with this id.
     pub fn irredundant_deleted(
         &mut self,
         literals: &[Lit],
@@ -209,7 +202,7 @@ impl News {
         }
     }
 
-    /// A clause with these literals was deleted.
+    /// Adds the announcement of a deleted clause with these literals.
     pub fn deleted(&mut self, literals: &[Lit], deletion: Deletion) -> Result<(), AllocError>
         ensures ok { OnOk result (self.new ≡ self.old ++ deletion_told literals.now deletion) }
         ensures err { OnErr result (self.new ≡ self.old) }
@@ -220,7 +213,7 @@ impl News {
         self.irredundant_deleted(literals, deletion.stored, deletion.from)
     }
 
-    /// A variable, which was like this, gets a name.
+    /// Adds the announcement that a variable with this data gets a name.
     pub fn naming(&mut self, var: Var, name: Var, before: VarData) -> Result<(), AllocError>
         ensures ok { OnOk result (self.new ≡ self.old ++ naming var name (variable_of before)) }
         ensures err { OnErr result (self.new ≡ self.old) }
@@ -233,7 +226,7 @@ impl News {
         self.user_var(var, Some(user))
     }
 
-    /// A variable, which was like this, gets a name, or loses it.
+    /// Adds the announcement that a variable with this data gets a name, or loses it.
     pub fn renaming(
         &mut self,
         var: Var,
@@ -249,7 +242,7 @@ impl News {
         }
     }
 
-    /// A variable, which was like this, gets another mode.
+    /// Adds the announcement that a variable with this data gets another mode.
     pub fn mode_change(
         &mut self,
         var: Var,

@@ -1,5 +1,5 @@
 //! Announcements that wait until their step is accepted.
-ghost use Rattle.std.specs.Prelude.{◌≡◌, ◌<◌, ◌++◌, ◌∷◌, [], length, slice_index_or, take, OnOk, OnErr};
+ghost use Rattle.std.specs.Prelude.{true, ◌≡◌, ◌<◌, ◌++◌, ◌∷◌, [], length, slice_index_or, take, OnOk, OnErr};
 ghost use Rattle.std.specs.Option.{option_map};
 ghost use Rattle.sat_checker.specs.announcements.Announcements as told;
 ghost use Rattle.sat_checker.specs.announcements.Announcements.{Announcement};
@@ -11,7 +11,7 @@ use sat_base::{FlatLists, Lit, Var};
 use std::alloc::{AllocError, Global};
 use std::marker::Model;
 
-/// What an announcement says beside its literals and the ids that something follows from.
+/// What an announcement says besides its literals and the ids that something follows from.
 #[derive(Clone, Copy)]
 enum Kind {
     UserVar(Var, Option<CheckedUserVar>),
@@ -29,7 +29,7 @@ enum Kind {
 }
 
 impl Kind {
-    /// The announcement with these literals and ids.
+    /// Lends the announcement with these literals and ids.
     fn lend<'a>(self, literals: &'a [Lit], ids: &'a [u64]) -> CheckedProofStep<'a>
         ensures { announcement_of result ≡ announcement_with self literals.now ids.now }
     {
@@ -83,7 +83,7 @@ impl Kind {
     }
 }
 
-/// An announcement, and the places of the lists of its literals and of its ids.
+/// An announcement, and the places of its literals and of its ids.
 #[derive(Clone, Copy)]
 struct Item {
     kind: Kind,
@@ -113,7 +113,7 @@ impl Model for News {
 }
 
 impl News {
-    /// None yet. Takes no memory.
+    /// Makes a list without announcements. It does not allocate.
     pub fn new(alloc: Global) -> News
         ensures { result ≡ [] }
     {
@@ -124,7 +124,7 @@ impl News {
         }
     }
 
-    /// Forgets all, and keeps the room.
+    /// Removes all announcements, and keeps the room.
     pub fn clear(&mut self)
         ensures { self.new ≡ [] }
     {
@@ -133,20 +133,28 @@ impl News {
         self.ids.clear();
     }
 
+    /// Returns the number of announcements.
     pub fn len(&self) -> usize
         ensures { result ≡ length self.now }
     {
         self.items.len()
     }
 
-    /// Forgets all but the first ones.
+    /// Whether there is no announcement.
+    pub fn is_empty(&self) -> bool
+        ensures { result ≡ true → self.now ≡ [] }
+    {
+        self.items.is_empty()
+    }
+
+    /// Removes all announcements but the first ones.
     pub fn truncate(&mut self, len: usize)
         ensures { self.new ≡ take len self.old }
     {
         self.items.truncate(len);
     }
 
-    /// The announcement at this place.
+    /// Lends the announcement at this place.
     pub fn get(&self, index: usize) -> CheckedProofStep<'_>
         requires { index < length self.now }
         ensures { (d : Announcement) → announcement_of result ≡ slice_index_or self.now index d }
@@ -156,6 +164,7 @@ impl News {
             .lend(self.literals.get(item.literals), self.ids.get(item.ids))
     }
 
+    /// Adds an announcement of this kind.
     #[inline(never)]
     fn push(&mut self, kind: Kind, literals: &[Lit], ids: &[u64]) -> Result<(), AllocError>
         ensures ok { OnOk result (self.new ≡ self.old ++ announcement_with kind literals.now ids.now ∷ []) }
@@ -172,6 +181,7 @@ impl News {
         Ok(())
     }
 
+    /// Adds a `UserVar`.
     pub fn user_var(&mut self, var: Var, user: Option<CheckedUserVar>) -> Result<(), AllocError>
         ensures ok { OnOk result (self.new ≡ self.old ++ told.UserVar var (option_map user_of user) ∷ []) }
         ensures err { OnErr result (self.new ≡ self.old) }
@@ -179,6 +189,7 @@ impl News {
         self.push(Kind::UserVar(var, user), &[], &[])
     }
 
+    /// Adds a `DeleteVar`.
     pub fn delete_var(&mut self, var: Var) -> Result<(), AllocError>
         ensures ok { OnOk result (self.new ≡ self.old ++ told.DeleteVar var ∷ []) }
         ensures err { OnErr result (self.new ≡ self.old) }
@@ -186,6 +197,7 @@ impl News {
         self.push(Kind::DeleteVar(var), &[], &[])
     }
 
+    /// Adds an `AddClause`.
     pub fn add_clause(&mut self, id: u64, clause: &[Lit]) -> Result<(), AllocError>
         ensures ok { OnOk result (self.new ≡ self.old ++ told.AddClause id clause.now ∷ []) }
         ensures err { OnErr result (self.new ≡ self.old) }
@@ -193,6 +205,7 @@ impl News {
         self.push(Kind::AddClause(id), clause, &[])
     }
 
+    /// Adds a `DuplicatedClause`.
     pub fn duplicated_clause(
         &mut self,
         id: u64,
@@ -205,6 +218,7 @@ impl News {
         self.push(Kind::DuplicatedClause(id, same_as), clause, &[])
     }
 
+    /// Adds a `TautologicalClause`.
     pub fn tautological_clause(&mut self, id: u64, clause: &[Lit]) -> Result<(), AllocError>
         ensures ok { OnOk result (self.new ≡ self.old ++ told.TautologicalClause id clause.now ∷ []) }
         ensures err { OnErr result (self.new ≡ self.old) }
@@ -212,6 +226,7 @@ impl News {
         self.push(Kind::TautologicalClause(id), clause, &[])
     }
 
+    /// Adds an `AtClause`.
     pub fn at_clause(
         &mut self,
         id: u64,
@@ -225,6 +240,7 @@ impl News {
         self.push(Kind::AtClause(id, redundant), clause, propagations)
     }
 
+    /// Adds a `MakeIrredundant`.
     pub fn make_irredundant(&mut self, id: u64, clause: &[Lit]) -> Result<(), AllocError>
         ensures ok { OnOk result (self.new ≡ self.old ++ told.MakeIrredundant id clause.now ∷ []) }
         ensures err { OnErr result (self.new ≡ self.old) }
@@ -232,6 +248,7 @@ impl News {
         self.push(Kind::MakeIrredundant(id), clause, &[])
     }
 
+    /// Adds a `DeleteClause`.
     pub fn delete_clause(&mut self, id: u64, clause: &[Lit]) -> Result<(), AllocError>
         ensures ok { OnOk result (self.new ≡ self.old ++ told.DeleteClause id clause.now ∷ []) }
         ensures err { OnErr result (self.new ≡ self.old) }
@@ -239,6 +256,7 @@ impl News {
         self.push(Kind::DeleteClause(id), clause, &[])
     }
 
+    /// Adds a `DeleteAtClause`.
     pub fn delete_at_clause(
         &mut self,
         id: u64,
@@ -257,6 +275,7 @@ impl News {
         )
     }
 
+    /// Adds a `Model`.
     pub fn model(&mut self, assignment: &[Lit]) -> Result<(), AllocError>
         ensures ok { OnOk result (self.new ≡ self.old ++ told.Model assignment.now ∷ []) }
         ensures err { OnErr result (self.new ≡ self.old) }
@@ -264,6 +283,7 @@ impl News {
         self.push(Kind::Model, assignment, &[])
     }
 
+    /// Adds an `Assumptions`.
     pub fn assumptions(&mut self, assumptions: &[Lit]) -> Result<(), AllocError>
         ensures ok { OnOk result (self.new ≡ self.old ++ told.Assumptions assumptions.now ∷ []) }
         ensures err { OnErr result (self.new ≡ self.old) }
@@ -271,6 +291,7 @@ impl News {
         self.push(Kind::Assumptions, assumptions, &[])
     }
 
+    /// Adds a `FailedAssumptions`.
     pub fn failed_assumptions(
         &mut self,
         core: &[Lit],

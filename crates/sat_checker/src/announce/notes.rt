@@ -1,6 +1,5 @@
-//! What a step announces, noted where somebody listens: of clauses while all is stored as it was before them, of names,
-//! modes and models once they are accepted. What is noted of a step that is refused is of no use.
-ghost use Rattle.std.specs.Prelude.{ℕ, false, ◌≡◌, ◌+◌, ◌∷◌, [], List, OnOk, IsTrue, map, if◌then◌else◌};
+//! What a step announces, noted if there is a listener. The notes of a step that is refused are of no use.
+ghost use Rattle.std.specs.Prelude.{ℕ, Bool, false, ◌≡◌, ◌∷◌, [], List, OnOk, IsTrue, map};
 ghost use Rattle.sat_base.specs.steps.Steps.{DeleteClause, FailedAssumptions};
 ghost use Rattle.sat_base.specs.steps.StepViews.{deletion_of};
 ghost use Rattle.sat_base.specs.values.Literals.{negated};
@@ -10,8 +9,10 @@ ghost use Rattle.sat_checker.specs.Stored.{Stored};
 ghost use Rattle.sat_checker.specs.announcements.Announcements as told;
 ghost use Rattle.sat_checker.specs.announcements.Announcements.{announced, derived, derived_set, id_of_set, input};
 ghost use Rattle.sat_checker.specs.announcements.Announcements.{mode_change, renaming};
+ghost use Rattle.sat_checker.specs.announcements.Needed.{propagations};
 ghost use Rattle.sat_checker.specs.inner.FormulaView.{Explained, KeepsFormula};
 ghost use Rattle.sat_checker.specs.inner.Looking.{LooksOver, LooksUpTo};
+ghost use Rattle.sat_checker.specs.inner.Marks.{IsIncreasing};
 ghost use Rattle.sat_checker.specs.inner.Reasons.{noted_length};
 ghost use Rattle.sat_checker.specs.inner.VariablesView.{mode_in, variable_of};
 ghost use Rattle.sat_checker.specs.telling.AnnouncingView.{stored_as, deletion_told, AreLong};
@@ -22,7 +23,7 @@ use crate::announce::news::News;
 use crate::formula::Formula;
 use crate::looks::Looks;
 use crate::rup::propagations::Propagations;
-use crate::sorted_lits::copy_canonical;
+use crate::sorted_lits::{copy_canonical, has_both_signs};
 use crate::variables::VarData;
 use sat_base::{DeleteClauseProof, Lit, Var};
 use std::alloc::{AllocError, Global};
@@ -30,7 +31,7 @@ use std::alloc::{AllocError, Global};
 /// Room for what a step announces.
 #[derive(Drop)]
 pub(crate) struct Notes {
-    /// Whether somebody listens. Where nobody does, nothing is noted.
+    /// Whether there is a listener. Otherwise nothing is noted.
     hears: bool,
     pub(crate) news: News,
     rests_on: Propagations,
@@ -39,7 +40,7 @@ pub(crate) struct Notes {
 }
 
 impl Notes {
-    /// None yet, and nobody listens.
+    /// Makes notes of nothing, without a listener.
     pub fn new(alloc: Global) -> Notes
         ensures hears { result.hears ≡ false }
         ensures none { result.news ≡ [] }
@@ -60,7 +61,7 @@ impl Notes {
         self.hears
     }
 
-    /// A step comes, to which somebody listens or nobody. What was noted before is forgotten.
+    /// Starts the notes of a step, with or without a listener. Earlier notes are removed.
     pub fn begin(&mut self, hears: bool)
         ensures hears { self.new.hears ≡ hears }
         ensures none { IsTrue hears → self.new.news ≡ [] }
@@ -71,7 +72,7 @@ impl Notes {
         }
     }
 
-    /// A variable, which was like this, gets a name, or loses it.
+    /// Notes that a variable with this data gets a name, or loses it.
     pub fn renaming(
         &mut self,
         var: Var,
@@ -86,7 +87,7 @@ impl Notes {
         self.news.renaming(var, user, before)
     }
 
-    /// A variable, which was like this, gets another mode.
+    /// Notes that a variable with this data gets another mode.
     pub fn mode_change(
         &mut self,
         var: Var,
@@ -102,7 +103,7 @@ impl Notes {
         self.news.mode_change(var, sampling, before)
     }
 
-    /// A variable was deleted.
+    /// Notes that a variable was deleted.
     pub fn var_deleted(&mut self, var: Var) -> Result<(), AllocError>
         ensures { OnOk result (AppendsNews self.old (told.DeleteVar var ∷ []) self.new) }
     {
@@ -112,7 +113,27 @@ impl Notes {
         self.news.delete_var(var)
     }
 
-    /// A clause with these literals was deleted.
+    /// Notes a derived clause with these sorted literals, which changed what is stored in this way. The ids that it
+    /// rests on are listed.
+    #[inline(always)]
+    pub fn derived(
+        &mut self,
+        change: Change,
+        id: u64,
+        redundant: bool,
+        literals: &[Lit],
+    ) -> Result<(), AllocError>
+        ensures { OnOk result (AppendsNews self.old
+            (stored_as change id redundant literals.now self.old.rests_on.ids.items) self.new) }
+    {
+        if !self.hears {
+            return Ok(());
+        }
+        self.news
+            .derived(change, id, redundant, literals, self.rests_on.ids())
+    }
+
+    /// Notes that a clause with these literals was deleted.
     pub fn deleted(&mut self, literals: &[Lit], deletion: Deletion) -> Result<(), AllocError>
         ensures { OnOk result (AppendsNews self.old (deletion_told literals.now deletion) self.new) }
     {
@@ -122,6 +143,7 @@ impl Notes {
         self.news.deleted(literals, deletion)
     }
 
+    /// Notes a model.
     pub fn model(&mut self, assignment: &[Lit]) -> Result<(), AllocError>
         ensures { OnOk result (AppendsNews self.old (told.Model assignment.now ∷ []) self.new) }
     {
@@ -131,6 +153,7 @@ impl Notes {
         self.news.model(assignment)
     }
 
+    /// Notes assumptions.
     pub fn assumptions(&mut self, assumptions: &[Lit]) -> Result<(), AllocError>
         ensures { OnOk result (AppendsNews self.old (told.Assumptions assumptions.now ∷ []) self.new) }
     {
@@ -142,29 +165,29 @@ impl Notes {
 }
 
 impl Formula {
-    /// Notes what a clause of the formula will announce.
+    /// Notes what a clause of the formula, which has these sorted literals, announces.
     pub fn note_input(
         &self,
-        clause: &[Lit],
+        literals: &[Lit],
         notes: &mut Notes,
         looks: &mut Looks,
     ) -> Result<(), AllocError>
-        ensures noted { OnOk result ((f : Stored) → KeepsFormula self.now f
-            → AppendsNews notes.old (input clause.now f) notes.new) }
+        requires { IsIncreasing literals.now }
+        ensures noted { OnOk result ((f : Stored) (clause : List ℕ) → KeepsFormula self.now f
+            → literals.now ≡ canonical clause → AppendsNews notes.old (input clause f) notes.new) }
         ensures looks { LooksOver (KeepsFormula self.now) literal_count looks.old looks.new }
     {
         if !notes.hears {
             return Ok(());
         }
-        let both_signs = copy_canonical(&mut notes.literals, clause)?;
-        let literals = notes.literals.as_slice();
+        let both_signs = has_both_signs(literals);
         let same = self.id_of_set(literals, looks);
         notes
             .news
             .input(self.status.next_id, literals, both_signs, same)
     }
 
-    /// What the deletion of a clause, which has these sorted literals, will announce.
+    /// Returns what the deletion of a clause, which has these sorted literals, announces.
     #[inline(always)]
     pub fn deletion(
         &self,
@@ -188,8 +211,8 @@ impl Formula {
         self.deletion_heard(literals, proof, looks)
     }
 
-    /// What a deletion will announce: the id of its clause, and of the one that it was simplified from. Somebody
-    /// listens.
+    /// Returns what a deletion announces: the id of its clause, and of the one that it was simplified from. There is a
+    /// listener.
     #[inline(never)]
     fn deletion_heard(
         &self,
@@ -221,65 +244,28 @@ impl Formula {
         }
     }
 
-    /// What storing sorted literals as a derived clause will change. Those with both signs of a variable aren't stored.
-    fn clause_change(
-        &self,
-        redundant: bool,
-        both_signs: bool,
-        literals: &[Lit],
-        looks: &mut Looks,
-    ) -> Change
-        ensures change { (f : Stored) → KeepsFormula self.now f → AreLong f → (ids : List ℕ) →
-            stored_as result f.next_id redundant literals.now ids
-            ≡ (if both_signs then [] else derived_set redundant literals.now ids f (id_of_set literals.now f)) }
-        ensures looks { LooksOver (KeepsFormula self.now) literal_count looks.old looks.new }
-    {
-        if both_signs {
-            return Change::Neither;
-        }
-        self.change(redundant, literals, looks)
-    }
-
-    /// Notes what storing a clause will announce, which passed the last propagation check.
+    /// Lists the ids of the clauses that a derived clause rests on, which passed the last propagation check, if there
+    /// is a listener. `literals` are its sorted literals.
     #[inline(always)]
-    pub fn note_derived(
+    pub fn note_propagations(
         &self,
-        redundant: bool,
         clause: &[Lit],
+        literals: &[Lit],
         notes: &mut Notes,
         looks: &mut Looks,
     ) -> Result<(), AllocError>
+        requires set { literals.now ≡ canonical clause.now }
         requires explained { self.now.passed.lost ≡ false → (hashes : List ℕ) × Explained self.now clause.now hashes }
-        ensures noted { OnOk result ((f : Stored) (hashes : List ℕ) → KeepsFormula self.now f → AreLong f
-            → (self.now.passed.lost ≡ false → Explained self.now clause.now hashes)
-            → AppendsNews notes.old (derived redundant clause.now hashes f) notes.new) }
-        ensures looks { LooksOver (KeepsFormula self.now)
-            (λ f. noted_length self.now.store.clauses self.now.passed + literal_count f) looks.old looks.new }
+        ensures listed { OnOk result ((f : Stored) (hashes : List ℕ) → KeepsFormula self.now f
+            → (self.now.passed.lost ≡ false → Explained self.now clause.now hashes) → IsTrue notes.old.hears
+            → notes.new.rests_on.ids.items ≡ propagations f clause.now hashes) }
+        ensures hears { notes.new.hears ≡ notes.old.hears }
+        ensures news { notes.new.news ≡ notes.old.news }
+        ensures looks { LooksUpTo (noted_length self.now.store.clauses self.now.passed) looks.old looks.new }
     {
         if !notes.hears {
             return Ok(());
         }
-        self.note_heard(redundant, clause, notes, looks)
-    }
-
-    /// Notes what a derived clause announces, with the ids of the clauses that it rests on. Somebody listens.
-    #[inline(never)]
-    fn note_heard(
-        &self,
-        redundant: bool,
-        clause: &[Lit],
-        notes: &mut Notes,
-        looks: &mut Looks,
-    ) -> Result<(), AllocError>
-        requires explained { self.now.passed.lost ≡ false → (hashes : List ℕ) × Explained self.now clause.now hashes }
-        ensures noted { OnOk result ((f : Stored) (hashes : List ℕ) → KeepsFormula self.now f → AreLong f
-            → (self.now.passed.lost ≡ false → Explained self.now clause.now hashes)
-            → AppendsNews notes.old (derived redundant clause.now hashes f) notes.new) }
-        ensures looks { LooksOver (KeepsFormula self.now)
-            (λ f. noted_length self.now.store.clauses self.now.passed + literal_count f) looks.old looks.new }
-    {
-        let both_signs = copy_canonical(&mut notes.literals, clause)?;
-        let literals = notes.literals.as_slice();
         notes.rests_on.list(
             &self.store,
             &self.units,
@@ -287,19 +273,14 @@ impl Formula {
             clause,
             literals,
             looks,
-        )?;
-        let change = self.clause_change(redundant, both_signs, literals, looks);
-        let id = self.status.next_id;
-        notes
-            .news
-            .derived(change, id, redundant, literals, notes.rests_on.ids())
+        )
     }
 
-    /// What storing a unit will change.
-    fn unit_change(&self, lit: Lit) -> Change
-        ensures { (f : Stored) → KeepsFormula self.now f → AreLong f → (ids : List ℕ) →
-            stored_as result f.next_id false (lit ∷ []) ids
-            ≡ derived_set false (lit ∷ []) ids f (id_of_set (lit ∷ []) f) }
+    /// Returns what storing a clause of one literal will change.
+    pub fn unit_change(&self, lit: Lit) -> Change
+        ensures { (f : Stored) → KeepsFormula self.now f → AreLong f → (redundant : Bool) (ids : List ℕ) →
+            stored_as result f.next_id redundant (lit ∷ []) ids
+            ≡ derived_set redundant (lit ∷ []) ids f (id_of_set (lit ∷ []) f) }
     {
         match self.units.id(lit) {
             None => Change::New,
@@ -307,7 +288,7 @@ impl Formula {
         }
     }
 
-    /// Notes what storing a unit will announce, which passed the last propagation check.
+    /// Notes what storing a unit announces, which passed the last propagation check.
     pub fn note_unit(
         &self,
         lit: Lit,

@@ -212,7 +212,7 @@ long_fails : (e : StoreError) (T K : Type 0) (F : Formula) (f : Stored) (r : Boo
 long_fails e T K F f r [] l k h = absurd (omega arith)
 long_fails e T K F f r (x ∷ []) l k h = absurd (omega arith)
 long_fails OutOfMemory T K F f r (x ∷ y ∷ ls) l k h = tt
-long_fails CounterEnd T K F f r (x ∷ y ∷ ls) l k h = count_spent F F.store f x y ls (record { id = 0; is_new = true }) k r (h refl)
+long_fails CounterEnd T K F f r (x ∷ y ∷ ls) l k h = count_spent F F.store f x y ls (record { id = 0; is_new = true; irredundant = 0 }) k r (h refl)
 
 pub long_refused : {T : Type 0} (result : Result T StoreError) (d e : StoreError) → result ≡ Err d → d ≡ e → (K : Type 0) (F : Formula) (f : Stored) (r : Bool) (ls : List ℕ) → 2 ≤ length ls → KeepsFormula F f
     → (e ≡ CounterEnd → 2 ^ 64 ≤ count_in r (clause_with ls f.clauses) + 1) → KeepsOrSpends result K (with_canonical r ls f)

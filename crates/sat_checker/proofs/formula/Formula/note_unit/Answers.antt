@@ -20,6 +20,6 @@ pub returns-clause-noted : goal.returns-clause-noted
 returns-clause-noted c = on_ok c.derived.result _ _
     (λ noted f hashes k long e h.
     derived_noted c.derived.new.self c.args.notes.now.news c.unit_change-change.result c.args.self.now.status.next_id false false (c.args.lit ∷ []) (c.args.lit ∷ []) hashes c.ids.result.now f
-    noted (ap (λ (s : RestOfStored). s.next_id) k.status) (c.unit_change-change.ensures f k long c.ids.result.now) refl refl
+    noted (ap (λ (s : RestOfStored). s.next_id) k.status) (c.unit_change-change.ensures f k long false c.ids.result.now) refl refl
     (c.ids.ensures ∙ c.in_ok-list.ensures.listed f hashes k.clauses k.units e k.numbered.of_units.increasing))
     c.derived.ensures.ok

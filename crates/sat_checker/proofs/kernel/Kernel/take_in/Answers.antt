@@ -1,7 +1,8 @@
-use Rattle.std.proofs.Common.{refl, sym, subst, rules}
+use Rattle.std.proofs.Common.{refl, sym, ap, ◌∙◌, subst, rules}
 use Rattle.sat_checker.specs.CheckerView.{seen}
-use Rattle.sat_checker.specs.inner.TellingSteps.{TellsAndKeepsState}
-use Rattle.sat_checker.specs.telling.Hearing.{hearers, HearsFirst}
+use Rattle.sat_checker.specs.inner.TellingSteps.{announced_by, put_back, was_of, TellsAndKeepsState}
+use Rattle.sat_checker.specs.inner.VariablesView.{variable_at}
+use Rattle.sat_checker.specs.telling.Hearing.{hearers, HearsAll, HearsFirst}
 use Rattle.sat_checker.specs.telling.ProcessingView.{HearsEach}
 use Rattle.sat_checker.proofs.lemmas.telling.Heard.{all_quiet}
 use Rattle.sat_checker.proofs.lemmas.telling.Taken.{taken_from}
@@ -11,6 +12,12 @@ pub returns-then-not-hears : goal.returns-then-not-hears
 returns-then-not-hears g c = λ told is. (
   record { state = refl; looks = refl },
   (c.requires.well, search rules, all_quiet (HearsFirst g.O.ProofProcessor.takes (HearsEach g.P.ProofProcessor.takes g.T.ProofTranscriptProcessor.reads)) (hearers c.args.own.now c.args.others.now) (c.requires.quiet c.if-not-hears.true) told),
+)
+
+pub returns-then-is_empty : goal.returns-then-is_empty
+returns-then-is_empty g c = λ told is. (
+  record { state = refl; looks = refl },
+  (c.requires.well, search rules, subst (λ ts. HearsAll (HearsFirst g.O.ProofProcessor.takes (HearsEach g.P.ProofProcessor.takes g.T.ProofTranscriptProcessor.reads)) ts (hearers c.args.own.now c.args.others.now) (hearers c.args.own.now c.args.others.now)) (sym (is c.if-not-hears.false ∙ ap (announced_by (put_back (was_of c.args.was.now) (variable_at c.args.self.now.state.variables))) (c.is_empty.ensures c.if-is_empty.true))) refl),
 )
 
 pub tell-requires-clause-recorded : goal.tell-requires-clause-recorded

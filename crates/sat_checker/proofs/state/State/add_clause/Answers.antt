@@ -16,20 +16,11 @@ returns-then-self-clause-looks c = record { rise = grind (arith, common_steps); 
 pub returns-then-not-are_sampling-clause-looks : goal.returns-then-not-are_sampling-clause-looks
 returns-then-not-are_sampling-clause-looks c = record { rise = grind (arith, common_steps); most = λ f k. no_less c.args.looks.now _ }
 
-pub returns-in_err-note_input-clause-looks : goal.returns-in_err-note_input-clause-looks
-returns-in_err-note_input-clause-looks c = record {
-  rise = grind (arith, common_steps);
-  most = λ f k.
-      let filed = c.file.ensures.looks.most f k.formula in
-      let h = c.note_input.ensures.looks.most f (c.file.ensures.kept f k.formula) in omega arith;
-}
-
 pub returns-in_err-store_input-clause-looks : goal.returns-in_err-store_input-clause-looks
 returns-in_err-store_input-clause-looks c = record {
   rise = grind (arith, common_steps);
   most = λ f k.
       let filed = c.file.ensures.looks.most f k.formula in
-      let h = c.note_input.ensures.looks.most f (c.file.ensures.kept f k.formula) in
       let stored = c.store_input.ensures.looks.most f (record { formula = c.file.ensures.kept f k.formula; variables = k.variables; assumed = k.assumed }) in
       omega arith;
 }
@@ -39,7 +30,6 @@ returns-clause-looks c = record {
   rise = grind (arith, common_steps);
   most = λ f k.
       let filed = c.file.ensures.looks.most f k.formula in
-      let h = c.note_input.ensures.looks.most f (c.file.ensures.kept f k.formula) in
       let stored = c.store_input.ensures.looks.most f (record { formula = c.file.ensures.kept f k.formula; variables = k.variables; assumed = k.assumed }) in
       omega arith;
 }
@@ -50,12 +40,9 @@ returns-clause-decides c = λ f k. (
   added _ f c.args.clause.now (sym (ap (λ (s : RestOfStored). s.unsat) k.formula.status) ∙ c.if-self.false) (c.in_ok-store_input.ensures.stored f (record { formula = c.file.ensures.kept f k.formula; variables = k.variables; assumed = k.assumed })),
 )
 
-pub returns-in_err-note_input-clause-decides : goal.returns-in_err-note_input-clause-decides
-returns-in_err-note_input-clause-decides c = let p = err_from_is_err_and c.from_residual.result c.from_residual.ensures.1 in rw (p.1, p.2) (λ f k. inr (sampling_kept c.args.self.now.variables f c.args.clause.now k.variables c.if-not-are_sampling.ensures))
-
 pub returns-in_err-store_input-clause-decides : goal.returns-in_err-store_input-clause-decides
 returns-in_err-store_input-clause-decides c = λ f k.
-    let p = err_from_is_err_and c.from_residual-in_err-store_input.result c.from_residual-in_err-store_input.ensures.1 in
+    let p = err_from_is_err_and c.from_residual.result c.from_residual.ensures.1 in
     decides_err c.store_input.result _ p.0 _ c.in_err-store_input.was p.1 p.2 _ _ _ _ _ (inr (sampling_kept c.args.self.now.variables f c.args.clause.now k.variables c.if-not-are_sampling.ensures))
     (added_spent f c.args.clause.now (sym (ap (λ (s : RestOfStored). s.unsat) k.formula.status) ∙ c.if-self.false)) (c.store_input.ensures.stored f (record { formula = c.file.ensures.kept f k.formula; variables = k.variables; assumed = k.assumed }))
 
@@ -65,11 +52,8 @@ returns-then-self-clause-noted c = λ t f k long. unsat_noted f c.args.clause.no
 pub returns-then-not-are_sampling-clause-noted : goal.returns-then-not-are_sampling-clause-noted
 returns-then-not-are_sampling-clause-noted c = λ t. absurd (true≢false (sym t))
 
-pub returns-in_err-note_input-clause-noted : goal.returns-in_err-note_input-clause-noted
-returns-in_err-note_input-clause-noted c = IfOk-from_err c.from_residual.result _ c.from_residual.ensures.0
-
 pub returns-in_err-store_input-clause-noted : goal.returns-in_err-store_input-clause-noted
-returns-in_err-store_input-clause-noted c = IfOk-from_err c.from_residual-in_err-store_input.result _ c.from_residual-in_err-store_input.ensures.0
+returns-in_err-store_input-clause-noted c = IfOk-from_err c.from_residual.result _ c.from_residual.ensures.0
 
 pub returns-clause-noted : goal.returns-clause-noted
-returns-clause-noted c = λ t f k long. input_noted f c.args.clause.now c.args.notes.now c.note_input.new.notes (sym (ap (λ (s : RestOfStored). s.unsat) k.formula.status) ∙ c.if-self.false) (c.in_ok-note_input.ensures.noted f (c.file.ensures.kept f k.formula))
+returns-clause-noted c = λ t f k long. input_noted f c.args.clause.now c.args.notes.now c.store_input.new.notes (sym (ap (λ (s : RestOfStored). s.unsat) k.formula.status) ∙ c.if-self.false) (c.in_ok-store_input.ensures.noted f (record { formula = c.file.ensures.kept f k.formula; variables = k.variables; assumed = k.assumed }))

@@ -5,12 +5,12 @@ use Rattle.sat_checker.specs.Looks.{literal_count}
 use Rattle.sat_checker.specs.inner.Reasons.{noted_length}
 use Rattle.sat_checker.proofs.lemmas.state.Checks.{checks_as, kept_beside}
 use Rattle.sat_checker.proofs.lemmas.state.Keeping.{decides_err}
-use Rattle.sat_checker.proofs.lemmas.telling.Noting.{looks_judged, looks_noted, looks_stored}
+use Rattle.sat_checker.proofs.lemmas.telling.Noting.{looks_judged, looks_noted}
 use Rattle.std.proofs.lemmas.Grind.{common_steps}
 use Rattle.sat_checker.proofs.state.State.at_clause.Goals as goal
 
-pub note_derived-requires : goal.note_derived-requires
-note_derived-requires c = record { explained = λ whole. (c.args.hashes.now, c.in_ok-check.ensures.explained c.if-not-branch.false whole) }
+pub store_derived-requires : goal.store_derived-requires
+store_derived-requires c = λ whole. (c.args.hashes.now, c.in_ok-check.ensures.explained c.if-not-branch.false whole)
 
 pub returns-then-not-branch-clause-decides : goal.returns-then-not-branch-clause-decides
 returns-then-not-branch-clause-decides c = λ f k p. true≢false (sym ((c.in_ok-check.ensures.exact f (checks_as c.file.new.self f (c.file.ensures.kept f k.formula))).1 p) ∙ c.if-not-branch.true)
@@ -23,9 +23,6 @@ returns-clause-decides c = λ f k. (
 
 pub returns-in_err-check-clause-decides : goal.returns-in_err-check-clause-decides
 returns-in_err-check-clause-decides c = let p = err_from_is_err_and c.from_residual.result c.from_residual.ensures.1 in rw (p.1, p.2) (λ f k. absurd (c.in_err-check.ensures.short f (checks_as c.file.new.self f (c.file.ensures.kept f k.formula))))
-
-pub returns-in_err-note_derived-clause-decides : goal.returns-in_err-note_derived-clause-decides
-returns-in_err-note_derived-clause-decides c = let p = err_from_is_err_and c.from_residual-in_err-note_derived.result c.from_residual-in_err-note_derived.ensures.1 in rw (p.1, p.2) (λ f k. (c.in_ok-check.ensures.exact f (checks_as c.file.new.self f (c.file.ensures.kept f k.formula))).0 c.if-not-branch.false)
 
 pub returns-in_err-store_derived-clause-decides : goal.returns-in_err-store_derived-clause-decides
 returns-in_err-store_derived-clause-decides c = λ f k.
@@ -44,34 +41,8 @@ returns-then-not-branch-clause-looks c = record {
   most = λ f k. looks_judged c.args.looks.now c.file.new.looks c.check.new.looks (length c.args.hashes.now) (literal_count f) (c.file.ensures.looks.most f k.formula) (c.check.ensures.looks.most f (checks_as c.file.new.self f (c.file.ensures.kept f k.formula)));
 }
 
-pub returns-in_err-note_derived-clause-looks : goal.returns-in_err-note_derived-clause-looks
-returns-in_err-note_derived-clause-looks c = record {
-  rise = grind (arith, common_steps);
-  most = λ f k.
-      looks_noted c.args.looks.now c.file.new.looks c.check.new.looks c.note_derived.new.looks (noted_length c.check.new.self.store.clauses c.check.new.self.passed) (length c.args.hashes.now) (literal_count f) (c.file.ensures.looks.most f k.formula) (c.check.ensures.looks.most f (checks_as c.file.new.self f (c.file.ensures.kept f k.formula))) c.in_ok-check.ensures.read (c.note_derived.ensures.looks.most f (kept_beside c.file.new.self c.check.new.self f c.check.ensures.rest (c.file.ensures.kept f k.formula)));
-}
-
-pub returns-in_err-store_derived-clause-looks : goal.returns-in_err-store_derived-clause-looks
-returns-in_err-store_derived-clause-looks c = record {
-  rise = grind (arith, common_steps);
-  most = λ f k.
-      looks_stored c.args.looks.now c.file.new.looks c.check.new.looks c.note_derived.new.looks c.store_derived.new.looks (noted_length c.check.new.self.store.clauses c.check.new.self.passed) (length c.args.hashes.now) (literal_count f) (c.file.ensures.looks.most f k.formula) (c.check.ensures.looks.most f (checks_as c.file.new.self f (c.file.ensures.kept f k.formula))) c.in_ok-check.ensures.read (c.note_derived.ensures.looks.most f (kept_beside c.file.new.self c.check.new.self f c.check.ensures.rest (c.file.ensures.kept f k.formula)))
-      (c.store_derived.ensures.looks.most f (record { formula = kept_beside c.file.new.self c.check.new.self f c.check.ensures.rest (c.file.ensures.kept f k.formula); variables = k.variables; assumed = k.assumed }));
-}
-
-pub returns-clause-looks : goal.returns-clause-looks
-returns-clause-looks c = record {
-  rise = grind (arith, common_steps);
-  most = λ f k.
-      looks_stored c.args.looks.now c.file.new.looks c.check.new.looks c.note_derived.new.looks c.store_derived.new.looks (noted_length c.check.new.self.store.clauses c.check.new.self.passed) (length c.args.hashes.now) (literal_count f) (c.file.ensures.looks.most f k.formula) (c.check.ensures.looks.most f (checks_as c.file.new.self f (c.file.ensures.kept f k.formula))) c.in_ok-check.ensures.read (c.note_derived.ensures.looks.most f (kept_beside c.file.new.self c.check.new.self f c.check.ensures.rest (c.file.ensures.kept f k.formula)))
-      (c.store_derived.ensures.looks.most f (record { formula = kept_beside c.file.new.self c.check.new.self f c.check.ensures.rest (c.file.ensures.kept f k.formula); variables = k.variables; assumed = k.assumed }));
-}
-
 pub returns-in_err-check-clause-noted : goal.returns-in_err-check-clause-noted
 returns-in_err-check-clause-noted c = IfOk-from_err c.from_residual.result _ c.from_residual.ensures.0
-
-pub returns-in_err-note_derived-clause-noted : goal.returns-in_err-note_derived-clause-noted
-returns-in_err-note_derived-clause-noted c = IfOk-from_err c.from_residual-in_err-note_derived.result _ c.from_residual-in_err-note_derived.ensures.0
 
 pub returns-in_err-store_derived-clause-noted : goal.returns-in_err-store_derived-clause-noted
 returns-in_err-store_derived-clause-noted c = IfOk-from_err c.from_residual-in_err-store_derived.result _ c.from_residual-in_err-store_derived.ensures.0
@@ -79,5 +50,24 @@ returns-in_err-store_derived-clause-noted c = IfOk-from_err c.from_residual-in_e
 pub returns-then-not-branch-clause-noted : goal.returns-then-not-branch-clause-noted
 returns-then-not-branch-clause-noted c = λ t. absurd (true≢false (sym t))
 
+pub returns-in_err-store_derived-clause-looks : goal.returns-in_err-store_derived-clause-looks
+returns-in_err-store_derived-clause-looks c = record {
+  rise = grind (arith, common_steps);
+  most = λ f k.
+      let kept = kept_beside c.file.new.self c.check.new.self f c.check.ensures.rest (c.file.ensures.kept f k.formula) in
+      looks_noted c.args.looks.now c.file.new.looks c.check.new.looks c.store_derived.new.looks (noted_length c.check.new.self.store.clauses c.check.new.self.passed) (length c.args.hashes.now) (literal_count f) (c.file.ensures.looks.most f k.formula) (c.check.ensures.looks.most f (checks_as c.file.new.self f (c.file.ensures.kept f k.formula))) c.in_ok-check.ensures.read
+      (c.store_derived.ensures.looks.most f (record { formula = kept; variables = k.variables; assumed = k.assumed }));
+}
+
+pub returns-clause-looks : goal.returns-clause-looks
+returns-clause-looks c = record {
+  rise = grind (arith, common_steps);
+  most = λ f k.
+      let kept = kept_beside c.file.new.self c.check.new.self f c.check.ensures.rest (c.file.ensures.kept f k.formula) in
+      looks_noted c.args.looks.now c.file.new.looks c.check.new.looks c.store_derived.new.looks (noted_length c.check.new.self.store.clauses c.check.new.self.passed) (length c.args.hashes.now) (literal_count f) (c.file.ensures.looks.most f k.formula) (c.check.ensures.looks.most f (checks_as c.file.new.self f (c.file.ensures.kept f k.formula))) c.in_ok-check.ensures.read
+      (c.store_derived.ensures.looks.most f (record { formula = kept; variables = k.variables; assumed = k.assumed }));
+}
+
 pub returns-clause-noted : goal.returns-clause-noted
-returns-clause-noted c = λ t f k long. c.in_ok-note_derived.ensures.noted f c.args.hashes.now (kept_beside c.file.new.self c.check.new.self f c.check.ensures.rest (c.file.ensures.kept f k.formula)) long (c.in_ok-check.ensures.explained c.if-not-branch.false)
+returns-clause-noted c = λ t f k long.
+    c.in_ok-store_derived.ensures.noted f c.args.hashes.now (record { formula = kept_beside c.file.new.self c.check.new.self f c.check.ensures.rest (c.file.ensures.kept f k.formula); variables = k.variables; assumed = k.assumed }) long (c.in_ok-check.ensures.explained c.if-not-branch.false)

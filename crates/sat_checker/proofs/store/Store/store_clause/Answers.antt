@@ -1,5 +1,5 @@
-use Rattle.std.proofs.Common.{arith}
-use Rattle.sat_checker.proofs.lemmas.store.Storing.{is_there, inside_more, looks_one, count_there, stored_again, stored_new}
+use Rattle.std.proofs.Common.{false, sym, ◌∙◌, arith}
+use Rattle.sat_checker.proofs.lemmas.store.Storing.{is_there, inside_more, looks_one, count_there, count_none, stored_again, stored_new}
 use Rattle.sat_checker.proofs.lemmas.store.Ids.{placed_new, placed_again}
 use Rattle.std.proofs.lemmas.Grind.{common_steps}
 use Rattle.sat_checker.proofs.store.Store.store_clause.Goals as goal
@@ -62,3 +62,13 @@ returns-clause-looks c = record {
   rise = grind (arith, common_steps);
   most = looks_one c.args.self.now c.clause_hash-hash.result c.args.looks.now c.find.new.looks c.find.ensures.looks.most;
 }
+
+pub count-irredundant-requires : goal.count-irredundant-requires
+count-irredundant-requires c = (is_there c.args.self.now.clauses c.args.literals.now c.clause_hash-hash.result c.in-Some.place c.in-Some.ensures.found).inside
+
+pub returns-in_default-clause-counted : goal.returns-in_default-clause-counted
+returns-in_default-clause-counted c = λ f k. count_none c.args.self.now f k c.args.literals.now c.clause_hash-hash.result c.clause_hash-hash.ensures c.in_default.ensures.found false
+
+pub returns-clause-counted : goal.returns-clause-counted
+returns-clause-counted c = λ f k.
+    count_there c.args.self.now f k c.args.literals.now c.clause_hash-hash.result c.clause_hash-hash.ensures c.in-Some.place c.in-Some.ensures.found false ∙ sym c.count-irredundant.ensures

@@ -1,0 +1,69 @@
+-- What storing a derived clause changes is what deriving it announces.
+use Rattle.std.proofs.Common.{ℕ, ◌+◌, ◌^◌, max, inl, inr, ◌≤◌, ◌≡◌, ◌==◌, ◌&&◌, Bool, true, false, not, cond, List, [], ◌∷◌, length, Option, None, Some, is_some, Result, Ok, Err, refl, sym, ◌∙◌, ap, arith}
+use Rattle.sat_checker.specs.Stored.{Stored, StoredClause}
+use Rattle.sat_checker.specs.Storing.{clause_with, with_input, with_stored}
+use Rattle.sat_checker.specs.announcements.Announcements.{MakeIrredundant, derived_set, id_of, id_of_set, redundant_alone}
+use Rattle.sat_checker.specs.inner.FormulaView.{KeepsOrSpends}
+use Rattle.sat_checker.specs.inner.StoreView.{Stores, count_in, id_in}
+use Rattle.sat_checker.specs.telling.AnnouncingView.{stored_as, change_in, AreLong}
+use Rattle.sat_checker.specs.declared.announce.announcing.Change.{Change}
+use Rattle.sat_checker.specs.declared.announce.announcing.Change.TheVariants as changes
+use Rattle.sat_checker.specs.declared.store.Placed.{Placed}
+use Rattle.sat_checker.specs.declared.store.Store.{Store}
+use Rattle.sat_checker.specs.declared.store.StoreError.{StoreError}
+use Rattle.sat_checker.specs.declared.store.StoreError.TheVariants.{OutOfMemory, CounterEnd}
+
+new_change : (r : Bool) (p : Placed) → p.is_new ≡ true → change_in r p ≡ changes.New
+new_change r p e = ap (λ b. cond b changes.New (cond r changes.Neither (cond (p.irredundant == 0) (changes.Irredundant p.id) changes.Neither))) e
+
+old_change : (r : Bool) (p : Placed) → p.is_new ≡ false → change_in r p ≡ cond r changes.Neither (cond (p.irredundant == 0) (changes.Irredundant p.id) changes.Neither)
+old_change r p e = ap (λ b. cond b changes.New (cond r changes.Neither (cond (p.irredundant == 0) (changes.Irredundant p.id) changes.Neither))) e
+
+-- a clause of two literals or more, by how it was placed
+pub long_change : (store : Store) (f : Stored) (id : ℕ) (r : Bool) (ls ids : List ℕ) (p : Placed) → 2 ≤ length ls → Stores store f id r ls p.id p.is_new → count_in false (clause_with ls f.clauses) ≡ p.irredundant
+    → stored_as (change_in r p) f.next_id r ls ids ≡ derived_set r ls ids f (id_of_set ls f)
+long_change store f id r [] ids p l s n = absurd (omega arith)
+long_change store f id r (x ∷ []) ids p l s n = absurd (omega arith)
+long_change store f id r (x ∷ y ∷ ls) ids p l s n = go (clause_with (x ∷ y ∷ ls) f.clauses) refl
+  where
+    by_flags : (r b : Bool) (c : ℕ) → stored_as (cond r changes.Neither (cond b (changes.Irredundant c) changes.Neither)) f.next_id r (x ∷ y ∷ ls) ids ≡ cond (not r && b) (MakeIrredundant c (x ∷ y ∷ ls) ∷ []) []
+    by_flags true b c = refl
+    by_flags false true c = refl
+    by_flags false false c = refl
+
+    go : (o : Option StoredClause) → clause_with (x ∷ y ∷ ls) f.clauses ≡ o → stored_as (change_in r p) f.next_id r (x ∷ y ∷ ls) ids ≡ derived_set r (x ∷ y ∷ ls) ids f (id_of (clause_with (x ∷ y ∷ ls) f.clauses))
+    go None e =
+        ap (λ c. stored_as c f.next_id r (x ∷ y ∷ ls) ids) (new_change r p (s.new_is ∙ ap (λ o. not (is_some o)) e))
+        ∙ sym (ap (λ o. derived_set r (x ∷ y ∷ ls) ids f (id_of o)) e)
+    go (Some c) e =
+        let irredundant : p.irredundant ≡ c.irredundant = sym n ∙ ap (count_in false) e in
+        let same : p.id ≡ c.id = s.id_is ∙ ap (λ o. id_in o id) e in
+        ap (λ d. stored_as d f.next_id r (x ∷ y ∷ ls) ids) (old_change r p (s.new_is ∙ ap (λ o. not (is_some o)) e))
+        ∙ ap (λ (k : ℕ). stored_as (cond r changes.Neither (cond (k == 0) (changes.Irredundant p.id) changes.Neither)) f.next_id r (x ∷ y ∷ ls) ids) irredundant
+        ∙ by_flags r (c.irredundant == 0) p.id ∙ ap (λ (k : ℕ). cond (not r && (c.irredundant == 0)) (MakeIrredundant k (x ∷ y ∷ ls) ∷ []) []) same
+        ∙ sym (ap (λ o. cond (not r && redundant_alone o) (MakeIrredundant c.id (x ∷ y ∷ ls) ∷ []) []) e)
+        ∙ sym (ap (λ o. derived_set r (x ∷ y ∷ ls) ids f (id_of o)) e)
+
+-- a unit that is stored already
+pub neither_told : (r : Bool) (l : ℕ) (ids : List ℕ) (f : Stored) (id : ℕ) → AreLong f → [] ≡ derived_set r (l ∷ []) ids f (Some id)
+neither_told r l ids f id long = sym (ap (λ o. cond (not r && redundant_alone o) (MakeIrredundant id (l ∷ []) ∷ []) []) (long l) ∙ none r)
+  where
+    none : (r : Bool) → cond (not r && false) (MakeIrredundant id (l ∷ []) ∷ []) [] ≡ []
+    none true = refl
+    none false = refl
+
+below_max : (a b : ℕ) → 2 ^ 64 ≤ a → 2 ^ 64 ≤ max a b
+below_max a b h = omega arith
+
+-- a clause of the formula that can't be stored
+pub input_refused : (T U : Type 0) (e : StoreError) (K L : Type 0) (c : List ℕ) (f : Stored) → KeepsOrSpends {T = T} (Err e) K (with_stored false c f) → KeepsOrSpends {T = U} (Err e) L (with_input c f)
+input_refused T U OutOfMemory K L c f k = tt
+input_refused T U CounterEnd K L c f k = elim k [
+  | inl h ↦ inl (below_max (with_stored false c f).next_id (f.next_id + 1) h)
+  | inr s ↦ inr (record { literals = s.literals; past = s.past })
+]
+
+-- an error says the same of a result of another type
+pub spent_as : (T U : Type 0) (e : StoreError) (K L : Type 0) (g : Stored) → KeepsOrSpends {T = T} (Err e) K g → KeepsOrSpends {T = U} (Err e) L g
+spent_as T U OutOfMemory K L g k = tt
+spent_as T U CounterEnd K L g k = k
