@@ -25,11 +25,11 @@ pub record MayBeDeleted (f : Stored) (v : ℕ) : Type 0 where
   pub unused : list_any (λ c. mentions c.literals v) f.clauses ≡ false
   pub not_assumed : mentions f.assumed v ≡ false
 
--- unsat is recorded, or each variable is sampling or unknown
+-- unsat is recorded, or every variable is sampling or unknown
 abbrev pub MayBeAdded : Stored → List ℕ → Type 0
 MayBeAdded f clause = (f.unsat ≡ true) ⊎ AllByRecursion (λ l. mode_of (variable l) f ≡ Sample) clause
 
--- each literal in turn passes the check as a clause under its one hash, those before it being units by then
+-- every literal in turn passes the check as a clause under its one hash, where the literals before it are units
 abbrev pub PassInTurn : Stored → List (ℕ × ℕ) → Type 0
 PassInTurn f [] = Unit {0}
 PassInTurn f (u ∷ us) = PassesByHashes f (u.0 ∷ []) (u.1 ∷ []) × PassInTurn (with_unit u.0 f) us
@@ -39,19 +39,19 @@ abbrev pub IsStrictSubset : Option (List ℕ) → List ℕ → Type 0
 IsStrictSubset None clause = ⊥
 IsStrictSubset (Some ls) clause = (is_part ls clause ≡ true) × (is_part clause ls ≡ false)
 
--- no variable stands twice
+-- no variable occurs twice
 abbrev pub VariablesApart : List ℕ → Type 0
 VariablesApart [] = Unit {0}
 VariablesApart (l ∷ ls) = (mentions ls (variable l) ≡ false) × VariablesApart ls
 
--- no variable twice, no unit contradicted, a true literal in each clause with an irredundant count, and no recorded unsat
+-- no variable twice, no unit contradicted, a true literal in every clause with an irredundant count, and no recorded unsat
 pub record FitsModel (f : Stored) (ls : List ℕ) : Type 0 where
   pub consistent : f.unsat ≡ false
   pub apart : VariablesApart ls
   pub units : AllByRecursion (λ u. is_among ls (negated u) ≡ false) (unit_literals f)
   pub clauses : AllByRecursion (λ c. (c.irredundant ≡ 0) ⊎ (list_any (is_among ls) c.literals ≡ true)) f.clauses
 
--- when a step is accepted, by what is stored before it
+-- when a step is accepted, given what is stored before it
 abbrev pub Accepts : Stored → Step → Type 0
 Accepts f (SolverVarName v name) = Unit {0}
 Accepts f (UserVarName v (Some name)) = MayGetName f v name
@@ -69,11 +69,11 @@ Accepts f (DeleteClause clause Simplified) =
 Accepts f (ChangeHashBits bits) = Unit {0}
 Accepts f (Model ls) = FitsModel f ls
 Accepts f (Assumptions ls) = Unit {0}
--- the core is among the assumptions and its negation passes the check, which it does where it has both signs of a variable
+-- the core is among the assumptions and its negation passes the check, as it does if it has both signs of a variable
 Accepts f (FailedAssumptions core hashes) = (is_part core f.assumed ≡ true) × PassesByHashes f (map negated core) hashes
 Accepts f End = Unit {0}
 
--- what an accepted step leaves, where no unit conflict was pending
+-- what an accepted step leaves, if no unit conflict was pending
 abbrev pub effect : Step → Stored → Stored
 effect (SolverVarName v None) f = with_solver_name v None f
 effect (SolverVarName v (Some name)) f = with_solver_name v (Some name) (with_known (v ∷ []) f)
@@ -98,11 +98,11 @@ abbrev pub stored_after : List Step → Stored
 stored_after [] = nothing_stored
 stored_after (step ∷ earlier) = effect step (settled (stored_after earlier))
 
--- what the next step is judged by
+-- what the next step is judged against
 abbrev pub ready_after : List Step → Stored
 ready_after steps = settled (stored_after steps)
 
--- each step is accepted in its turn
+-- every step is accepted in its turn
 abbrev pub AcceptsAll : List Step → Type 0
 AcceptsAll [] = Unit {0}
 AcceptsAll (step ∷ earlier) = AcceptsAll earlier × Accepts (ready_after earlier) step

@@ -1,4 +1,4 @@
--- What contracts see of a checker: the steps that it accepted, its input clauses among them, whether it has failed, and what those who listen have heard.
+-- What contracts see of a checker: the steps that it accepted, which include its input clauses, whether it has failed, and what its listeners have heard.
 use Rattle.std.specs.Prelude.{ℕ, ◌≡◌, ◌⊎◌, Bool, true, false, List, ◌∷◌, Result, Ok, Err, IfErr}
 use Rattle.sat_base.specs.steps.Steps.{Step, AddClause}
 use Rattle.sat_checker.specs.Spent.{IsSpent, SpentBy}
@@ -15,12 +15,12 @@ use Rattle.sat_checker.specs.declared.error.CheckerError.TheVariants as errors
 use Rattle.sat_checker.specs.declared.processing.ProcessingError.{ProcessingError}
 use Rattle.sat_checker.specs.declared.processing.ProcessingError.TheVariants as faults
 
--- what judges the steps, and who listens
+-- what judges the steps, and the listeners
 pub record Seen (L : Type 0) : Type 0 where
   pub kernel : Kernel
   pub listeners : L
 
--- this kernel, and these who listen
+-- this kernel, with these listeners
 abbrev pub seen : {L : Type 0} → Kernel → L → Seen L
 seen kernel listeners = record { kernel = kernel; listeners = listeners }
 
@@ -36,11 +36,11 @@ seen_of c = seen c.kernel c.processing
 abbrev pub seen_with : {V P T : Type 0} → V → Checker P T → Seen (Hearers V (Processing P T))
 seen_with own c = seen c.kernel (hearers own c.processing)
 
--- whether it answers nothing but HasFailed any more
+-- whether it only returns HasFailed from now on
 abbrev pub has_failed : {L : Type 0} → Seen L → Bool
 has_failed c = c.kernel.failed
 
--- how many looks at literals it has taken
+-- how many literals it has looked at
 abbrev pub looks_of : {L : Type 0} → Seen L → ℕ
 looks_of c = c.kernel.looks
 
@@ -48,15 +48,15 @@ looks_of c = c.kernel.looks
 abbrev pub IsSettled : {L : Type 0} → Seen L → Type 0
 IsSettled c = kernels.IsSettled c.kernel
 
--- One of those who were added answered the fault, where one was answered: nobody else did.
+-- If the result is a listener's fault, a listener that was added returned it.
 abbrev pub FaultsOfSomebody : {P T : Type 0} → Result Unit CheckerError → Checker P T → Type 0
 FaultsOfSomebody result old = (steps : List Step) → kernels.HasAccepted (kernel_of old) steps → IfErr result (FaultOfSomebody old.processing)
 
--- once it has failed it answers just that, whatever it keeps, and is as it was
+-- once it has failed, it returns only that, and does not change
 abbrev pub FailsAgain : {E P T : Type 0} → E → Result Unit E → Checker P T → Checker P T → Type 0
 FailsAgain fault result old new = kernels.has_failed (kernel_of old) ≡ true → (result ≡ Err fault) × (new ≡ old)
 
--- What an answer to one who would listen from here on means: these listen then, who are those before and that one.
+-- What the result means when a listener is added: the listeners are then those before and the new one.
 abbrev pub AddsListener : {L : Type 0} → Result Unit CheckerError → Kernel → Kernel → L → L → L → Type 0
 AddsListener (Ok x) old new listened listen more = (kernels.has_failed old ≡ false) × (new ≡ old) × (listen ≡ more)
 AddsListener (Err errors.OutOfMemory) old new listened listen more = (kernels.has_failed old ≡ false) × (new ≡ record old { failed = true }) × (listen ≡ listened)
@@ -68,50 +68,50 @@ AddsListener (Err errors.ProofIncomplete) old new listened listen more = ⊥
 AddsListener (Err errors.IoError) old new listened listen more = ⊥
 AddsListener (Err errors.ParseError) old new listened listen more = ⊥
 
--- How those who listen take what is told, what was told before they are looked at, and what they were then.
+-- How listeners change when they hear something, what was announced earlier, and what the listeners were then.
 module _ {L : Type 0} (Hears : L → Told → Result Unit ProcessingError → L → Type 0) (before : List Told) (begun : L) where
-  -- It has accepted these steps, the newest first, and keeps what they leave unless it has failed. Those who listen have heard all that these steps told behind what was told before.
+  -- It has accepted these steps, the newest first, and stores what they leave unless it has failed. The listeners have heard all that these steps announced after what was announced earlier.
   pub record HasAccepted (checker : Seen L) (steps : List Step) : Type 0 where
     pub kernel : kernels.HasAccepted checker.kernel steps
     pub heard : has_failed checker ≡ false → HearsSince Hears before (told_by checker.kernel.state.formula.status.conflict steps) begun checker.listeners
 
-  -- it stands where it stood, and answers nothing but HasFailed from then on
+  -- it is where it was, and only returns HasFailed from then on
   pub record Fails (new : Seen L) (steps : List Step) : Type 0 where
     pub stands : HasAccepted new steps
     pub failed : has_failed new ≡ true
 
-  -- what waited was told, and no more
+  -- what waited was announced, and no more
   pub record FailsRefusing (new : Seen L) (steps : List Step) : Type 0 where
     pub fails : Fails new steps
     pub heard : HearsSince Hears before (all_told_after steps) begun new.listeners
 
-  -- nothing more was told, or what waited
+  -- nothing more was announced, or only what waited
   pub record FailsBeforeStep (new : Seen L) (steps : List Step) : Type 0 where
     pub fails : Fails new steps
     pub heard : HearsSince Hears before (told_after steps) begun new.listeners ⊎ HearsSince Hears before (all_told_after steps) begun new.listeners
 
-  -- one of those who listen answered a fault to something among this
+  -- a listener returned a fault for some of this
   pub record FailsAtListener (e : ProcessingError) (told : List Told) (new : Seen L) (steps : List Step) : Type 0 where
     pub fails : Fails new steps
     pub heard : HearsSinceUpTo Hears e before told begun new.listeners
 
-  -- to a pending unit conflict, or to what an accepted step tells, which is among the accepted ones then
+  -- for a pending unit conflict, or for what an accepted step announces; that step then counts as accepted
   abbrev pub BreaksAt : ProcessingError → Seen L → Step → List Step → Type 0
   BreaksAt e new step steps =
       (kernels.LeavesConflict steps × FailsAtListener e (all_told_after steps) new steps)
       ⊎ (Accepts (ready_after steps) step × FailsAtListener e (told_after (step ∷ steps)) new (step ∷ steps))
 
-  -- There was no memory for the step, which is accepted, or as something was told.
+  -- Memory ran out for the step, which would be accepted, or while something was announced.
   abbrev pub StarvesAt : Seen L → Step → List Step → Type 0
   StarvesAt new step steps = (Accepts (ready_after steps) step × FailsBeforeStep new steps) ⊎ BreaksAt faults.OutOfMemory new step steps
 
-  -- the step was accepted, as the definition has it
+  -- the step was accepted, in agreement with the definition
   pub record Takes (new : Seen L) (step : Step) (steps : List Step) : Type 0 where
     pub accepts : Accepts (ready_after steps) step
     pub stands : HasAccepted new (step ∷ steps)
     pub goes_on : has_failed new ≡ false
 
-  -- What an answer to a step means, where these steps were accepted before. A refused step is one that the definition refuses; `CounterEnd` is answered only where the last id or count was given.
+  -- What the result for a step means after these accepted steps. A refused step is one that the definition refuses; `CounterEnd` is returned only if the last id or count was given.
   abbrev pub AnswersStep : Result Unit CheckerError → Seen L → Step → Seen L → List Step → Type 0
   AnswersStep (Ok x) old step new steps = (has_failed old ≡ false) × Takes new step steps
   AnswersStep (Err errors.CheckFailed) old step new steps = (has_failed old ≡ false) × (Accepts (ready_after steps) step → ⊥) × FailsRefusing new steps
@@ -123,7 +123,7 @@ module _ {L : Type 0} (Hears : L → Told → Result Unit ProcessingError → L 
   AnswersStep (Err errors.IoError) old step new steps = ⊥
   AnswersStep (Err errors.ParseError) old step new steps = ⊥
 
-  -- What an answer means where a pending unit conflict is settled, behind these steps. The empty clause has no id only where the last one was given.
+  -- What the result means when a pending unit conflict is settled after these steps. The empty clause gets no id only if the last one was given.
   abbrev pub AnswersDelayed : Result Unit CheckerError → Seen L → Seen L → List Step → Type 0
   AnswersDelayed (Ok x) old new steps = (has_failed old ≡ false) × (looks_of new ≡ looks_of old) × HasAccepted new steps × (has_failed new ≡ false) × IsSettled new
   AnswersDelayed (Err errors.CounterEnd) old new steps = (has_failed old ≡ false) × (looks_of new ≡ looks_of old) × IsSpent (ready_after steps) × FailsBeforeStep new steps
@@ -137,7 +137,7 @@ module _ {L : Type 0} (Hears : L → Told → Result Unit ProcessingError → L 
   AnswersDelayed (Err errors.IoError) old new steps = ⊥
   AnswersDelayed (Err errors.ParseError) old new steps = ⊥
 
-  -- What an answer to a clause of the formula means. A refused one leaves the checker as it was.
+  -- What the result for a clause of the formula means. A refused one does not change the checker.
   abbrev pub AnswersClause : Result Unit CheckerError → Seen L → List ℕ → Seen L → List Step → Type 0
   AnswersClause (Ok x) old clause new steps = AnswersStep (Ok x) old (AddClause clause) new steps
   AnswersClause (Err errors.CheckFailed) old clause new steps = (has_failed old ≡ false) × (Accepts (ready_after steps) (AddClause clause) → ⊥) × (new ≡ old)
@@ -150,14 +150,14 @@ module _ {L : Type 0} (Hears : L → Told → Result Unit ProcessingError → L 
   AnswersClause (Err errors.ParseError) old clause new steps = ⊥
 
 module _ {L : Type 0} (Hears : L → Told → Result Unit ProcessingError → L → Type 0) where
-  -- the answer to a step means so, whatever was accepted and told before
+  -- the result for a step means this, whatever was accepted and announced earlier
   abbrev pub ChecksStep : Result Unit CheckerError → Seen L → Step → Seen L → Type 0
   ChecksStep result old step new = (before : List Told) (begun : L) (steps : List Step) → HasAccepted Hears before begun old steps → AnswersStep Hears before begun result old step new steps
 
-  -- so does the answer where a pending unit conflict is settled
+  -- so does the result when a pending unit conflict is settled
   abbrev pub ChecksDelayed : Result Unit CheckerError → Seen L → Seen L → Type 0
   ChecksDelayed result old new = (before : List Told) (begun : L) (steps : List Step) → HasAccepted Hears before begun old steps → AnswersDelayed Hears before begun result old new steps
 
-  -- and the answer to a clause of the formula
+  -- and the result for a clause of the formula
   abbrev pub ChecksClause : Result Unit CheckerError → Seen L → List ℕ → Seen L → Type 0
   ChecksClause result old clause new = (before : List Told) (begun : L) (steps : List Step) → HasAccepted Hears before begun old steps → AnswersClause Hears before begun result old clause new steps

@@ -22,12 +22,12 @@ pub record AddsFirstClauses {L : Type 0} (old new : Seen L) (clauses added tried
   pub split : clauses ≡ (added ++ tried) ++ left
   pub looks : looks_of new ≤ looks_of old + most_looks_behind (additions (added ++ tried)) earlier
 
--- what stands where clauses were added behind these steps
+-- the accepted steps once clauses were added after these steps
 abbrev pub after_additions : List (List ℕ) → List Step → List Step
 after_additions clauses earlier = taken_after (additions clauses) earlier
 
 module _ {L : Type 0} (Hears : L → Told → Result Unit ProcessingError → L → Type 0) (before : List Told) (begun : L) where
-  -- What an answer to clauses means: each is added as by a call of its own, up to the first that isn't accepted. A refused one leaves the checker as it was.
+  -- What the result for clauses means: they are added as if by calls of their own, up to the first that isn't accepted. A refused one does not change the checker.
   abbrev pub AnswersClauses : Result Unit CheckerError → Seen L → Seen L → List (List ℕ) → List Step → Type 0
   AnswersClauses (Ok x) old new clauses earlier = AddsFirstClauses old new clauses clauses [] earlier × StandsUnfailed Hears before begun new (after_additions clauses earlier)
   AnswersClauses (Err errors.CheckFailed) old new clauses earlier =
@@ -48,6 +48,6 @@ module _ {L : Type 0} (Hears : L → Told → Result Unit ProcessingError → L 
   AnswersClauses (Err errors.ParseError) old new clauses earlier = ⊥
 
 module _ {L : Type 0} (Hears : L → Told → Result Unit ProcessingError → L → Type 0) where
-  -- the answer to clauses means so, whatever was accepted and told before
+  -- the result for clauses means this, whatever was accepted and announced earlier
   abbrev pub AddsClauses : Result Unit CheckerError → Seen L → Seen L → List (List ℕ) → Type 0
   AddsClauses result old new clauses = (before : List Told) (begun : L) (steps : List Step) → HasAccepted Hears before begun old steps → AnswersClauses Hears before begun result old new clauses steps

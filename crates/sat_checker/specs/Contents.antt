@@ -1,4 +1,4 @@
--- What is stored, when ids, the order of clauses and a pending unit conflict are left aside, and what each step makes of that.
+-- What is stored, without ids, the order of clauses and a pending unit conflict, and how every step changes that.
 use Rattle.std.specs.Prelude.{ℕ, ◌+◌, ◌-◌, ◌==◌, Bool, true, false, not, ◌&&◌, ◌||◌, Option, None, Some, List, [], ◌∷◌, map, if◌then◌else◌}
 use Rattle.sat_base.specs.values.Literals.{variable, negated}
 use Rattle.sat_base.specs.steps.Steps.{Redundant, Step, SolverVarName, UserVarName, DeleteVar, ChangeSamplingMode, AddClause, AtClause, UnitClauses, DeleteClause, ChangeHashBits, Model, Assumptions, FailedAssumptions, End}
@@ -6,12 +6,12 @@ use Rattle.sat_checker.specs.LiteralSets.{is_among, is_tautology, canonical, sam
 use Rattle.sat_checker.specs.Stored.{Sample, Witness, Hide, Variable, unknown, StoredClause, Stored, is_unit}
 use Rattle.sat_checker.specs.Storing.{clause_with, irredundant_count, redundant_count}
 
--- the redundant (true) or the irredundant count of a clause, 0 where it isn't stored
+-- the redundant (true) or the irredundant count of a clause, 0 if it isn't stored
 abbrev pub count_in : Bool → Option StoredClause → ℕ
 count_in true c = redundant_count c
 count_in false c = irredundant_count c
 
--- how often a set of literals stands among clauses, as redundant (true) or as irredundant
+-- how often a set of literals is stored, as redundant (true) or as irredundant
 abbrev pub count_of : Bool → List ℕ → List StoredClause → ℕ
 count_of redundant set clauses = count_in redundant (clause_with set clauses)
 
@@ -27,7 +27,7 @@ pub record Contents : Type 0 where
   pub ended : Bool
   pub var_deleted : Bool
 
--- what is stored, by its contents: counts by sets of literals, units by literals, the rest as it is
+-- what is stored, by its contents: counts by sets of literals, units by literals, the rest unchanged
 abbrev pub contents : Stored → Contents
 contents f = record {
   counts = λ redundant set. count_of redundant set f.clauses;
@@ -46,11 +46,11 @@ abbrev pub same_side : Bool → Bool → Bool
 same_side true redundant = redundant
 same_side false redundant = not redundant
 
--- one more where it's this one
+-- one more if it is this one
 abbrev pub more_if : Bool → ℕ → ℕ
 more_if b n = if b then n + 1 else n
 
--- one less where it's this one
+-- one less if it is this one
 abbrev pub less_if : Bool → ℕ → ℕ
 less_if b n = if b then n - 1 else n
 
@@ -62,11 +62,11 @@ one_more redundant set c = record c { counts = λ r other. more_if (same_side re
 abbrev pub one_less : Bool → List ℕ → Contents → Contents
 one_less redundant set c = record c { counts = λ r other. less_if (same_side redundant r && same_literals set other) (c.counts r other) }
 
--- a unit: nothing where it is one, unsat where its negation is one
+-- a unit: nothing if it is one already, unsat if its negation is one
 abbrev pub unit_more : ℕ → Contents → Contents
 unit_more l c = if c.units l then c else (if c.units (negated l) then record c { unsat = true } else record c { units = λ m. l == m || c.units m })
 
--- each of these units, from left to right
+-- all of these units, from left to right
 abbrev pub units_more : List ℕ → Contents → Contents
 units_more [] c = c
 units_more (l ∷ ls) c = units_more ls (unit_more l c)
@@ -81,7 +81,7 @@ set_more redundant (l ∷ m ∷ ls) c = one_more redundant (l ∷ m ∷ ls) c
 abbrev pub clause_more : Bool → List ℕ → Contents → Contents
 clause_more redundant clause c = if is_tautology clause then c else set_more redundant (canonical clause) c
 
--- a variable is like this from here on
+-- a variable has this data from now on
 abbrev pub variable_set : ℕ → Variable → Contents → Contents
 variable_set v x c = record c { variables = λ w. if w == v then x else c.variables w }
 
@@ -93,15 +93,15 @@ known_more vs c = record c { variables = λ v. if is_among vs v then record (c.v
 abbrev pub literals_known : List ℕ → Contents → Contents
 literals_known ls = known_more (map variable ls)
 
--- a variable has this solver name or none from here on
+-- a variable has this solver name or none from now on
 abbrev pub solver_name_set : ℕ → Option ℕ → Contents → Contents
 solver_name_set v name c = record c { solver_names = λ w. if w == v then name else c.solver_names w }
 
--- a variable's unit is forgotten, and it's unknown again
+-- a variable's unit is removed, and it is unknown again
 abbrev pub variable_less : ℕ → Contents → Contents
 variable_less v c = record (variable_set v unknown c) { units = λ l. c.units l && not (variable l == v); var_deleted = true }
 
--- behind a step, whether it's accepted or not
+-- after a step, whether it is accepted or not
 abbrev pub contents_after : Step → Contents → Contents
 contents_after (SolverVarName v None) c = solver_name_set v None c
 contents_after (SolverVarName v (Some name)) c = solver_name_set v (Some name) (known_more (v ∷ []) c)

@@ -1,4 +1,4 @@
--- What contracts see of a formula's text whose clauses are added: which text was read, and what an answer means.
+-- What contracts see of a formula's text whose clauses are added: which text was read, and what the result means.
 use Rattle.std.specs.Prelude.{ℕ, ◌≡◌, ◌⊎◌, true, List, [], ◌++◌, Result, Ok, Err, IfErr}
 use Rattle.sat_base.specs.device.Device.{Reader, GaveFront, GaveEnough, ReadFails}
 use Rattle.sat_base.specs.text.Tokenizing.{held}
@@ -20,7 +20,7 @@ use Rattle.sat_checker.specs.declared.error.CheckerError.TheVariants as errors
 use Rattle.sat_checker.specs.declared.error.CheckerDimacsError.{CheckerDimacsError}
 use Rattle.sat_checker.specs.declared.error.CheckerDimacsError.TheVariants as refused
 
--- the clauses of the words that have ended in a front of the text
+-- the clauses of the words that have ended in a prefix of the text
 abbrev pub AreOfFront : List ℕ → List (List ℕ) → Type 0
 AreOfFront text clauses = (front : List ℕ) × (left : List ℕ) × (text ≡ front ++ left) × (clauses ≡ (dimacs (settled front)).clauses)
 
@@ -32,7 +32,7 @@ AreRead text clauses = AreOfFront text clauses ⊎ (clauses ≡ (dimacs text).cl
 abbrev pub AreFirst : List (List ℕ) → List ℕ → Type 0
 AreFirst clauses text = (behind : List (List ℕ)) × ((dimacs text).clauses ≡ clauses ++ behind)
 
--- the text has these clauses before a fault, or there was no memory behind them
+-- the text has these clauses before a fault, or memory ran out after them
 abbrev pub FaultBehind : DimacsError → List ℕ → List (List ℕ) → Type 0
 FaultBehind (texts.Malformed line) text clauses = (n : ℕ) × (line ≡ held n) × IsDimacs text clauses (Malformed n)
 FaultBehind (texts.Limit line) text clauses = (n : ℕ) × (line ≡ held n) × IsDimacs text clauses (Limit n)
@@ -40,18 +40,18 @@ FaultBehind texts.OutOfMemory text clauses = ParsesShort text × AreOfFront text
 FaultBehind texts.Read text clauses = ⊥
 FaultBehind texts.HasFailed text clauses = ⊥
 
--- A text was read up to its fault, or to a read that failed. It is so whatever would follow.
+-- A text was read up to its fault, or to a read that failed. This holds whatever would follow.
 abbrev pub FailsBehind : DimacsError → Reader → Reader → List (List ℕ) → Type 0
 FailsBehind texts.Read from to clauses = ReadFails from to × (text : List ℕ) × GaveFront from to text × IsSoundText text × (clauses ≡ (dimacs (settled text)).clauses)
 FailsBehind error from to clauses = NoReadFailed from to × GaveEnough from to (λ text. FaultBehind error text clauses)
 
 module _ {L : Type 0} (Hears : L → Told → Result Unit ProcessingError → L → Type 0) (before : List Told) (begun : L) where
-  -- the checker goes on, but not for want of memory
+  -- the checker continues, unless memory ran out
   abbrev pub StandsBehind : DimacsError → Seen L → List Step → Type 0
   StandsBehind texts.OutOfMemory new steps = FailsBeforeStep Hears before begun new steps
   StandsBehind error new steps = StandsUnfailed Hears before begun new steps
 
-  -- What an answer to a text means, where these steps were accepted before. `Ok` comes where all clauses of the text were added. Where the text is at fault, those before the fault were; where a clause isn't accepted, those before it.
+  -- What the result for a text means after these accepted steps. It is `Ok` if all clauses of the text were added. If the text has a fault, those before the fault were added; if a clause isn't accepted, those before it.
   abbrev pub AnswersDimacs : Result Unit CheckerDimacsError → Seen L → Seen L → Reader → Reader → List Step → Type 0
   AnswersDimacs (Ok x) old new from to earlier =
       NoReadFailed from to × (clauses : List (List ℕ)) × GaveEnough from to (λ text. IsDimacs text clauses Clean) × AnswersClauses Hears before begun (Ok tt) old new clauses earlier
@@ -62,20 +62,20 @@ module _ {L : Type 0} (Hears : L → Told → Result Unit ProcessingError → L 
       NoReadFailed from to × (clauses : List (List ℕ)) × GaveEnough from to (λ text. AreRead text clauses) × AnswersClauses Hears before begun (Err error) old new clauses earlier
 
 module _ {L : Type 0} (Hears : L → Told → Result Unit ProcessingError → L → Type 0) where
-  -- the answer to a formula's text means so, whatever was accepted and told before
+  -- the result for a formula's text means this, whatever was accepted and announced earlier
   abbrev pub AddsDimacs : Result Unit CheckerDimacsError → Seen L → Seen L → Reader → Reader → Type 0
   AddsDimacs result old new from to = (before : List Told) (begun : L) (steps : List Step) → HasAccepted Hears before begun old steps → AnswersDimacs Hears before begun result old new from to steps
 
--- one of those who were added answered the fault, where one was answered
+-- if the result is a listener's fault, a listener that was added returned it
 abbrev pub DimacsFaultOfSomebody : {P T : Type 0} → Processing P T → CheckerDimacsError → Type 0
 DimacsFaultOfSomebody old (refused.Checker error) = FaultOfSomebody old error
 DimacsFaultOfSomebody old (refused.Dimacs error) = Unit {0}
 
--- an answer names the fault of one who listens only where somebody was added
+-- the result is a listener's fault only if a listener was added
 abbrev pub DimacsFaultsOfSomebody : {P T : Type 0} → Result Unit CheckerDimacsError → Checker P T → Type 0
 DimacsFaultsOfSomebody result old = (steps : List Step) → kernels.HasAccepted (kernel_of old) steps → IfErr result (DimacsFaultOfSomebody old.processing)
 
--- the clauses of the words that have ended in a text stay the first, however it goes on
+-- the clauses of the words that have ended in a text stay the first, whatever follows
 abbrev pub EndedStayFirst : Type 0
 EndedStayFirst = (text rest : List ℕ) → AreFirst (dimacs (settled text)).clauses (text ++ rest)
 

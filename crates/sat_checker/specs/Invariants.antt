@@ -1,4 +1,4 @@
--- What always holds of what is stored, and what steps leave as it was.
+-- What always holds of what is stored, and what steps leave unchanged.
 use Rattle.std.specs.Prelude.{ℕ, ◌+◌, ◌<◌, ◌≤◌, ◌≡◌, ◌⊎◌, ◌↔◌, Bool, true, false, ◌&&◌, None, Some, List, [], ◌∷◌, map, length}
 use Rattle.std.specs.List.{AllByRecursion, list_any}
 use Rattle.sat_base.specs.values.Literals.{variable}
@@ -17,7 +17,7 @@ abbrev pub EachOnce : List StoredClause → Type 0
 EachOnce [] = Unit {0}
 EachOnce (c ∷ cs) = (clause_with c.literals cs ≡ None) × EachOnce cs
 
--- each has a count
+-- all of them have a count
 abbrev pub EachCounted : List StoredClause → Type 0
 EachCounted = AllByRecursion (λ c. 0 < c.irredundant + c.redundant)
 
@@ -47,7 +47,7 @@ pub record IsTidy (f : Stored) : Type 0 where
   pub units_known : AllKnown f (unit_literals f)
   pub assumed_known : AllKnown f f.assumed
 
--- it's so after every list of accepted steps
+-- this holds after every list of accepted steps
 abbrev pub AlwaysTidy : Type 0
 AlwaysTidy = (steps : List Step) → AcceptsAll steps → IsTidy (ready_after steps)
 
@@ -59,15 +59,15 @@ UnsatStays = (f : Stored) (step : Step) → f.unsat ≡ true → (effect step f)
 abbrev pub PendingChangesNothing : Type 0
 PendingChangesNothing = (f : Stored) (step : Step) → Accepts f step ↔ Accepts (settled f) step
 
--- redundant clauses hold wherever the others do
+-- redundant clauses hold whenever the others do
 abbrev pub AllClausesHold : Type 0
 AllClausesHold = (steps : List Step) (a : Valuation) → AcceptsAll steps → Holds steps a → EachHolds a (long_clauses (ready_after steps))
 
--- each step makes of the contents what contents_after says
+-- every step changes the contents as contents_after says
 abbrev pub ContentsFollow : Type 0
 ContentsFollow = (f : Stored) (step : Step) → EachOnce f.clauses → contents (effect step f) ≡ contents_after step (contents f)
 
--- a unit conflict that is settled changes nothing of the contents
+-- settling a unit conflict does not change the contents
 abbrev pub ContentsAreSettled : Type 0
 ContentsAreSettled = (f : Stored) → contents (settled f) ≡ contents f
 
@@ -75,7 +75,7 @@ ContentsAreSettled = (f : Stored) → contents (settled f) ≡ contents f
 abbrev pub ContentsOfSteps : Type 0
 ContentsOfSteps = (steps : List Step) → contents (ready_after steps) ≡ contents_of steps
 
--- a count that is taken is one of this set and this side, and no other
+-- a count that is removed is one of this set and this side, and no other
 abbrev pub TakingCounts : Type 0
 TakingCounts = (redundant side : Bool) (set other : List ℕ) (cs : List StoredClause) → EachOnce cs →
     count_of side other (without_clause redundant set cs) ≡ less_if (same_side redundant side && same_literals set other) (count_of side other cs)
@@ -89,7 +89,7 @@ abbrev pub DerivedIsLast : Type 0
 DerivedIsLast = (steps : List Step) (clause hashes : List ℕ) → AcceptsAll (AtClause false clause hashes ∷ steps) → is_tautology clause ≡ false → 2 ≤ length (canonical clause) →
     last_literals (ready_after (AtClause false clause hashes ∷ steps)).last (ready_after (AtClause false clause hashes ∷ steps)) ≡ Some (canonical clause)
 
--- a step that stores no clause and no unit, and takes none
+-- a step that neither stores nor removes a clause or a unit
 abbrev pub leaves_last : Step → Bool
 leaves_last (SolverVarName v name) = true
 leaves_last (UserVarName v name) = true
@@ -101,15 +101,15 @@ leaves_last (FailedAssumptions core hashes) = true
 leaves_last End = true
 leaves_last step = false
 
--- such a step leaves the last irredundant clause stored as it was
+-- such a step does not change which irredundant clause was stored last
 abbrev pub LastStays : Type 0
 LastStays = (f : Stored) (step : Step) → leaves_last step ≡ true → last_literals (effect step f).last (effect step f) ≡ last_literals f.last f
 
--- so does a unit conflict that is settled
+-- neither does settling a unit conflict
 abbrev pub LastIsSettled : Type 0
 LastIsSettled = (f : Stored) → last_literals (settled f).last (settled f) ≡ last_literals f.last f
 
--- a unit is true in it, or it has an irredundant count
+-- a unit satisfies it, or it has an irredundant count
 abbrev pub Supported : List ℕ → List StoredClause → List ℕ → Type 0
 Supported us cs ls = (list_any (is_among us) ls ≡ true) ⊎ (0 < irredundant_count (clause_with ls cs))
 
@@ -134,7 +134,7 @@ pub record Orderly (f : Stored) : Type 0 where
   pub last_below : LastBelow f.next_id f.last
   pub last_holds : LastHolds f.last f.unsat (unit_literals f) f.clauses
 
--- it's so after every list of accepted steps
+-- this holds after every list of accepted steps
 abbrev pub AlwaysOrderly : Type 0
 AlwaysOrderly = (steps : List Step) → AcceptsAll steps → Orderly (ready_after steps)
 

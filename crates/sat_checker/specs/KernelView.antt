@@ -1,4 +1,4 @@
--- What contracts see of the part of a checker that judges steps: those that it accepted, input clauses among them, and whether it has failed. Who listens is left out.
+-- What contracts see of the part of a checker that judges steps: the steps that it accepted, which include input clauses, and whether it has failed. Listeners are left out.
 use Rattle.std.specs.Prelude.{ℕ, ◌≡◌, ◌≢◌, ◌⊎◌, ◌+◌, ◌≤◌, Bool, true, false, None, List, ◌∷◌, Result, Ok, Err}
 use Rattle.sat_base.specs.steps.Steps.{Step}
 use Rattle.sat_checker.specs.Stored.{Stored}
@@ -14,11 +14,11 @@ use Rattle.sat_checker.specs.declared.error.CheckerError.TheVariants as errors
 use Rattle.sat_checker.specs.declared.kernel.StepRefusal.{StepRefusal}
 use Rattle.sat_checker.specs.declared.kernel.StepRefusal.TheVariants as refusals
 
--- whether it answers nothing but HasFailed any more
+-- whether it only returns HasFailed from now on
 abbrev pub has_failed : Kernel → Bool
 has_failed k = k.failed
 
--- how many looks at literals it has taken
+-- how many literals it has looked at
 abbrev pub looks_of : Kernel → ℕ
 looks_of k = k.looks
 
@@ -26,43 +26,43 @@ looks_of k = k.looks
 abbrev pub IsSettled : Kernel → Type 0
 IsSettled k = k.state.formula.status.conflict ≡ None
 
--- What these steps leave is kept. A unit conflict that they left pending may be settled by now.
+-- It stores what these steps leave. A unit conflict that they left pending may have been settled since.
 pub record KeepsAfter (state : State) (steps : List Step) : Type 0 where
   pub formula : Stored
   pub keeps : KeepsStored state formula
   pub left : (formula ≡ stored_after steps) ⊎ (formula ≡ ready_after steps)
 
--- of what is stored, what stays to be told once a later step has failed
+-- of what is stored, what can still be returned after a later step has failed
 abbrev pub records_of : Stored → Records
 records_of f = record { unsat = f.unsat; ended = f.ended; var_deleted = f.var_deleted }
 
--- It has accepted these steps, the newest first, and keeps what they leave unless it has failed.
+-- It has accepted these steps, the newest first, and stores what they leave unless it has failed.
 pub record HasAccepted (kernel : Kernel) (steps : List Step) : Type 0 where
   pub accepted : AcceptsAll steps
   pub records : kernel.records ≡ records_of (stored_after steps)
   pub kept : kernel.failed ≡ false → KeepsAfter kernel.state steps
 
--- it stands where it stood, and answers nothing but HasFailed from then on
+-- it is where it was, and only returns HasFailed from then on
 pub record Fails (new : Kernel) (steps : List Step) : Type 0 where
   pub stands : HasAccepted new steps
   pub failed : has_failed new ≡ true
 
--- a unit conflict that these steps left is pending, and is told before the next step is judged
+-- a unit conflict that these steps left is pending, and is announced before the next step is judged
 abbrev pub LeavesConflict : List Step → Type 0
 LeavesConflict steps = (stored_after steps).conflict ≢ None
 
--- the step was accepted, as the definition has it
+-- the step was accepted, in agreement with the definition
 pub record Takes (new : Kernel) (step : Step) (steps : List Step) : Type 0 where
   pub accepts : Accepts (ready_after steps) step
   pub stands : HasAccepted new (step ∷ steps)
   pub goes_on : has_failed new ≡ false
 
--- What an answer to a step means, where these steps were accepted before. A refused step is one that the definition refuses; `CounterEnd` is answered only where the last id or count was given.
+-- What the result for a step means after these accepted steps. A refused step is one that the definition refuses; `CounterEnd` is returned only if the last id or count was given.
 abbrev pub AnswersStep : Result Unit CheckerError → Kernel → Step → Kernel → List Step → Type 0
 AnswersStep (Ok x) old step new steps = (has_failed old ≡ false) × Takes new step steps
 AnswersStep (Err errors.CheckFailed) old step new steps = (has_failed old ≡ false) × (Accepts (ready_after steps) step → ⊥) × Fails new steps
 AnswersStep (Err errors.CounterEnd) old step new steps = (has_failed old ≡ false) × SpentBy step (stored_after steps) × Fails new steps
--- for the step, which is accepted; as a pending conflict was told; or as the step was: then it is among the accepted ones
+-- for the step, which would be accepted; while a pending conflict was announced; or while the step was, which then counts as accepted
 AnswersStep (Err errors.OutOfMemory) old step new steps =
     (has_failed old ≡ false)
     × ((Accepts (ready_after steps) step × Fails new steps)
@@ -72,43 +72,43 @@ AnswersStep (Err errors.HasFailed) old step new steps = (has_failed old ≡ true
 AnswersStep (Err errors.ProofIncomplete) old step new steps = ⊥
 AnswersStep (Err errors.IoError) old step new steps = ⊥
 AnswersStep (Err errors.ParseError) old step new steps = ⊥
--- one of those who listen answered a fault, to a pending conflict or to the step
+-- a listener returned a fault, for a pending conflict or for the step
 AnswersStep (Err (errors.ProofProcessorError cause)) old step new steps =
     (has_failed old ≡ false) × ((LeavesConflict steps × Fails new steps) ⊎ (Accepts (ready_after steps) step × Fails new (step ∷ steps)))
 
--- why a step is not accepted, as an error of a checker
+-- why a step is not accepted, as a checker's error
 abbrev pub error_of : StepRefusal → CheckerError
 error_of refusals.HasFailed = errors.HasFailed
 error_of refusals.CheckFailed = errors.CheckFailed
 error_of refusals.OutOfMemory = errors.OutOfMemory
 error_of refusals.CounterEnd = errors.CounterEnd
 
--- the answer to a step of which no listener is notified, as a checker's answer
+-- the result for a step of which no listener is notified, as a checker's result
 abbrev pub answer_of : Result Unit StepRefusal → Result Unit CheckerError
 answer_of (Ok x) = Ok x
 answer_of (Err refusal) = Err (error_of refusal)
 
--- the answer to a step means so, whatever steps were accepted before
+-- the result for a step means this, whatever steps were accepted before
 abbrev pub ChecksStep : Result Unit CheckerError → Kernel → Step → Kernel → Type 0
 ChecksStep result old step new = (steps : List Step) → HasAccepted old steps → AnswersStep result old step new steps
 
--- the step takes no more looks than its bound
+-- the step needs no more looks than its bound
 abbrev pub LooksAtMost : Kernel → Step → Kernel → Type 0
 LooksAtMost old step new = (steps : List Step) → HasAccepted old steps → looks_of new ≤ looks_of old + most_looks (ready_after steps) step
 
--- What an answer means where a pending unit conflict is settled, behind these steps. The empty clause has no id only where the last one was given.
+-- What the result means when a pending unit conflict is settled after these steps. The empty clause gets no id only if the last one was given.
 abbrev pub AnswersDelayed : Result Unit CheckerError → Kernel → Kernel → List Step → Type 0
 AnswersDelayed (Ok x) old new steps = (has_failed old ≡ false) × (looks_of new ≡ looks_of old) × HasAccepted new steps × (has_failed new ≡ false) × IsSettled new
 AnswersDelayed (Err errors.CounterEnd) old new steps = (has_failed old ≡ false) × (looks_of new ≡ looks_of old) × IsSpent (ready_after steps) × Fails new steps
 AnswersDelayed (Err errors.HasFailed) old new steps = (has_failed old ≡ true) × Fails new steps
 AnswersDelayed (Err errors.CheckFailed) old new steps = ⊥
--- as it is told
+-- while it is announced
 AnswersDelayed (Err errors.OutOfMemory) old new steps = (has_failed old ≡ false) × (looks_of new ≡ looks_of old) × LeavesConflict steps × Fails new steps
 AnswersDelayed (Err (errors.ProofProcessorError cause)) old new steps = (has_failed old ≡ false) × (looks_of new ≡ looks_of old) × LeavesConflict steps × Fails new steps
 AnswersDelayed (Err errors.ProofIncomplete) old new steps = ⊥
 AnswersDelayed (Err errors.IoError) old new steps = ⊥
 AnswersDelayed (Err errors.ParseError) old new steps = ⊥
 
--- the answer where a pending unit conflict is settled means so, whatever steps were accepted before
+-- the result when a pending unit conflict is settled means this, whatever steps were accepted before
 abbrev pub ChecksDelayed : Result Unit CheckerError → Kernel → Kernel → Type 0
 ChecksDelayed result old new = (steps : List Step) → HasAccepted old steps → AnswersDelayed result old new steps

@@ -18,7 +18,7 @@ FormulaIsFold = (steps : List Step) (a : Valuation) → AcceptsAll steps → Sat
 abbrev pub UnsatMeansNone : Type 0
 UnsatMeansNone = (steps : List Step) (a : Valuation) → AcceptsAll steps → (ready_after steps).unsat ≡ true → Holds steps a → ⊥
 
--- each valuation that agrees with an accepted model and with the units is one that the steps leave, and there is one
+-- every valuation that agrees with an accepted model and with the units is one that the steps leave, and there is one
 abbrev pub ModelsExtend : Type 0
 ModelsExtend = (steps : List Step) (ls : List ℕ) → AcceptsAll steps → Accepts (ready_after steps) (Model ls) →
     ((a : Valuation) → EachTrue a ls → EachTrue a (unit_literals (ready_after steps)) → Holds steps a)
@@ -48,7 +48,7 @@ DeletedIsNameless = (f : Stored) (v : ℕ) → Accepts f (DeleteVar v) → name_
 abbrev pub NamesApart : Type 0
 NamesApart = (steps : List Step) (v w name : ℕ) → AcceptsAll steps → name_of v (ready_after steps) ≡ Some name → name_of w (ready_after steps) ≡ Some name → v ≡ w
 
--- a variable that isn't known is as it was at first
+-- a variable that isn't known has its initial data
 abbrev pub UnknownIsUnknown : Type 0
 UnknownIsUnknown = (steps : List Step) (v : ℕ) → AcceptsAll steps → is_known v (ready_after steps) ≡ false → (ready_after steps).variables v ≡ unknown
 
@@ -78,6 +78,6 @@ TautologyHasBothSigns = (ls : List ℕ) → (is_tautology ls ≡ true) ↔ ((l :
 abbrev pub SortedSetsAreEqual : Type 0
 SortedSetsAreEqual = (xs ys : List ℕ) → IsIncreasing xs → IsIncreasing ys → ((l : ℕ) → is_among xs l ≡ is_among ys l) → xs ≡ ys
 
--- lists are compared as they stand
+-- lists are compared as they are
 abbrev pub SameLiteralsAreEqual : Type 0
 SameLiteralsAreEqual = (xs ys : List ℕ) → (same_literals xs ys ≡ true) ↔ (xs ≡ ys)

@@ -1,4 +1,4 @@
--- How stored clauses that hashes name lead to a conflict. Their literals stand in any order, and what else a bucket holds doesn't matter.
+-- How stored clauses that hashes name lead to a conflict. Their literals are in any order, and what else a bucket holds doesn't matter.
 use Rattle.std.specs.Prelude.{ℕ, ◌≡◌, ◌⊎◌, ◌==◌, ◌||◌, Bool, true, Option, is_some, List, [], ◌∷◌, map}
 use Rattle.std.specs.List.{AllByRecursion}
 use Rattle.sat_base.specs.values.Literals.{negated}
@@ -10,7 +10,7 @@ use Rattle.sat_checker.specs.Stored.{Stored, is_unit, hash_by}
 use Rattle.sat_checker.specs.Storing.{clause_with}
 use Rattle.sat_checker.specs.Accepts.{PassesByHashes}
 
--- Each clause in turn has no literal but one that isn't false by then, and that one is true from there on; of the last all are false. Nothing is asked of the one literal: it may be true or false already.
+-- Every clause in turn has no other literal than one that isn't false so far, and that one is true from then on; of the last clause all are false. Nothing is asked of the one literal: it may be true or false already.
 abbrev pub LeadsToConflict : (ℕ → Bool) → List (List ℕ) → Type 0
 LeadsToConflict holds [] = ⊥
 LeadsToConflict holds (c ∷ []) = AllByRecursion (λ l. holds (negated l) ≡ true) c
@@ -23,7 +23,7 @@ pub record IsStoredByHash (f : Stored) (clause : List ℕ) (name : ℕ) : Type 0
   pub stored : is_some (clause_with (canonical clause) f.clauses) ≡ true
   pub hash : name ≡ hash_by f.solver_names f.width clause
 
--- stored clauses, and the hash of each
+-- stored clauses, and their hashes
 abbrev pub AreStoredByHash : Stored → List (List ℕ) → List ℕ → Type 0
 AreStoredByHash f [] [] = Unit {0}
 AreStoredByHash f [] (h ∷ hs) = ⊥
@@ -46,7 +46,7 @@ TurnsLead = (assumed : List ℕ) (clauses : List (List ℕ)) → UnitInTurn assu
 abbrev pub TurnsConflict : Type 0
 TurnsConflict = (a : Valuation) (assumed : List ℕ) (clauses : List (List ℕ)) → UnitInTurn assumed clauses → EachTrue a assumed → EachHolds a clauses → ⊥
 
--- what leads to a conflict does so where more holds
+-- what leads to a conflict also does so if more holds
 abbrev pub LeadsOnMore : Type 0
 LeadsOnMore = (clauses : List (List ℕ)) (p q : ℕ → Bool) → ((l : ℕ) → p l ≡ true → q l ≡ true) → LeadsToConflict p clauses → LeadsToConflict q clauses
 

@@ -1,4 +1,4 @@
--- How many looks at literals a step takes at most. The store lends the literals of a clause of two or more by one call alone, which adds the clause's length to the looks.
+-- How many looks at literals a step needs at most. The store lends the literals of a clause of two or more only by one call, which adds the clause's length to the looks.
 use Rattle.std.specs.Prelude.{ℕ, ◌+◌, ◌*◌, List, [], ◌∷◌, length}
 use Rattle.sat_base.specs.steps.Steps.{Step, AtClause, UnitClauses, FailedAssumptions}
 use Rattle.sat_checker.specs.Stored.{Stored, long_clauses}
@@ -20,7 +20,7 @@ hashes_named (UnitClauses us) = length us
 hashes_named (FailedAssumptions core hashes) = length hashes
 hashes_named step = 0
 
--- five passes over all literals, and two more for each hash that the step names
+-- five passes over all literals, and two more for every hash that the step names
 abbrev pub most_looks : Stored → Step → ℕ
 most_looks f step = (5 + 2 * hashes_named step) * literal_count f
 

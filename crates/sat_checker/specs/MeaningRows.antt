@@ -7,7 +7,7 @@ use Rattle.sat_checker.specs.Fold.{Holds}
 use Rattle.sat_checker.specs.Looks.{most_looks, most_looks_of}
 use Rattle.sat_checker.specs.Rows.{behind, ready_by, four_clauses}
 
--- this variable alone is true
+-- only this variable is true
 abbrev pub only : ℕ → Valuation
 only v w = w == v
 
@@ -29,7 +29,7 @@ EitherHolds =
 abbrev pub FourHaveNone : Type 0
 FourHaveNone = (a : Valuation) → HoldsBehind four_clauses a → ⊥
 
--- [1], and then its variable is deleted: it may be false, and so may it be where [2] is added then
+-- [1], and then its variable is deleted: it may be false, also if [2] is added then
 abbrev pub DeletedIsFree : Type 0
 DeletedIsFree =
     HoldsBehind (AddClause (0 ∷ []) ∷ DeleteVar 0 ∷ []) none_true × HoldsBehind (AddClause (0 ∷ []) ∷ DeleteVar 0 ∷ AddClause (2 ∷ []) ∷ []) (only 1)
@@ -51,7 +51,7 @@ StoredAsk =
 abbrev pub UnsatAsks : Type 0
 UnsatAsks = (a : Valuation) → Satisfies (ready_by (AddClause [] ∷ [])) a → ⊥
 
--- Eight literals are stored: 40 looks, and 16 more for each hash that is named.
+-- Eight literals are stored: 40 looks, and 16 more for every hash that is named.
 abbrev pub LooksOfKinds : Type 0
 LooksOfKinds =
     map (most_looks (ready_by four_clauses)) (AddClause (0 ∷ []) ∷ AtClause true (0 ∷ []) (1 ∷ 2 ∷ []) ∷ UnitClauses ((0, 1) ∷ []) ∷ FailedAssumptions [] (1 ∷ []) ∷ End ∷ [])

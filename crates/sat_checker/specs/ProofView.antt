@@ -1,4 +1,4 @@
--- What contracts see of a proof that is read and checked: which steps were read, and what an answer means.
+-- What contracts see of a proof that is read and checked: which steps were read, and what the result means.
 use Rattle.std.specs.Prelude.{ℕ, ◌≡◌, ◌≢◌, ◌+◌, ◌*◌, ◌≤◌, ◌<◌, ◌⊎◌, false, true, List, [], ◌∷◌, ◌++◌, length, Result, Ok, Err}
 use Rattle.std.specs.List.{AllByRecursion}
 use Rattle.sat_base.specs.device.Device.{Reader, GaveFront, FewReads, IsOver, ReadFails, most_reads, piece_size}
@@ -15,21 +15,21 @@ use Rattle.sat_checker.specs.declared.error.CheckerError.TheVariants as errors
 use Rattle.sat_checker.specs.declared.processing.ProcessingError.{ProcessingError}
 use Rattle.sat_checker.specs.declared.processing.ProcessingError.TheVariants as faults
 
--- steps in the order in which they were taken, behind earlier ones, the newest first
+-- steps in the order in which they were accepted, after earlier ones, the newest first
 abbrev pub taken_after : List Step → List Step → List Step
 taken_after [] earlier = earlier
 taken_after (step ∷ steps) earlier = taken_after steps (step ∷ earlier)
 
--- the looks that they take at most
+-- the looks that they need at most
 abbrev pub most_looks_behind : List Step → List Step → ℕ
 most_looks_behind [] earlier = 0
 most_looks_behind (step ∷ steps) earlier = most_looks (ready_after earlier) step + most_looks_behind steps (step ∷ earlier)
 
--- so many reads give at most so many bytes: 2^60
+-- this many reads give at most this many bytes: 2^60
 abbrev pub most_bytes : ℕ
 most_bytes = piece_size * most_reads
 
--- Between two moments a reader gave the text of these steps, and behind it these bytes. Few reads were made for it, and few bytes given.
+-- Between two moments a reader gave the text of these steps, and after it these bytes. Few reads were made for it, and few bytes given.
 pub record GaveSteps (old new : Reader) (steps : List Step) (rest : List ℕ) : Type 0 where
   pub text : List ℕ
   pub spelt : SpellsSteps steps text
@@ -38,7 +38,7 @@ pub record GaveSteps (old new : Reader) (steps : List Step) (rest : List ℕ) : 
   pub reads : new.calls ≤ old.calls + most_reads
   pub bytes : length (text ++ rest) ≤ most_bytes
 
--- what stands first in these bytes is a step, whole or cut off, of one byte at least
+-- these bytes begin with a step, complete or cut off, of at least one byte
 pub record BeginsWithStep (bytes : List ℕ) : Type 0 where
   pub tag : ℕ
   pub more : List ℕ
@@ -46,7 +46,7 @@ pub record BeginsWithStep (bytes : List ℕ) : Type 0 where
   pub whole : bytes ≡ (tag ∷ more) ++ behind
   pub begins : Open SpellsStep (tag ∷ more)
 
--- A proof was read so far: steps that were accepted, none of them an end, then the last step read or none, and bytes behind them.
+-- A proof was read so far: steps that were accepted, none of them an end, then the last step read or none, and the bytes after them.
 pub record ReadsProofPart {L : Type 0} (old new : Seen L) (from to : Reader) (earlier passed last : List Step) (rest : List ℕ) : Type 0 where
   pub well : has_failed old ≡ false
   pub steps : GaveSteps from to (passed ++ last) rest
@@ -62,11 +62,11 @@ abbrev pub FoundNoEnd : Reader → Reader → Type 0
 FoundNoEnd from to = from.calls < to.calls → to.ended ≡ true → ⊥
 
 module _ {L : Type 0} (Hears : L → Told → Result Unit ProcessingError → L → Type 0) (before : List Told) (begun : L) where
-  -- these steps stand, and it goes on
+  -- these steps were accepted, and it continues
   abbrev pub StandsUnfailed : Seen L → List Step → Type 0
   StandsUnfailed new steps = HasAccepted Hears before begun new steps × (has_failed new ≡ false)
 
-  -- What an answer to a proof means, where these steps were accepted before. `Ok` comes exactly where what was read are accepted steps up to the first end, of which nothing behind is looked at.
+  -- What the result for a proof means after these accepted steps. It is `Ok` exactly if what was read are accepted steps up to the first end; nothing after that is looked at.
   abbrev pub AnswersProof : Result Unit CheckerError → Seen L → Seen L → Reader → Reader → List Step → Type 0
   AnswersProof (Ok x) old new from to earlier =
       (passed : List Step) × (rest : List ℕ) × ReadsProofPart old new from to earlier passed (End ∷ []) rest × NoReadFailed from to × StandsUnfailed new (End ∷ taken_after passed earlier) × IsSettled new
@@ -74,19 +74,19 @@ module _ {L : Type 0} (Hears : L → Told → Result Unit ProcessingError → L 
   AnswersProof (Err errors.CheckFailed) old new from to earlier =
       (passed : List Step) × (step : Step) × (rest : List ℕ) × ReadsProofPart old new from to earlier passed (step ∷ []) rest × NoReadFailed from to
       × (Accepts (ready_after (taken_after passed earlier)) step → ⊥) × FailsRefusing Hears before begun new (taken_after passed earlier)
-  -- the text is over before an end, between steps or within one
+  -- the text has ended before an end, between steps or within one
   AnswersProof (Err errors.ProofIncomplete) old new from to earlier =
       (passed : List Step) × (rest : List ℕ) × ReadsProofPart old new from to earlier passed [] rest × NoReadFailed from to
       × IsOver to × IsProperFront SpellsStep rest × StandsUnfailed new (taken_after passed earlier)
-  -- no step can follow a byte
+  -- no step can continue after a byte
   AnswersProof (Err errors.ParseError) old new from to earlier =
       (passed : List Step) × (rest : List ℕ) × ReadsProofPart old new from to earlier passed [] rest × NoReadFailed from to
       × Spoilt SpellsStep rest × StandsUnfailed new (taken_after passed earlier)
-  -- exactly one read failed, the last, or so many were made and none did
+  -- exactly one read failed, the last, or the limit of reads was reached and none failed
   AnswersProof (Err errors.IoError) old new from to earlier =
       (passed : List Step) × (rest : List ℕ) × ReadsProofPart old new from to earlier passed [] rest × ReadFails from to
       × IsProperFront SpellsStep rest × StandsUnfailed new (taken_after passed earlier)
-  -- as a step is read, of which a byte was, or as it is checked or told
+  -- while a step was read, after one of its bytes, or while it was checked or announced
   AnswersProof (Err errors.OutOfMemory) old new from to earlier =
       (passed : List Step) × (rest : List ℕ) × NoReadFailed from to
       × ((ReadsProofPart old new from to earlier passed [] rest × BeginsWithStep rest × FailsBeforeStep Hears before begun new (taken_after passed earlier))
@@ -95,13 +95,13 @@ module _ {L : Type 0} (Hears : L → Told → Result Unit ProcessingError → L 
   AnswersProof (Err errors.CounterEnd) old new from to earlier =
       (passed : List Step) × (step : Step) × (rest : List ℕ) × ReadsProofPart old new from to earlier passed (step ∷ []) rest × NoReadFailed from to
       × SpentBy step (stored_after (taken_after passed earlier)) × FailsBeforeStep Hears before begun new (taken_after passed earlier)
-  -- one of those who listen answered a fault
+  -- a listener returned a fault
   AnswersProof (Err (errors.ProofProcessorError cause)) old new from to earlier =
       (passed : List Step) × (step : Step) × (rest : List ℕ) × ReadsProofPart old new from to earlier passed (step ∷ []) rest × NoReadFailed from to
       × BreaksAt Hears before begun (faults.ProofProcessorError cause) new step (taken_after passed earlier)
   AnswersProof (Err errors.HasFailed) old new from to earlier = (has_failed old ≡ true) × (to ≡ from) × (new ≡ old)
 
 module _ {L : Type 0} (Hears : L → Told → Result Unit ProcessingError → L → Type 0) where
-  -- the answer to a proof means so, whatever was accepted and told before
+  -- the result for a proof means this, whatever was accepted and announced earlier
   abbrev pub ChecksProof : Result Unit CheckerError → Seen L → Seen L → Reader → Reader → Type 0
   ChecksProof result old new from to = (before : List Told) (begun : L) (steps : List Step) → HasAccepted Hears before begun old steps → AnswersProof Hears before begun result old new from to steps

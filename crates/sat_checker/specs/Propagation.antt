@@ -4,18 +4,18 @@ use Rattle.std.specs.List.{AllByRecursion, list_any}
 use Rattle.sat_base.specs.values.Literals.{negated}
 use Rattle.sat_checker.specs.LiteralSets.{is_among, is_tautology}
 
--- each literal of the clause is false where the assumed literals are true
+-- every literal of the clause is false if the assumed literals are true
 abbrev pub IsFalsified : List ℕ → List ℕ → Type 0
 IsFalsified assumed clause = AllByRecursion (λ l. is_among assumed (negated l) ≡ true) clause
 
--- the literal is in the clause and not assigned, and each other literal of the clause is false
+-- the literal is in the clause and not assigned, and every other literal of the clause is false
 pub record IsUnit (assumed clause : List ℕ) (open_literal : ℕ) : Type 0 where
   pub within : is_among clause open_literal ≡ true
   pub not_true : is_among assumed open_literal ≡ false
   pub not_false : is_among assumed (negated open_literal) ≡ false
   pub others : AllByRecursion (λ l. (l ≡ open_literal) ⊎ (is_among assumed (negated l) ≡ true)) clause
 
--- each clause but the last is unit in its turn, its literal being assumed from there on, and the last is falsified
+-- every clause but the last is unit in its turn, its literal being assumed from then on, and the last is falsified
 abbrev pub UnitInTurn : List ℕ → List (List ℕ) → Type 0
 UnitInTurn assumed [] = ⊥
 UnitInTurn assumed (clause ∷ []) = IsFalsified assumed clause

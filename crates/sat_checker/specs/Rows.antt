@@ -14,7 +14,7 @@ behind (step ∷ steps) earlier = behind steps (step ∷ earlier)
 abbrev pub left_by : List Step → Stored
 left_by steps = stored_after (behind steps [])
 
--- what the step behind them is judged by
+-- what the step after them is judged against
 abbrev pub ready_by : List Step → Stored
 ready_by steps = ready_after (behind steps [])
 
@@ -34,11 +34,11 @@ no_names v = None
 abbrev pub HashesOfOneTwo : Type 0
 HashesOfOneTwo = map (λ width. hash_by no_names width (0 ∷ 2 ∷ [])) (64 ∷ 8 ∷ 6 ∷ 0 ∷ []) ≡ 0x449114950295082a ∷ 0x44 ∷ 17 ∷ 0 ∷ []
 
--- the end alone
+-- only the end
 abbrev pub EndAlone : Type 0
 EndAlone = AllAccepted (End ∷ []) × ((left_by (End ∷ [])).ended ≡ true) × ((left_by (End ∷ [])).unsat ≡ false)
 
--- a name is put on a variable again, which is known still and so keeps its unit
+-- a name is put on a variable again, which is still known and so keeps its unit
 abbrev pub named_again : List Step
 named_again =
     UserVarName 0 (Some 0) ∷ AddClause (0 ∷ []) ∷ UserVarName 0 None ∷ ChangeSamplingMode 0 true ∷ UserVarName 0 (Some 0) ∷ AddClause (1 ∷ []) ∷ End ∷ []
@@ -68,22 +68,22 @@ FourAndFive steps = AllAccepted steps × ((left_by steps).units ≡ record { id 
 abbrev pub Refuted : Type 0
 Refuted = FourAndFive refuted
 
--- the same at width 0, where one bucket has all clauses
+-- the same at width 0, when one bucket has all clauses
 abbrev pub RefutedAtZero : Type 0
 RefutedAtZero = FourAndFive (four_clauses ++ ChangeHashBits 0 ∷ AtClause false (0 ∷ []) (0 ∷ []) ∷ AtClause false [] (0 ∷ []) ∷ [])
 
--- a clause stored before takes an id and is stored once more; [3] doesn't follow
+-- a clause stored before gets an id and is stored once more; [3] doesn't follow
 abbrev pub StoredTwice : Type 0
 StoredTwice = let steps : List Step = AddClause (0 ∷ 2 ∷ []) ∷ AddClause (2 ∷ 0 ∷ 0 ∷ []) ∷ [] in
     LastRefused steps (AtClause false (4 ∷ []) [])
     × ((left_by steps).clauses ≡ record { id = 0; literals = 0 ∷ 2 ∷ []; irredundant = 2; redundant = 0 } ∷ [])
     × ((left_by steps).next_id ≡ 2)
 
--- [-2, 3, 4], [1, 2], [-2, -4] at width 0: [1, 3] follows where the one bucket is named twice
+-- [-2, 3, 4], [1, 2], [-2, -4] at width 0: [1, 3] follows if the one bucket is named twice
 abbrev pub three_at_zero : List Step
 three_at_zero = ChangeHashBits 0 ∷ AddClause (3 ∷ 4 ∷ 6 ∷ []) ∷ AddClause (0 ∷ 2 ∷ []) ∷ AddClause (3 ∷ 7 ∷ []) ∷ []
 
--- where the bucket is named once, [1, 3] doesn't follow
+-- if the bucket is named once, [1, 3] doesn't follow
 abbrev pub NamedOnce : Type 0
 NamedOnce = LastRefused three_at_zero (AtClause false (0 ∷ 4 ∷ []) (0 ∷ []))
 
@@ -109,28 +109,28 @@ Colliding = AllAccepted colliding × ((left_by colliding).unsat ≡ true) × ((l
 abbrev pub SolverNamesHash : Type 0
 SolverNamesHash = LastRefused (AddClause (0 ∷ 2 ∷ []) ∷ SolverVarName 0 (Some 5) ∷ AddClause (1 ∷ []) ∷ []) (AtClause true (2 ∷ []) (hash_of (0 ∷ 2 ∷ []) ∷ []))
 
--- the unit of a conflict takes an id, and the empty clause another one once the conflict is settled
+-- the unit of a conflict gets an id, and the empty clause another one once the conflict is settled
 abbrev pub UnitConflict : Type 0
 UnitConflict = let steps : List Step = AddClause (0 ∷ []) ∷ AddClause (1 ∷ []) ∷ [] in
     AllAccepted steps × ((left_by steps).units ≡ record { id = 0; literal = 0 } ∷ []) × ((left_by steps).unsat ≡ true)
     × ((left_by steps).conflict ≡ Some (0, 1)) × ((left_by steps).next_id ≡ 2) × ((ready_by steps).next_id ≡ 3)
 
--- of two conflicts in one step the first is told, and the empty clause comes behind the units of the step
+-- of two conflicts in one step the first is announced, and the empty clause comes after the units of the step
 abbrev pub conflict_and_unit : List Step
 conflict_and_unit =
     ChangeHashBits 0 ∷ AddClause (0 ∷ []) ∷ AddClause (1 ∷ 2 ∷ []) ∷ AddClause (1 ∷ 3 ∷ []) ∷ UnitClauses ((1, 0) ∷ (1, 0) ∷ (4, 0) ∷ []) ∷ []
 
--- the conflict is of ids 0 and 3, the unit 3 has id 5, and the empty clause takes 6
+-- the conflict is of ids 0 and 3, the unit 3 has id 5, and the empty clause gets 6
 abbrev pub ConflictAndUnit : Type 0
 ConflictAndUnit = AllAccepted conflict_and_unit × ((left_by conflict_and_unit).units ≡ record { id = 0; literal = 0 } ∷ record { id = 5; literal = 4 } ∷ [])
     × ((left_by conflict_and_unit).conflict ≡ Some (0, 3)) × ((ready_by conflict_and_unit).next_id ≡ 7)
 
--- [1, 2, 3] goes by [1, 2], whatever order it's named in and whatever the width
+-- [1, 2, 3] is deleted by [1, 2], whatever order it is named in and whatever the width
 abbrev pub SimplifiedByPart : Type 0
 SimplifiedByPart = let steps : List Step = AddClause (0 ∷ 2 ∷ 4 ∷ []) ∷ AddClause (0 ∷ 2 ∷ []) ∷ ChangeHashBits 8 ∷ DeleteClause (4 ∷ 2 ∷ 0 ∷ []) Simplified ∷ [] in
     AllAccepted steps × ((left_by steps).clauses ≡ record { id = 1; literals = 0 ∷ 2 ∷ []; irredundant = 1; redundant = 0 } ∷ [])
 
--- no clause goes by itself
+-- no clause is deleted by itself
 abbrev pub SimplifiedByItself : Type 0
 SimplifiedByItself = LastRefused (AddClause (0 ∷ 2 ∷ []) ∷ []) (DeleteClause (0 ∷ 2 ∷ []) Simplified)
 
@@ -187,7 +187,7 @@ HiddenNamed = LastRefused (UserVarName 0 (Some 7) ∷ UserVarName 0 None ∷ [])
 abbrev pub NoNameTaken : Type 0
 NoNameTaken = LastRefused (AddClause (0 ∷ []) ∷ []) (UserVarName 0 None)
 
--- [1, 2] irredundant and [3, 4] redundant: a model needs a literal of the first alone, and contradicts no unit
+-- [1, 2] irredundant and [3, 4] redundant: a model only needs a literal of the first, and contradicts no unit
 abbrev pub for_a_model : List Step
 for_a_model = AddClause (0 ∷ 2 ∷ []) ∷ AddClause (4 ∷ []) ∷ AtClause true (4 ∷ 6 ∷ []) [] ∷ []
 
@@ -199,7 +199,7 @@ Modelled = AllAccepted (for_a_model ++ Model (1 ∷ 2 ∷ []) ∷ [])
 abbrev pub ModelAgainstUnit : Type 0
 ModelAgainstUnit = LastRefused for_a_model (Model (1 ∷ 2 ∷ 5 ∷ []))
 
--- -1 alone makes no literal of the first clause true
+-- -1 on its own makes no literal of the first clause true
 abbrev pub ModelWithoutClause : Type 0
 ModelWithoutClause = LastRefused for_a_model (Model (1 ∷ []))
 
@@ -223,7 +223,7 @@ by_solver_name = AddClause (0 ∷ 2 ∷ []) ∷ SolverVarName 0 (Some 5) ∷ Add
 abbrev pub BySolverName : Type 0
 BySolverName = AllAccepted by_solver_name
 
--- also where the variable that had that name was deleted before
+-- also if the variable that had that name was deleted before
 abbrev pub ByNameLeft : Type 0
 ByNameLeft = AllAccepted (AddClause (0 ∷ []) ∷ SolverVarName 0 (Some 5) ∷ DeleteVar 0 ∷ AddClause (0 ∷ 2 ∷ []) ∷ AddClause (1 ∷ []) ∷ AtClause true (2 ∷ []) (hash_of (10 ∷ 2 ∷ []) ∷ []) ∷ [])
 
@@ -260,11 +260,11 @@ TwoCounts = AllAccepted (twice_counted ++ DeleteClause (0 ∷ 2 ∷ []) Redundan
 abbrev pub ByOneCount : Type 0
 ByOneCount = AllAccepted (AddClause (0 ∷ []) ∷ AddClause (0 ∷ 2 ∷ 4 ∷ []) ∷ AddClause (0 ∷ 2 ∷ []) ∷ AtClause true (0 ∷ 2 ∷ []) [] ∷ DeleteClause (0 ∷ 2 ∷ []) Satisfied ∷ DeleteClause (0 ∷ 2 ∷ 4 ∷ []) Simplified ∷ [])
 
--- once unsat is recorded, an input clause does nothing; a tautology makes known, and takes an id as an input clause alone
+-- once unsat is recorded, an input clause does nothing; a tautology makes its variables known, and gets an id only as an input clause
 abbrev pub BehindUnsat : Type 0
 BehindUnsat = let steps : List Step = AddClause [] ∷ AddClause (0 ∷ []) ∷ [] in AllAccepted steps × ((left_by steps).next_id ≡ 1) × (is_known 0 (left_by steps) ≡ false)
 
--- a tautology takes id 0 as an input clause and none as a derived one; its variable becomes known, and it isn't stored
+-- a tautology gets id 0 as an input clause and none as a derived one; its variable becomes known, and it isn't stored
 abbrev pub Tautologies : Type 0
 Tautologies = let input : List Step = AddClause (0 ∷ 1 ∷ []) ∷ [] in let derived : List Step = AtClause false (2 ∷ 3 ∷ []) [] ∷ [] in
     AllAccepted input × ((left_by input).next_id ≡ 1) × (is_known 0 (left_by input) ≡ true) × ((left_by input).clauses ≡ [])
@@ -278,7 +278,7 @@ WitnessNamed = let steps : List Step = Assumptions (0 ∷ []) ∷ ChangeSampling
 abbrev pub UnknownMode : Type 0
 UnknownMode = LastRefused [] (ChangeSamplingMode 0 true)
 
--- an empty bucket behind the conflict is no bar, and one before it is
+-- an empty bucket after the conflict does not matter, but one before it does
 abbrev pub two_clauses : List Step
 two_clauses = AddClause (0 ∷ 2 ∷ []) ∷ AddClause (0 ∷ 3 ∷ []) ∷ []
 

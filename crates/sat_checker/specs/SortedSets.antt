@@ -1,14 +1,14 @@
--- Lists of literals in which none stands twice.
+-- Lists of literals without repeats.
 use Rattle.std.specs.Prelude.{ℕ, ◌≡◌, ◌<◌, false, List, [], ◌∷◌}
 use Rattle.std.specs.List.{AllByRecursion}
 use Rattle.sat_checker.specs.LiteralSets.{is_among}
 
--- no literal stands twice
+-- no literal occurs twice
 abbrev pub NoRepeats : List ℕ → Type 0
 NoRepeats [] = Unit {0}
 NoRepeats (l ∷ ls) = (is_among ls l ≡ false) × NoRepeats ls
 
--- each literal is below all later ones
+-- every literal is below all later ones
 abbrev pub IsIncreasing : List ℕ → Type 0
 IsIncreasing [] = Unit {0}
 IsIncreasing (l ∷ ls) = AllByRecursion (λ m. l < m) ls × IsIncreasing ls

@@ -1,4 +1,4 @@
--- When a number that the checker would keep is past 64 bits.
+-- When a number that the checker would store is past 64 bits.
 use Rattle.std.specs.Prelude.{ℕ, ◌≤◌, ◌^◌, ◌⊎◌, List}
 use Rattle.sat_base.specs.steps.Steps.{Step}
 use Rattle.sat_checker.specs.Stored.{Stored}
@@ -14,6 +14,6 @@ pub record CountSpent (f : Stored) : Type 0 where
 abbrev pub IsSpent : Stored → Type 0
 IsSpent f = (2 ^ 64 ≤ f.next_id) ⊎ CountSpent f
 
--- a number is past 64 bits once a pending unit conflict is settled, or in what the step, which is accepted, would leave
+-- a number is past 64 bits once a pending unit conflict is settled, or in what the step, which would be accepted, leaves
 abbrev pub SpentBy : Step → Stored → Type 0
 SpentBy step f = IsSpent (settled f) ⊎ (Accepts (settled f) step × IsSpent (effect step (settled f)))

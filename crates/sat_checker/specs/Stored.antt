@@ -6,7 +6,7 @@ use Rattle.sat_base.specs.values.Clauses.{Valuation, clause_true, EachTrue}
 use Rattle.sat_base.specs.values.Hashes.{hash_of}
 use Rattle.sat_checker.specs.LiteralSets.{is_among}
 
--- a clause of two literals or more, sorted, without repeats, no tautology, and how often it stands as irredundant and as redundant
+-- a clause of two literals or more, sorted, without repeats, no tautology, and how often it is stored as irredundant and as redundant
 pub record StoredClause : Type 0 where
   pub id : ℕ
   pub literals : List ℕ
@@ -30,7 +30,7 @@ pub record Variable : Type 0 where
   pub mode : Mode
   pub name : Option ℕ
 
--- each variable at first; it counts as a sampling one
+-- every variable at first; it counts as a sampling one
 abbrev pub unknown : Variable
 unknown = record { known = false; mode = Sample; name = None }
 
@@ -41,7 +41,7 @@ pub data Last : Type 0 where
   UnitClause : ℕ → Last
   LongClause : ℕ → Last
 
--- what accepted steps leave: clauses, units and variables, and what is recorded beside them
+-- what accepted steps leave: clauses, units and variables, and what is recorded besides them
 pub record Stored : Type 0 where
   pub clauses : List StoredClause  -- in order of their ids
   pub units : List StoredUnit
@@ -81,7 +81,7 @@ is_known v f = (f.variables v).known
 abbrev pub mode_of : ℕ → Stored → Mode
 mode_of v f = (f.variables v).mode
 
--- the user's name of a variable, where it has one
+-- the user's name of a variable, if it has one
 abbrev pub name_of : ℕ → Stored → Option ℕ
 name_of v f = (f.variables v).name
 
@@ -93,15 +93,15 @@ unit_literals f = map (λ u. u.literal) f.units
 abbrev pub is_unit : Stored → ℕ → Bool
 is_unit f = is_among (unit_literals f)
 
--- the literal with its variable's solver name, or itself where there is none
+-- the literal with its variable's solver name, or itself if there is none
 abbrev pub solver_literal : (ℕ → Option ℕ) → ℕ → ℕ
 solver_literal names l = 2 * unwrap_or (names (variable l)) (variable l) + l % 2
 
--- the hash of a clause by solver names: of its 64 bits so many are kept, from the top
+-- the hash of a clause by solver names: of its 64 bits this many are kept, from the top
 abbrev pub hash_by : (ℕ → Option ℕ) → ℕ → List ℕ → ℕ
 hash_by names width clause = hash_of (map (solver_literal names) clause) / 2 ^ (64 - width)
 
--- the literals of each clause of two literals or more
+-- the literals of every clause of two literals or more
 abbrev pub long_clauses : Stored → List (List ℕ)
 long_clauses f = map (λ c. c.literals) f.clauses
 

@@ -1,4 +1,4 @@
--- How clauses and variables come in and go.
+-- How clauses and variables are added and removed.
 use Rattle.std.specs.Prelude.{ℕ, ◌+◌, ◌-◌, ◌==◌, Bool, true, false, not, ◌&&◌, max, Option, None, Some, is_some, List, [], ◌∷◌, ◌++◌, map, filter, find, if◌then◌else◌}
 use Rattle.sat_base.specs.values.Literals.{variable, negated}
 use Rattle.sat_checker.specs.LiteralSets.{is_among, is_tautology, canonical, same_literals}
@@ -12,7 +12,7 @@ with_count redundant c = if redundant then record c { redundant = c.redundant + 
 abbrev pub new_clause : Bool → ℕ → List ℕ → StoredClause
 new_clause redundant id literals = with_count redundant (record { id = id; literals = literals; irredundant = 0; redundant = 0 })
 
--- one count more of the clause with these literals, which comes in behind the others where it isn't there
+-- one count more of the clause with these literals, which is added after the others if it isn't there
 abbrev pub with_stored_clause : Bool → ℕ → List ℕ → List StoredClause → List StoredClause
 with_stored_clause redundant id literals [] = new_clause redundant id literals ∷ []
 with_stored_clause redundant id literals (c ∷ cs) =
@@ -22,12 +22,12 @@ with_stored_clause redundant id literals (c ∷ cs) =
 abbrev pub clause_with : List ℕ → List StoredClause → Option StoredClause
 clause_with literals = find (λ c. same_literals c.literals literals)
 
--- how often a clause stands as irredundant, 0 where it isn't stored
+-- how often a clause is stored as irredundant, 0 if it isn't stored
 abbrev pub irredundant_count : Option StoredClause → ℕ
 irredundant_count None = 0
 irredundant_count (Some c) = c.irredundant
 
--- how often a clause stands as redundant, 0 where it isn't stored
+-- how often a clause is stored as redundant, 0 if it isn't stored
 abbrev pub redundant_count : Option StoredClause → ℕ
 redundant_count None = 0
 redundant_count (Some c) = c.redundant
@@ -51,18 +51,18 @@ abbrev pub unit_id : ℕ → List StoredUnit → Option ℕ
 unit_id l [] = None
 unit_id l (u ∷ us) = if u.literal == l then Some u.id else unit_id l us
 
--- a unit conflict is recorded where none is pending
+-- a unit conflict is recorded unless one is pending
 abbrev pub first_conflict : Option (ℕ × ℕ) → Option ℕ → ℕ → Option (ℕ × ℕ)
 first_conflict (Some pending) stored id = Some pending
 first_conflict None None id = None
 first_conflict None (Some stored) id = Some (stored, id)
 
--- A unit whose negation is stored isn't stored, but takes an id, and records unsat and a unit conflict.
+-- A unit whose negation is stored isn't stored, but gets an id, and records unsat and a unit conflict.
 abbrev pub with_contradiction : ℕ → Stored → Stored
 with_contradiction l f =
     record f { unsat = true; conflict = first_conflict f.conflict (unit_id (negated l) f.units) f.next_id; next_id = f.next_id + 1 }
 
--- a unit is stored under the next id, where neither it nor its negation was
+-- a unit is stored under the next id, if neither it nor its negation was stored
 abbrev pub with_new_unit : ℕ → Stored → Stored
 with_new_unit l f = record f { units = f.units ++ (record { id = f.next_id; literal = l }) ∷ []; next_id = f.next_id + 1 }
 
@@ -70,7 +70,7 @@ with_new_unit l f = record f { units = f.units ++ (record { id = f.next_id; lite
 abbrev pub with_unit : ℕ → Stored → Stored
 with_unit l f = if is_unit f l then f else (if is_unit f (negated l) then with_contradiction l f else with_new_unit l f)
 
--- the empty clause of a pending unit conflict takes the next id
+-- the empty clause of a pending unit conflict gets the next id
 abbrev pub settled_by : Option (ℕ × ℕ) → Stored → Stored
 settled_by None f = f
 settled_by (Some units) f = record f { conflict = None; next_id = f.next_id + 1 }
@@ -86,7 +86,7 @@ with_long redundant literals f = record f {
   next_id = (if is_some (clause_with literals f.clauses) then f.next_id else f.next_id + 1);
 }
 
--- Sorted literals without repeats. Each empty clause is new and records unsat.
+-- Sorted literals without repeats. Every empty clause is new and records unsat.
 abbrev pub with_set : Bool → List ℕ → Stored → Stored
 with_set redundant [] f = record f { unsat = true; next_id = f.next_id + 1 }
 with_set redundant (l ∷ []) f = with_unit l f
@@ -108,7 +108,7 @@ place_of id [] f otherwise = Empty id
 place_of id (l ∷ []) f otherwise = unit_at l f.units otherwise
 place_of id (l ∷ m ∷ ls) f otherwise = long_at (clause_with (l ∷ m ∷ ls) f.clauses) otherwise
 
--- where it's irredundant and stored by now, it's the last irredundant clause stored
+-- if it is irredundant and stored by now, it is the last irredundant clause stored
 abbrev pub with_canonical : Bool → List ℕ → Stored → Stored
 with_canonical redundant literals f =
     let g : Stored = with_set redundant literals f in if redundant then g else record g { last = place_of f.next_id literals g f.last }
@@ -117,16 +117,16 @@ with_canonical redundant literals f =
 abbrev pub with_stored : Bool → List ℕ → Stored → Stored
 with_stored redundant clause f = if is_tautology clause then f else with_canonical redundant (canonical clause) f
 
--- an input clause takes an id whatever becomes of it
+-- an input clause gets an id in any case
 abbrev pub with_input : List ℕ → Stored → Stored
 with_input clause f = let g : Stored = with_stored false clause f in record g { next_id = max g.next_id (f.next_id + 1) }
 
--- each of these units, from left to right
+-- all of these units, from left to right
 abbrev pub with_units : List ℕ → Stored → Stored
 with_units [] f = f
 with_units (l ∷ ls) f = with_units ls (with_unit l f)
 
--- a variable is like this from here on
+-- a variable has this data from now on
 abbrev pub with_variable : ℕ → Variable → Stored → Stored
 with_variable v x f = record f { variables = λ w. if w == v then x else f.variables w }
 
@@ -138,11 +138,11 @@ with_known vs f = record f { variables = λ v. if is_among vs v then record (f.v
 abbrev pub with_literals_known : List ℕ → Stored → Stored
 with_literals_known ls = with_known (map variable ls)
 
--- a variable has this solver name or none from here on
+-- a variable has this solver name or none from now on
 abbrev pub with_solver_name : ℕ → Option ℕ → Stored → Stored
 with_solver_name v name f = record f { solver_names = λ w. if w == v then name else f.solver_names w }
 
--- a variable's unit is forgotten, and it's unknown again
+-- a variable's unit is removed, and it is unknown again
 abbrev pub without_variable : ℕ → Stored → Stored
 without_variable v f = record (with_variable v unknown f) { units = filter (λ u. not (variable u.literal == v)) f.units; var_deleted = true }
 
@@ -151,12 +151,12 @@ abbrev pub clause_numbered : ℕ → List StoredClause → Option (List ℕ)
 clause_numbered id [] = None
 clause_numbered id (c ∷ cs) = if c.id == id then Some c.literals else clause_numbered id cs
 
--- the literal of the unit with this id, as a clause of it alone
+-- the literal of the unit with this id, as a clause of one literal
 abbrev pub unit_numbered : ℕ → List StoredUnit → Option (List ℕ)
 unit_numbered id [] = None
 unit_numbered id (u ∷ us) = if u.id == id then Some (u.literal ∷ []) else unit_numbered id us
 
--- the literals of the last irredundant clause stored, where it's still there
+-- the literals of the last irredundant clause stored, if it is still there
 abbrev pub last_literals : Last → Stored → Option (List ℕ)
 last_literals NoneYet f = None
 last_literals (Empty id) f = Some []

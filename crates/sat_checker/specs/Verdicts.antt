@@ -25,7 +25,7 @@ verdict_of_open assumed (l ∷ m ∷ ls) = rests
 abbrev pub verdict : List ℕ → List ℕ → Verdict
 verdict assumed clause = verdict_of_open assumed (not_false assumed clause)
 
--- what is answered of it
+-- what is returned of it
 abbrev pub verdict_of : Look → Verdict
 verdict_of look.Falsified = falsified
 verdict_of (look.Opens l) = opens l

@@ -1,4 +1,4 @@
-//! What each accepted step announces, noted as it is judged, and how it is told in the user's names.
+//! What every accepted step announces, noted while it is judged, and how transcripts say it in the user's names.
 
 pub mod announcement;
 pub(crate) mod announcing;

@@ -24,9 +24,9 @@ use crate::processing::{Nobody, Processing, Processors, ProofProcessor};
 use sat_base::{Lit, ProofStep, Var};
 use std::alloc::Global;
 
-/// A checker, which takes clauses of a formula and the steps of a proof in turn, and tells processors and transcripts
-/// what it announces. Once it has refused a step, had no memory or no id left, or one of them answered a fault, it only
-/// answers that it has failed.
+/// A checker. It receives the clauses of a formula and the steps of a proof one after another, and notifies its
+/// processors and transcripts of what they announce. After it refuses a step, runs out of memory or ids, or gets a
+/// fault from a listener, it only returns `HasFailed`.
 #[derive(Drop)]
 pub struct Checker<P: ProofProcessor = Nobody, T: ProofTranscriptProcessor = Nobody> {
     pub(crate) kernel: Kernel,
@@ -34,7 +34,7 @@ pub struct Checker<P: ProofProcessor = Nobody, T: ProofTranscriptProcessor = Nob
 }
 
 impl Checker<Nobody, Nobody> {
-    /// No clause and no step yet, and nobody will listen. Nothing is allocated.
+    /// Makes a checker without listeners, which has accepted nothing yet. It does not allocate.
     pub fn new(alloc: Global) -> Checker<Nobody, Nobody>
         ensures stands { HasAccepted (kernel_of result) [] }
         ensures goes_on { has_failed (kernel_of result) ≡ false }
@@ -45,8 +45,8 @@ impl Checker<Nobody, Nobody> {
         Checker::telling(alloc)
     }
 
-    /// Checks the next step, and accepts it if it passes. It judges as `self_check_step`, notifies no listener, and
-    /// its answer is small.
+    /// Checks the next step, and accepts it if it passes. It judges as `self_check_step` does, notifies no listener,
+    /// and returns a small error.
     pub fn accept_step(&mut self, step: &ProofStep<'_>) -> Result<(), StepRefusal>
         ensures judges { kernels.ChecksStep (kernels.answer_of result)
             (kernel_of self.old) (step_of step.now) (kernel_of self.new) }
@@ -59,7 +59,7 @@ impl Checker<Nobody, Nobody> {
 }
 
 impl<P: ProofProcessor, T: ProofTranscriptProcessor> Checker<P, T> {
-    /// As `new`, for processors and transcripts of these types. Nobody listens yet.
+    /// Makes a checker like `new`, for processors and transcripts of these types. It has no listener yet.
     pub fn telling(alloc: Global) -> Checker<P, T>
         ensures stands { HasAccepted (kernel_of result) [] }
         ensures goes_on { has_failed (kernel_of result) ≡ false }
@@ -73,7 +73,7 @@ impl<P: ProofProcessor, T: ProofTranscriptProcessor> Checker<P, T> {
         }
     }
 
-    /// As `telling`, for those whom another checker handed back: they listen again, each list in its order.
+    /// Makes a checker like `telling`, with the listeners that another checker returned. Both lists keep their order.
     pub fn telling_again(alloc: Global, listeners: Processors<P, T>) -> Checker<P, T>
         ensures stands { HasAccepted (kernel_of result) [] }
         ensures goes_on { has_failed (kernel_of result) ≡ false }
@@ -88,8 +88,8 @@ impl<P: ProofProcessor, T: ProofTranscriptProcessor> Checker<P, T> {
         }
     }
 
-    /// A processor, which is told all announcements from here on. Without memory it is dropped, and the checker has
-    /// failed.
+    /// Adds a processor, which is notified of all announcements from now on. If memory runs out, the processor is
+    /// dropped, and the checker has failed.
     pub fn add_processor(&mut self, processor: P) -> Result<(), CheckerError>
         ensures { AddsListener result (kernel_of self.old) (kernel_of self.new)
             (listeners_of self.old.processing) (listeners_of self.new.processing)
@@ -107,8 +107,8 @@ impl<P: ProofProcessor, T: ProofTranscriptProcessor> Checker<P, T> {
         Ok(())
     }
 
-    /// A transcript, which is told all its steps from here on. Without memory it is dropped, and the checker has
-    /// failed.
+    /// Adds a transcript, which is notified of all its steps from now on. If memory runs out, the transcript is
+    /// dropped, and the checker has failed.
     pub fn add_transcript(&mut self, transcript: T) -> Result<(), CheckerError>
         ensures { AddsListener result (kernel_of self.old) (kernel_of self.new)
             (listeners_of self.old.processing) (listeners_of self.new.processing)
@@ -126,7 +126,7 @@ impl<P: ProofProcessor, T: ProofTranscriptProcessor> Checker<P, T> {
         Ok(())
     }
 
-    /// Those who listen, each list in the order in which they were added, also after a failure.
+    /// Returns the listeners, both lists in the order in which they were added. It does so after a failure, too.
     pub fn into_processors(self) -> Processors<P, T>
         ensures processors { result.processors.items ≡ (listeners_of self.processing).processors }
         ensures transcripts { result.transcripts.items ≡ (listeners_of self.processing).transcripts }
@@ -136,7 +136,7 @@ impl<P: ProofProcessor, T: ProofTranscriptProcessor> Checker<P, T> {
         processing.into_processors()
     }
 
-    /// Takes a clause of the formula, unless it has a variable that is hidden or a witness. A refused one changes
+    /// Adds a clause of the formula, unless it has a variable that is hidden or a witness. A refused clause changes
     /// nothing.
     pub fn add_clause(&mut self, clause: &[Lit]) -> Result<(), CheckerError>
         ensures checks { ChecksClause (HearsEach P.takes T.reads)
@@ -155,7 +155,7 @@ impl<P: ProofProcessor, T: ProofTranscriptProcessor> Checker<P, T> {
         self.check_step(&ProofStep::AddClause { clause })
     }
 
-    /// Checks the next step, and takes it in if it is accepted.
+    /// Checks the next step, and accepts it if it passes.
     fn check_step(&mut self, step: &ProofStep<'_>) -> Result<(), CheckerError>
         ensures judges { kernels.ChecksStep result (kernel_of self.old) (step_of step.now) (kernel_of self.new) }
         ensures tells { ChecksStep (HearsEach P.takes T.reads)
@@ -177,7 +177,7 @@ impl<P: ProofProcessor, T: ProofTranscriptProcessor> Checker<P, T> {
         self.kernel.records.unsat
     }
 
-    /// Whether no unit conflict waits for its id, which `self_check_delayed_steps` gives it.
+    /// Whether no unit conflict waits for its id. `self_check_delayed_steps` gives it one.
     pub fn is_settled(&self) -> bool
         ensures { IsTrue result ↔ kernels.IsSettled (kernel_of self.now) }
     {
@@ -198,7 +198,7 @@ impl<P: ProofProcessor, T: ProofTranscriptProcessor> Checker<P, T> {
         self.kernel.records.var_deleted
     }
 
-    /// The user's name of a variable, while the checker hasn't failed.
+    /// Returns the user's name of a variable, unless the checker has failed.
     pub fn user_name(&self, var: Var) -> Option<Var>
         ensures { has_failed (kernel_of self.now) ≡ false
             → (steps : List Step) → HasAccepted (kernel_of self.now) steps → result ≡ name_of var (ready_after steps) }
@@ -206,7 +206,7 @@ impl<P: ProofProcessor, T: ProofTranscriptProcessor> Checker<P, T> {
         self.kernel.state.variables.data(var).name
     }
 
-    /// Whether the variable is known, while the checker hasn't failed.
+    /// Whether the variable is known, unless the checker has failed.
     pub fn knows(&self, var: Var) -> bool
         ensures { has_failed (kernel_of self.now) ≡ false
             → (steps : List Step) → HasAccepted (kernel_of self.now) steps → result ≡ is_known var (ready_after steps) }
@@ -214,7 +214,7 @@ impl<P: ProofProcessor, T: ProofTranscriptProcessor> Checker<P, T> {
         self.kernel.state.variables.data(var).known
     }
 
-    /// How many literals of stored clauses were looked at, held at 2^64-1.
+    /// Returns the number of literals of stored clauses that were looked at, at most 2^64-1.
     pub fn looks(&self) -> u64
         ensures { result ≡ min (looks_of (kernel_of self.now)) (2 ^ 64 - 1) }
     {

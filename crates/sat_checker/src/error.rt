@@ -1,10 +1,10 @@
-//! What can go wrong as a proof is checked.
+//! Errors of a checker.
 
 use crate::store::StoreError;
 use sat_base::DimacsError;
 use thiserror::Error;
 
-/// Why a proof, a step or a clause wasn't accepted.
+/// Why a proof, a step or a clause was not accepted.
 #[derive(Debug, Drop, Error)]
 pub enum CheckerError {
     /// The text ends before `End`.
@@ -13,15 +13,16 @@ pub enum CheckerError {
     /// The reader failed, or was read 2^48 times.
     #[error("the proof can't be read")]
     IoError,
-    /// No step can follow a byte of the text.
+    /// No step continues after a byte of the text.
     #[error("the proof's text is no list of steps")]
     ParseError,
     /// A step or a clause is refused.
     #[error("a proof step is refused")]
     CheckFailed,
-    /// A processor or a transcript answered a fault.
+    /// A processor or a transcript returned a fault.
     #[error("Error in proof processor: {cause}")]
     ProofProcessorError { cause: anyhow::Error },
+    /// Memory ran out.
     #[error("out of memory")]
     OutOfMemory,
     /// The last id, 2^64-2, was given, or a clause was stored 2^64-1 times.
@@ -46,11 +47,13 @@ impl From<StoreError> for CheckerError {
     }
 }
 
-/// Why a formula's text wasn't taken whole.
+/// Why not all of a formula's text was added.
 #[derive(Debug, Drop, Error)]
 pub enum CheckerDimacsError {
+    /// The text has a fault, can't be read, or needs too much memory.
     #[error("{0}")]
     Dimacs(DimacsError),
+    /// The checker did not accept a clause.
     #[error("{0}")]
     Checker(CheckerError),
 }

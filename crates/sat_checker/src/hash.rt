@@ -7,7 +7,7 @@ ghost use Rattle.sat_checker.specs.inner.PairView.{mixed};
 use sat_base::{ClauseHash, HashBits, Lit, Table, Var, lit_hash};
 use std::alloc::{AllocError, Global};
 
-/// Hashes over the solver's names of variables, of which so many bits are kept.
+/// Computes hashes over the solver's names of variables, and keeps the topmost bits.
 #[derive(Drop)]
 pub struct ClauseHasher {
     bits: HashBits,
@@ -15,7 +15,7 @@ pub struct ClauseHasher {
 }
 
 impl ClauseHasher {
-    /// So many bits, and no solver names.
+    /// Makes a hasher that keeps this many bits, without solver names.
     pub fn new(alloc: Global, bits: HashBits) -> ClauseHasher
         ensures width { width_of result ≡ bits }
         ensures names { (v : ℕ) → solver_name_of result v ≡ None }
@@ -26,14 +26,14 @@ impl ClauseHasher {
         }
     }
 
-    /// How many bits are kept.
+    /// Returns the number of bits that are kept.
     pub(crate) fn bits(&self) -> HashBits
         ensures { result ≡ width_of self.now }
     {
         self.bits
     }
 
-    /// So many bits are kept from here on.
+    /// Sets the number of bits that are kept from now on.
     pub fn set_bits(&mut self, bits: HashBits)
         ensures width { width_of self.new ≡ bits }
         ensures names { (v : ℕ) → solver_name_of self.new v ≡ solver_name_of self.old v }
@@ -41,7 +41,7 @@ impl ClauseHasher {
         self.bits = bits;
     }
 
-    /// A variable has this solver name or none from here on.
+    /// Sets or removes the solver's name of a variable.
     pub fn set_solver_name(&mut self, var: Var, name: Option<Var>) -> Result<(), AllocError>
         ensures width { width_of self.new ≡ width_of self.old }
         ensures names { OnOk result ((v : ℕ) → solver_name_of self.new v
@@ -50,14 +50,14 @@ impl ClauseHasher {
         self.solver_names.set(var.index(), name, None)
     }
 
-    /// The solver's name of a variable.
+    /// Returns the solver's name of a variable.
     pub(crate) fn solver_name(&self, var: Var) -> Option<Var>
         ensures { result ≡ solver_name_of self.now var }
     {
         self.solver_names.get(var.index(), None)
     }
 
-    /// The literal by its variable's solver name, or itself where there is none.
+    /// Returns the literal with its variable's solver name, or the literal itself if there is none.
     #[inline(always)]
     #[tactic(auto, using(crate::proofs::lemmas::sets::Hashing::named_literal))]
     fn solver_lit(&self, lit: Lit) -> Lit
@@ -69,7 +69,7 @@ impl ClauseHasher {
         }
     }
 
-    /// The hash of a clause by the solver's names, at the width of now.
+    /// Returns the hash of a clause over the solver's names, at the current width.
     #[tactic(auto, using(crate::proofs::lemmas::sets::Hashing::hash_next))]
     pub fn clause_hash(&self, lits: &[Lit]) -> ClauseHash
         ensures { result ≡ hash_by (solver_name_of self.now) (width_of self.now) lits.now }
@@ -82,11 +82,11 @@ impl ClauseHasher {
     }
 }
 
-/// Odd, so that no two hashes are mixed to one.
+/// An odd factor, so that different hashes stay different.
 const MIXER: u64 = 0xbf58_476d_1ce4_e5b9;
 
-/// A hash by which the index files another: its top bits hang on all bits of that one, of which those of neighbouring
-/// literals share many.
+/// Returns the hash by which the index files a hash. Its top bits depend on all bits, while hashes of neighbouring
+/// literals share many of theirs.
 #[inline(always)]
 #[tactic(auto, using(crate::proofs::lemmas::pairs::Mixing::is_mixed))]
 pub(crate) fn mixed(hash: ClauseHash) -> ClauseHash
@@ -95,7 +95,7 @@ pub(crate) fn mixed(hash: ClauseHash) -> ClauseHash
     hash.wrapping_mul(MIXER)
 }
 
-/// The topmost bits of a hash.
+/// Returns the topmost bits of a hash.
 fn top_bits(hash: ClauseHash, bits: HashBits) -> ClauseHash
     ensures { result ≡ hash / 2 ^ (64 - bits) }
 {

@@ -1,4 +1,4 @@
-//! What a solver feeds the steps of its proof to.
+//! The trait through which a solver feeds the steps of its proof.
 ghost use Rattle.std.specs.Prelude.{Result};
 ghost use Rattle.sat_base.specs.steps.Steps.{Step};
 ghost use Rattle.sat_base.specs.steps.StepViews.{step_of};
@@ -15,11 +15,11 @@ pub trait SelfChecker {
     /// From the state before, the settling of what is delayed was answered so, to the state after.
     ghost settles: { Self → Result (Unit {0}) ErrorOfChecker → Self → Type 0 };
 
-    /// Checks the next step, and takes it in if it is accepted.
+    /// Checks the next step, and accepts it if it passes.
     fn self_check_step(&mut self, step: &ProofStep<'_>) -> Result<(), CheckerError>
         ensures { checks self.old (step_of step.now) result self.new };
 
-    /// Gives the empty clause of a pending unit conflict its id, which else waits for the next step.
+    /// Gives the empty clause of a pending unit conflict its id. Otherwise the next step would do so.
     fn self_check_delayed_steps(&mut self) -> Result<(), CheckerError>
         ensures { settles self.old result self.new };
 }

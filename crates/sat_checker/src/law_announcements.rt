@@ -1,4 +1,4 @@
-//! What holds of announcements: each law is the contract of a function that does nothing.
+//! What holds of announcements: every law is the contract of a function that does nothing.
 ghost use Rattle.sat_checker.specs.announcements.Promises.{ConflictIsAnnounced, ConflictIsFollowedBackwards};
 ghost use Rattle.sat_checker.specs.announcements.Promises.{DeletionsRest, IdsAreAnnounced, PropagationsInTurn};
 ghost use Rattle.sat_checker.specs.announcements.Promises.{SimplifiedIsAnnounced, TautologiesRestOnNothing};
@@ -42,7 +42,7 @@ pub fn announcements_are_in_order()
     ensures { ToldInOrder }
 {}
 
-/// A fault, or want of memory as something is told, comes only of somebody who listens.
+/// A fault, or an allocation failure during an announcement, only comes from a listener.
 pub fn nobody_answers_a_fault<P: ProofProcessor, T: ProofTranscriptProcessor>()
     ensures { NobodyFails P.takes T.reads }
 {}

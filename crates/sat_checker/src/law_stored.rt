@@ -1,4 +1,4 @@
-//! What makes a clause pass, what each step leaves of what is stored, and what always holds of it: each law is the
+//! What makes a clause pass, what every step leaves of what is stored, and what always holds of it: every law is the
 //! contract of a function that does nothing.
 ghost use Rattle.sat_checker.specs.FewBytes.{IdsWithinBytes, NoneIsSpent};
 ghost use Rattle.sat_checker.specs.Invariants.{AllClausesHold, AlwaysOrderly, AlwaysTidy, ContentsAreSettled};
@@ -7,7 +7,7 @@ ghost use Rattle.sat_checker.specs.Invariants.{LastIsSettled, LastStays, Pending
 ghost use Rattle.sat_checker.specs.Invariants.{UnsatStays};
 ghost use Rattle.sat_checker.specs.Leading.{HashOfAnyOrder, LeadingPasses, LeadsOnMore, TurnsConflict, TurnsLead};
 
-/// Stored clauses that hashes name make a clause pass where they lead to a conflict, whatever else the buckets hold.
+/// Stored clauses that hashes name make a clause pass if they lead to a conflict, whatever else the buckets hold.
 pub fn named_clauses_pass()
     ensures passes { LeadingPasses }
     ensures turns { TurnsLead }
@@ -16,7 +16,7 @@ pub fn named_clauses_pass()
     ensures order { HashOfAnyOrder }
 {}
 
-/// What each step makes of the contents of what is stored: counts of clauses, units, names and settings.
+/// What every step makes of the contents of what is stored: counts of clauses, units, names and settings.
 pub fn contents_follow_steps()
     ensures step { ContentsFollow }
     ensures settled { ContentsAreSettled }
@@ -25,7 +25,7 @@ pub fn contents_follow_steps()
     ensures counted { CountedIsStored }
 {}
 
-/// What holds of what is stored behind every list of accepted steps.
+/// What holds of what is stored after every list of accepted steps.
 pub fn stored_is_tidy()
     ensures tidy { AlwaysTidy }
     ensures unsat { UnsatStays }
@@ -33,7 +33,7 @@ pub fn stored_is_tidy()
     ensures clauses { AllClausesHold }
 {}
 
-/// Which clause is the last irredundant one stored, and what holds of it behind every list of accepted steps.
+/// Which clause is the last irredundant one stored, and what holds of it after every list of accepted steps.
 pub fn last_was_derived()
     ensures orderly { AlwaysOrderly }
     ensures derived { DerivedIsLast }
@@ -41,8 +41,8 @@ pub fn last_was_derived()
     ensures settled { LastIsSettled }
 {}
 
-/// Steps give no more ids than they have bytes. So none of those that a reader can give, behind a new checker's none,
-/// comes to the end of ids or counts.
+/// Steps do not give more ids than they have bytes. So none of those that a reader can give to a new checker reaches
+/// the end of ids or counts.
 pub fn bytes_bound_ids()
     ensures ids { IdsWithinBytes }
     ensures spent { NoneIsSpent }

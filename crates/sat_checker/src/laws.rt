@@ -1,4 +1,4 @@
-//! What holds of the definitions: each law is the contract of a function that does nothing.
+//! What holds of the definitions: every law is the contract of a function that does nothing.
 ghost use Rattle.sat_checker.specs.DimacsView.{EndedStayFirst, ReadAreFirst};
 ghost use Rattle.sat_checker.specs.Laws.{CanonicalIsSortedSet, CoresAssumed, CoresFail, DeletedIsNameless};
 ghost use Rattle.sat_checker.specs.Laws.{DeletionIsSeen, EmptyIsGiven, FormulaIsFold, KnownStays, ModelsExtend};

@@ -1,4 +1,4 @@
-//! A checker of proof steps.
+//! A checker of proof steps: it accepts a step exactly if the rules accept it, and notifies listeners of what follows.
 #![tactic(auto)]
 
 pub mod announce;

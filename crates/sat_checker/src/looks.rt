@@ -11,7 +11,7 @@ use crate::looks::tally::LookTally;
 use crate::processing::ProofProcessor;
 use std::marker::Model;
 
-/// How many literals of stored clauses were looked at, which contracts see without a largest value.
+/// The number of literals of stored clauses that were looked at. Contracts see it without a largest value.
 #[derive(Drop)]
 pub struct Looks {
     held: u64,
@@ -29,7 +29,7 @@ impl Model for Looks {
 }
 
 impl Looks {
-    /// None yet.
+    /// Makes a count of zero.
     pub fn new() -> Looks
         ensures { result ≡ 0 }
     {
@@ -39,20 +39,21 @@ impl Looks {
         }
     }
 
-    /// The count, held at 2^64-1.
+    /// Returns the count, at most 2^64-1.
     pub fn get(&self) -> u64
         ensures { result ≡ min self.now (2 ^ 64 - 1) }
     {
         self.held
     }
 
-    /// Those of the checker, too.
+    /// Adds the looks of a checker.
     pub fn add<P: ProofProcessor, T: ProofTranscriptProcessor>(&mut self, checker: &Checker<P, T>)
         ensures { self.new ≡ self.old + looks_of (kernel_of checker.now) }
     {
         self.join(&checker.kernel.looks);
     }
 
+    /// Adds another count.
     fn join(&mut self, other: &Looks)
         ensures { self.new ≡ self.old + other.now }
     {
@@ -60,7 +61,7 @@ impl Looks {
         self.held = self.held.saturating_add(other.held);
     }
 
-    /// So many more.
+    /// Adds this many looks.
     #[inline(always)]
     pub(crate) fn count(&mut self, more: usize)
         ensures { self.new ≡ self.old + more }

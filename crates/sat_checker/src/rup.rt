@@ -1,5 +1,5 @@
 //! The propagation check of a clause under the hashes that a step names: a walk over the clauses, which notes those
-//! that it takes.
+//! that it uses.
 ghost use Rattle.std.specs.Prelude.{◌≡◌, ◌+◌, ◌*◌, ◌<◌, ◌≤◌, [], ◌∷◌, length, IfOk, if◌then◌else◌, None, Some, map};
 ghost use Rattle.std.specs.Prelude.{ℕ, true, false, IsTrue, ◌↔◌, ◌⊎◌, OnErr, MatchBool};
 ghost use Rattle.std.specs.List.{list_any};
@@ -29,8 +29,8 @@ use crate::units::assigned::{Assigned, Look, assume_if_roomy, look_at};
 use sat_base::{ClauseHash, Lit};
 use std::alloc::AllocError;
 
-/// Takes what the clause at a place opens, and notes it. The answer is whether the clause was falsified. Memory is
-/// wanted only where there is no room for a literal of the clause.
+/// Assumes the literal that the clause at a place implies, if any, and notes it. Returns whether the clause was
+/// falsified. It runs out of memory only if there is no room for a literal of the clause.
 #[tactic(auto, using(crate::proofs::lemmas::propagation::Walking::meeting))]
 fn meet(
     clauses: &Clauses,
@@ -74,6 +74,7 @@ pub(crate) enum Walked {
     Open,
 }
 
+/// Walks over the clauses of a hash, in order, up to a falsified one.
 #[tactic(auto, using(crate::proofs::lemmas::announcements::Noting::noting))]
 fn walk_bucket(
     clauses: &Clauses,
@@ -107,7 +108,7 @@ fn walk_bucket(
     Ok(Walked::Open)
 }
 
-/// Walks over the buckets of the hashes, in their order. The answer is whether a conflict came before an empty bucket.
+/// Walks over the buckets of the hashes, in order. Returns whether a conflict came before an empty bucket.
 #[tactic(auto, using(crate::proofs::lemmas::store::Buckets::over_hashes))]
 fn walk_hashes(
     clauses: &Clauses,
@@ -137,8 +138,8 @@ fn walk_hashes(
     Ok(false)
 }
 
-/// Assumes the negations of a clause's literals, or they themselves where the clause is of their negations. The answer
-/// is whether a literal of the clause was true already.
+/// Assumes the negations of a clause's literals, or the literals themselves if the clause consists of their negations.
+/// Returns whether a literal of the clause was true already.
 #[tactic(auto, using(crate::proofs::lemmas::propagation::Denied::denying))]
 fn deny(assigned: &mut Assigned, literals: &[Lit], negate: bool) -> Result<bool, AllocError>
     ensures denied { IfOk result (λ met. denied_in_turn assigned.old.literals (signed negate literals.now)
@@ -155,7 +156,7 @@ fn deny(assigned: &mut Assigned, literals: &[Lit], negate: bool) -> Result<bool,
     Ok(false)
 }
 
-/// Whether the literal is in the list. No memory is wanted for it.
+/// Whether the literal is in the list. It does not allocate.
 pub fn has(literals: &[Lit], lit: Lit) -> bool
     ensures { result ≡ is_among literals.now lit }
 {
@@ -167,8 +168,7 @@ pub fn has(literals: &[Lit], lit: Lit) -> bool
     false
 }
 
-/// Whether a literal of a clause is true. One that there is no room for is taken as true where its negation stands
-/// before it.
+/// Whether a literal of a clause is true. One that there is no room for counts as true if its negation is before it.
 fn is_met(assigned: &Assigned, before: &[Lit], literal: Lit, negate: bool) -> bool
     ensures { result ≡ (if is_among assigned.now.room (negated_if negate literal)
         then is_among assigned.now.literals (negated_if negate literal) else is_among before.now (negated literal)) }
@@ -180,7 +180,7 @@ fn is_met(assigned: &Assigned, before: &[Lit], literal: Lit, negate: bool) -> bo
     has(before, !literal)
 }
 
-/// Assumes what `deny` does as far as there is room for it, and takes no memory. The answer is whether a literal of the
+/// Assumes what `deny` does as far as there is room for it, and does not allocate. Returns whether a literal of the
 /// clause was true already, or has its negation there.
 fn deny_in_room(assigned: &mut Assigned, literals: &[Lit], negate: bool) -> bool
     ensures met { MatchBool result ((list_any (is_among assigned.old.literals) (signed negate literals.now) ≡ true)
@@ -201,8 +201,8 @@ fn deny_in_room(assigned: &mut Assigned, literals: &[Lit], negate: bool) -> bool
     false
 }
 
-/// The check where memory is wanted for what it assumes: literals that there is no room for stand in no stored clause.
-/// What is noted tells nothing then.
+/// Checks a clause after memory ran out for what it assumes: literals that there is no room for are in no stored
+/// clause. Its notes are of no use.
 #[inline(never)]
 pub(crate) fn check_in_room(
     clauses: &Clauses,
@@ -234,9 +234,9 @@ pub(crate) fn check_in_room(
     found
 }
 
-/// The propagation check of a clause of these literals, or of their negations, over what is assigned. What it assumes
-/// is left behind that. Where it passes by a conflict, the notes explain what the conflict rests on, unless they are
-/// short. Memory is wanted only where there is no room for the literals of a stored clause.
+/// Checks by propagation a clause of these literals, or of their negations, over what is assigned. What it assumes
+/// stays assumed after that. If the clause passes by a conflict, the notes explain what the conflict rests on, unless
+/// they are incomplete. It runs out of memory only if there is no room for the literals of a stored clause.
 pub(crate) fn check_clause_with_hashes(
     clauses: &Clauses,
     literals: &[Lit],

@@ -35,8 +35,7 @@ use sat_base::{ClauseHash, Lit, Var};
 use std::alloc::{AllocError, Global};
 use std::marker::Model;
 
-/// The units, which are assumed whenever a clause is checked. Contracts see them in the order in which they were
-/// stored.
+/// The units, which are assumed while a clause is checked. Contracts see them in the order in which they were stored.
 #[derive(Drop)]
 pub(crate) struct Units {
     ids: LitNumbers,
@@ -56,7 +55,7 @@ impl Model for Units {
     ghost invariant = { λ s. UnitsInvariant s.order.units s.ids s.places s.assigned.literals };
 }
 
-/// Forgets an assumed literal, by its place on the trail. The newest takes its place.
+/// Removes an assumed literal, by its place on the trail. The newest one gets its place.
 fn take_out(assigned: &mut Assigned, places: &mut LitNumbers, lit: Lit)
     requires assumed { is_among assigned.old.literals lit ≡ true }
     requires placed { AreTrailPlaces places.old (reverse assigned.old.literals) }
@@ -75,6 +74,7 @@ fn take_out(assigned: &mut Assigned, places: &mut LitNumbers, lit: Lit)
 }
 
 impl Units {
+    /// Makes a list without units.
     pub fn new(alloc: Global) -> Units
         ensures { result ≡ record { units = []; room = [] } }
     {
@@ -86,13 +86,14 @@ impl Units {
         }
     }
 
-    /// No literal is a unit twice. For contracts alone: it does nothing at run time.
+    /// States for contracts that no literal is a unit twice. It does nothing at run time.
     pub fn stand_once(&self)
         ensures { NoRepeats (map (λ u. u.literal) self.now.units) }
     {
         let _ = &self.order;
     }
 
+    /// Whether the literal is a unit.
     #[inline(always)]
     pub fn is_unit(&self, lit: Lit) -> bool
         ensures { result ≡ is_among (map (λ u. u.literal) self.now.units) lit }
@@ -100,7 +101,7 @@ impl Units {
         self.assigned.is_true(lit)
     }
 
-    /// Whether a unit is true in the clause.
+    /// Whether a unit satisfies the clause.
     #[tactic(auto, using(crate::proofs::lemmas::state::Scanning::any_literal))]
     pub fn has_any(&self, clause: &[Lit]) -> bool
         ensures { result ≡ list_any (is_among (map (λ u. u.literal) self.now.units)) clause.now }
@@ -113,7 +114,7 @@ impl Units {
         false
     }
 
-    /// Stores a unit behind the others.
+    /// Stores a unit after the others.
     pub fn push(&mut self, id: u64, lit: Lit) -> Result<(), AllocError>
         requires new { is_among (map (λ u. u.literal) self.old.units) lit ≡ false }
         requires id { id + 1 < 2 ^ 64 }
@@ -142,14 +143,14 @@ impl Units {
         make_room_for(&mut self.assigned, literals)
     }
 
-    /// The id of a unit.
+    /// Returns the id of a unit.
     pub fn id(&self, lit: Lit) -> Option<u64>
         ensures { result ≡ unit_id lit self.now.units }
     {
         self.ids.get(lit)
     }
 
-    /// The id of the first of the literals that is a unit.
+    /// Returns the id of the first of the literals that is a unit.
     #[tactic(auto, using(crate::proofs::lemmas::announcements::Listing::finding_true))]
     pub fn true_id(&self, literals: &[Lit]) -> Option<u64>
         ensures { result ≡ true_unit literals.now self.now.units }
@@ -162,7 +163,7 @@ impl Units {
         None
     }
 
-    /// Forgets the unit of a variable. It takes the same time however many units there are.
+    /// Removes the unit of a variable. The time does not depend on the number of units.
     pub fn forget(&mut self, var: Var)
         ensures { self.new
             ≡ record self.old { units = filter (λ u. not (variable u.literal == var)) self.old.units } }
@@ -171,6 +172,7 @@ impl Units {
         self.forget_lit(var.lit(false));
     }
 
+    /// Removes the unit of this literal, if it is one.
     fn forget_lit(&mut self, lit: Lit)
         ensures { self.new ≡ record self.old { units = filter (λ u. not (u.literal == lit)) self.old.units } }
     {
@@ -202,8 +204,8 @@ impl Units {
         false
     }
 
-    /// The propagation check of a clause of these literals, or of their negations, under hashes, over the units, which
-    /// stay. The notes are of the clauses that it took.
+    /// Checks by propagation, under hashes and over the units, a clause of these literals, or of their negations. The
+    /// units stay. The notes say which clauses it used.
     #[tactic(auto, using(crate::proofs::lemmas::store::Keeping::checking))]
     pub fn check(
         &mut self,
@@ -243,7 +245,7 @@ impl Units {
         answer
     }
 
-    /// Whether units pass in turn behind the first of them, over the units, which stay.
+    /// Whether units pass in turn after the first of them, over the units, which stay.
     pub fn pass_in_turn(
         &mut self,
         store: &Store,

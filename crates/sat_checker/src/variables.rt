@@ -12,7 +12,7 @@ ghost use Rattle.sat_base.specs.steps.Steps.{UserVarName, ChangeSamplingMode};
 use sat_base::{ClauseHash, Lit, Table, Var};
 use std::alloc::{AllocError, Global};
 
-/// What a variable is to the user's formula.
+/// The mode of a variable, which says how the user's formula may use it.
 #[derive(Clone, Copy, PartialEq, Eq)]
 pub enum SamplingMode {
     Sample,
@@ -20,6 +20,7 @@ pub enum SamplingMode {
     Hide,
 }
 
+/// Whether the mode is `Hide`.
 fn is_hidden(mode: SamplingMode) -> bool
     ensures { MatchBool result (mode_in mode ≡ Hide) (mode_in mode ≡ Hide → ⊥) }
 {
@@ -29,6 +30,7 @@ fn is_hidden(mode: SamplingMode) -> bool
     }
 }
 
+/// Whether the mode is `Sample`.
 fn is_sampling(mode: SamplingMode) -> bool
     ensures { MatchBool result (mode_in mode ≡ Sample) (mode_in mode ≡ Sample → ⊥) }
 {
@@ -38,6 +40,7 @@ fn is_sampling(mode: SamplingMode) -> bool
     }
 }
 
+/// Returns `Sample` or `Witness`.
 fn mode_from(sample: bool) -> SamplingMode
     ensures { mode_in result ≡ (if sample then Sample else Witness) }
 {
@@ -48,7 +51,7 @@ fn mode_from(sample: bool) -> SamplingMode
     }
 }
 
-/// What is kept of a variable.
+/// The data of a variable.
 #[derive(Clone, Copy)]
 pub struct VarData {
     pub known: bool,
@@ -57,7 +60,7 @@ pub struct VarData {
 }
 
 impl VarData {
-    /// A variable at first.
+    /// Returns the data of a variable that is not known yet.
     pub fn unknown() -> VarData
         ensures variable { variable_of result ≡ unknown }
         ensures data { result ≡ unknown_data }
@@ -70,7 +73,7 @@ impl VarData {
     }
 }
 
-/// Variables by index, and which of them have the names of the user.
+/// The data of variables, by index, and which variables have which names of the user.
 #[derive(Drop)]
 pub struct Variables {
     data: Table<VarData>,
@@ -78,6 +81,7 @@ pub struct Variables {
 }
 
 impl Variables {
+    /// Makes a table in which no variable is known.
     pub fn new(alloc: Global) -> Variables
         ensures variables { (v : ℕ) → variable_at result v ≡ unknown }
         ensures holders { (name : ℕ) → holder_at result name ≡ None }
@@ -88,19 +92,21 @@ impl Variables {
         }
     }
 
+    /// Returns the data of a variable.
     pub fn data(&self, var: Var) -> VarData
         ensures { variable_of result ≡ variable_at self.now var }
     {
         self.data.get(var.index(), VarData::unknown())
     }
 
-    /// The variable that has the name.
+    /// Returns the variable that has the name.
     pub fn holder(&self, name: Var) -> Option<Var>
         ensures { result ≡ holder_at self.now name }
     {
         self.holders.get(name.index(), None)
     }
 
+    /// Sets the data of a variable.
     fn set(&mut self, var: Var, state: VarData) -> Result<(), AllocError>
         ensures variables { OnOk result ((v : ℕ) →
             variable_at self.new v ≡ (if v == var then variable_of state else variable_at self.old v)) }
@@ -122,7 +128,7 @@ impl Variables {
         near[index].known
     }
 
-    /// An unknown variable becomes a sampling one.
+    /// Makes an unknown variable a sampling one.
     #[inline(always)]
     pub fn ensure_var(&mut self, var: Var) -> Result<(), AllocError>
         ensures variables { OnOk result
@@ -135,7 +141,7 @@ impl Variables {
         self.ensure_far(var)
     }
 
-    /// As `ensure_var`, for any variable.
+    /// Does the same as `ensure_var`, for any variable.
     #[inline(never)]
     fn ensure_far(&mut self, var: Var) -> Result<(), AllocError>
         ensures variables { OnOk result
@@ -156,7 +162,7 @@ impl Variables {
         )
     }
 
-    /// Unknown variables of the literals become sampling ones.
+    /// Makes unknown variables of the literals sampling ones.
     #[tactic(auto, using(crate::proofs::lemmas::variables::Keeping::ensuring))]
     pub fn ensure_vars(&mut self, literals: &[Lit]) -> Result<(), AllocError>
         ensures variables { OnOk result ((v : ℕ) →
@@ -169,7 +175,7 @@ impl Variables {
         Ok(())
     }
 
-    /// Unknown variables of the literals become sampling ones.
+    /// Makes unknown variables of the literals sampling ones.
     pub fn learn(&mut self, literals: &[Lit]) -> Result<(), AllocError>
         ensures { OnOk result ((g : ℕ → Variable) → KeepsVariables self.old g
             → KeepsVariables self.new (λ v. known_if (is_among (map variable literals.now) v) (g v))) }
@@ -177,7 +183,7 @@ impl Variables {
         self.ensure_vars(literals)
     }
 
-    /// Unknown variables of units become sampling ones.
+    /// Makes unknown variables of units sampling ones.
     pub fn learn_units(&mut self, units: &[(Lit, ClauseHash)]) -> Result<(), AllocError>
         ensures { OnOk result ((g : ℕ → Variable) → KeepsVariables self.old g
             → KeepsVariables self.new (λ v. known_if (is_among (map variable (map (λ u. u.0) units.now)) v) (g v))) }
@@ -188,7 +194,7 @@ impl Variables {
         Ok(())
     }
 
-    /// An unknown variable becomes a sampling one.
+    /// Makes an unknown variable a sampling one.
     pub fn learn_var(&mut self, var: Var) -> Result<(), AllocError>
         ensures { OnOk result ((g : ℕ → Variable) → KeepsVariables self.old g
             → KeepsVariables self.new (λ v. known_if (is_among (var ∷ []) v) (g v))) }
@@ -196,7 +202,7 @@ impl Variables {
         self.ensure_var(var)
     }
 
-    /// Gives a variable a name. The answer is whether it may have it: the name is free, the variable has none and isn't
+    /// Gives a variable a name. Returns whether it may have it: the name is free, and the variable has none and isn't
     /// hidden.
     pub fn add_user_mapping(&mut self, var: Var, name: Var) -> Result<bool, AllocError>
         ensures answers { IfOk result (VariablesAnswer self.old (UserVarName var (Some name)) self.new) }
@@ -225,7 +231,7 @@ impl Variables {
         Ok(true)
     }
 
-    /// Takes a variable's name away and hides it. The answer is whether it has one.
+    /// Removes a variable's name, and hides the variable. Returns whether it had a name.
     pub fn remove_user_mapping(&mut self, var: Var) -> Result<bool, AllocError>
         ensures answers { IfOk result (VariablesAnswer self.old (UserVarName var None) self.new) }
         ensures judged { OnErr result (VariablesAllow self.old (UserVarName var None)) }
@@ -247,7 +253,7 @@ impl Variables {
         Ok(true)
     }
 
-    /// Gives a name to a variable, or takes it from it. The answer is whether it may be so.
+    /// Gives a name to a variable, or removes it. Returns whether that is allowed.
     pub(crate) fn rename(&mut self, var: Var, user: Option<Var>) -> Result<bool, AllocError>
         ensures answers { IfOk result (VariablesAnswer self.old (UserVarName var user) self.new) }
         ensures judged { OnErr result (VariablesAllow self.old (UserVarName var user)) }
@@ -258,7 +264,7 @@ impl Variables {
         }
     }
 
-    /// Sets the mode of a known variable. The answer is whether it is known.
+    /// Sets the mode of a known variable. Returns whether it is known.
     pub fn set_mode(&mut self, var: Var, sample: bool) -> Result<bool, AllocError>
         ensures answers { IfOk result (VariablesAnswer self.old (ChangeSamplingMode var sample) self.new) }
         ensures judged { OnErr result (VariablesAllow self.old (ChangeSamplingMode var sample)) }
@@ -280,7 +286,7 @@ impl Variables {
         Ok(true)
     }
 
-    /// A variable without a name is unknown again.
+    /// Makes a variable without a name unknown again.
     pub fn forget(&mut self, var: Var) -> Result<(), AllocError>
         ensures { OnOk result ((g : ℕ → Variable) → KeepsVariables self.old g → (g var).name ≡ None
             → KeepsVariables self.new (λ w. if w == var then unknown else g w)) }
@@ -301,6 +307,7 @@ impl Variables {
         true
     }
 
+    /// Sets which variable has a name.
     fn set_holder(&mut self, name: Var, holder: Option<Var>) -> Result<(), AllocError>
         ensures holders { OnOk result ((q : ℕ) → holder_at self.new q
             ≡ (if q == name then holder else holder_at self.old q)) }

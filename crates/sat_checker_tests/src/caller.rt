@@ -8,7 +8,7 @@ ghost use Rattle.sat_checker.specs.KernelView.{HasAccepted, IsSettled};
 ghost use Rattle.sat_checker.specs.ProofView.{GaveSteps, taken_after};
 ghost use Rattle.sat_checker.specs.ClausesView.{after_additions};
 
-use sat_base::{CnfFormula, Counted, CountedRead};
+use sat_base::{CnfFormula, Counted, CountedRead, DimacsParser};
 use sat_checker::{Checker, CheckerError};
 use std::alloc::Global;
 
@@ -29,7 +29,7 @@ fn is_refuted<R: CountedRead>(
     answer
 }
 
-/// The same by a checker that has accepted nothing yet.
+/// Does the same with a checker that has accepted nothing yet.
 fn is_refuted_by<R: CountedRead>(
     checker: &mut Checker,
     formula: &CnfFormula,
@@ -47,14 +47,24 @@ fn is_refuted_by<R: CountedRead>(
     Ok(checker.unsat())
 }
 
-/// What is answered to a proof where the formula has no clause.
-fn answered(alloc: Global, proof: &[u8]) -> Option<bool> {
-    let formula = CnfFormula::new(alloc);
-    is_refuted(alloc, &formula, &mut Counted::new(proof)).ok()
+/// Returns whether a proof refutes a formula in DIMACS CNF, or `None` if one of them has a fault or memory runs out.
+fn refutes(alloc: Global, text: &[u8], proof: &[u8]) -> Option<bool> {
+    match DimacsParser::parse(alloc, &mut Counted::new(text)) {
+        Ok(formula) => is_refuted(alloc, &formula, &mut Counted::new(proof)).ok(),
+        Err(_) => None,
+    }
 }
+
+/// All four clauses of two variables.
+const FORMULA: &[u8] = b"1 2 0 -1 2 0 1 -2 0 -1 -2 0";
+
+/// `ChangeHashBits` to 0, so that the hash 0 names all clauses; an `AtClause` with the literal 2; one without literals;
+/// and `End`.
+const PROOF: &[u8] = &[9, 0, 6, 0, 1, 2, 1, 0, 6, 0, 0, 1, 0, 13];
 
 #[test]
 fn proofs_refute(rt: HostRuntime) {
-    assert!(rt; answered(rt.alloc(), &[5, 0, 13]) == Some(true));
-    assert!(rt; answered(rt.alloc(), &[13]) == Some(false));
+    assert!(rt; refutes(rt.alloc(), FORMULA, PROOF) == Some(true));
+    assert!(rt; refutes(rt.alloc(), FORMULA, &[13]) == Some(false));
+    assert!(rt; refutes(rt.alloc(), FORMULA, &[9]) == None);
 }

@@ -9,7 +9,7 @@ use Rattle.sat_checker.specs.Storing.{clause_with, unit_id, with_unit}
 use Rattle.sat_checker.specs.Accepts.{stored_after, ready_after}
 use Rattle.sat_checker.specs.announcements.Needed.{true_unit, propagations}
 
--- what is told of a variable that has a name
+-- what is announced of a variable that has a name
 pub record UserVariable : Type 0 where
   pub name : ℕ
   pub sampling : Bool  -- false is witness
@@ -31,7 +31,7 @@ pub data Announcement : Type 0 where
   Assumptions : List ℕ → Announcement
   FailedAssumptions : List ℕ → List ℕ → Announcement  -- the core, propagations
 
--- whether a variable of this mode is told as a sampling one
+-- whether a variable of this mode is announced as a sampling one
 abbrev pub is_sample : Mode → Bool
 is_sample Sample = true
 is_sample Witness = false
@@ -63,7 +63,7 @@ abbrev pub id_of : Option StoredClause → Option ℕ
 id_of None = None
 id_of (Some c) = Some c.id
 
--- the id under which a sorted set is stored, if it is; each empty clause is new
+-- the id under which a sorted set is stored, if it is; every empty clause is new
 abbrev pub id_of_set : List ℕ → Stored → Option ℕ
 id_of_set [] f = None
 id_of_set (l ∷ []) f = unit_id l f.units
@@ -79,7 +79,7 @@ abbrev pub input : List ℕ → Stored → List Announcement
 input clause f =
     let literals : List ℕ = canonical clause in if is_tautology clause then TautologicalClause f.next_id literals ∷ [] else input_set f.next_id literals (id_of_set literals f)
 
--- is it stored as redundant alone?
+-- is it only stored as redundant?
 abbrev pub redundant_alone : Option StoredClause → Bool
 redundant_alone None = false
 redundant_alone (Some c) = c.irredundant == 0
@@ -94,12 +94,12 @@ abbrev pub derived : Bool → List ℕ → List ℕ → Stored → List Announce
 derived redundant clause hashes f =
     let literals : List ℕ = canonical clause in if is_tautology clause then [] else derived_set redundant literals (propagations f clause hashes) f (id_of_set literals f)
 
--- each in turn, those before it being units by then
+-- all of them in turn, where those before are units
 abbrev pub derived_units : List (ℕ × ℕ) → Stored → List Announcement
 derived_units [] f = []
 derived_units (u ∷ us) f = derived false (u.0 ∷ []) (u.1 ∷ []) f ++ derived_units us (with_unit u.0 f)
 
--- one redundant count is taken, and the clause is gone where that was its last one
+-- one redundant count is removed, and so is the clause if that was its last one
 abbrev pub redundant_deleted : Option StoredClause → List Announcement
 redundant_deleted None = []
 redundant_deleted (Some c) = if c.irredundant == 0 && c.redundant == 1 then DeleteClause c.id c.literals ∷ [] else []
@@ -109,7 +109,7 @@ abbrev pub irredundant_deleted : List ℕ → Option StoredClause → List Annou
 irredundant_deleted ids None = []
 irredundant_deleted ids (Some c) = if c.irredundant == 1 then DeleteAtClause c.id (nat_lt 0 c.redundant) c.literals ids ∷ [] else []
 
--- this id alone, or none
+-- only this id, or none
 abbrev pub one : Option ℕ → List ℕ
 one None = []
 one (Some id) = id ∷ []
@@ -154,15 +154,15 @@ pub record Told : Type 0 where
   pub announcement : Announcement
   pub variables : ℕ → Variable
 
--- announcements, each with the variables of what is stored
+-- announcements, all with the variables of what is stored
 abbrev pub told_over : Stored → List Announcement → List Told
 told_over f = map (λ a. record { announcement = a; variables = f.variables })
 
--- What is told of accepted steps, in order. The empty clause of a unit conflict comes before the next step.
+-- What is announced of accepted steps, in order. The empty clause of a unit conflict comes before the next step.
 abbrev pub told_after : List Step → List Told
 told_after [] = []
 told_after (step ∷ earlier) = told_after earlier ++ told_over (stored_after earlier) (delayed (stored_after earlier)) ++ told_over (ready_after earlier) (announced (ready_after earlier) step)
 
--- what is told once nothing is delayed any more, which is all that a refused step tells
+-- what is announced once nothing is delayed any more, which is all that a refused step announces
 abbrev pub all_told_after : List Step → List Told
 all_told_after steps = told_after steps ++ told_over (stored_after steps) (delayed (stored_after steps))

@@ -15,23 +15,23 @@ pub record Ground : Type 0 where
 abbrev pub others_denied : ℕ → List ℕ → List ℕ
 others_denied l clause = map negated (filter (λ m. not (m == l)) clause)
 
--- A clause that made a literal true is needed where the literal is; then the negations of its other literals are.
+-- A clause that implied a literal is needed if the literal is; then so are the negations of its other literals.
 abbrev pub with_reason : ℕ → StoredClause → Ground → Ground
 with_reason l c g =
     if is_among g.literals l then record { literals = others_denied l c.literals ++ g.literals; clauses = c ∷ g.clauses } else g
 
--- by what a clause says: falsified, it is the conflict; unit, its open literal is true for the clauses behind it
+-- by what a clause is: falsified, it is the conflict; unit, its open literal is true for the clauses after it
 abbrev pub ground_by : Verdict → StoredClause → List ℕ → (List ℕ → Ground) → Ground
 ground_by falsified c assumed behind = record { literals = map negated c.literals; clauses = c ∷ [] }
 ground_by (opens l) c assumed behind = with_reason l c (behind (l ∷ assumed))
 ground_by rests c assumed behind = behind assumed
 
--- what the first conflict of these clauses rests on, each that is unit in its turn being passed
+-- what the first conflict of these clauses rests on, if every clause that is unit in its turn is used
 abbrev pub ground : List ℕ → List StoredClause → Ground
 ground assumed [] = record { literals = []; clauses = [] }
 ground assumed (c ∷ cs) = ground_by (verdict assumed c.literals) c assumed (λ more. ground more cs)
 
--- the stored clauses of the named buckets, in the order named and by id in each
+-- the stored clauses of the named buckets, in the order named and by id in every bucket
 abbrev pub clauses_named : List ℕ → Stored → List StoredClause
 clauses_named [] f = []
 clauses_named (hash ∷ hashes) f = filter (λ c. hash_by f.solver_names f.width c.literals == hash) f.clauses ++ clauses_named hashes f
@@ -44,22 +44,22 @@ needed_units denied g = filter (λ u. is_among g.literals u.literal && not (is_a
 abbrev pub conflict_ids : List ℕ → Ground → List StoredUnit → List ℕ
 conflict_ids denied g units = map (λ u. u.id) (needed_units denied g units) ++ map (λ c. c.id) g.clauses
 
--- this one, or the other where it's none
+-- this one, or the other if it is none
 abbrev pub or_else : {A : Type 0} → Option A → Option A → Option A
 or_else None y = y
 or_else (Some x) y = Some x
 
--- the id of the stored unit that is true in the clause, that of the first literal where several are
+-- the id of the stored unit that satisfies the clause, that of the first literal if there are several
 abbrev pub true_unit : List ℕ → List StoredUnit → Option ℕ
 true_unit [] units = None
 true_unit (l ∷ ls) units = or_else (unit_id l units) (true_unit ls units)
 
--- the id of the unit that is true in the clause, and no other; these ids where there is none
+-- only the id of the unit that satisfies the clause, or these ids if there is none
 abbrev pub unit_alone : Option ℕ → List ℕ → List ℕ
 unit_alone (Some id) ids = id ∷ []
 unit_alone None ids = ids
 
--- The ids that a clause rests on which passed the check under the hashes: none where it has both signs of a variable; the unit that is true in it, of the lowest literal; or the units needed, by increasing id, and then the clauses needed, in the order passed, the falsified one last.
+-- The ids that a clause rests on which passed the check under the hashes: none if it has both signs of a variable; the unit that satisfies it, of the lowest literal; or the units that are needed, by increasing id, and then the clauses that are needed, in the order of the walk, the falsified one last.
 abbrev pub propagations : Stored → List ℕ → List ℕ → List ℕ
 propagations f clause hashes =
     let denied : List ℕ = map negated clause in

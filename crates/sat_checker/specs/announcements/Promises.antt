@@ -45,7 +45,7 @@ pub data Passing : List ℕ → List StoredClause → List Reason → StoredClau
   is_neither : (assumed : List ℕ) (c : StoredClause) (cs : List StoredClause) (reasons : List Reason) (last : StoredClause) →
       (IsFalsified assumed c.literals → ⊥) → ((l : ℕ) → IsUnit assumed c.literals l → ⊥) → Passing assumed cs reasons last → Passing assumed (c ∷ cs) reasons last
 
--- The literals that a conflict rests on, followed backwards: the negations of the falsified clause's literals, and where a clause made one of them true, those of its other literals.
+-- The literals that a conflict rests on, followed backwards: the negations of the falsified clause's literals, and if a clause implied one of them, those of its other literals.
 pub data IsNeededLiteral (reasons : List Reason) (last : StoredClause) : ℕ → Type 0 where
   of_last : (l : ℕ) → is_among last.literals l ≡ true → IsNeededLiteral reasons last (negated l)
   of_reason : (r : Reason) (l : ℕ) → IsOneOf r reasons → IsNeededLiteral reasons last r.literal → is_among r.clause.literals l ≡ true → l ≢ r.literal → IsNeededLiteral reasons last (negated l)
@@ -74,13 +74,13 @@ TautologiesRestOnNothing = (f : Stored) (clause hashes : List ℕ) → is_tautol
 abbrev pub IsNoEmpty : Last → Type 0
 IsNoEmpty last = (id : ℕ) → last ≢ Empty id
 
--- a deleted clause rests on the unit that is true in it, or on the last irredundant clause stored, where that isn't an empty one
+-- a deleted clause rests on the unit that satisfies it, or on the last irredundant clause stored, unless that is an empty one
 abbrev pub DeletionsRest : Type 0
 DeletionsRest = (steps : List Step) (clause : List ℕ) → AcceptsAll steps →
     (Accepts (ready_after steps) (DeleteClause clause Satisfied) → RestsOn (ready_after steps) clause (one (true_unit (canonical clause) (ready_after steps).units)))
     × (Accepts (ready_after steps) (DeleteClause clause Simplified) → IsNoEmpty (ready_after steps).last → RestsOn (ready_after steps) clause (one (last_id (ready_after steps).last)))
 
--- what a step announces comes behind all that was told or delayed before it, and what was delayed is told once
+-- what a step announces comes after all that was announced or delayed before it, and what was delayed is announced once
 abbrev pub ToldInOrder : Type 0
 ToldInOrder = (steps : List Step) (step : Step) →
     (told_after (step ∷ steps) ≡ all_told_after steps ++ told_over (ready_after steps) (announced (ready_after steps) step)) × (delayed (ready_after steps) ≡ [])

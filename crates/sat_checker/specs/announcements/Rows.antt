@@ -76,13 +76,13 @@ Contradiction = AllAccepted contradicting × (told_by contradicting ≡ contradi
     × (all_told_by (contradicting ++ End ∷ []) ≡ contradiction_told ++ empty_told)
     × (transcribed_by contradicting ≡ transcript.AddClause (0 ∷ []) ∷ transcript.AddClause (1 ∷ []) ∷ transcript.Unsat ∷ [])
 
--- [1], [-1, 2] and [-1, -2] in one bucket, then the units -1, -1 and 3 in one step: the empty clause comes behind all of them
+-- [1], [-1, 2] and [-1, -2] in one bucket, then the units -1, -1 and 3 in one step: the empty clause comes after all of them
 abbrev pub ConflictAndUnitTold : Type 0
 ConflictAndUnitTold = all_told_by conflict_and_unit
     ≡ AddClause 0 (0 ∷ []) ∷ AddClause 1 (1 ∷ 2 ∷ []) ∷ AddClause 2 (1 ∷ 3 ∷ []) ∷ AtClause 3 false (1 ∷ []) (1 ∷ 2 ∷ []) ∷ AtClause 4 false (1 ∷ []) (1 ∷ 2 ∷ [])
     ∷ AtClause 5 false (4 ∷ []) (0 ∷ 1 ∷ 2 ∷ []) ∷ AtClause 6 false [] (0 ∷ 3 ∷ []) ∷ []
 
--- the four ways of [1, 2] as an input clause: new, stored before, also where it was stored as redundant alone, and a tautology; and one more once unsat is recorded
+-- the four ways of [1, 2] as an input clause: new, stored before, also if it was only stored as redundant, and a tautology; and one more once unsat is recorded
 abbrev pub InputNew : Type 0
 InputNew = LastTells [] (steps.AddClause (2 ∷ 0 ∷ 0 ∷ [])) (AddClause 0 (0 ∷ 2 ∷ []) ∷ [])
 
@@ -94,51 +94,51 @@ InputDuplicate = LastTells (steps.AddClause (0 ∷ 2 ∷ []) ∷ []) (steps.AddC
 abbrev pub as_redundant : List Step
 as_redundant = steps.AddClause (0 ∷ []) ∷ steps.AtClause true (0 ∷ 2 ∷ []) [] ∷ []
 
--- stored before as redundant alone, which is told as a duplicate, too
+-- stored before only as redundant, which is announced as a duplicate, too
 abbrev pub InputRedundant : Type 0
 InputRedundant = LastTells as_redundant (steps.AddClause (0 ∷ 2 ∷ [])) (DuplicatedClause 2 1 (0 ∷ 2 ∷ []) ∷ [])
 
--- a unit stored before is told as a duplicate
+-- a unit stored before is announced as a duplicate
 abbrev pub InputUnitAgain : Type 0
 InputUnitAgain = LastTells (steps.AddClause (0 ∷ []) ∷ []) (steps.AddClause (0 ∷ 0 ∷ [])) (DuplicatedClause 1 0 (0 ∷ []) ∷ [])
 
--- a tautology, which is told as one
+-- a tautology, which is announced as one
 abbrev pub InputTautology : Type 0
 InputTautology = LastTells [] (steps.AddClause (2 ∷ 1 ∷ 0 ∷ [])) (TautologicalClause 0 (0 ∷ 1 ∷ 2 ∷ []) ∷ [])
 
--- once unsat is recorded, nothing is told of an input clause
+-- once unsat is recorded, nothing is announced of an input clause
 abbrev pub InputBehindUnsat : Type 0
 InputBehindUnsat = LastTells (steps.AddClause [] ∷ []) (steps.AddClause (0 ∷ 1 ∷ [])) []
 
--- a derived clause that is new, one that becomes irredundant, and those of which nothing is told: a clause or unit stored before, and a tautology
+-- a derived clause that is new, one that becomes irredundant, and those of which nothing is announced: a clause or unit stored before, and a tautology
 abbrev pub DerivedNew : Type 0
 DerivedNew = LastTells (steps.AddClause (0 ∷ []) ∷ []) (steps.AtClause true (2 ∷ 0 ∷ []) []) (AtClause 1 true (0 ∷ 2 ∷ []) (0 ∷ []) ∷ [])
 
--- as irredundant where it was redundant alone
+-- as irredundant if it was only redundant
 abbrev pub DerivedIrredundant : Type 0
 DerivedIrredundant = LastTells as_redundant (steps.AtClause false (2 ∷ 0 ∷ []) []) (MakeIrredundant 1 (0 ∷ 2 ∷ []) ∷ [])
 
--- as redundant where it was redundant: nothing is told
+-- as redundant if it was redundant: nothing is announced
 abbrev pub DerivedRedundantAgain : Type 0
 DerivedRedundantAgain = LastTells as_redundant (steps.AtClause true (2 ∷ 0 ∷ []) []) []
 
--- as irredundant where it was irredundant: nothing is told
+-- as irredundant if it was irredundant: nothing is announced
 abbrev pub DerivedIrredundantAgain : Type 0
 DerivedIrredundantAgain = LastTells (steps.AddClause (0 ∷ []) ∷ steps.AddClause (0 ∷ 2 ∷ []) ∷ []) (steps.AtClause false (0 ∷ 2 ∷ []) []) []
 
--- of a derived unit that was stored before nothing is told
+-- of a derived unit that was stored before nothing is announced
 abbrev pub DerivedUnitAgain : Type 0
 DerivedUnitAgain = LastTells (steps.AddClause (0 ∷ []) ∷ []) (steps.AtClause false (0 ∷ []) []) []
 
--- of a derived tautology nothing is told
+-- of a derived tautology nothing is announced
 abbrev pub DerivedTautology : Type 0
 DerivedTautology = LastTells [] (steps.AtClause false (0 ∷ 1 ∷ []) []) []
 
--- a redundant count is taken: the last of all, or one beside an irredundant one
+-- a redundant count is removed: the last of all, or one besides an irredundant one
 abbrev pub RedundantGone : Type 0
 RedundantGone = LastTells as_redundant (steps.DeleteClause (2 ∷ 0 ∷ []) Redundant) (DeleteClause 1 (0 ∷ 2 ∷ []) ∷ [])
 
--- one beside an irredundant one: nothing is told
+-- one besides an irredundant one: nothing is announced
 abbrev pub RedundantStays : Type 0
 RedundantStays = LastTells (as_redundant ++ steps.AtClause false (0 ∷ 2 ∷ []) [] ∷ []) (steps.DeleteClause (0 ∷ 2 ∷ []) Redundant) []
 
@@ -146,11 +146,11 @@ RedundantStays = LastTells (as_redundant ++ steps.AtClause false (0 ∷ 2 ∷ []
 abbrev pub SatisfiedGone : Type 0
 SatisfiedGone = LastTells (steps.AddClause (2 ∷ []) ∷ steps.AddClause (0 ∷ []) ∷ steps.AddClause (2 ∷ 0 ∷ []) ∷ []) (steps.DeleteClause (2 ∷ 0 ∷ []) Satisfied) (DeleteAtClause 2 false (0 ∷ 2 ∷ []) (1 ∷ []) ∷ [])
 
--- the last one, where a redundant one is left: the clause is kept as redundant
+-- the last one, if a redundant one is left: the clause stays as redundant
 abbrev pub SatisfiedKept : Type 0
 SatisfiedKept = LastTells (as_redundant ++ steps.AtClause false (0 ∷ 2 ∷ []) [] ∷ []) (steps.DeleteClause (0 ∷ 2 ∷ []) Satisfied) (DeleteAtClause 1 true (0 ∷ 2 ∷ []) (0 ∷ []) ∷ [])
 
--- [1, 2, 3] goes by [1, 2], the last irredundant clause stored
+-- [1, 2, 3] is deleted by [1, 2], the last irredundant clause stored
 abbrev pub SimplifiedGone : Type 0
 SimplifiedGone = LastTells (steps.AddClause (0 ∷ 2 ∷ 4 ∷ []) ∷ steps.AddClause (0 ∷ 2 ∷ []) ∷ []) (steps.DeleteClause (4 ∷ 2 ∷ 0 ∷ []) Simplified) (DeleteAtClause 0 false (0 ∷ 2 ∷ 4 ∷ []) (1 ∷ []) ∷ [])
 
@@ -159,7 +159,7 @@ abbrev pub SimplifiedByEmpty : Type 0
 SimplifiedByEmpty = LastTells (steps.AddClause (0 ∷ 2 ∷ []) ∷ steps.AddClause [] ∷ []) (steps.DeleteClause (2 ∷ 0 ∷ []) Simplified) (DeleteAtClause 0 false (0 ∷ 2 ∷ []) (1 ∷ []) ∷ [])
     × LastTells refuted (steps.DeleteClause (0 ∷ 3 ∷ []) Simplified) (DeleteAtClause 1 false (0 ∷ 3 ∷ []) (5 ∷ []) ∷ [])
 
--- one of two: nothing is told
+-- one of two: nothing is announced
 abbrev pub SatisfiedStays : Type 0
 SatisfiedStays = LastTells (steps.AddClause (0 ∷ []) ∷ steps.AddClause (0 ∷ 2 ∷ []) ∷ steps.AddClause (0 ∷ 2 ∷ []) ∷ []) (steps.DeleteClause (0 ∷ 2 ∷ []) Satisfied) []
 
@@ -183,7 +183,7 @@ NameOfKnown = LastTells (as_witness) (UserVarName 0 (Some 7)) (UserVar 0 (Some (
 abbrev pub NameRemoved : Type 0
 NameRemoved = LastTells named_seven (UserVarName 0 None) (UserVar 0 None ∷ [])
 
--- of a solver's name nothing is told
+-- of a solver's name nothing is announced
 abbrev pub SolverNameSet : Type 0
 SolverNameSet = LastTells [] (SolverVarName 0 (Some 7)) []
 
@@ -191,11 +191,11 @@ SolverNameSet = LastTells [] (SolverVarName 0 (Some 7)) []
 abbrev pub ModeChanged : Type 0
 ModeChanged = LastTells named_seven (ChangeSamplingMode 0 false) (UserVar 0 (Some (record { name = 7; sampling = false; is_new = false })) ∷ [])
 
--- the mode that it has already: nothing is told
+-- the mode that it has already: nothing is announced
 abbrev pub ModeLeft : Type 0
 ModeLeft = LastTells named_seven (ChangeSamplingMode 0 true) []
 
--- of a variable that has no name: nothing is told
+-- of a variable that has no name: nothing is announced
 abbrev pub ModeOfNameless : Type 0
 ModeOfNameless = LastTells (steps.Assumptions (0 ∷ []) ∷ []) (ChangeSamplingMode 0 false) []
 
@@ -235,7 +235,7 @@ UnitsHeld = LastTells units_and_clauses (steps.AtClause true (8 ∷ 1 ∷ 3 ∷ 
 abbrev pub PassedNotNeeded : Type 0
 PassedNotNeeded = LastTells units_and_clauses (steps.AtClause true (8 ∷ 10 ∷ []) (0 ∷ [])) (AtClause 6 true (8 ∷ 10 ∷ []) (0 ∷ 1 ∷ 2 ∷ 3 ∷ 5 ∷ []) ∷ [])
 
--- a unit that is true in the clause alone, of several that of the lowest literal
+-- a unit that satisfies the clause, of several that of the lowest literal
 abbrev pub UnitAlone : Type 0
 UnitAlone = LastTells (steps.AddClause (2 ∷ []) ∷ steps.AddClause (0 ∷ []) ∷ steps.AddClause (1 ∷ 3 ∷ []) ∷ []) (steps.AtClause true (4 ∷ 2 ∷ 0 ∷ []) (hash_of (1 ∷ 3 ∷ []) ∷ [])) (AtClause 3 true (0 ∷ 2 ∷ 4 ∷ []) (1 ∷ []) ∷ [])
 
@@ -256,7 +256,7 @@ abbrev pub ModesRead : Type 0
 ModesRead = LastReads named_seven (ChangeSamplingMode 0 false) (transcript.WitnessVar 7 ∷ [])
     × LastReads (named_seven ++ ChangeSamplingMode 0 false ∷ []) (ChangeSamplingMode 0 true) (transcript.SampleVar 7 ∷ [])
 
--- of clauses: each input clause, the empty derived one, and no other derived or deleted one
+-- of clauses: every input clause, the empty derived one, and no other derived or deleted one
 abbrev pub InputsRead : Type 0
 InputsRead = LastReads [] (steps.AddClause (2 ∷ 0 ∷ 0 ∷ [])) (transcript.AddClause (0 ∷ 2 ∷ []) ∷ [])
     × LastReads (steps.AddClause (0 ∷ 2 ∷ []) ∷ []) (steps.AddClause (2 ∷ 0 ∷ 0 ∷ [])) (transcript.AddClause (0 ∷ 2 ∷ []) ∷ [])

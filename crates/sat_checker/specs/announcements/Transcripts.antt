@@ -17,7 +17,7 @@ pub data Transcribed : Type 0 where
   Assume : List ℕ → Transcribed
   FailedAssumptions : List ℕ → Transcribed
 
--- the explicit name, else the variable itself where it is a sampling one
+-- the explicit name, or the variable itself if it is a sampling one
 abbrev pub name_or_itself : ℕ → Mode → Option ℕ → Option ℕ
 name_or_itself v mode (Some name) = Some name
 name_or_itself v mode None = if is_sample mode then Some v else None
@@ -36,12 +36,12 @@ abbrev pub in_user_names : (ℕ → Variable) → List ℕ → List ℕ
 in_user_names variables [] = []
 in_user_names variables (l ∷ ls) = onto_named l (user_from_proof_var variables (variable l)) (in_user_names variables ls)
 
--- a name was removed, which the variable had till then
+-- a name was removed, which the variable had until then
 abbrev pub hiding : Option ℕ → Option Transcribed
 hiding None = None
 hiding (Some name) = Some (HideVar name)
 
--- A name was set where the variable had none till then; else its mode was changed.
+-- A name was set if the variable had none before; otherwise its mode was changed.
 abbrev pub naming_transcript : UserVariable → Option ℕ → Option Transcribed
 naming_transcript u None = if u.is_new then None else Some (ObserveInternalVar u.name)
 naming_transcript u (Some name) = Some (if u.sampling then SampleVar u.name else WitnessVar u.name)
@@ -68,12 +68,12 @@ transcript variables (told.Model ls) = Some (Model (in_user_names variables ls))
 transcript variables (Assumptions ls) = Some (Assume (in_user_names variables ls))
 transcript variables (told.FailedAssumptions core ids) = Some (FailedAssumptions (in_user_names variables core))
 
--- one step of a transcript in front of these, if there is one
+-- one step of a transcript before these, if there is one
 abbrev pub with_transcript : Option Transcribed → List Transcribed → List Transcribed
 with_transcript None ts = ts
 with_transcript (Some t) ts = t ∷ ts
 
--- the transcript of what was told, in order
+-- the transcript of what was announced, in order
 abbrev pub transcripts : List Told → List Transcribed
 transcripts [] = []
 transcripts (t ∷ ts) = with_transcript (transcript t.variables t.announcement) (transcripts ts)

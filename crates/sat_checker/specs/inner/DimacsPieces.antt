@@ -1,4 +1,4 @@
--- One piece of a formula's text that was read, and its clauses added.
+-- One chunk of a formula's text that was read, and its clauses added.
 use Rattle.std.specs.Prelude.{ℕ, ◌≡◌, ◌++◌, Bool, true, false, List, Result, Ok, Err}
 use Rattle.sat_base.specs.dimacs.Parsing.{Progress, clauses_read}
 use Rattle.sat_base.specs.declared.dimacs.error.DimacsError.{DimacsError}
@@ -10,7 +10,7 @@ use Rattle.sat_checker.specs.declared.processing.ProcessingError.{ProcessingErro
 use Rattle.sat_checker.specs.declared.error.CheckerDimacsError.{CheckerDimacsError}
 use Rattle.sat_checker.specs.declared.error.CheckerDimacsError.TheVariants as refused
 
--- for want of memory the checker has failed then
+-- the checker has failed then if memory ran out
 abbrev pub is_want : DimacsError → Bool
 is_want (texts.Malformed line) = false
 is_want (texts.Limit line) = false
@@ -23,13 +23,13 @@ abbrev pub with_flag : {L : Type 0} → Bool → Seen L → Seen L
 with_flag b c = record c { kernel = record c.kernel { failed = b } }
 
 module _ {L : Type 0} (Hears : L → Told → Result Unit ProcessingError → L → Type 0) where
-  -- what is answered where these clauses were added
+  -- the result if these clauses were added
   abbrev pub AnswersRead : Result Unit CheckerDimacsError → Result Unit DimacsError → Seen L → Seen L → List (List ℕ) → Type 0
   AnswersRead (Ok x) answer old new clauses = (answer ≡ Ok tt) × AddsClauses Hears (Ok tt) old new clauses
   AnswersRead (Err (refused.Dimacs error)) answer old new clauses =
       (answer ≡ Err error) × (mid : Seen L) × AddsClauses Hears (Ok tt) old mid clauses × (new ≡ with_flag (is_want error) mid)
   AnswersRead (Err (refused.Checker error)) answer old new clauses = AddsClauses Hears (Err error) old new clauses
 
-  -- the clauses that waited are added, and the parser's answer is passed on
+  -- the clauses that waited are added, and the parser's result is passed on
   abbrev pub AddsRead : Result Unit CheckerDimacsError → Result Unit DimacsError → Progress → Seen L → Seen L → Type 0
   AddsRead result answer parser old new = (clauses : List (List ℕ)) × (clauses_read parser ≡ parser.taken ++ clauses) × AnswersRead result answer old new clauses

@@ -1,4 +1,4 @@
--- What the stored formula's parts keep of the definition's state.
+-- What the stored formula's parts have of the definition's state.
 use Rattle.std.specs.Prelude.{ℕ, ◌≡◌, ◌<◌, ◌≤◌, Bool, List, map, Option, Result, Ok, Err}
 use Rattle.std.specs.List.{AllByRecursion}
 use Rattle.std.specs.Bool.{MatchBool}
@@ -17,7 +17,7 @@ use Rattle.sat_checker.specs.declared.state.status.LastClause.TheVariants as cod
 use Rattle.sat_checker.specs.declared.state.status.Status.{Status}
 use Rattle.sat_checker.specs.declared.formula.Formula.{Formula}
 
--- what is recorded beside clauses, units and variables
+-- what is recorded besides clauses, units and variables
 pub record RestOfStored : Type 0 where
   pub unsat : Bool
   pub conflict : Option (ℕ × ℕ)
@@ -45,7 +45,7 @@ standing_in s = record { unsat = s.unsat; conflict = s.conflict; last = last_in 
 abbrev pub IsIdOfUnit : ℕ → ℕ → StoredUnit → Type 0
 IsIdOfUnit id l u = (u.id ≡ id → u.literal ≡ l) × (u.literal ≡ l → id ≤ u.id)
 
--- where the last irredundant clause stored is a unit, its literal was put under its id, though it may be gone by now
+-- if the last irredundant clause stored is a unit, its literal was put under its id, though it may be removed by now
 abbrev pub LastUnitIsPut : LastClause → List StoredUnit → ℕ → Type 0
 LastUnitIsPut code.NoneYet units next_id = Unit {0}
 LastUnitIsPut (code.Empty id) units next_id = Unit {0}
@@ -75,7 +75,7 @@ KeepsFormula formula f = KeepsParts formula f.clauses f.solver_names f.width f.u
 abbrev pub refiled_in : Formula → Formula
 refiled_in formula = record formula { store = refiled formula.store }
 
--- what an answer says where this is stored then, and this is what would be
+-- what the result says if this is stored then, and this is what would be
 abbrev pub KeepsOrSpends : {T : Type 0} → Result T StoreError → Type 0 → Stored → Type 0
 KeepsOrSpends (Ok x) kept g = kept
 KeepsOrSpends (Err OutOfMemory) kept g = Unit {0}
@@ -85,7 +85,7 @@ KeepsOrSpends (Err CounterEnd) kept g = IsSpent g
 abbrev pub Becomes : {T : Type 0} → Result T StoreError → Formula → (Stored → Stored) → Formula → Type 0
 Becomes result old change new = (f : Stored) → KeepsFormula old f → KeepsOrSpends result (KeepsFormula new (change f)) (change f)
 
--- It is accepted, and changed so, or it isn't; an error comes only where it is accepted.
+-- It is accepted, and changed in this way, or it isn't; an error is returned only if it would be accepted.
 abbrev pub TurnsIf : Result Bool StoreError → Type 0 → Type 0 → Stored → Type 0
 TurnsIf (Ok accepted) accepts kept g = MatchBool accepted (accepts × kept) (accepts → ⊥)
 TurnsIf (Err OutOfMemory) accepts kept g = accepts

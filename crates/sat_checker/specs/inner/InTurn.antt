@@ -7,7 +7,7 @@ use Rattle.sat_checker.specs.Storing.{with_unit}
 use Rattle.sat_checker.specs.Accepts.{PassInTurn}
 use Rattle.sat_checker.specs.inner.Room.{LiteralsAndRoom, AgreesOn}
 
--- a unit is assumed where there is room for it, and neither it nor its negation is assumed
+-- a unit is assumed if there is room for it, and neither it nor its negation is assumed
 abbrev pub with_supposed : ℕ → LiteralsAndRoom → List ℕ
 with_supposed l t = if is_among t.room l && not (is_among t.literals l) && not (is_among t.literals (negated l)) then l ∷ t.literals else t.literals
 
@@ -22,7 +22,7 @@ pub record AssumesUnits (trail : LiteralsAndRoom) (before : List ℕ) (f : Store
   pub agrees : AgreesOn trail.room trail.literals (unit_literals f)
   pub others : (l : ℕ) → is_among trail.room l ≡ false → is_unit f l ≡ stands_first before l
 
--- the units behind the first one pass in turn, once it came in
+-- the units after the first one pass in turn, once that was added
 abbrev pub PassBehind : Stored → List (ℕ × ℕ) → Type 0
 PassBehind f [] = Unit {0}
 PassBehind f (u ∷ us) = PassInTurn (with_unit u.0 f) us

@@ -13,11 +13,11 @@ nowhere = 4294967295
 abbrev pub link_at : List Link → ℕ → Link
 link_at links at = slice_index_or links at (record { hash = 0; next = 0 })
 
--- the pair that stands at a place
+-- the pair at a place
 abbrev pub pair_at : List Link → ℕ → Pair
 pair_at links at = record { hash = (link_at links at).hash; place = at }
 
--- from a place on, so many at most
+-- from a place on, at most this many
 abbrev pub chain : List Link → ℕ → ℕ → List Pair
 chain links zero at = []
 chain links (suc n) at = if at == nowhere then [] else pair_at links at ∷ chain links n (link_at links at).next
@@ -26,7 +26,7 @@ chain links (suc n) at = if at == nowhere then [] else pair_at links at ∷ chai
 abbrev pub rest : List Link → ℕ → List Pair
 rest links at = chain links (length links) at
 
--- this pair stands at the place
+-- this pair is at the place
 pub record IsPairAt (links : List Link) (at : ℕ) (p : Pair) : Type 0 where
   pub inside : at < length links
   pub is : p ≡ pair_at links at
@@ -36,12 +36,12 @@ abbrev pub LinksPairs : List Link → ℕ → List Pair → Type 0
 LinksPairs links at [] = at ≡ nowhere
 LinksPairs links at (p ∷ ps) = IsPairAt links at p × LinksPairs links (link_at links at).next ps
 
--- so many lists, one behind the other
+-- this many lists, one after another
 abbrev pub joined : (ℕ → List Pair) → ℕ → List Pair
 joined parts zero = []
 joined parts (suc n) = joined parts n ++ parts n
 
--- the top bits of a hash, over so many heads
+-- the top bits of a hash, over this many heads
 abbrev pub top_of : ℕ → ℕ → ℕ → ℕ
 top_of shift count hash = min (hash / 2 ^ shift) (count - 1)
 
@@ -63,14 +63,14 @@ pub record IsWalk (links : List Link) (at : ℕ) : Type 0 where
   pub leads : LinksPairs links at (rest links at)
   pub in_order : AreInOrder (rest links at)
 
--- from a place on these pairs are linked; each has this top
+-- from a place on these pairs are linked; all have this top
 pub record IsPairChain (links : List Link) (shift count top at : ℕ) (ps : List Pair) : Type 0 where
   pub leads : LinksPairs links at ps
   pub short : length ps ≤ length links
   pub in_order : AreInOrder ps
   pub tops : AllByRecursion (λ p. top_of shift count p.hash ≡ top) ps
 
--- each head's pairs are linked
+-- every head's pairs are linked
 pub record AreLinked (heads : List ℕ) (links : List Link) (shift : ℕ) : Type 0 where
   pub few : length links ≤ nowhere
   pub count : length (listed heads links) ≤ length links
@@ -89,7 +89,7 @@ up_to hash = filter (λ p. nat_le p.hash hash)
 abbrev pub below : ℕ → List Pair → List Pair
 below hash = filter (λ p. nat_lt p.hash hash)
 
--- the place of the last pair, or this one where there is none
+-- the place of the last pair, or this one if there is none
 abbrev pub last_or : Option ℕ → List Pair → Option ℕ
 last_or place [] = place
 last_or place (p ∷ ps) = last_or (Some p.place) ps
@@ -100,7 +100,7 @@ place_before place [] = None
 place_before place (p ∷ []) = None
 place_before place (p ∷ q ∷ qs) = if q.place == place then Some p.place else place_before place (q ∷ qs)
 
--- what is kept of pairs of whose hashes so many bits don't tell the head
+-- what is stored of pairs of whose hashes this many bits don't select the head
 pub record AreKeptPairs (heads : List ℕ) (links : List Link) (shift : ℕ) : Type 0 where
   pub linked : AreLinked heads links shift
   pub some : 0 < length links → 0 < length heads

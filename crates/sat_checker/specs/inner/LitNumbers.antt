@@ -7,10 +7,10 @@ use Rattle.sat_checker.specs.declared.units.lit_numbers.LitNumbers.{LitNumbers}
 abbrev pub unless_largest : ℕ → Option ℕ
 unless_largest n = if n == 2 ^ 64 - 1 then None else Some n
 
--- the number that stands by a literal
+-- the number of a literal
 abbrev pub number_at : LitNumbers → ℕ → Option ℕ
 number_at numbers l = unless_largest (value_at (2 ^ 64 - 1) numbers.numbers l)
 
--- each literal of a trail has its place there for a number
+-- every literal of a trail has its place there as its number
 abbrev pub AreTrailPlaces : LitNumbers → List ℕ → Type 0
 AreTrailPlaces places trail = (i : ℕ) → i < length trail → number_at places (get_or trail i 0) ≡ Some i

@@ -1,4 +1,4 @@
--- What the answers of the walk's functions mean.
+-- What the results of the walk's functions mean.
 use Rattle.std.specs.Prelude.{ℕ, ◌≡◌, ◌≢◌, ◌-◌, ◌≤◌, List, [], length, drop, None, Some}
 use Rattle.sat_checker.specs.inner.Room.{LiteralsAndRoom, RoomStays}
 use Rattle.sat_checker.specs.inner.Walk.{walk}

@@ -1,8 +1,8 @@
--- How many looks a function takes: none are lost, and there is a bound.
+-- How many looks a function needs: none are lost, and there is a bound.
 use Rattle.std.specs.Prelude.{ℕ, ◌+◌, ◌≤◌}
 use Rattle.sat_checker.specs.Stored.{Stored}
 
--- so many at most
+-- at most this many
 pub record LooksUpTo (count old new : ℕ) : Type 0 where
   pub rise : old ≤ new
   pub most : new ≤ old + count

@@ -8,7 +8,7 @@ use Rattle.sat_checker.specs.declared.units.assigned.Mark.{Mark}
 use Rattle.sat_checker.specs.declared.units.assigned.Mark.TheVariants as mark
 pub use Rattle.sat_checker.specs.SortedSets.{NoRepeats, IsIncreasing}
 
--- each of these literals is among those
+-- all of these literals are among those
 abbrev pub AreWithin : List ℕ → List ℕ → Type 0
 AreWithin part whole = (l : ℕ) → is_among part l ≡ true → is_among whole l ≡ true
 
@@ -30,19 +30,19 @@ is_assumed mark.NoRoom = false
 abbrev pub AreNear : List Mark → List ℕ → Type 0
 AreNear near literals = (l : ℕ) → l < length near → is_assumed (slice_index_or near l mark.NoRoom) ≡ is_among literals l
 
--- the literals are marked as assumed, others by whether there is room for them, and none of the literals stands twice or without room
+-- the literals are marked as assumed, others by whether there is room for them, and none of the literals occurs twice or without room
 pub record AreMarks (marks : Table Mark) (literals room : List ℕ) : Type 0 where
   pub each : (l : ℕ) → mark_at marks l ≡ mark_for (is_among literals l) (is_among room l)
   pub once : NoRepeats literals
   pub within : (l : ℕ) → is_among literals l ≡ true → is_among room l ≡ true
 
--- So many have room, and as many can be held. Where a literal has room, its negation has.
+-- This many have room, and as many can be held. If a literal has room, its negation has.
 pub record HoldsRoom (count capacity : ℕ) (room : List ℕ) : Type 0 where
   pub exact : count ≡ length room
   pub enough : count ≤ capacity
   pub paired : (l : ℕ) → is_among room l ≡ is_among room (negated l)
 
--- The list has lost what stood at a place, where its last one stands now.
+-- The list has lost the item at a place, where its last one is now.
 pub record LosesAt (place : ℕ) (old new : List ℕ) : Type 0 where
   pub count : length new + 1 ≡ length old
   pub each : (i : ℕ) → i < length new → get_or new i 0 ≡ (if i == place then get_or old (length old - 1) 0 else get_or old i 0)

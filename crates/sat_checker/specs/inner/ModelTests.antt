@@ -4,7 +4,7 @@ use Rattle.std.specs.List.{list_any}
 use Rattle.sat_checker.specs.LiteralSets.{is_among}
 use Rattle.sat_checker.specs.Stored.{StoredClause}
 
--- has each clause that stands as irredundant one of the literals?
+-- has every clause that is stored as irredundant one of the literals?
 abbrev pub are_all_true : List ℕ → List StoredClause → Bool
 are_all_true ls [] = true
 are_all_true ls (c ∷ cs) = (c.irredundant == 0 || list_any (is_among ls) c.literals) && are_all_true ls cs

@@ -1,4 +1,4 @@
--- How often literals stand in clauses, and what is kept of it.
+-- How often literals occur in clauses, and what is stored of it.
 use Rattle.std.specs.Prelude.{ℕ, ◌≡◌, ◌+◌, ◌==◌, List, [], ◌∷◌, if◌then◌else◌}
 use Rattle.sat_base.specs.values.Tables.{value_at}
 use Rattle.sat_checker.specs.inner.IndexView.{Files}
@@ -6,17 +6,17 @@ use Rattle.sat_checker.specs.inner.PairView.{Indexed}
 use Rattle.sat_checker.specs.inner.SlotView.{Slot, is_gone}
 use Rattle.sat_checker.specs.declared.store.occurrences.Occurrences.{Occurrences}
 
--- how often a literal stands in a clause
+-- how often a literal occurs in a clause
 abbrev pub times_in : ℕ → List ℕ → ℕ
 times_in l [] = 0
 times_in l (x ∷ xs) = (if x == l then 1 else 0) + times_in l xs
 
--- how often it stands in the clauses that aren't gone
+-- how often it occurs in the clauses that aren't removed
 abbrev pub times_stored : ℕ → List Slot → ℕ
 times_stored l [] = 0
 times_stored l (s ∷ ss) = (if is_gone s then 0 else times_in l s.clause.literals) + times_stored l ss
 
--- the count that is kept of a literal, 0 where there is none
+-- the stored count of a literal, 0 if there is none
 abbrev pub count_at : Occurrences → ℕ → ℕ
 count_at kept l = value_at 0 kept.counts l
 

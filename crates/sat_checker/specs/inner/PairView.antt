@@ -12,21 +12,21 @@ pub record IsPairBefore (p q : Pair) : Type 0 where
   pub hash : p.hash ≤ q.hash
   pub place : p.hash ≡ q.hash → p.place < q.place
 
--- each pair stands before all later ones
+-- every pair is before all later ones
 abbrev pub AreInOrder : List Pair → Type 0
 AreInOrder [] = Unit {0}
 AreInOrder (p ∷ ps) = AllByRecursion (IsPairBefore p) ps × AreInOrder ps
 
--- does a pair stand before another, by hashes and those of one hash by places?
+-- is a pair before another, by hashes, and for equal hashes by places?
 abbrev pub is_before : Pair → Pair → Bool
 is_before p q = nat_lt p.hash q.hash || (p.hash == q.hash && nat_lt p.place q.place)
 
--- put in before the first that it stands before
+-- inserted before the first that it precedes
 abbrev pub inserted : Pair → List Pair → List Pair
 inserted p [] = p ∷ []
 inserted p (q ∷ qs) = if is_before p q then p ∷ q ∷ qs else q ∷ inserted p qs
 
--- each put in, from the last to the first
+-- all of them inserted, from the last to the first
 abbrev pub inserted_all : List Pair → List Pair
 inserted_all [] = []
 inserted_all (p ∷ ps) = inserted p (inserted_all ps)
@@ -44,7 +44,7 @@ abbrev pub first_of : List ℕ → Option ℕ
 first_of [] = None
 first_of (p ∷ ps) = Some p
 
--- those behind a place
+-- those after a place
 abbrev pub places_behind : ℕ → List ℕ → List ℕ
 places_behind place = filter (nat_lt place)
 

@@ -20,7 +20,7 @@ use Rattle.sat_checker.specs.declared.error.CheckerError.TheVariants as errors
 use Rattle.sat_checker.specs.declared.processing.ProcessingError.{ProcessingError}
 use Rattle.sat_checker.specs.declared.processing.ProcessingError.TheVariants as faults
 
--- what is answered where no step was read
+-- the error if no step was read
 abbrev pub error_of : StepError → CheckerError
 error_of unread.Ends = errors.ProofIncomplete
 error_of unread.Cut = errors.ProofIncomplete
@@ -29,7 +29,7 @@ error_of unread.Read = errors.IoError
 error_of unread.OutOfMemory = errors.OutOfMemory
 error_of unread.HasFailed = errors.HasFailed
 
--- for want of memory the checker has failed then
+-- the checker has failed then if memory ran out
 abbrev pub is_final : StepError → Bool
 is_final unread.Ends = false
 is_final unread.Cut = false
@@ -38,7 +38,7 @@ is_final unread.Read = false
 is_final unread.OutOfMemory = true
 is_final unread.HasFailed = false
 
--- the most bytes that can still be taken
+-- the most bytes that can still be read
 abbrev pub bytes_left : Source → ℕ
 bytes_left s = piece_size * (most_reads - s.reads) + length s.waiting
 
@@ -62,7 +62,7 @@ pub record TriesStep {L : Type 0} (a b : CheckerAtSource L) (earlier : List Step
   pub spelt : SpellsStep step text
   pub looks : looks_of b.checker ≤ looks_of a.checker + most_looks (ready_after earlier) step
 
--- none was, for want of memory
+-- none was, since memory ran out
 pub record Starves {L : Type 0} (a b : CheckerAtSource L) : Type 0 where
   pub tag : ℕ
   pub more : List ℕ
@@ -76,7 +76,7 @@ module _ {L : Type 0} (Hears : L → Told → Result Unit ProcessingError → L 
     pub goes_on : StandsUnfailed Hears before begun b.checker earlier
     pub looks : looks_of b.checker ≡ looks_of a.checker
 
-  -- The next step is taken, and the answer is whether it is the end.
+  -- The next step is read and checked. The result is whether it is the end.
   abbrev pub StepsOn : Result Bool CheckerError → CheckerAtSource L → CheckerAtSource L → List Step → Type 0
   StepsOn (Ok ended) a b earlier = (step : Step) × TriesStep a b earlier step × MatchBool ended (step ≡ End) (step ≢ End) × StandsUnfailed Hears before begun b.checker (step ∷ earlier)
   StepsOn (Err errors.CheckFailed) a b earlier = (step : Step) × TriesStep a b earlier step × (Accepts (ready_after earlier) step → ⊥) × FailsRefusing Hears before begun b.checker earlier
@@ -93,7 +93,7 @@ module _ {L : Type 0} (Hears : L → Told → Result Unit ProcessingError → L 
   StepsOn (Err errors.IoError) a b earlier = (text : List ℕ) × Faults a.source b.source text × IsProperFront SpellsStep text × Waits a b earlier
   StepsOn (Err errors.HasFailed) a b earlier = ⊥
 
-  -- These steps were taken, none of them the end.
+  -- These steps were accepted, none of them the end.
   pub record TakesStepsBeforeEnd (a b : CheckerAtSource L) (earlier passed : List Step) : Type 0 where
     pub text : List ℕ
     pub passes : Passes a.source b.source text
@@ -103,6 +103,6 @@ module _ {L : Type 0} (Hears : L → Told → Result Unit ProcessingError → L 
     pub looks : looks_of b.checker ≤ looks_of a.checker + most_looks_behind passed earlier
 
 module _ {L : Type 0} (Hears : L → Told → Result Unit ProcessingError → L → Type 0) where
-  -- the answer to the next step means so, whatever was accepted and told before
+  -- the result for the next step means this, whatever was accepted and announced earlier
   abbrev pub TurnsOn : Result Bool CheckerError → CheckerAtSource L → CheckerAtSource L → Type 0
   TurnsOn result a b = (before : List Told) (begun : L) (earlier : List Step) → HasAccepted Hears before begun a.checker earlier → StepsOn Hears before begun result a b earlier

@@ -40,7 +40,7 @@ abbrev pub conflict_at : List Slot → Option ℕ → Ground
 conflict_at slots None = record { literals = []; clauses = [] }
 conflict_at slots (Some place) = record { literals = map negated (clause_at slots place).literals; clauses = clause_at slots place ∷ [] }
 
--- each place that was noted is there
+-- every place that was noted is there
 abbrev pub AreNotedPlaces : List Slot → WalkNotes → Type 0
 AreNotedPlaces slots passed = AllByRecursion (λ r. r.place < length slots) passed.reasons
 
@@ -49,7 +49,7 @@ abbrev pub IsConflictPlace : List Slot → Option ℕ → Type 0
 IsConflictPlace slots None = ⊥
 IsConflictPlace slots (Some place) = place < length slots
 
--- the number of literals of the falsified clause, 0 where none was noted
+-- the number of literals of the falsified clause, 0 if none was noted
 abbrev pub conflict_length : List Slot → Option ℕ → ℕ
 conflict_length slots None = 0
 conflict_length slots (Some place) = length (literals_at slots place)

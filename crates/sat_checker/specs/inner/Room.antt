@@ -1,4 +1,4 @@
--- Literals that there is room for, so that assuming them takes no memory.
+-- Literals that there is room for, so that assuming them does not allocate.
 use Rattle.std.specs.Prelude.{ℕ, ◌≡◌, Bool, true, false, List, ◌∷◌, ◌++◌, map, MatchBool, if◌then◌else◌}
 use Rattle.std.specs.List.{AllByRecursion, list_any}
 use Rattle.sat_base.specs.values.Literals.{negated}
@@ -18,11 +18,11 @@ with_room l room = if is_among room l then room else l ∷ negated l ∷ room
 abbrev pub AssumesOnce : ℕ → LiteralsAndRoom → LiteralsAndRoom → Type 0
 AssumesOnce l old new = MatchBool (is_among old.literals l) (new ≡ old) (new ≡ record { literals = l ∷ old.literals; room = with_room l old.room })
 
--- what there was room for, there is room for still
+-- there is still room for what there was room for
 abbrev pub RoomStays : List ℕ → List ℕ → Type 0
 RoomStays old new = (l : ℕ) → is_among old l ≡ true → is_among new l ≡ true
 
--- there is room for each literal of a clause, and for its negation
+-- there is room for every literal of a clause, and for its negation
 abbrev pub HasRoomFor : List ℕ → List ℕ → Type 0
 HasRoomFor room = AllByRecursion (λ l. (is_among room l ≡ true) × (is_among room (negated l) ≡ true))
 

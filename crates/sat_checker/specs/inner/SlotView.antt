@@ -16,7 +16,7 @@ lits_in buffer c = if nat_le c.len 4 then take c.len c.inline else slice_range b
 abbrev pub LitsWithin : List ℕ → ClauseLits → Type 0
 LitsWithin buffer c = 4 < c.len → c.start + c.len ≤ length buffer
 
--- a clause at its place, with its hash; it's gone where it has no count
+-- a clause at its place, with its hash; it is removed if it has no count
 pub record Slot : Type 0 where
   pub clause : StoredClause
   pub hash : ℕ
@@ -29,19 +29,19 @@ slot_with id irredundant redundant hash literals = record { clause = record { id
 abbrev pub unstored : ℕ → ℕ → List ℕ → Slot
 unstored id hash literals = slot_with id 0 0 hash literals
 
--- the slot at a place, one that is gone and has no literals where there is none
+-- the slot at a place, or a removed one without literals if there is none
 abbrev pub slot_at : List Slot → ℕ → Slot
 slot_at slots place = slice_index_or slots place (unstored 0 0 [])
 
--- the literals of the clause at a place, also where it's gone
+-- the literals of the clause at a place, also if it is removed
 abbrev pub literals_at : List Slot → ℕ → List ℕ
 literals_at slots place = (slot_at slots place).clause.literals
 
--- the literals of each clause, by place, also where it's gone
+-- the literals of every clause, by place, including removed ones
 abbrev pub all_lits : List Slot → List (List ℕ)
 all_lits = map (λ s. s.clause.literals)
 
--- how often a clause stands as redundant (true) or as irredundant
+-- how often a clause is stored as redundant (true) or as irredundant
 abbrev pub slot_count : Bool → Slot → ℕ
 slot_count redundant s = if redundant then s.clause.redundant else s.clause.irredundant
 
@@ -130,7 +130,7 @@ found_among slots literals = find (is_same_at slots literals)
 abbrev pub hashed_by : (ℕ → Option ℕ) → ℕ → Slot → Slot
 hashed_by names width s = if is_gone s then s else record s { hash = hash_by names width s.clause.literals }
 
--- each with the hash by these names and of this width, unless it's gone
+-- all with the hash by these names and of this width, unless they are removed
 abbrev pub all_hashed_by : (ℕ → Option ℕ) → ℕ → List Slot → List Slot
 all_hashed_by names width = map (hashed_by names width)
 

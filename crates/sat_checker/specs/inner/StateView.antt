@@ -1,4 +1,4 @@
--- What the checker's state keeps of the definition's, and when its answer to a step is right.
+-- What the checker's state stores of the definition's, and when its result for a step is right.
 use Rattle.std.specs.Prelude.{ℕ, ◌≡◌, Bool, List, Result}
 use Rattle.sat_checker.specs.Storing.{with_stored, with_input, with_literals_known}
 use Rattle.sat_base.specs.steps.Steps.{Step}
@@ -12,13 +12,13 @@ use Rattle.sat_checker.specs.inner.VariablesView.{KeepsVariables}
 use Rattle.sat_checker.specs.declared.state.State.{State}
 use Rattle.sat_checker.specs.declared.store.StoreError.{StoreError}
 
--- it has this once all clauses are filed by the hashes of now
+-- it has this once all clauses are filed by the current hashes
 pub record KeepsStored (state : State) (f : Stored) : Type 0 where
   pub formula : KeepsFormula (refiled_in state.formula) f
   pub variables : KeepsVariables state.variables f.variables
   pub assumed : state.assumed ≡ canonical f.assumed
 
--- it has this, and all clauses are filed by the hashes of now
+-- it has this, and all clauses are filed by the current hashes
 pub record KeepsFiled (state : State) (f : Stored) : Type 0 where
   pub formula : KeepsFormula state.formula f
   pub variables : KeepsVariables state.variables f.variables
@@ -28,7 +28,7 @@ pub record KeepsFiled (state : State) (f : Stored) : Type 0 where
 abbrev pub Decides : Result Bool StoreError → State → Step → State → Type 0
 Decides result old step new = (f : Stored) → KeepsStored old f → TurnsIf result (Accepts f step) (KeepsStored new (effect step f)) (effect step f)
 
--- what an answer says where the state, of which all clauses are filed, is changed so
+-- what the result says if the state, all of whose clauses are filed, is changed in this way
 abbrev pub ChangesStored : {T : Type 0} → Result T StoreError → State → (Stored → Stored) → State → Type 0
 ChangesStored result old change new = (f : Stored) → KeepsFiled old f → KeepsOrSpends result (KeepsStored new (change f)) (change f)
 

@@ -1,4 +1,4 @@
--- What the store keeps of the definition's state.
+-- What the store has of the definition's state.
 use Rattle.std.specs.Prelude.{ℕ, ◌<◌, ◌≡◌, Bool, false, not, List, [], ◌∷◌, ◌++◌, Option, None, Some, is_some, if◌then◌else◌}
 use Rattle.std.specs.List.{AllByRecursion}
 use Rattle.sat_checker.specs.Stored.{Stored, StoredClause, hash_by}
@@ -11,7 +11,7 @@ use Rattle.sat_checker.specs.declared.hash.ClauseHasher.{ClauseHasher}
 use Rattle.sat_checker.specs.declared.store.Found.{Found}
 use Rattle.sat_checker.specs.declared.store.Store.{Store}
 
--- each clause that isn't gone has its hash of now
+-- every clause that isn't removed has its current hash
 abbrev pub AreHashed : ClauseHasher → List Slot → Type 0
 AreHashed h = AllByRecursion (λ s. is_gone s ≡ false → s.hash ≡ hash_by (solver_name_of h) (width_of h) s.clause.literals)
 
@@ -26,11 +26,11 @@ pub record KeepsHashed (store : Store) (kept : List StoredClause) (solver_names 
 abbrev pub KeepsClauses : Store → Stored → Type 0
 KeepsClauses store f = KeepsHashed store f.clauses f.solver_names f.width
 
--- with all clauses filed by the hashes of now, where they wait for it
+-- with all clauses filed by the current hashes, if they wait for it
 abbrev pub refiled : Store → Store
 refiled store = record store { clauses = (if store.stale then hashed_anew store.hasher store.clauses else store.clauses); stale = false }
 
--- the redundant (true) or the irredundant count of a clause, 0 where it isn't stored
+-- the redundant (true) or the irredundant count of a clause, 0 if it isn't stored
 abbrev pub count_in : Bool → Option StoredClause → ℕ
 count_in redundant c = if redundant then redundant_count c else irredundant_count c
 
@@ -52,13 +52,13 @@ abbrev pub id_in : Option StoredClause → ℕ → ℕ
 id_in None id = id
 id_in (Some c) id = c.id
 
--- what storing a clause leaves, and what it tells
+-- what storing a clause leaves, and what it returns
 pub record Stores (store : Store) (f : Stored) (id : ℕ) (redundant : Bool) (literals : List ℕ) (stored_id : ℕ) (is_new : Bool) : Type 0 where
   pub stored : KeepsClauses store (record f { clauses = with_stored_clause redundant id literals f.clauses })
   pub id_is : stored_id ≡ id_in (clause_with literals f.clauses) id
   pub new_is : is_new ≡ not (is_some (clause_with literals f.clauses))
 
--- the ids stay, and a new clause stands behind the others with the next one
+-- the ids stay, and a new clause is after the others with the next one
 abbrev pub PlacesIds : List Slot → List Slot → ℕ → Bool → Type 0
 PlacesIds old new next_id is_new = slot_ids new ≡ (if is_new then slot_ids old ++ next_id ∷ [] else slot_ids old)
 

@@ -1,4 +1,4 @@
--- How one step is told.
+-- How one step is announced.
 use Rattle.std.specs.Prelude.{ℕ, ◌≡◌, ◌==◌, true, false, if◌then◌else◌, List, map, Option, None, Some, Result, Ok, Err}
 use Rattle.sat_base.specs.steps.Steps.{Step, UserVarName, DeleteVar, ChangeSamplingMode}
 use Rattle.sat_checker.specs.Stored.{Variable}
@@ -37,17 +37,17 @@ changed_by variables (DeleteVar v) = Some (v, variables v)
 changed_by variables (ChangeSamplingMode v sample) = Some (v, variables v)
 changed_by variables step = None
 
--- what is answered where not everybody was told
+-- the error if not all listeners were notified
 abbrev pub fault_of : ProcessingError → CheckerError
 fault_of faults.OutOfMemory = errors.OutOfMemory
 fault_of (faults.ProofProcessorError cause) = errors.ProofProcessorError cause
 
--- what is answered where a step couldn't be stored
+-- the error if a step couldn't be stored
 abbrev pub failure_of : StoreError → CheckerError
 failure_of stores.OutOfMemory = errors.OutOfMemory
 failure_of stores.CounterEnd = errors.CounterEnd
 
--- of what a status has, what stays to be told once a later step has failed
+-- of a status, what can still be returned after a later step has failed
 abbrev pub records_in : Status → Records
 records_in s = record { unsat = s.unsat; ended = s.ended; var_deleted = s.var_deleted }
 
@@ -56,12 +56,12 @@ pub record SameStateAndLooks {L : Type 0} (old new : Seen L) : Type 0 where
   pub state : new.kernel.state ≡ old.kernel.state
   pub looks : looks_of new ≡ looks_of old
 
--- who is told takes everything without a fault, and stays as it was
+-- a listener that accepts everything without a fault, and does not change
 abbrev pub IsUnmovedByTold : {L : Type 0} → (L → Told → Result Unit ProcessingError → L → Type 0) → L → Type 0
 IsUnmovedByTold Hears l = (t : Told) → Hears l t (Ok tt) l
 
 module _ {L : Type 0} (Hears : L → Told → Result Unit ProcessingError → L → Type 0) (told : List Told) where
-  -- all was told, or up to a fault, and what is recorded is so
+  -- all was announced, or up to a fault, and this is recorded
   abbrev pub TakenIn : Result Unit CheckerError → Seen L → Seen L → Type 0
   TakenIn (Ok x) old new = (has_failed new ≡ false) × (new.kernel.records ≡ records_in new.kernel.state.formula.status) × HearsAll Hears told old.listeners new.listeners
   TakenIn (Err e) old new = (has_failed new ≡ true) × (new.kernel.records ≡ records_in new.kernel.state.formula.status) × (f : ProcessingError) × (e ≡ fault_of f) × HearsUpTo Hears f told old.listeners new.listeners

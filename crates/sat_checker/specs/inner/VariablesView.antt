@@ -1,4 +1,4 @@
--- What the code keeps of variables.
+-- What the code stores of variables.
 use Rattle.std.specs.Prelude.{ℕ, ◌≡◌, ◌↔◌, Bool, true, if◌then◌else◌, List, Option, None, Some}
 use Rattle.std.specs.Bool.{MatchBool}
 use Rattle.std.specs.List.{AllByRecursion}
@@ -27,7 +27,7 @@ variable_of d = record { known = d.known; mode = mode_in d.mode; name = d.name }
 abbrev pub unknown_data : VarData
 unknown_data = record { known = stored.unknown.known; mode = code.Sample; name = None }
 
--- what is kept of a variable, an unknown one where nothing is
+-- what is stored of a variable, or an unknown one if nothing is
 abbrev pub variable_at : Variables → ℕ → Variable
 variable_at vs v = variable_of (value_at unknown_data vs.data v)
 
@@ -35,11 +35,11 @@ variable_at vs v = variable_of (value_at unknown_data vs.data v)
 abbrev pub holder_at : Variables → ℕ → Option ℕ
 holder_at vs name = value_at None vs.holders name
 
--- made known where it's asked
+-- made known if that is asked
 abbrev pub known_if : Bool → Variable → Variable
 known_if b x = if b then record x { known = true } else x
 
--- it keeps these variables, and the names that they have
+-- it stores these variables, and the names that they have
 pub record KeepsVariables (vs : Variables) (variables : ℕ → Variable) : Type 0 where
   pub each : (v : ℕ) → variable_at vs v ≡ variables v
   pub holders : (name v : ℕ) → (holder_at vs name ≡ Some v) ↔ ((variables v).name ≡ Some name)

@@ -4,23 +4,23 @@ use Rattle.sat_base.specs.values.Literals.{negated}
 use Rattle.sat_checker.specs.LiteralSets.{is_among}
 pub use Rattle.sat_checker.specs.Verdicts.{Verdict, falsified, opens, rests, not_false, verdict_of_open, verdict}
 
--- The walk takes each clause that is unit in its turn. None: a clause was falsified.
+-- The walk uses every clause that is unit in its turn. None: a clause was falsified.
 abbrev pub walk_on : Verdict → List ℕ → Option (List ℕ)
 walk_on falsified assumed = None
 walk_on (opens l) assumed = Some (l ∷ assumed)
 walk_on rests assumed = Some assumed
 
--- the walk goes on where no clause was falsified
+-- the walk continues if no clause was falsified
 abbrev pub and_then : Option (List ℕ) → (List ℕ → Option (List ℕ)) → Option (List ℕ)
 and_then None next = None
 and_then (Some assumed) next = next assumed
 
--- what is assumed behind these clauses. None: one of them was falsified.
+-- what is assumed after these clauses. None: one of them was falsified.
 abbrev pub walk : List ℕ → List (List ℕ) → Option (List ℕ)
 walk assumed [] = Some assumed
 walk assumed (c ∷ cs) = and_then (walk_on (verdict assumed c) assumed) (λ more. walk more cs)
 
--- true where a conflict was met, else what follows under what is assumed by then
+-- true if a conflict was met, otherwise what follows under what is assumed so far
 abbrev pub if_conflict : Option (List ℕ) → (List ℕ → Bool) → Bool
 if_conflict None next = true
 if_conflict (Some assumed) next = next assumed

@@ -17,7 +17,7 @@ Live = List (ℕ × ℕ)
 abbrev pub AgreesOnLive : Live → Valuation → Valuation → Type 0
 AgreesOnLive live a b = AllByRecursion (λ p. a p.0 ≡ b p.1) live
 
--- each proof variable once
+-- every proof variable once
 abbrev pub Apart : Live → Type 0
 Apart [] = Unit {0}
 Apart (p ∷ ps) = AllByRecursion (λ q. q.0 ≡ p.0 → ⊥) ps × Apart ps
@@ -35,7 +35,7 @@ pub record IsBridge (k : Checking) (j : Judge) (earlier : List Step) (live : Liv
   pub clauses_below : AllByRecursion (AllByRecursion (λ l. variable l < j.identity_count)) j.clauses
   -- a name's variable is live, with the name's identity
   pub named : (name v : ℕ) → variable_of earlier name ≡ Some v → (i : ℕ) × (identity_of j name ≡ Some i) × Among (v, i) live
-  -- each name in use has one
+  -- every name in use has one
   pub in_use : (name i : ℕ) → identity_of j name ≡ Some i → (v : ℕ) × (variable_of earlier name ≡ Some v) × Among (v, i) live
   pub distinct : (m n v : ℕ) → variable_of earlier m ≡ Some v → variable_of earlier n ≡ Some v → m ≡ n
   pub to : (a : Valuation) → Holds earlier a → Meant j live a

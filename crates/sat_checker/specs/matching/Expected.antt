@@ -7,7 +7,7 @@ use Rattle.sat_base.specs.script.Judge.{Judge, Mode, Sampled, Witnessed, new_nam
 use Rattle.sat_base.specs.steps.Steps.{Step, UserVarName, AddClause, Model, Assumptions, FailedAssumptions, End}
 use Rattle.sat_checker.specs.matching.Checking.{variable_of}
 
--- one for each accepted ask
+-- one for every accepted ask
 pub data Outcome : Type 0 where
   Sat : List Literal → Outcome  -- with a model's line
   Unsat : List Literal → Outcome  -- with a core
@@ -24,7 +24,7 @@ pub data Expected : Type 0 where
   Closes : Expected  -- the end of an ask
   Finish : Expected
 
--- for names that come in from left to right
+-- for names that are introduced from left to right
 abbrev pub bringing : List ℕ → Judge → List Expected
 bringing [] j = []
 bringing (name ∷ names) j = map NewName (new_names name j) ++ bringing names (bring_in name j)
@@ -57,13 +57,13 @@ expected j (Hide names ∷ commands) outcomes = hiding names j ++ expected (acce
 expected j (Witness names ∷ commands) outcomes = setting Witnessed names j ++ expected (accepted (Witness names) j) commands outcomes
 expected j (Sample names ∷ commands) outcomes = setting Sampled names j ++ expected (accepted (Sample names) j) commands outcomes
 
--- the literal of a proof variable that stands for this one: variables are read through explicit names alone
+-- the literal of a proof variable that stands for this one: variables are read only through explicit names
 pub record Spells (variable_of : ℕ → Option ℕ) (l : Literal) (code : ℕ) : Type 0 where
   pub variable : ℕ
   pub named : variable_of l.name ≡ Some variable
   pub is : code ≡ coded variable l.positive
 
--- each literal of the list is there
+-- every literal of the list is there
 abbrev pub EachSpelt : (ℕ → Option ℕ) → List Literal → List ℕ → Type 0
 EachSpelt names ls codes = AllByRecursion (λ l. (code : ℕ) × Spells names l code × Among code codes) ls
 
@@ -71,7 +71,7 @@ EachSpelt names ls codes = AllByRecursion (λ l. (code : ℕ) × Spells names l 
 abbrev pub SameSet : (ℕ → Option ℕ) → List Literal → List ℕ → Type 0
 SameSet names ls codes = EachSpelt names ls codes × AllByRecursion (λ code. (l : Literal) × Spells names l code × Among l ls) codes
 
--- behind these steps, where these variables are known, the step is what is expected
+-- after these steps, if these variables are known, the step is what is expected
 pub data Fits (knows : ℕ → Bool) (earlier : List Step) : Expected → Step → Type 0 where
   new_name : {name v index : ℕ} → index + 1 ≡ name → knows v ≡ false
       → Fits knows earlier (NewName name) (UserVarName v (Some index))

@@ -13,16 +13,16 @@ use Rattle.sat_checker.specs.declared.announce.announcement.CheckedProofStep.The
 use Rattle.sat_checker.specs.declared.announce.announcement.CheckerData.{CheckerData}
 use Rattle.sat_checker.specs.declared.announce.announcement.Was.{Was}
 
--- whether the mode that the code tells is sample; the other is witness
+-- whether the mode that the code announces is sample; the other is witness
 abbrev pub is_sampling : CheckedSamplingMode → Bool
 is_sampling modes.Sample = true
 is_sampling modes.Witness = false
 
--- what is told of a variable that has a name, as the code has it
+-- what is announced of a variable that has a name, as the code has it
 abbrev pub user_of : CheckedUserVar → UserVariable
 user_of u = record { name = u.user_var; sampling = is_sampling u.sampling_mode; is_new = u.new_var }
 
--- the announcement without where it lies in memory
+-- the announcement without its place in memory
 abbrev pub announcement_of : CheckedProofStep → Announcement
 announcement_of (code.UserVar var user) = UserVar var (option_map user_of user)
 announcement_of (code.DeleteVar var) = DeleteVar var
@@ -47,6 +47,6 @@ looked_up (Some was) variables = λ v. if v == was.now.var then variable_of was.
 abbrev pub variables_of : CheckerData → ℕ → Variable
 variables_of names = looked_up names.was (variable_at names.variables.now)
 
--- what is told by the announcement, with the variables that may be looked up
+-- the announcement, with the variables that may be looked up
 abbrev pub told_of : CheckedProofStep → CheckerData → Told
 told_of step names = record { announcement = announcement_of step; variables = variables_of names }

@@ -1,4 +1,4 @@
--- What those who listen to a checker hear of what is told, in order, up to the first fault.
+-- What the listeners of a checker hear of what is announced, in order, up to the first fault.
 use Rattle.std.specs.Prelude.{ℕ, ◌≡◌, ◌⊎◌, List, [], ◌∷◌, ◌++◌, Option, None, Some, Result, Ok, Err}
 use Rattle.anyhow.specs.declared.error.Error.{Error}
 use Rattle.sat_base.specs.steps.Steps.{Step}
@@ -6,28 +6,28 @@ use Rattle.sat_checker.specs.announcements.Announcements.{Told, told_after, all_
 use Rattle.sat_checker.specs.telling.Telling.{TellsFirst}
 use Rattle.sat_checker.specs.declared.processing.ProcessingError.{ProcessingError}
 
--- The same is told: the announcement, and of each variable the name and the mode that can be looked up.
+-- The same is announced: the announcement, and of every variable the name and the mode that can be looked up.
 pub record SameTold (t u : Told) : Type 0 where
   pub announcement : t.announcement ≡ u.announcement
   pub names : (v : ℕ) → (t.variables v).name ≡ (u.variables v).name
   pub modes : (v : ℕ) → (t.variables v).mode ≡ (u.variables v).mode
 
 module _ {L : Type 0} (Hears : L → Told → Result Unit ProcessingError → L → Type 0) where
-  -- those who listen were told this, and answered so
+  -- the listeners heard this, and returned this result
   abbrev pub HearsSame : L → Told → Result Unit ProcessingError → L → Type 0
   HearsSame old t result new = (u : Told) × SameTold u t × Hears old u result new
 
-  -- each is heard once, in order, without a fault
+  -- all are heard once, in order, without a fault
   abbrev pub HearsAll : List Told → L → L → Type 0
   HearsAll [] old new = new ≡ old
   HearsAll (t ∷ ts) old new = (mid : L) × HearsSame old t (Ok tt) mid × HearsAll ts mid new
 
-  -- each is heard once, in order, up to one that is answered by this fault; those behind it aren't told
+  -- all are heard once, in order, up to one for which this fault is returned; those after it aren't announced
   abbrev pub HearsUpTo : ProcessingError → List Told → L → L → Type 0
   HearsUpTo e [] old new = ⊥
   HearsUpTo e (t ∷ ts) old new = HearsSame old t (Err e) new ⊎ ((mid : L) × HearsSame old t (Ok tt) mid × HearsUpTo e ts mid new)
 
-  -- All this was told, and they have heard what stands behind the first part of it, which was told before.
+  -- All this was announced, and they have heard what follows its first part, which was announced earlier.
   abbrev pub HearsSince : List Told → List Told → L → L → Type 0
   HearsSince before told old new = (since : List Told) × (told ≡ before ++ since) × HearsAll since old new
 
@@ -35,12 +35,12 @@ module _ {L : Type 0} (Hears : L → Told → Result Unit ProcessingError → L 
   abbrev pub HearsSinceUpTo : ProcessingError → List Told → List Told → L → L → Type 0
   HearsSinceUpTo e before told old new = (since : List Told) × (told ≡ before ++ since) × HearsUpTo e since old new
 
--- what these steps told, with the empty clause of a unit conflict that they left once it isn't pending any more
+-- what these steps announced, with the empty clause of a unit conflict that they left once it isn't pending any more
 abbrev pub told_by : Option (ℕ × ℕ) → List Step → List Told
 told_by (Some conflict) steps = told_after steps
 told_by None steps = all_told_after steps
 
--- one that is told before all others, and these
+-- one that is notified before all others, and these
 pub record Hearers (V L : Type 0) : Type 0 where
   pub own : V
   pub others : L
@@ -49,10 +49,10 @@ pub record Hearers (V L : Type 0) : Type 0 where
 abbrev pub hearers : {V L : Type 0} → V → L → Hearers V L
 hearers own others = record { own = own; others = others }
 
--- who is told takes everything, and stays as it was
+-- a listener that accepts everything, and does not change
 abbrev pub takes_all : {V : Type 0} → V → Told → Result Unit Error → V → Type 0
 takes_all old t result new = (result ≡ Ok tt) × (new ≡ old)
 
--- it is told first, and the others then, where it answers no fault
+-- it is notified first, and then the others, if it returns no fault
 abbrev pub HearsFirst : {V L : Type 0} → (V → Told → Result Unit Error → V → Type 0) → (L → Told → Result Unit ProcessingError → L → Type 0) → Hearers V L → Told → Result Unit ProcessingError → Hearers V L → Type 0
 HearsFirst Takes Hears old t result new = TellsFirst (λ answer own. Takes old.own t answer own) (Hears old.others t result new.others) result new.own old.others new.others

@@ -1,4 +1,4 @@
--- Who listens to a checker.
+-- The listeners of a checker.
 use Rattle.std.specs.Prelude.{◌≡◌, List, [], Result}
 use Rattle.anyhow.specs.declared.error.Error.{Error}
 use Rattle.sat_checker.specs.announcements.Announcements.{Told}
@@ -14,15 +14,15 @@ use Rattle.sat_checker.specs.declared.processing.ProcessingError.{ProcessingErro
 abbrev pub listeners_of : {P T : Type 0} → Processing P T → Listeners P T
 listeners_of p = record { processors = p.processors.items; transcripts = p.transcripts.items }
 
--- Each processor hears this, and each transcript what it says of it.
+-- Every processor hears this, and every transcript what it says of it.
 abbrev pub HearsEach : {P T : Type 0} → (P → Told → Result Unit Error → P → Type 0) → (T → Transcribed → Result Unit Error → T → Type 0) → Processing P T → Told → Result Unit ProcessingError → Processing P T → Type 0
 HearsEach Takes Reads old t result new = Tells (λ r b d. Takes b t r d) (λ said r b d. Reads b said r d) (transcript t.variables t.announcement) result (listeners_of old) (listeners_of new)
 
--- where nobody listens nobody answers a fault
+-- without listeners there is no fault
 abbrev pub NobodyFails : {P T : Type 0} → (P → Told → Result Unit Error → P → Type 0) → (T → Transcribed → Result Unit Error → T → Type 0) → Type 0
 NobodyFails {P = P} {T = T} Takes Reads = (e : ProcessingError) (told : List Told) (old new : Processing P T) → listeners_of old ≡ record { processors = []; transcripts = [] } → HearsUpTo (HearsEach Takes Reads) e told old new → ⊥
 
--- a fault was answered by somebody who listens
+-- a listener returned a fault
 abbrev pub FaultOfSomebody : {P T : Type 0} → Processing P T → CheckerError → Type 0
 FaultOfSomebody old (errors.ProofProcessorError cause) = listeners_of old ≡ record { processors = []; transcripts = [] } → ⊥
 FaultOfSomebody old error = Unit {0}

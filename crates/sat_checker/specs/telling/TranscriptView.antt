@@ -3,7 +3,7 @@ use Rattle.sat_checker.specs.announcements.Transcripts.{Transcribed, WitnessVar,
 use Rattle.sat_checker.specs.declared.announce.transcript.ProofTranscriptStep.{ProofTranscriptStep}
 use Rattle.sat_checker.specs.declared.announce.transcript.ProofTranscriptStep.TheVariants as code
 
--- the step without where it lies in memory
+-- the step without its place in memory
 abbrev pub transcribed_of : ProofTranscriptStep → Transcribed
 transcribed_of (code.WitnessVar var) = WitnessVar var
 transcribed_of (code.SampleVar var) = SampleVar var

@@ -11,18 +11,18 @@ use sat_base::{Lit, Var};
 /// The mode of a variable that has a name.
 #[derive(Clone, Copy)]
 pub enum CheckedSamplingMode {
-    /// Models and cores speak of it.
+    /// Models and cores mention it.
     Sample,
     /// No clause of the formula may have it.
     Witness,
 }
 
-/// What is told of a variable that has a name.
+/// What is announced of a variable that has a name.
 #[derive(Clone, Copy)]
 pub struct CheckedUserVar {
     pub user_var: Var,
     pub sampling_mode: CheckedSamplingMode,
-    /// Whether the variable was unknown till now.
+    /// Whether the variable was unknown until now.
     pub new_var: bool,
 }
 
@@ -30,7 +30,7 @@ pub struct CheckedUserVar {
 #[derive(Clone, Copy)]
 pub struct ResolutionPropagations {}
 
-/// An announcement. Its lists are lent; clauses and cores are sorted, without repeats. `propagations` are the ids of
+/// An announcement, which lends its lists. Clauses and cores are sorted, without repeats. `propagations` are the ids of
 /// the clauses that something follows from by propagation.
 #[derive(Clone, Copy)]
 pub enum CheckedProofStep<'a> {
@@ -39,7 +39,7 @@ pub enum CheckedProofStep<'a> {
         var: Var,
         user_var: Option<CheckedUserVar>,
     },
-    /// A variable that no clause has any more but its unit, which is forgotten. It is unknown from here on.
+    /// A variable is removed with its unit, which alone still mentions it. It is unknown from now on.
     DeleteVar {
         var: Var,
     },
@@ -66,12 +66,12 @@ pub enum CheckedProofStep<'a> {
         clause: &'a [Lit],
         propagations: &'a [u64],
     },
-    /// A clause that was redundant alone is irredundant from here on.
+    /// A clause that was only redundant is irredundant from now on.
     MakeIrredundant {
         id: u64,
         clause: &'a [Lit],
     },
-    /// A redundant clause is gone.
+    /// A redundant clause is removed.
     DeleteClause {
         id: u64,
         clause: &'a [Lit],
@@ -95,7 +95,7 @@ pub enum CheckedProofStep<'a> {
     Model {
         assignment: &'a [Lit],
     },
-    /// What is assumed from here on, in the order of its step.
+    /// What is assumed from now on, in the order of its step.
     Assumptions {
         assumptions: &'a [Lit],
     },
@@ -106,15 +106,15 @@ pub enum CheckedProofStep<'a> {
     },
 }
 
-/// A variable, and what is kept of it.
+/// A variable, and its earlier data.
 #[derive(Drop)]
 pub(crate) struct Was {
     pub(crate) var: Var,
     pub(crate) data: VarData,
 }
 
-/// What may be looked up while something is announced: the variables as they were before the step. `known` of their
-/// data may be that of now, which no announcement or name rests on.
+/// What can be looked up during an announcement: the variables as they were before the step. `known` of their data may
+/// be the current one, which no announcement or name depends on.
 #[derive(Clone, Copy)]
 pub struct CheckerData<'a> {
     variables: &'a Variables,
@@ -123,6 +123,7 @@ pub struct CheckerData<'a> {
 }
 
 impl<'a> CheckerData<'a> {
+    /// Lends the variables as they are.
     pub fn new(variables: &'a Variables) -> CheckerData<'a>
         ensures { variables_of result ≡ variable_at variables.now }
     {
@@ -132,7 +133,7 @@ impl<'a> CheckerData<'a> {
         }
     }
 
-    /// As `new`, with what was kept of a variable before.
+    /// Lends the variables as they were before one of them changed.
     pub(crate) fn before(variables: &'a Variables, was: &'a Option<Was>) -> CheckerData<'a>
         ensures { variables_of result ≡ put_back (was_of was.now) (variable_at variables.now) }
     {
@@ -145,6 +146,7 @@ impl<'a> CheckerData<'a> {
         }
     }
 
+    /// Returns the data of a variable before the step.
     fn data(self, proof_var: Var) -> VarData
         ensures { variable_of result ≡ variables_of self.entry proof_var }
     {
@@ -156,14 +158,14 @@ impl<'a> CheckerData<'a> {
         self.variables.data(proof_var)
     }
 
-    /// The name that the user gave.
+    /// Returns the name that the user gave.
     pub(crate) fn explicit_name(self, proof_var: Var) -> Option<Var>
         ensures { result ≡ (variables_of self.entry proof_var).name }
     {
         self.data(proof_var).name
     }
 
-    /// The user's name of a variable: the one that was given, else the variable's own where it is a sampling one.
+    /// Returns the user's name of a variable: the one that was given, or the variable's own if it is a sampling one.
     pub fn user_from_proof_var(self, proof_var: Var) -> Option<Var>
         ensures { result ≡ user_from_proof_var (variables_of self.entry) proof_var }
     {

@@ -14,14 +14,14 @@ use crate::announce::announcement::{
 use sat_base::{Lit, Var};
 use std::alloc::{AllocError, Global};
 
-/// A step of a transcript. Its lists are lent.
+/// A step of a transcript, which lends its lists.
 #[derive(Clone, Copy)]
 pub enum ProofTranscriptStep<'a> {
-    /// The variable is a witness from here on.
+    /// The variable is a witness from now on.
     WitnessVar { var: Var },
-    /// The variable is sampled from here on.
+    /// The variable is sampled from now on.
     SampleVar { var: Var },
-    /// The variable is hidden from here on.
+    /// The variable is hidden from now on.
     HideVar { var: Var },
     /// A variable that the solver made gets this name.
     ObserveInternalVar { var: Var },
@@ -34,11 +34,12 @@ pub enum ProofTranscriptStep<'a> {
     FailedAssumptions { failed_core: &'a [Lit] },
 }
 
-/// What is told the steps of a transcript.
+/// Receives the steps of a transcript.
 pub trait ProofTranscriptProcessor: Drop {
     /// From the value before, this step was answered so, to the value after.
     ghost reads: { Self → Transcribed → Result (Unit {0}) Error → Self → Type 0 };
 
+    /// Receives a step.
     fn process_step(&mut self, step: &ProofTranscriptStep<'_>) -> anyhow::Result<()>
         ensures { reads self.old (transcribed_of step.now) result self.new };
 }
@@ -51,7 +52,7 @@ pub struct Transcript {
 }
 
 impl Transcript {
-    /// Nothing is allocated.
+    /// Makes a transcript. It does not allocate.
     pub fn new(alloc: Global) -> Transcript
         ensures { result.lits.items ≡ [] }
     {
@@ -60,7 +61,7 @@ impl Transcript {
         }
     }
 
-    /// What a transcript says of the announcement, if anything.
+    /// Returns what a transcript says of the announcement, if anything.
     pub fn transcript_step(
         &mut self,
         step: &CheckedProofStep<'_>,
@@ -118,7 +119,7 @@ impl Transcript {
     }
 }
 
-/// What is said where a name or a mode changes.
+/// Returns what is said if a name or a mode changes.
 fn name_change<'s>(
     names: CheckerData<'_>,
     var: Var,
@@ -141,7 +142,7 @@ fn name_change<'s>(
     Some(ProofTranscriptStep::ObserveInternalVar { var: user.user_var })
 }
 
-/// What is said where a mode changes.
+/// Returns what is said if a mode changes.
 fn mode_change<'s>(user: CheckedUserVar) -> ProofTranscriptStep<'s>
     ensures { transcribed_of result
         ≡ (if (user_of user).sampling then SampleVar user.user_var else WitnessVar user.user_var) }
@@ -153,7 +154,7 @@ fn mode_change<'s>(user: CheckedUserVar) -> ProofTranscriptStep<'s>
     }
 }
 
-/// What is said where a clause is derived.
+/// Returns what is said if a clause is derived.
 fn derivation<'s>(clause: &[Lit]) -> Option<ProofTranscriptStep<'s>>
     ensures { option_map transcribed_of result ≡ deriving_of clause.now }
 {

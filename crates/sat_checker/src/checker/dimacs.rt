@@ -1,4 +1,4 @@
-//! Formulas' texts, clause by clause.
+//! Adds a formula's text, clause by clause.
 ghost use Rattle.std.specs.Prelude.{◌≡◌, ◌≤◌, ◌+◌, false};
 ghost use Rattle.sat_base.specs.device.Device.{most_reads};
 ghost use Rattle.sat_base.specs.dimacs.Parsing.{all_taken, no_progress};
@@ -16,13 +16,13 @@ use crate::error::{CheckerDimacsError, CheckerError};
 use crate::processing::ProofProcessor;
 use sat_base::{CountedRead, DimacsError, DimacsParser};
 
-/// How many bytes are asked for at a time.
+/// The number of bytes that are requested at a time.
 const PIECE: usize = 4096;
 
-/// A reader is read at most so often.
+/// A reader is read at most this many times.
 const MAX_READS: u64 = 1 << 48;
 
-/// Whether the checker has failed then: for want of memory.
+/// Whether the checker has failed after this error, since memory ran out.
 fn is_want(error: DimacsError) -> bool
     ensures { result ≡ is_want error }
 {
@@ -36,9 +36,9 @@ fn is_want(error: DimacsError) -> bool
 }
 
 impl<P: ProofProcessor, T: ProofTranscriptProcessor> Checker<P, T> {
-    /// Takes the clauses of a formula's text in DIMACS CNF, in order, as the text is read in pieces of 4,096 bytes.
-    /// Those before a fault stand, and those before a clause that is refused. A text that can't be read leaves the
-    /// checker going on.
+    /// Adds the clauses of a formula's text in DIMACS CNF, in order, while it reads the text in chunks of 4,096 bytes.
+    /// The clauses before a fault, or before a clause that is refused, remain. If the text can't be read, the checker
+    /// continues.
     pub fn add_dimacs_cnf<R: CountedRead>(
         &mut self,
         reader: &mut R,
@@ -57,7 +57,7 @@ impl<P: ProofProcessor, T: ProofTranscriptProcessor> Checker<P, T> {
         self.add_text(&mut parser, reader)
     }
 
-    /// Takes the clauses of a text that a parser reads from its beginning.
+    /// Adds the clauses of a text that a parser reads from its beginning.
     fn add_text<R: CountedRead>(
         &mut self,
         parser: &mut DimacsParser,
@@ -87,7 +87,7 @@ impl<P: ProofProcessor, T: ProofTranscriptProcessor> Checker<P, T> {
         Err(CheckerDimacsError::Dimacs(DimacsError::Read))
     }
 
-    /// Adds the clauses that wait in a parser, which has answered so to a piece or to the end of its text.
+    /// Adds the clauses that the parser has completed so far, after it reported `answer`.
     fn add_read(
         &mut self,
         parser: &mut DimacsParser,

@@ -1,4 +1,4 @@
-//! Formulas, clause by clause.
+//! Adds a formula, clause by clause.
 ghost use Rattle.std.specs.Prelude.{◌≤◌};
 ghost use Rattle.sat_checker.specs.CheckerView.{kernel_of, seen_of, FaultsOfSomebody, FailsAgain};
 ghost use Rattle.sat_checker.specs.KernelView.{looks_of};
@@ -13,7 +13,7 @@ use crate::processing::ProofProcessor;
 use sat_base::CnfFormula;
 
 impl<P: ProofProcessor, T: ProofTranscriptProcessor> Checker<P, T> {
-    /// Takes the clauses of a formula, in order, up to the first that is refused. Those before it stand.
+    /// Adds the clauses of a formula, in order, up to the first that is refused. The clauses before it remain.
     pub fn add_formula(&mut self, formula: &CnfFormula) -> Result<(), CheckerError>
         ensures adds { AddsClauses (HearsEach P.takes T.reads)
             result (seen_of self.old) (seen_of self.new) formula.now.clauses }

@@ -1,4 +1,4 @@
-//! Whole proofs, read step by step.
+//! Checks complete proofs, which are read step by step.
 ghost use Rattle.std.specs.Prelude.{◌≡◌, ◌≢◌, ◌≤◌, ◌<◌, false, MatchBool, Ok, OnOk, IsErrOf};
 ghost use Rattle.sat_base.specs.device.Device.{most_reads};
 ghost use Rattle.sat_base.specs.device.Reading.{unread, AtEnd};
@@ -20,7 +20,7 @@ use crate::error::CheckerError;
 use crate::processing::{Nobody, ProofProcessor};
 use sat_base::{CountedRead, ProofStep, StepError, StepReader};
 
-/// What a checker answers where no step was read.
+/// Returns the checker's error if no step was read.
 fn unread_error(error: StepError) -> CheckerError
     ensures { result ≡ error_of error }
 {
@@ -34,7 +34,7 @@ fn unread_error(error: StepError) -> CheckerError
     }
 }
 
-/// Whether the checker has failed then: for want of memory.
+/// Whether the checker has failed after this error, since memory ran out.
 fn is_final(error: StepError) -> bool
     ensures { result ≡ is_final error }
 {
@@ -48,6 +48,7 @@ fn is_final(error: StepError) -> bool
     }
 }
 
+/// Whether the step is `End`.
 fn is_end(step: &ProofStep<'_>) -> bool
     ensures { MatchBool result (step_of step.now ≡ End) (step_of step.now ≢ End) }
 {
@@ -55,9 +56,8 @@ fn is_end(step: &ProofStep<'_>) -> bool
 }
 
 impl<P: ProofProcessor, T: ProofTranscriptProcessor> Checker<P, T> {
-    /// Reads and checks the steps of a proof up to its `End`; nothing behind that is looked at. One step is held at a
-    /// time. The steps accepted before an error stand. A proof that can't be read or is cut off leaves the checker
-    /// going on.
+    /// Reads and checks the steps of a proof up to its `End`, and never looks past it. It holds one step at a time. The
+    /// steps that were accepted before an error remain. If a proof can't be read or is cut off, the checker continues.
     pub fn check_proof<R: CountedRead>(&mut self, reader: &mut R) -> Result<(), CheckerError>
         ensures proof { ChecksProof (HearsEach P.takes T.reads)
             result (seen_of self.old) (seen_of self.new) (R.seen reader.old) (R.seen reader.new) }
@@ -70,7 +70,7 @@ impl<P: ProofProcessor, T: ProofTranscriptProcessor> Checker<P, T> {
         self.check_proof_by(reader, &mut nobody, false)
     }
 
-    /// As `check_proof`, and tells each announcement to this processor first.
+    /// Checks a proof like `check_proof`, and notifies this processor of every announcement first.
     pub fn check_proof_with<R: CountedRead, O: ProofProcessor>(
         &mut self,
         reader: &mut R,
@@ -85,6 +85,7 @@ impl<P: ProofProcessor, T: ProofTranscriptProcessor> Checker<P, T> {
         self.check_proof_by(reader, own, true)
     }
 
+    /// Checks a proof. It notifies the caller's processor first, if there is one.
     fn check_proof_by<R: CountedRead, O: ProofProcessor>(
         &mut self,
         reader: &mut R,
@@ -105,7 +106,7 @@ impl<P: ProofProcessor, T: ProofTranscriptProcessor> Checker<P, T> {
         self.check_steps(&mut steps, own, has_own)
     }
 
-    /// Checks the steps that a reader of steps reads first.
+    /// Checks the steps that a reader of steps reads from its beginning.
     fn check_steps<R: CountedRead, O: ProofProcessor>(
         &mut self,
         steps: &mut StepReader<'_, R>,
@@ -131,7 +132,7 @@ impl<P: ProofProcessor, T: ProofTranscriptProcessor> Checker<P, T> {
         }
     }
 
-    /// Reads and checks the next step. The answer is whether it is the end.
+    /// Reads and checks the next step. Returns whether it is the end.
     fn check_next<R: CountedRead, O: ProofProcessor>(
         &mut self,
         steps: &mut StepReader<'_, R>,

@@ -1,5 +1,5 @@
-//! What marks of literals tell of the stored formula: whether they are a model of it, and whether they are those of a
-//! clause that may be deleted. Where memory is wanted for a mark, the literal stands in no stored clause.
+//! Judges by marks of literals whether they are a model of the stored formula, and whether a clause may be deleted. If
+//! there is no memory for a mark, the literal is in no stored clause.
 ghost use Rattle.std.specs.Prelude.{ℕ, ◌≡◌, ◌*◌, ◌<◌, ◌&&◌, ◌↔◌, not, IfOk, OnErr, IsErrOf, IsTrue};
 ghost use Rattle.std.specs.Prelude.{false, MatchBool};
 ghost use Rattle.std.specs.List.{list_any};
@@ -29,7 +29,7 @@ use sat_base::{DeleteClauseProof, Lit};
 use std::alloc::AllocError;
 
 impl Formula {
-    /// Whether the literals are a model of what is stored. Memory is wanted only where they are.
+    /// Whether the literals are a model of what is stored. It runs out of memory only if they are.
     pub fn fits(&mut self, literals: &[Lit], looks: &mut Looks) -> Result<bool, AllocError>
         ensures exact { IfOk result (λ fits. (f : Stored) → KeepsFormula (refiled_in self.old) f
             → IsTrue fits ↔ FitsModel f literals.now) }
@@ -48,7 +48,8 @@ impl Formula {
         }
     }
 
-    /// What is answered where memory is wanted: that the literals are no model of what is stored, or else the want.
+    /// Judges a model after memory ran out: the literals are no model of what is stored, or the result is
+    /// `OutOfMemory`.
     fn want_if_met(&mut self, literals: &[Lit], looks: &mut Looks) -> Result<bool, AllocError>
         requires { self.old.status.unsat ≡ false }
         ensures exact { IfOk result (λ fits. (f : Stored) → KeepsFormula (refiled_in self.old) f
@@ -78,7 +79,7 @@ impl Formula {
         assume_roomy(&mut self.marks, literals);
     }
 
-    /// Whether no unit's negation is among the literals, and each irredundant clause has one of them. Those that there
+    /// Whether no unit's negation is among the literals, and every irredundant clause has one of them. Those that there
     /// is room for are marked.
     fn are_met(&self, literals: &[Lit], looks: &mut Looks) -> bool
         requires { AgreesOn self.now.marks.room self.now.marks.literals literals.now }
@@ -90,8 +91,8 @@ impl Formula {
         !self.units.are_contradicted(literals) && self.store.are_satisfied(&self.marks, looks)
     }
 
-    /// What is answered where memory is wanted for a clause's sorted literals: that it may not be deleted by this
-    /// proof, or else the want.
+    /// Judges a deletion after memory ran out: the clause may not be deleted by this proof, or the result is
+    /// `OutOfMemory`.
     pub fn want_if_deletable(
         &mut self,
         clause: &[Lit],
@@ -111,7 +112,7 @@ impl Formula {
         Ok(false)
     }
 
-    /// Whether a clause may be deleted by this proof. No memory is wanted for it.
+    /// Whether a clause may be deleted by this proof. It does not allocate.
     pub fn may_delete_in_room(
         &mut self,
         clause: &[Lit],
@@ -131,7 +132,7 @@ impl Formula {
         self.may_delete_marked(clause, proof, looks)
     }
 
-    /// Whether a clause, of which just the literals are marked, may be deleted by this proof.
+    /// Whether a clause, whose literals are exactly the marked ones, may be deleted by this proof.
     fn may_delete_marked(&self, clause: &[Lit], proof: DeleteClauseProof, looks: &mut Looks) -> bool
         requires { (l : ℕ) → is_among self.now.marks.literals l ≡ is_among clause.now l }
         ensures exact { (f : Stored) → KeepsFormula self.now f
@@ -150,7 +151,7 @@ impl Formula {
         }
     }
 
-    /// Whether a clause, of which just the literals are marked, stands as redundant, or as irredundant.
+    /// Whether a clause, whose literals are exactly the marked ones, is stored as redundant, or as irredundant.
     fn marked_has_count(&self, redundant: bool, clause: &[Lit], looks: &mut Looks) -> bool
         requires { (l : ℕ) → is_among self.now.marks.literals l ≡ is_among clause.now l }
         ensures found { (f : Stored) → KeepsFormula self.now f
@@ -161,7 +162,8 @@ impl Formula {
         self.store.assumed_count(redundant, &self.marks, looks) > 0
     }
 
-    /// Whether the last irredundant clause stored is there, and is a part of the marked literals but not all of them.
+    /// Whether the last irredundant clause stored is there, and its literals are some of the marked ones, but not all
+    /// of them.
     fn has_last_marked(&self, looks: &mut Looks) -> bool
         ensures part { (f : Stored) → KeepsFormula self.now f
             → MatchBool result (IsStrictSubset (last_literals f.last f) self.now.marks.literals)

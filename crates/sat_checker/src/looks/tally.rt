@@ -1,10 +1,10 @@
-//! What contracts alone see of looks at literals. It takes no memory, and its functions do nothing at run time.
+//! What only contracts see of looks at literals. It has no bytes, and its functions do nothing at run time.
 ghost use Rattle.std.specs.Prelude.{◌≡◌, ◌+◌, ℕ};
 ghost use Rattle.std.specs.Borrow.{ftrue};
 
 use std::marker::Model;
 
-/// How many literals were looked at. The count has no largest value.
+/// The number of literals that were looked at, without a largest value.
 #[derive(Drop)]
 pub(crate) struct LookTally {
     pub ghost seen: { ℕ },
@@ -15,18 +15,21 @@ impl Model for LookTally {
 }
 
 impl LookTally {
+    /// Makes a count of zero.
     pub(crate) fn new() -> LookTally
         ensures { result.seen ≡ 0 }
     {
         LookTally {}
     }
 
+    /// Returns the count after this many more.
     pub(crate) fn and(&self, _more: u64) -> LookTally
         ensures { result.seen ≡ self.now.seen + _more }
     {
         LookTally {}
     }
 
+    /// Returns the sum of two counts.
     pub(crate) fn and_all(&self, _other: &LookTally) -> LookTally
         ensures { result.seen ≡ self.now.seen + _other.now.seen }
     {

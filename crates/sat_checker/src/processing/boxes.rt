@@ -1,4 +1,4 @@
-//! Processors and transcripts behind boxes, which their caller makes: a checker of boxes has listeners of any types.
+//! Boxed processors and transcripts, which their caller makes: a checker of boxes has listeners of any types.
 ghost use Rattle.std.specs.Prelude.{◌≡◌};
 
 use crate::announce::announcement::{CheckedProofStep, CheckerData};

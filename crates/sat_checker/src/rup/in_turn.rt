@@ -1,5 +1,5 @@
-//! Units that are judged in turn where memory is wanted for one of them: those before a unit are assumed as far as
-//! there is room for them, and the others are looked for among those that came in.
+//! Judges units in turn after memory ran out for one of them: those before a unit are assumed as far as there is room
+//! for them, and the others are searched for in the list.
 ghost use Rattle.std.specs.Prelude.{ℕ, ◌≡◌, ◌-◌, ◌*◌, [], ◌∷◌, length, map, not, ◌&&◌, IfOk, OnErr, IsTrue, ◌↔◌};
 ghost use Rattle.sat_checker.specs.Accepts.{PassesByHashes};
 ghost use Rattle.sat_checker.specs.LiteralSets.{is_among};
@@ -19,7 +19,7 @@ use crate::units::assigned::Assigned;
 use sat_base::{ClauseHash, Lit};
 use std::alloc::AllocError;
 
-/// A unit comes in: it is assumed where there is room for it, unless it or its negation is assumed.
+/// Assumes a unit if there is room for it, unless it or its negation is assumed.
 fn suppose(assigned: &mut Assigned, lit: Lit)
     ensures { assigned.new ≡ record assigned.old { literals = with_supposed lit assigned.old } }
 {
@@ -43,14 +43,14 @@ fn stands_first(units: &[(Lit, ClauseHash)], lit: Lit) -> bool
     false
 }
 
-/// Whether the literal has no room and came in.
+/// Whether the literal has no room, and is one of the units before.
 fn came_in(assigned: &Assigned, before: &[(Lit, ClauseHash)], lit: Lit) -> bool
     ensures { result ≡ (not (is_among assigned.now.room lit) && stands_first (map (λ u. u.0) before.now) lit) }
 {
     !assigned.has_room(lit) && stands_first(before, lit)
 }
 
-/// Whether a unit passes behind those before it. No memory is wanted where there is room for the stored clauses.
+/// Whether a unit passes after those before it. It does not allocate if there is room for the stored clauses.
 fn passes(
     store: &Store,
     before: &[(Lit, ClauseHash)],
@@ -88,7 +88,7 @@ fn passes(
     answer
 }
 
-/// Whether units pass in turn behind the first of them, where the units so far are what is assumed.
+/// Whether units pass in turn after the first of them, if exactly the units so far are assumed.
 pub(crate) fn pass_in_turn(
     store: &Store,
     units: &[(Lit, ClauseHash)],

@@ -19,13 +19,14 @@ use crate::units::assigned::Assigned;
 use sat_base::Lit;
 use std::alloc::{AllocError, Global};
 
-/// Marked literals, and the ids of the clauses needed, the last one first.
+/// Marked literals, and the ids of the clauses that are needed, the last one first.
 #[derive(Drop)]
 pub(crate) struct Needed {
     marked: Assigned,
     ids: Vec<u64>,
 }
 
+/// Marks a literal.
 #[inline(always)]
 fn mark(marked: &mut Assigned, lit: Lit) -> Result<(), AllocError>
     ensures marked { OnOk result ((m : ℕ) → is_among marked.new.literals m
@@ -46,7 +47,7 @@ pub(crate) fn mark_all(marked: &mut Assigned, clause: &[Lit]) -> Result<(), Allo
     Ok(())
 }
 
-/// Marks the negations of a clause's literals other than this one.
+/// Marks the negations of a clause's literals except this one.
 #[tactic(auto, using(crate::proofs::lemmas::announcements::Marking::marking))]
 fn mark_others(marked: &mut Assigned, clause: &[Lit], made: Lit) -> Result<(), AllocError>
     ensures marked { OnOk result ((m : ℕ) → is_among marked.new.literals m
@@ -61,7 +62,7 @@ fn mark_others(marked: &mut Assigned, clause: &[Lit], made: Lit) -> Result<(), A
     Ok(())
 }
 
-/// Lists the ids of those marked literals that are units and aren't denied, in their order.
+/// Lists the ids of the marked literals that are units and not denied, in order.
 #[tactic(auto, using(crate::proofs::lemmas::announcements::Listing::listing))]
 fn list_units(
     marked: &Assigned,
@@ -88,6 +89,7 @@ fn list_units(
 }
 
 impl Needed {
+    /// Makes a list without marks and ids.
     pub fn new(alloc: Global) -> Needed
         ensures marked { result.marked.literals ≡ [] }
         ensures none { result.ids.items ≡ [] }
@@ -98,7 +100,7 @@ impl Needed {
         }
     }
 
-    /// Begins at the falsified clause.
+    /// Starts at the falsified clause.
     #[tactic(auto, using(crate::proofs::lemmas::announcements::Marking::following))]
     pub fn begin(
         &mut self,
@@ -118,7 +120,7 @@ impl Needed {
         Ok(())
     }
 
-    /// Follows a reason: it is needed where its literal is.
+    /// Follows a reason: it is needed if its literal is.
     #[tactic(auto, using(crate::proofs::lemmas::announcements::Marking::following))]
     pub fn follow(
         &mut self,
@@ -183,7 +185,7 @@ impl Needed {
         false
     }
 
-    /// Lists the ids of the clauses needed, the falsified one last.
+    /// Lists the ids of the clauses that are needed, the falsified one last.
     pub fn list_clauses(&mut self, ids: &mut Vec<u64>) -> Result<(), AllocError>
         ensures { OnOk result (ids.new.items ≡ ids.old.items ++ reverse self.old.ids.items) }
     {
@@ -191,7 +193,8 @@ impl Needed {
         ids.extend_from_slice(&self.ids)
     }
 
-    /// Lists the ids of the units needed, by increasing id, and then those of the clauses, the falsified one last.
+    /// Lists the ids of the units that are needed, by increasing id, and then those of the clauses, the falsified one
+    /// last.
     pub fn list(
         &mut self,
         denied: &Assigned,

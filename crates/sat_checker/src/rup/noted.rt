@@ -1,12 +1,12 @@
-//! What contracts alone see of the notes of a walk, also where memory was wanted for one. It takes no memory, and its
-//! functions do nothing at run time.
+//! What only contracts see of the notes of a walk, also if memory ran out for one. It has no bytes, and its functions
+//! do nothing at run time.
 ghost use Rattle.std.specs.Prelude.{◌≡◌, ◌++◌, ◌∷◌, [], List};
 ghost use Rattle.std.specs.Borrow.{ftrue};
 ghost use Rattle.sat_checker.specs.declared.rup.passed.Reason.{Reason};
 
 use std::marker::Model;
 
-/// All reasons in the order passed.
+/// All reasons in the order in which they were noted.
 #[derive(Drop)]
 pub(crate) struct Noted {
     pub ghost reasons: { List Reason },
@@ -17,12 +17,14 @@ impl Model for Noted {
 }
 
 impl Noted {
+    /// Makes notes without a reason.
     pub(crate) fn new() -> Noted
         ensures { result.reasons ≡ [] }
     {
         Noted {}
     }
 
+    /// Returns the notes with one more reason.
     pub(crate) fn and(&self, _place: usize, _code: usize) -> Noted
         ensures { result.reasons ≡ self.now.reasons ++ (record { place = _place; lit = _code }) ∷ [] }
     {

@@ -1,4 +1,4 @@
-//! What a walk notes: the clauses that it took.
+//! The notes of a walk: the clauses that it used.
 ghost use Rattle.std.specs.Prelude.{◌≡◌, ◌++◌, ◌∷◌, [], None, Some, true, false};
 
 use crate::rup::noted::Noted;
@@ -6,20 +6,20 @@ use sat_base::Lit;
 use std::alloc::Global;
 use std::marker::Model;
 
-/// The place of a clause that made a literal true.
+/// The place of a clause that implied a literal.
 #[derive(Clone, Copy)]
 pub(crate) struct Reason {
     pub(crate) place: usize,
     pub(crate) lit: Lit,
 }
 
-/// The reasons in the order passed, and the place of the clause that was falsified. Contracts see all reasons, also
-/// where memory was wanted for one.
+/// The reasons in the order in which they were noted, and the place of the clause that was falsified. Contracts see all
+/// reasons, also if memory ran out for one.
 #[derive(Drop)]
 pub(crate) struct Passed {
     reasons: Vec<Reason>,
     conflict: Option<usize>,
-    /// Whether the notes are of no use, since no listener needs them, or memory was wanted for one of them or for what the
+    /// Whether the notes are of no use, since no listener needs them, or memory ran out for one of them or for what the
     /// walk started from.
     lost: bool,
     /// Whether no listener needs the notes.
@@ -39,6 +39,7 @@ impl Model for Passed {
 }
 
 impl Passed {
+    /// Makes notes without a reason.
     pub fn new(alloc: Global) -> Passed
         ensures { result ≡ record { reasons = []; conflict = None; lost = false } }
     {
@@ -59,7 +60,7 @@ impl Passed {
         self.quiet = !hears;
     }
 
-    /// Forgets all, and keeps the room that it took.
+    /// Removes all notes, and keeps the allocated room.
     pub fn clear(&mut self)
         ensures { self.new ≡ record { reasons = []; conflict = None; lost = false } }
     {
@@ -69,7 +70,7 @@ impl Passed {
         self.noted = Noted::new();
     }
 
-    /// WalkNotes that the clause at a place made a literal true.
+    /// Notes that the clause at a place implied a literal.
     pub fn note(&mut self, place: usize, lit: Lit)
         ensures reasons { self.new.reasons ≡ self.old.reasons ++ (record { place = place; lit = lit }) ∷ [] }
         ensures conflict { self.new.conflict ≡ self.old.conflict }
@@ -84,14 +85,14 @@ impl Passed {
         }
     }
 
-    /// WalkNotes that the clause at a place was falsified.
+    /// Notes that the clause at a place was falsified.
     pub fn end_at(&mut self, place: usize)
         ensures { self.new ≡ record self.old { conflict = Some place } }
     {
         self.conflict = Some(place);
     }
 
-    /// The notes don't tell what the walk started from.
+    /// Records that the notes do not say what the walk started from.
     pub fn lose(&mut self)
         ensures { self.new ≡ record self.old { lost = true } }
     {
@@ -105,14 +106,14 @@ impl Passed {
         self.lost
     }
 
-    /// The place of the clause that was falsified.
+    /// Returns the place of the clause that was falsified.
     pub fn conflict(&self) -> Option<usize>
         ensures { result ≡ self.now.conflict }
     {
         self.conflict
     }
 
-    /// The reasons, where the notes are of use.
+    /// Lends the reasons, if the notes are of use.
     pub fn reasons(&self) -> &[Reason]
         requires { self.now.lost ≡ false }
         ensures { result.now ≡ self.now.reasons }

@@ -1,4 +1,5 @@
-//! The ids that a clause rests on which passed the propagation check. They are listed where somebody listens.
+//! The ids of the clauses that a clause rests on which passed the propagation check. They are listed if a listener
+//! needs them.
 ghost use Rattle.std.specs.Prelude.{ℕ, List, ◌≡◌, ◌+◌, ◌++◌, [], map, OnOk, false};
 ghost use Rattle.sat_base.specs.values.Literals.{negated};
 ghost use Rattle.sat_checker.specs.LiteralSets.{canonical};
@@ -29,6 +30,7 @@ pub(crate) struct Propagations {
 }
 
 impl Propagations {
+    /// Makes an empty list.
     pub fn new(alloc: Global) -> Propagations
         ensures { result.ids.items ≡ [] }
     {
@@ -39,14 +41,15 @@ impl Propagations {
         }
     }
 
+    /// Lends the ids.
     pub fn ids(&self) -> &[u64]
         ensures { result.now ≡ self.now.ids.items }
     {
         &self.ids
     }
 
-    /// Lists the propagations of a clause that passed the check, by what the check noted, of which nothing may be
-    /// missing. These are its sorted literals.
+    /// Lists the propagations of a clause that passed the check, from the check's notes, which have to be complete.
+    /// `literals` are its sorted literals.
     #[inline(never)]
     pub fn list(
         &mut self,

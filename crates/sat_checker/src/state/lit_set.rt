@@ -26,6 +26,7 @@ impl Model for LitSet {
 }
 
 impl LitSet {
+    /// Makes an empty set.
     pub fn new(alloc: Global) -> LitSet
         ensures { result ≡ [] }
     {
@@ -34,7 +35,7 @@ impl LitSet {
         }
     }
 
-    /// Holds these literals in place of those of before. After an error it is empty.
+    /// Holds these literals instead of the current ones. After an error it is empty.
     #[tactic(auto, using(crate::proofs::lemmas::sets::Canonical::canonical_increasing))]
     pub fn replace(&mut self, literals: &[Lit]) -> Result<(), AllocError>
         ensures { OnOk result (self.new ≡ canonical literals.now) }
@@ -48,13 +49,14 @@ impl LitSet {
         }
     }
 
+    /// Whether the literal is in the set.
     fn has(&self, lit: Lit) -> bool
         ensures { result ≡ is_among self.now lit }
     {
         self.lits.binary_search(&lit).is_ok()
     }
 
-    /// Whether it has all of these literals.
+    /// Whether all of these literals are in the set.
     pub fn has_all(&self, part: &[Lit]) -> bool
         ensures { result ≡ is_part part.now self.now }
     {
@@ -66,6 +68,7 @@ impl LitSet {
         true
     }
 
+    /// Whether a literal of the variable is in the set.
     pub fn mentions(&self, var: Var) -> bool
         ensures { result ≡ mentions self.now var }
     {

@@ -1,4 +1,4 @@
-//! What is recorded beside clauses, units and variables.
+//! What is recorded besides clauses, units and variables.
 ghost use Rattle.std.specs.Prelude.{◌≡◌, ◌+◌, ◌<◌, ◌≤◌, ◌^◌, IfOk, OnErr, MatchResult, true, if◌then◌else◌};
 ghost use Rattle.sat_checker.specs.Stored.{nothing_stored};
 ghost use Rattle.sat_checker.specs.Storing.{first_conflict};
@@ -8,8 +8,8 @@ ghost use Rattle.sat_checker.specs.declared.store.StoreError.TheVariants.{Counte
 use crate::store::StoreError;
 use sat_base::Lit;
 
-/// The last irredundant clause stored: none yet, or an empty one, a unit or a longer one by its id. Beside a unit's id
-/// stands its literal, so that it is found without a search.
+/// The last irredundant clause stored: none yet, or an empty one, a unit or a longer one, with its id. A unit also has
+/// its literal, so that it is found without a search.
 #[derive(Clone, Copy)]
 pub(crate) enum LastClause {
     NoneYet,
@@ -18,7 +18,7 @@ pub(crate) enum LastClause {
     Long(u64),
 }
 
-/// What is recorded of the stored formula as a whole.
+/// What is recorded of the stored formula.
 #[derive(Clone, Copy)]
 pub(crate) struct Status {
     pub(crate) unsat: bool,
@@ -30,7 +30,7 @@ pub(crate) struct Status {
     pub(crate) var_deleted: bool,
 }
 
-/// What of it stays to be told once a later step has failed.
+/// What can still be returned after a later step has failed.
 #[derive(Clone, Copy)]
 pub(crate) struct Records {
     pub(crate) unsat: bool,
@@ -39,7 +39,7 @@ pub(crate) struct Records {
 }
 
 impl Status {
-    /// Nothing is recorded yet.
+    /// Makes a status in which nothing is recorded.
     pub fn new() -> Status
         ensures { standing_in result ≡ standing_of nothing_stored }
     {
@@ -53,6 +53,7 @@ impl Status {
         }
     }
 
+    /// Returns what can still be returned after a later step has failed.
     #[inline(always)]
     pub fn records(&self) -> Records
         ensures { (result.unsat ≡ self.now.unsat) × (result.ended ≡ self.now.ended)
@@ -65,7 +66,7 @@ impl Status {
         }
     }
 
-    /// Takes the next id. The last one is 2^64-2.
+    /// Gives out the next id. The last one is 2^64-2.
     pub fn take_id(&mut self) -> Result<u64, StoreError>
         ensures taken { MatchResult result
             (λ id. (id ≡ self.old.next_id) × (self.new ≡ record self.old { next_id = self.old.next_id + 1 }))
@@ -81,7 +82,7 @@ impl Status {
         Ok(id)
     }
 
-    /// Takes the next id where one is needed.
+    /// Gives out the next id, if one is needed.
     pub fn take_id_if(&mut self, needed: bool) -> Result<(), StoreError>
         ensures { MatchResult result
             (λ _. self.new ≡ record self.old { next_id = (if needed then self.old.next_id + 1 else self.old.next_id) })
@@ -103,7 +104,7 @@ impl Status {
         }
     }
 
-    /// Records a unit conflict where none is pending.
+    /// Records a unit conflict, unless one is pending.
     pub fn record_conflict(&mut self, stored: Option<u64>, id: u64)
         ensures { self.new ≡ record self.old { conflict = first_conflict self.old.conflict stored id } }
     {

@@ -29,16 +29,16 @@ use sat_base::{ClauseHash, HashBits, Lit, Var};
 use std::alloc::{AllocError, Global};
 use std::marker::Model;
 
-/// Clauses at their places. Unless it is gone each is found by its hash, and its literals are counted.
+/// Clauses at their places. Every clause that is not removed is found by its hash, and its literals are counted.
 #[derive(Drop)]
 pub struct Clauses {
     alloc: Global,
     slots: Slots,
     index: SortedPairs,
     occurrences: Occurrences,
-    /// How many are gone.
+    /// The number of removed clauses.
     gone: usize,
-    /// How many literals of those lie in the buffer. Nothing but the time of a compaction hangs on it.
+    /// The number of their literals in the buffer. Only the time of a compaction depends on it.
     unused: usize,
 }
 
@@ -55,6 +55,7 @@ impl Model for Clauses {
 }
 
 impl Clauses {
+    /// Makes a list without clauses.
     pub fn new(alloc: Global) -> Clauses
         ensures { result ≡ [] }
     {
@@ -68,13 +69,14 @@ impl Clauses {
         }
     }
 
-    /// The sorted list of the mixed hashes and places of those that aren't gone.
+    /// Lends the sorted list of the mixed hashes and places of the clauses that are not removed.
     pub fn index(&self) -> &SortedPairs
         ensures { Files result.now self.now }
     {
         &self.index
     }
 
+    /// Returns the number of places.
     pub fn len(&self) -> usize
         ensures count { result ≡ length self.now }
         ensures increasing { AllByRecursion IsIncreasing (all_lits self.now) }
@@ -82,7 +84,7 @@ impl Clauses {
         self.slots.len()
     }
 
-    /// Lends the literals at a place, which counts as a look at each.
+    /// Lends the literals at a place, which counts as a look at each of them.
     #[inline(always)]
     pub fn literals(&self, place: usize, looks: &mut Looks) -> &[Lit]
         requires { place < length self.now }
@@ -92,6 +94,7 @@ impl Clauses {
         self.slots.literals(place, looks)
     }
 
+    /// Returns the id of the clause at a place.
     pub fn id(&self, place: usize) -> u64
         requires { place < length self.now }
         ensures { result ≡ (slot_at self.now place).clause.id }
@@ -99,7 +102,7 @@ impl Clauses {
         self.slots.id(place)
     }
 
-    /// How often the clause stands as redundant, or as irredundant.
+    /// Returns how often the clause is stored as redundant, or as irredundant.
     pub fn count(&self, place: usize, redundant: bool) -> u64
         requires { place < length self.now }
         ensures { result ≡ slot_count redundant (slot_at self.now place) }
@@ -107,7 +110,7 @@ impl Clauses {
         self.slots.count(place, redundant)
     }
 
-    /// The first place of a hash, in order of ids.
+    /// Returns the first place of a hash, in order of ids.
     #[inline(always)]
     pub fn first(&self, hash: ClauseHash) -> Option<usize>
         ensures { result ≡ first_of (places_of hash self.now) }
@@ -115,7 +118,7 @@ impl Clauses {
         self.index.first(mixed(hash))
     }
 
-    /// The next place of a hash, behind one of them.
+    /// Returns the next place of a hash, after one of them.
     #[inline(always)]
     pub fn next(&self, hash: ClauseHash, place: usize) -> Option<usize>
         requires { is_among (places_of hash self.now) place ≡ true }
@@ -124,6 +127,7 @@ impl Clauses {
         self.index.next(mixed(hash), place)
     }
 
+    /// Whether the clause at a place has these literals.
     fn is_same(&self, place: usize, literals: &[Lit], looks: &mut Looks) -> bool
         requires { place < length self.now }
         ensures same { result ≡ is_same_at self.now literals.now place }
@@ -132,7 +136,7 @@ impl Clauses {
         self.literals(place, looks) == literals
     }
 
-    /// The first place of the hash that has these literals.
+    /// Returns the first place of the hash that has these literals.
     #[tactic(auto, using(crate::proofs::lemmas::store::Finding::finding))]
     pub fn find(&self, hash: ClauseHash, literals: &[Lit], looks: &mut Looks) -> Option<usize>
         ensures found { result ≡ found_among self.now literals.now (places_of hash self.now) }
@@ -148,7 +152,7 @@ impl Clauses {
         None
     }
 
-    /// The place of the clause with this id, unless it is gone. Ids rise by place.
+    /// Returns the place of the clause with this id, unless it is removed. Ids increase by place.
     pub fn place_of(&self, id: u64) -> Option<usize>
         ensures found { IfSome result (IsPresentAt self.now id) }
         ensures absent { result ≡ None → IsIncreasing (slot_ids self.now) → clause_numbered id (live self.now) ≡ None }
@@ -160,23 +164,23 @@ impl Clauses {
         Some(place)
     }
 
-    /// How many places a table of marks of these clauses' literals may have in one list.
+    /// Returns how many places of a table of these clauses' literals may be in one list.
     pub fn near_count(&self) -> usize {
         self.occurrences.near_count()
     }
 
-    /// Whether a clause that isn't gone has a literal of the variable. No clause is looked at.
+    /// Whether a clause that is not removed has a literal of the variable. No clause is looked at.
     pub fn mention(&self, var: Var) -> bool
         ensures { result ≡ list_any (λ c. mentions c.literals var) (live self.now) }
     {
         self.occurrences.has(var)
     }
 
-    /// Whether each clause that stands as irredundant has an assumed literal.
+    /// Whether every clause that is stored as irredundant has an assumed literal.
     pub fn are_satisfied(&self, assigned: &Assigned, looks: &mut Looks) -> bool
         ensures found { result ≡ are_all_true assigned.now.literals (live self.now) }
         ensures looks { LooksUpTo (live_length self.now) looks.old looks.new }
-        // All irredundant ones were looked at where they are.
+        // All irredundant ones were looked at in their places.
         ensures all { result ≡ true → looks.new ≡ looks.old + irredundant_length (live self.now) }
     {
         for place in 0..self.slots.len() {
@@ -190,8 +194,8 @@ impl Clauses {
         true
     }
 
-    /// How often the clause of just the assumed literals stands as redundant, or as irredundant. It is found without
-    /// its hash.
+    /// Returns how often the clause of exactly the assumed literals is stored as redundant, or as irredundant. It is
+    /// found without its hash.
     pub fn assumed_count(&self, redundant: bool, assigned: &Assigned, looks: &mut Looks) -> u64
         ensures found { result ≡ count_in redundant (clause_with (canonical assigned.now.literals) (live self.now)) }
         ensures looks { LooksUpTo (live_length self.now) looks.old looks.new }
@@ -207,7 +211,7 @@ impl Clauses {
         0
     }
 
-    /// Puts a clause with one count behind the others. Where memory is wanted all stay, or none is left.
+    /// Adds a clause with one count after the others. If memory runs out, all stay, or none is left.
     pub fn push(
         &mut self,
         id: u64,
@@ -235,7 +239,7 @@ impl Clauses {
         Ok(())
     }
 
-    /// Files all clauses anew, by the hashes of this hasher. It takes no memory.
+    /// Files all clauses again, by the hashes of this hasher. It does not allocate.
     pub fn rehash(&mut self, hasher: &ClauseHasher, looks: &mut Looks)
         ensures hashed { self.new ≡ hashed_anew hasher.now self.old }
         ensures looks { LooksUpTo (live_length self.old) looks.old looks.new }
@@ -243,7 +247,7 @@ impl Clauses {
         file_all(&mut self.slots, hasher, &mut self.index, looks);
     }
 
-    /// One count more of a clause that isn't gone.
+    /// Adds one count to a clause that is not removed.
     pub fn add_count(&mut self, place: usize, redundant: bool)
         requires inside { place < length self.old }
         requires there { is_gone (slot_at self.old place) ≡ false }
@@ -253,7 +257,7 @@ impl Clauses {
         self.slots.add_count(place, redundant);
     }
 
-    /// One count less of the clause with these literals. A clause without a count is gone.
+    /// Removes one count of the clause with these literals. A clause without a count is removed.
     pub fn take_count(&mut self, place: usize, redundant: bool, literals: &[Lit])
         requires inside { place < length self.old }
         requires literals { literals.now ≡ literals_at self.old place }
@@ -270,8 +274,8 @@ impl Clauses {
         }
     }
 
-    /// Drops the clauses that are gone, where more than half of all are, or more than half of the buffer is theirs.
-    /// Their places are given again. Where memory is wanted they stay.
+    /// Drops the removed clauses, if they are more than half of all, or fill more than half of the buffer. The places
+    /// are numbered anew. If memory runs out, they stay.
     pub fn compact(&mut self) -> Result<(), AllocError>
         ensures left { MayDrop self.old self.new }
         ensures few { OnOk result (2 * gone_count self.new ≤ length self.new) }
@@ -286,14 +290,14 @@ impl Clauses {
     }
 }
 
-/// All 64 bits of a hash.
+/// Returns the width of a complete hash, 64 bits.
 pub(crate) fn all_bits() -> HashBits
     ensures { result ≡ 64 }
 {
     HashBits::new(64).unwrap()
 }
 
-/// Puts a clause with one count behind the others.
+/// Adds a clause with one count after the others.
 fn add(
     slots: &mut Slots,
     index: &mut SortedPairs,
@@ -317,8 +321,8 @@ fn add(
     Ok(())
 }
 
-/// Files the clauses that aren't gone by the places that they have once the others are dropped, from the last to the
-/// first.
+/// Files the clauses that are not removed by the places that they have once the others are dropped, from the last to
+/// the first.
 fn file_standing(slots: &Slots, index: &SortedPairs, next: &mut SortedPairs)
     requires filed { Files index.now slots.now }
     requires none { next.old.pairs ≡ [] }
@@ -337,7 +341,7 @@ fn file_standing(slots: &Slots, index: &SortedPairs, next: &mut SortedPairs)
     }
 }
 
-/// Drops the clauses that are gone, and files the others by their new places. Where memory is wanted all stay.
+/// Drops the removed clauses, and files the others by their new places. If memory runs out, all stay.
 fn drop_gone(alloc: Global, slots: &mut Slots, index: &mut SortedPairs) -> Result<(), AllocError>
     requires { Files index.old slots.old }
     ensures left { OnOk result (slots.new ≡ slots_present slots.old) }
@@ -353,7 +357,7 @@ fn drop_gone(alloc: Global, slots: &mut Slots, index: &mut SortedPairs) -> Resul
     Ok(())
 }
 
-/// Hashes the clauses that aren't gone, and files each, from the last to the first.
+/// Hashes the clauses that are not removed, and files them, from the last to the first.
 fn file_all(slots: &mut Slots, hasher: &ClauseHasher, index: &mut SortedPairs, looks: &mut Looks)
     requires places { index.old.places ≡ length slots.old }
     ensures hashed { slots.new ≡ hashed_anew hasher.now slots.old }

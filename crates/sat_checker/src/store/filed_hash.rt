@@ -1,4 +1,4 @@
-//! What contracts alone see of a stored clause's hash, which stands in the index. It takes no memory.
+//! What only contracts see of a stored clause's hash, which is in the index. It has no bytes.
 ghost use Rattle.std.specs.Prelude.{◌≡◌, ℕ};
 ghost use Rattle.std.specs.Borrow.{ftrue};
 
@@ -16,12 +16,14 @@ impl Model for FiledHash {
 }
 
 impl FiledHash {
+    /// Returns this hash.
     pub(crate) fn new(_hash: ClauseHash) -> FiledHash
         ensures { result.hash ≡ _hash }
     {
         FiledHash {}
     }
 
+    /// Returns the same hash.
     pub(crate) fn same(&self) -> FiledHash
         ensures { result.hash ≡ self.now.hash }
     {

@@ -1,4 +1,4 @@
-//! Pairs of a hash and a place, linked by their places. A head for each value of the top bits of a hash says where a
+//! Pairs of a hash and a place, linked by their places. For every value of the top bits of a hash, a head says where a
 //! search starts.
 ghost use Rattle.std.specs.Prelude.{All, ℕ, ◌≡◌, ◌+◌, ◌<◌, ◌≤◌, ◌++◌, length, OnOk, OnErr, None};
 ghost use Rattle.std.specs.List.{AllByRecursion, IsDistinct};
@@ -16,17 +16,17 @@ pub struct Pair {
     pub place: usize,
 }
 
-/// No place: all are below it.
+/// Stands for no place: all places are below it.
 pub(crate) const NOWHERE: u32 = u32::MAX;
 
-/// The hash at a place, and the place behind it in the list.
+/// The hash at a place, and the place after it in the list.
 #[derive(Clone, Copy)]
 pub(crate) struct Link {
     pub(crate) hash: ClauseHash,
     pub(crate) next: u32,
 }
 
-/// The top bits of a hash, by which its head is found.
+/// Returns the top bits of a hash, by which its head is found.
 #[inline(always)]
 pub(crate) fn top(hash: ClauseHash, shift: u32, count: usize) -> usize
     requires some { 0 < count }
@@ -38,7 +38,7 @@ pub(crate) fn top(hash: ClauseHash, shift: u32, count: usize) -> usize
     top.min(count - 1)
 }
 
-/// The first place of a hash, from a place on.
+/// Returns the first place of a hash, from a place on.
 #[inline(always)]
 pub(crate) fn first_from(links: &[Link], from: u32, hash: ClauseHash) -> Option<usize>
     requires { IsWalk links.now from }
@@ -59,7 +59,7 @@ pub(crate) fn first_from(links: &[Link], from: u32, hash: ClauseHash) -> Option<
     None
 }
 
-/// The last place whose hash is at most this one, from a place on.
+/// Returns the last place whose hash is at most this one, from a place on.
 fn last_up_to(links: &[Link], from: u32, hash: ClauseHash) -> Option<usize>
     requires { IsWalk links.now from }
     ensures { result ≡ last_or None (up_to hash (rest links.now from)) }
@@ -77,7 +77,7 @@ fn last_up_to(links: &[Link], from: u32, hash: ClauseHash) -> Option<usize>
     last
 }
 
-/// The last place whose hash is below this one, from a place on.
+/// Returns the last place whose hash is below this one, from a place on.
 fn last_below(links: &[Link], from: u32, hash: ClauseHash) -> Option<usize>
     requires { IsWalk links.now from }
     ensures { result ≡ last_or None (below hash (rest links.now from)) }
@@ -95,7 +95,7 @@ fn last_below(links: &[Link], from: u32, hash: ClauseHash) -> Option<usize>
     last
 }
 
-/// The place before this one, from a place on.
+/// Returns the place before this one, from a place on.
 fn place_before(links: &[Link], from: u32, place: usize) -> Option<usize>
     requires walk { IsWalk links.now from }
     requires inside { place < length links.now }
@@ -112,7 +112,7 @@ fn place_before(links: &[Link], from: u32, place: usize) -> Option<usize>
     None
 }
 
-/// Puts a pair in, at the place behind all others.
+/// Adds a pair, at the place after all others.
 pub(crate) fn put(
     heads: &mut [u32],
     links: &mut Vec<Link>,
@@ -145,7 +145,7 @@ pub(crate) fn put(
     Ok(())
 }
 
-/// Takes the pair of a place out.
+/// Removes the pair of a place.
 pub(crate) fn take(heads: &mut [u32], links: &mut [Link], shift: u32, place: usize)
     requires linked { AreLinked heads.old links.old shift }
     requires some { 0 < length heads.old }
@@ -201,7 +201,7 @@ pub(crate) fn list_all(
     Ok(())
 }
 
-/// Links pairs in order, from the last to the first, where none is linked yet.
+/// Links pairs in order, from the last to the first, while none is linked yet.
 pub(crate) fn link_all(heads: &mut [u32], links: &mut [Link], shift: u32, pairs: &[Pair])
     requires few { length links.old ≤ nowhere }
     requires none { All (λ h. h ≡ nowhere) heads.old }

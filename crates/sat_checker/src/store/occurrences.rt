@@ -1,4 +1,4 @@
-//! How often literals stand in the stored clauses.
+//! How often literals occur in the stored clauses.
 ghost use Rattle.std.specs.Prelude.{ℕ, ◌≡◌, ◌+◌, ◌*◌, ◌^◌, ◌<◌, ◌≤◌, ◌==◌, if◌then◌else◌, All, OnOk, MatchBool};
 ghost use Rattle.sat_base.specs.values.Tables.{near_count, HasPlaceFor};
 ghost use Rattle.sat_checker.specs.inner.OccurrenceView.{count_at, times_in};
@@ -6,14 +6,14 @@ ghost use Rattle.sat_checker.specs.inner.OccurrenceView.{count_at, times_in};
 use sat_base::{Lit, Table, Var};
 use std::alloc::{AllocError, Global};
 
-/// A count for each literal, by its code.
+/// A count for every literal, indexed by its code.
 #[derive(Drop)]
 pub struct Occurrences {
     counts: Table<usize>,
 }
 
 impl Occurrences {
-    /// Nothing is counted.
+    /// Makes counts of zero.
     pub fn new(alloc: Global) -> Occurrences
         ensures { (l : ℕ) → count_at result l ≡ 0 }
     {
@@ -22,7 +22,7 @@ impl Occurrences {
         }
     }
 
-    /// How many places stand in one list. So many may do so in tables of the same literals.
+    /// Returns how many places are in one list. Tables of the same literals may have as many there.
     pub fn near_count(&self) -> usize
         ensures { result ≡ near_count self.now.counts }
     {
@@ -62,7 +62,7 @@ impl Occurrences {
         self.counts.put(lit.code(), had + 1);
     }
 
-    /// Takes a literal that was counted.
+    /// Subtracts a literal that was counted.
     #[inline(always)]
     fn take_one(&mut self, lit: Lit)
         requires { 0 < count_at self.old lit }
@@ -83,7 +83,7 @@ impl Occurrences {
         }
     }
 
-    /// Takes literals that were counted.
+    /// Subtracts literals that were counted.
     pub fn take(&mut self, literals: &[Lit])
         requires { (l : ℕ) → times_in l literals.now ≤ count_at self.old l }
         ensures { (l : ℕ) → count_at self.new l + times_in l literals.now ≡ count_at self.old l }
@@ -93,6 +93,7 @@ impl Occurrences {
         }
     }
 
+    /// Returns the count of a literal.
     #[inline(always)]
     fn count(&self, lit: Lit) -> usize
         ensures { result ≡ count_at self.now lit }

@@ -14,7 +14,7 @@ use sat_base::{ClauseHash, Lit};
 use std::alloc::{AllocError, Global};
 use std::marker::Model;
 
-/// A clause's literals: up to four lie here, and more in a buffer.
+/// A clause's literals: up to four are stored here, and more in a buffer.
 #[derive(Clone, Copy)]
 pub struct ClauseLits {
     inline: [Lit; 4],
@@ -23,7 +23,7 @@ pub struct ClauseLits {
 }
 
 impl ClauseLits {
-    /// Puts literals here or at the end of the buffer.
+    /// Stores literals here, or at the end of the buffer.
     fn new(buffer: &mut Vec<Lit>, literals: &[Lit]) -> Result<ClauseLits, AllocError>
         ensures kept { (more : List ℕ) × (buffer.new.items ≡ buffer.old.items ++ more) }
         ensures within { IfOk result (λ c. LitsWithin buffer.new.items c) }
@@ -51,7 +51,7 @@ impl ClauseLits {
         })
     }
 
-    /// The literals, where those that don't lie here are in this buffer.
+    /// Lends the literals. Those that are not stored here are in this buffer.
     pub fn slice<'a>(&'a self, buffer: &'a [Lit]) -> &'a [Lit]
         requires { LitsWithin buffer.now self.now }
         ensures { result.now ≡ lits_in buffer.now self.now }
@@ -66,14 +66,14 @@ impl ClauseLits {
     }
 }
 
-/// Of so many literals of a clause, so many lie in the buffer.
+/// Returns how many literals of a clause with this many are in the buffer.
 pub(crate) fn in_buffer(count: usize) -> usize
     ensures { result ≡ (if nat_le count 4 then 0 else count) }
 {
     if count <= 4 { 0 } else { count }
 }
 
-/// A clause at its place, in 48 bytes. Its hash stands in the index.
+/// A clause at its place, in 48 bytes. Its hash is in the index.
 #[derive(Drop)]
 struct Entry {
     lits: ClauseLits,
@@ -83,7 +83,7 @@ struct Entry {
     hash: FiledHash,
 }
 
-/// Clauses at their places, those that are gone among them. Contracts see the list of them.
+/// Clauses at their places, including the removed ones. Contracts see the list of them.
 #[derive(Drop)]
 pub(crate) struct Slots {
     entries: Vec<Entry>,
@@ -104,6 +104,7 @@ impl Model for Slots {
 }
 
 impl Slots {
+    /// Makes a list without clauses.
     pub fn new(alloc: Global) -> Slots
         ensures { result ≡ [] }
     {
@@ -113,6 +114,7 @@ impl Slots {
         }
     }
 
+    /// Returns the number of places.
     pub fn len(&self) -> usize
         ensures count { result ≡ length self.now }
         ensures increasing { AllByRecursion IsIncreasing (all_lits self.now) }
@@ -120,7 +122,7 @@ impl Slots {
         self.entries.len()
     }
 
-    /// Lends the literals at a place, which counts as a look at each. There is no other way to them.
+    /// Lends the literals at a place, which counts as a look at each of them. There is no other way to them.
     #[inline(always)]
     pub fn literals(&self, place: usize, looks: &mut Looks) -> &[Lit]
         requires { place < length self.now }
@@ -132,6 +134,7 @@ impl Slots {
         literals
     }
 
+    /// Returns the id of the clause at a place.
     pub fn id(&self, place: usize) -> u64
         requires { place < length self.now }
         ensures { result ≡ (slot_at self.now place).clause.id }
@@ -139,7 +142,7 @@ impl Slots {
         self.entries[place].id
     }
 
-    /// The place of the clause with this id, where ids rise by place.
+    /// Returns the place of the clause with this id, if ids increase by place.
     pub fn place_of(&self, id: u64) -> Option<usize>
         ensures found { IfSome result (λ place. (place < length self.now) × ((slot_at self.now place).clause.id ≡ id)) }
         ensures absent { result ≡ None → IsIncreasing (slot_ids self.now) → is_among (slot_ids self.now) id ≡ false }
@@ -149,12 +152,12 @@ impl Slots {
             .ok()
     }
 
-    /// How many literals lie in the buffer, those of clauses that are gone among them.
+    /// Returns the number of literals in the buffer, including those of removed clauses.
     pub fn buffered(&self) -> usize {
         self.buffer.len()
     }
 
-    /// How often the clause stands as redundant, or as irredundant.
+    /// Returns how often the clause is stored as redundant, or as irredundant.
     pub fn count(&self, place: usize, redundant: bool) -> u64
         requires { place < length self.now }
         ensures { result ≡ slot_count redundant (slot_at self.now place) }
@@ -175,7 +178,7 @@ impl Slots {
         self.count(place, false) == 0 && self.count(place, true) == 0
     }
 
-    /// Puts a clause with these counts behind the others.
+    /// Adds a clause with these counts after the others.
     pub fn push(
         &mut self,
         id: u64,
@@ -200,7 +203,7 @@ impl Slots {
         Ok(())
     }
 
-    /// Puts the clauses of other slots behind these, but for those that are gone. Nobody looks at their literals.
+    /// Adds those clauses of another list that are not removed after these. Their literals are not looked at.
     pub fn push_standing(&mut self, others: &Slots) -> Result<(), AllocError>
         ensures { OnOk result (self.new ≡ self.old ++ slots_present others.now) }
     {
@@ -220,7 +223,7 @@ impl Slots {
         Ok(())
     }
 
-    /// One count more.
+    /// Adds one count.
     pub fn add_count(&mut self, place: usize, redundant: bool)
         requires inside { place < length self.old }
         requires room { slot_count redundant (slot_at self.old place) + 1 < 2 ^ 64 }
@@ -234,7 +237,7 @@ impl Slots {
         }
     }
 
-    /// One count less.
+    /// Removes one count.
     pub fn take_count(&mut self, place: usize, redundant: bool)
         requires inside { place < length self.old }
         requires some { 0 < slot_count redundant (slot_at self.old place) }
@@ -248,6 +251,7 @@ impl Slots {
         }
     }
 
+    /// Sets the hash by which the clause at a place is filed.
     pub fn set_hash(&mut self, place: usize, hash: ClauseHash)
         requires { place < length self.old }
         ensures { self.new ≡ with_hash_at hash place self.old }

@@ -1,5 +1,5 @@
-//! One sorted list of pairs of a hash and a place. Its hashes are mixed: a search starts by their top bits, and needs
-//! them spread.
+//! One sorted list of pairs of a hash and a place. Its hashes are mixed: a search starts by their top bits, which have
+//! to be spread.
 ghost use Rattle.std.specs.Prelude.{All, ℕ, true, ◌≡◌, ◌+◌, ◌++◌, ◌<◌, ◌≤◌, [], length, OnOk, OnErr, IfOk};
 ghost use Rattle.std.specs.List.{AllByRecursion};
 ghost use Rattle.sat_checker.specs.LiteralSets.{is_among};
@@ -14,10 +14,10 @@ use sat_base::ClauseHash;
 use std::alloc::{AllocError, Global};
 use std::marker::Model;
 
-/// The fewest bits of a hash that don't tell its head: there are at most 2^31 heads.
+/// The fewest hash bits that do not select the head: there are at most 2^31 heads.
 const LEAST_SHIFT: u32 = 33;
 
-/// Number of hash bits that do not select the head: there are at least twice as many heads as places.
+/// Returns the number of hash bits that do not select the head: there are at least twice as many heads as places.
 fn shift_for(places: usize) -> u32
     ensures few { 33 ≤ result }
     ensures below { result < 64 }
@@ -29,7 +29,7 @@ fn shift_for(places: usize) -> u32
         .max(LEAST_SHIFT)
 }
 
-/// Heads of nothing.
+/// Makes heads of no pairs.
 fn no_heads(alloc: Global, shift: u32) -> Result<Vec<u32>, AllocError>
     requires few { 33 ≤ shift }
     requires below { shift < 64 }
@@ -41,7 +41,7 @@ fn no_heads(alloc: Global, shift: u32) -> Result<Vec<u32>, AllocError>
     Ok(heads)
 }
 
-/// Makes all heads those of nothing.
+/// Sets all heads to no pairs.
 fn clear_heads(heads: &mut [u32])
     ensures none { All (λ h. h ≡ nowhere) heads.new }
     ensures count { length heads.new ≡ length heads.old }
@@ -49,7 +49,7 @@ fn clear_heads(heads: &mut [u32])
     heads.fill(NOWHERE);
 }
 
-/// Makes more heads, and links all pairs anew. The answer is how many bits of a hash don't tell its head then.
+/// Makes more heads, and links all pairs again. Returns how many hash bits do not select the head then.
 fn grow(
     alloc: Global,
     heads: &mut Vec<u32>,
@@ -72,7 +72,7 @@ fn grow(
     Ok(less)
 }
 
-/// Makes heads where there are none, or fewer than twice the places.
+/// Makes heads if there are none, or fewer than twice the places.
 fn make_heads(
     alloc: Global,
     heads: &mut Vec<u32>,
@@ -96,7 +96,7 @@ fn make_heads(
     Ok(shift)
 }
 
-/// Pairs by hashes, those of one hash by places. Contracts see the list of them.
+/// Pairs by hashes, and for equal hashes by places. Contracts see the list of them.
 #[derive(Drop)]
 pub struct SortedPairs {
     alloc: Global,
@@ -118,7 +118,7 @@ impl Model for SortedPairs {
 }
 
 impl SortedPairs {
-    /// No pair.
+    /// Makes a list without pairs.
     pub fn new(alloc: Global) -> SortedPairs
         ensures { result ≡ record { pairs = []; places = 0 } }
     {
@@ -130,7 +130,7 @@ impl SortedPairs {
         }
     }
 
-    /// How many places were given.
+    /// Returns how many places were given.
     pub fn places(&self) -> usize
         ensures count { result ≡ self.now.places }
         ensures few { self.now.places ≤ nowhere }
@@ -139,7 +139,7 @@ impl SortedPairs {
         self.links.len()
     }
 
-    /// The first place of a hash.
+    /// Returns the first place of a hash.
     #[inline(always)]
     pub fn first(&self, hash: ClauseHash) -> Option<usize>
         ensures { result ≡ first_of (places_in hash self.now.pairs) }
@@ -151,7 +151,7 @@ impl SortedPairs {
         first_from(&self.links, self.heads[top], hash)
     }
 
-    /// The next place of the hash of a place.
+    /// Returns the next place with the hash of a place.
     #[inline(always)]
     pub fn next(&self, hash: ClauseHash, place: usize) -> Option<usize>
         requires { is_among (places_in hash self.now.pairs) place ≡ true }
@@ -160,14 +160,14 @@ impl SortedPairs {
         first_from(&self.links, self.links[place].next, hash)
     }
 
-    /// Lists the pairs in order, behind those that are listed.
+    /// Lists the pairs in order, after those that are listed.
     pub fn list(&self, pairs: &mut Vec<Pair>) -> Result<(), AllocError>
         ensures { OnOk result (pairs.new.items ≡ pairs.old.items ++ self.now.pairs) }
     {
         list_all(&self.heads, &self.links, pairs)
     }
 
-    /// The hash of a place that has a pair.
+    /// Returns the hash of a place that has a pair.
     pub fn hash(&self, place: usize) -> ClauseHash
         requires { place < self.now.places }
         ensures { (h : ℕ) → is_among (places_in h self.now.pairs) place ≡ true → result ≡ h }
@@ -175,7 +175,7 @@ impl SortedPairs {
         self.links[place].hash
     }
 
-    /// Puts a pair in, at the next place.
+    /// Adds a pair, at the next place.
     pub fn push(&mut self, hash: ClauseHash) -> Result<(), AllocError>
         ensures ok { OnOk result (self.new ≡ record {
           pairs = inserted (record { hash = hash; place = self.old.places }) self.old.pairs;
@@ -191,7 +191,7 @@ impl SortedPairs {
         Ok(())
     }
 
-    /// Takes the pair of a place out. The place isn't given again.
+    /// Removes the pair of a place. The place is not given again.
     pub fn remove(&mut self, place: usize)
         requires { place < self.old.places }
         ensures { self.new ≡ record self.old { pairs = without_pair place self.old.pairs } }
@@ -209,7 +209,7 @@ impl SortedPairs {
         clear_heads(&mut self.heads);
     }
 
-    /// Puts a pair in, at a place before all those that have pairs.
+    /// Adds a pair, at a place before all those that have pairs.
     #[inline(always)]
     pub fn file_before(&mut self, place: usize, hash: ClauseHash)
         requires inside { place < self.old.places }

@@ -1,4 +1,4 @@
-//! Literals that are assumed, and those that there is room for, with a mark by code for each.
+//! Literals that are assumed, and those that there is room for, with a mark indexed by literal code.
 ghost use Rattle.std.specs.Prelude.{◌≡◌, ◌+◌, ◌-◌, ◌<◌, ◌≤◌, List, [], ◌∷◌, drop, length, OnOk, OnErr, IfSome};
 ghost use Rattle.std.specs.Prelude.{true, false, reverse, ℕ, ◌==◌, get_or, if◌then◌else◌, ◌&&◌, not};
 ghost use Rattle.sat_checker.specs.inner.Marks.{is_assumed, mark_at, AreNear, NoRepeats, LosesAt};
@@ -14,7 +14,7 @@ use sat_base::{Lit, Table};
 use std::alloc::{AllocError, Global};
 use std::marker::Model;
 
-/// What is marked by the code of a literal: whether there is room for it, and whether it is assumed.
+/// The mark of a literal: whether there is room for it, and whether it is assumed.
 #[derive(Clone, Copy)]
 pub(crate) enum Mark {
     NoRoom,
@@ -22,13 +22,13 @@ pub(crate) enum Mark {
     Assumed,
 }
 
-/// Literals that are assumed, each once, and those that there is room for. Contracts see the assumed ones with the
-/// newest first.
+/// Literals that are assumed, each of them once, and those that there is room for. Contracts see the assumed ones with
+/// the newest first.
 #[derive(Drop)]
 pub struct Assigned {
     marks: Table<Mark>,
     trail: Vec<Lit>,
-    /// How many there is room for.
+    /// The number of literals that there is room for.
     count: usize,
     room: Roomy,
 }
@@ -47,6 +47,7 @@ impl Model for Assigned {
 }
 
 impl Assigned {
+    /// Makes a set without assumed literals and without room.
     pub fn new(alloc: Global) -> Assigned
         ensures { result ≡ record { literals = []; room = [] } }
     {
@@ -58,13 +59,14 @@ impl Assigned {
         }
     }
 
+    /// Returns the number of assumed literals.
     pub fn len(&self) -> usize
         ensures { result ≡ length self.now.literals }
     {
         self.trail.len()
     }
 
-    /// The literals, the oldest first.
+    /// Lends the assumed literals, the oldest first.
     pub fn literals(&self) -> &[Lit]
         ensures lent { result.now ≡ reverse self.now.literals }
         ensures once { NoRepeats result.now }
@@ -72,8 +74,8 @@ impl Assigned {
         self.trail.as_slice()
     }
 
-    /// There is room for what is assumed, and for the negation of what there is room for. For contracts alone: it does
-    /// nothing at run time.
+    /// States for contracts that there is room for what is assumed, and for the negation of what there is room for. It
+    /// does nothing at run time.
     pub fn stand_in_room(&self)
         ensures paired { (l : ℕ) → is_among self.now.room l ≡ is_among self.now.room (negated l) }
         ensures stand { (l : ℕ) → is_among self.now.literals l ≡ true → is_among self.now.room l ≡ true }
@@ -81,7 +83,7 @@ impl Assigned {
         let _ = &self.room;
     }
 
-    /// So many places of marks may stand in one list, which is faster than a tree.
+    /// Sets how many marks may be in one list, which is faster than a tree.
     pub fn allow(&mut self, limit: usize)
         ensures { self.new ≡ self.old }
     {
@@ -96,6 +98,7 @@ impl Assigned {
         self.marks.near()
     }
 
+    /// Whether a literal is assumed.
     #[inline(always)]
     pub fn is_true(&self, lit: Lit) -> bool
         ensures { result ≡ is_among self.now.literals lit }
@@ -149,7 +152,7 @@ impl Assigned {
         Ok(())
     }
 
-    /// Assumes a literal. Memory is wanted where there is no room for it yet.
+    /// Assumes a literal. It allocates only if there is no room for it yet.
     #[inline(always)]
     pub fn assume(&mut self, lit: Lit) -> Result<(), AllocError>
         requires { is_among self.old.literals lit ≡ false }
@@ -165,7 +168,7 @@ impl Assigned {
         Ok(())
     }
 
-    /// Assumes a literal, unless it is assumed. Memory is needed only where there is no room for it yet.
+    /// Assumes a literal, unless it is assumed. It allocates only if there is no room for it yet.
     #[inline(always)]
     pub fn assume_once(&mut self, lit: Lit) -> Result<(), AllocError>
         ensures ok { OnOk result (AssumesOnce lit self.old self.new) }
@@ -197,7 +200,7 @@ impl Assigned {
         self.marks.put(lit.code(), Mark::Assumed);
     }
 
-    /// Forgets the literal at a place, the oldest standing at 0. The newest takes its place.
+    /// Removes the assumed literal at a place, counted from the oldest, which is at 0. The newest one gets its place.
     pub fn forget_at(&mut self, place: usize)
         requires { place < length self.old.literals }
         ensures forgotten { (l : ℕ) → is_among self.new.literals l
@@ -209,7 +212,7 @@ impl Assigned {
         unmark(&mut self.marks, lit);
     }
 
-    /// Forgets the newest literals, so that so many are left.
+    /// Removes the newest assumed literals, until this many are left.
     pub fn undo_to(&mut self, left: usize)
         requires { left ≤ length self.old.literals }
         ensures { self.new
@@ -234,7 +237,7 @@ pub fn make_room_for(assigned: &mut Assigned, clause: &[Lit]) -> Result<(), Allo
     Ok(())
 }
 
-/// Assumes a literal, if there is room for it and it isn't assumed yet. Takes no memory.
+/// Assumes a literal, if there is room for it and it isn't assumed yet. It does not allocate.
 pub fn assume_if_roomy(assigned: &mut Assigned, lit: Lit)
     ensures literals { assigned.new.literals
         ≡ (if is_among assigned.old.room lit && not (is_among assigned.old.literals lit)
@@ -252,7 +255,7 @@ pub fn assume_if_roomy(assigned: &mut Assigned, lit: Lit)
     assigned.assume_in_room(lit);
 }
 
-/// Forgets the marks of assumed literals.
+/// Removes the marks of assumed literals.
 fn unmark_all(marks: &mut Table<Mark>, literals: &[Lit])
     requires { (l : ℕ) → is_among literals.now l ≡ true → HasPlaceFor marks.old l }
     ensures { (l : ℕ) → mark_at marks.new l ≡ (if is_among literals.now l then Mark.Room else mark_at marks.old l) }
@@ -262,7 +265,7 @@ fn unmark_all(marks: &mut Table<Mark>, literals: &[Lit])
     }
 }
 
-/// Forgets the mark of an assumed literal. There is room for it still.
+/// Removes the mark of an assumed literal. There is still room for it.
 fn unmark(marks: &mut Table<Mark>, lit: Lit)
     requires { HasPlaceFor marks.old lit }
     ensures set { (l : ℕ) → mark_at marks.new l ≡ (if l == lit then Mark.Room else mark_at marks.old l) }
@@ -271,17 +274,18 @@ fn unmark(marks: &mut Table<Mark>, lit: Lit)
     marks.put(lit.code(), Mark::Room);
 }
 
-/// What a clause says under the assumed literals.
+/// What a clause is under the assumed literals.
 #[derive(Clone, Copy)]
 pub enum Look {
-    /// Each literal is false.
+    /// All its literals are false.
     Falsified,
-    /// This literal alone isn't false, and it isn't assumed.
+    /// Only this literal isn't false, and it isn't assumed.
     Opens(Lit),
     /// A literal is assumed, or two aren't false.
     Rests,
 }
 
+/// Returns what a clause is under the assumed literals.
 #[inline(always)]
 pub fn look_at(assigned: &Assigned, clause: &[Lit]) -> Look
     ensures { verdict_of result ≡ verdict assigned.now.literals clause.now }
@@ -330,7 +334,7 @@ fn is_assumed(mark: Mark) -> bool
     }
 }
 
-/// As `look_at`, for a clause with literals whose marks are not near.
+/// Returns the same as `look_at`, also for literals whose marks are not near.
 #[inline(never)]
 fn look_far(assigned: &Assigned, clause: &[Lit]) -> Look
     ensures { verdict_of result ≡ verdict assigned.now.literals clause.now }

@@ -1,4 +1,4 @@
-//! Numbers of literals, by their code.
+//! Numbers of literals, indexed by literal code.
 ghost use Rattle.std.specs.Prelude.{ℕ, ◌≡◌, ◌==◌, ◌+◌, ◌^◌, ◌<◌, OnOk, Some, None, if◌then◌else◌};
 ghost use Rattle.sat_base.specs.values.Tables.{HasPlaceFor};
 ghost use Rattle.sat_checker.specs.inner.LitNumbers.{number_at};
@@ -6,13 +6,14 @@ ghost use Rattle.sat_checker.specs.inner.LitNumbers.{number_at};
 use sat_base::{Lit, Table};
 use std::alloc::{AllocError, Global};
 
-/// A number for each of some literals, by their code. Where there is none stands 2^64-1, which no literal has.
+/// A number for some literals, indexed by code. The others have 2^64-1, which is no literal's number.
 #[derive(Drop)]
 pub(crate) struct LitNumbers {
     numbers: Table<u64>,
 }
 
 impl LitNumbers {
+    /// Makes a table without numbers.
     pub fn new(alloc: Global) -> LitNumbers
         ensures { (l : ℕ) → number_at result l ≡ None }
     {
@@ -21,6 +22,7 @@ impl LitNumbers {
         }
     }
 
+    /// Returns the number of a literal, if it has one.
     pub fn get(&self, lit: Lit) -> Option<u64>
         ensures { result ≡ number_at self.now lit }
     {
@@ -39,6 +41,7 @@ impl LitNumbers {
         self.numbers.make_room(lit.code(), u64::MAX)
     }
 
+    /// Sets the number of a literal that there is room for.
     pub fn put(&mut self, lit: Lit, number: u64)
         requires room { HasPlaceFor self.old.numbers lit }
         requires number { number + 1 < 2 ^ 64 }
@@ -47,6 +50,7 @@ impl LitNumbers {
         self.numbers.put(lit.code(), number);
     }
 
+    /// Removes the number of a literal.
     pub fn forget(&mut self, lit: Lit)
         ensures { (l : ℕ) → number_at self.new l ≡ (if l == lit then None else number_at self.old l) }
     {

@@ -1,5 +1,5 @@
-//! What contracts alone see of the order in which units were stored. It takes no memory, and its functions do nothing
-//! at run time.
+//! What only contracts see of the order in which units were stored. It has no bytes, and its functions do nothing at
+//! run time.
 ghost use Rattle.std.specs.Prelude.{◌≡◌, ◌++◌, ◌∷◌, [], List, filter, not, ◌==◌};
 ghost use Rattle.std.specs.Borrow.{ftrue};
 ghost use Rattle.sat_checker.specs.Stored.{StoredUnit};
@@ -17,18 +17,21 @@ impl Model for UnitOrder {
 }
 
 impl UnitOrder {
+    /// Makes a list without units.
     pub(crate) fn new() -> UnitOrder
         ensures { result.units ≡ [] }
     {
         UnitOrder {}
     }
 
+    /// Returns the list with one more unit.
     pub(crate) fn and(&self, _id: u64, _code: usize) -> UnitOrder
         ensures { result.units ≡ self.now.units ++ (record { id = _id; literal = _code }) ∷ [] }
     {
         UnitOrder {}
     }
 
+    /// Returns the list without the unit of a literal.
     pub(crate) fn without(&self, _code: usize) -> UnitOrder
         ensures { result.units ≡ filter (λ u. not (u.literal == _code)) self.now.units }
     {

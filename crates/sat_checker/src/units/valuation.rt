@@ -10,7 +10,7 @@ use crate::units::assigned::{Assigned, assume_if_roomy};
 use sat_base::{Lit, Var};
 use std::alloc::AllocError;
 
-/// Assumes the literals, the last first, unless a variable stands twice among them. The answer is whether none does.
+/// Assumes the literals, the last one first, unless two of them have the same variable. Returns whether no two do.
 #[tactic(auto, using(crate::proofs::lemmas::state::Models::setting_apart))]
 pub(crate) fn assume_apart(assigned: &mut Assigned, literals: &[Lit]) -> Result<bool, AllocError>
     requires { assigned.old.literals ≡ [] }
@@ -31,7 +31,7 @@ pub(crate) fn assume_apart(assigned: &mut Assigned, literals: &[Lit]) -> Result<
     Ok(true)
 }
 
-/// Assumes those of the literals that there is room for. No memory is wanted for it.
+/// Assumes those of the literals that there is room for. It does not allocate.
 pub(crate) fn assume_roomy(assigned: &mut Assigned, literals: &[Lit])
     requires { assigned.old.literals ≡ [] }
     ensures marked { (l : ℕ) → is_among assigned.new.literals l
@@ -43,7 +43,7 @@ pub(crate) fn assume_roomy(assigned: &mut Assigned, literals: &[Lit])
     }
 }
 
-/// Whether there is room for each of the literals.
+/// Whether there is room for all of the literals.
 #[tactic(auto, using(crate::proofs::lemmas::sets::Parts::each_literal))]
 pub(crate) fn have_room(assigned: &Assigned, literals: &[Lit]) -> bool
     ensures { result ≡ is_part literals.now assigned.now.room }
@@ -56,7 +56,7 @@ pub(crate) fn have_room(assigned: &Assigned, literals: &[Lit]) -> bool
     true
 }
 
-/// Whether each of the literals is assumed.
+/// Whether all of the literals are assumed.
 #[tactic(auto, using(crate::proofs::lemmas::sets::Parts::each_literal))]
 fn are_assumed(assigned: &Assigned, literals: &[Lit]) -> bool
     ensures { result ≡ is_part literals.now assigned.now.literals }
@@ -69,7 +69,7 @@ fn are_assumed(assigned: &Assigned, literals: &[Lit]) -> bool
     true
 }
 
-/// Whether a clause of sorted literals has just the assumed ones.
+/// Whether a clause of sorted literals has exactly the assumed ones.
 pub(crate) fn has_just_assumed(assigned: &Assigned, clause: &[Lit]) -> bool
     requires { IsIncreasing clause.now }
     ensures { result ≡ same_literals clause.now (canonical assigned.now.literals) }
@@ -78,7 +78,7 @@ pub(crate) fn has_just_assumed(assigned: &Assigned, clause: &[Lit]) -> bool
     clause.len() == assumed.len() && are_assumed(assigned, clause)
 }
 
-/// Whether a clause of sorted literals is a part of the assumed ones but not all of them.
+/// Whether the sorted literals of a clause are some of the assumed ones, but not all of them.
 pub(crate) fn is_strictly_assumed(assigned: &Assigned, clause: &[Lit]) -> bool
     requires { IsIncreasing clause.now }
     ensures { result ≡ (is_part clause.now assigned.now.literals && not (is_part assigned.now.literals clause.now)) }
@@ -87,7 +87,7 @@ pub(crate) fn is_strictly_assumed(assigned: &Assigned, clause: &[Lit]) -> bool
     clause.len() < assumed.len() && are_assumed(assigned, clause)
 }
 
-/// Whether no variable stands twice among the literals. No memory is wanted for it.
+/// Whether no two of the literals have the same variable. It does not allocate.
 pub(crate) fn are_apart(literals: &[Lit]) -> bool
     ensures { MatchBool result (VariablesApart literals.now) (VariablesApart literals.now → ⊥) }
 {
