@@ -20,13 +20,14 @@ abbrev pub refusal_line : ℕ → Refusal → List ℕ
 refusal_line k PastLimit = codes "c refused " ++ (decimal k ++ codes " limit\n")
 refusal_line k (WitnessName name) = codes "c refused " ++ (decimal k ++ (codes " witness " ++ (decimal name ++ codes "\n")))
 
--- a command's lines, followed by what `more` says of the outcomes that are left: the first is that of the next accepted ask
+-- The lines of command k: its refusal, or the first outcome if it is an ask, or none. Then come the lines of later commands, which `more`
+-- makes of the outcomes that are left.
 abbrev pub command_lines : ℕ → Option Refusal → Command → List Outcome → (List Outcome → List ℕ) → List ℕ
 command_lines k (Some refusal) command outcomes more = refusal_line k refusal ++ more outcomes
 command_lines k None (Ask ls) (o ∷ os) more = outcome_lines o ++ more os
 command_lines k None command outcomes more = more outcomes
 
--- the lines of commands from number k on, and the last one where the text is malformed there
+-- The answers to commands, the first of which is number k. A malformed end adds a line, with the number that the next command would have.
 abbrev pub lines_from : ℕ → Judge → List Command → ScriptEnding → List Outcome → List ℕ
 lines_from k j [] Clean outcomes = []
 lines_from k j [] Malformed outcomes = codes "c malformed " ++ (decimal k ++ codes "\n")

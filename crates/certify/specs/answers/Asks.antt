@@ -5,12 +5,12 @@ use Rattle.sat_base.specs.script.Judge.{Judge, refusal_of, accepted, after_comma
 use Rattle.sat_checker.specs.matching.Expected.{Outcome}
 use Rattle.certify.specs.answers.RightAnswers.{IsRight}
 
--- an ask that isn't refused: what commands left once its names came in, and its literals
+-- an ask that is not refused: the state after its names were introduced, and its literals
 pub record Asked : Type 0 where
   pub state : Judge
   pub literals : List Literal
 
--- the asks that aren't refused, in order
+-- the asks that are not refused, in order
 abbrev pub asks_of : Judge → List Command → List Asked
 asks_of j [] = []
 asks_of j (Ask ls ∷ commands) =

@@ -4,7 +4,7 @@ use Rattle.sat_base.specs.script.Script.{Literal, Command, Clause, Ask, Hide, Wi
 use Rattle.sat_base.specs.script.Judge.{Judge, IsRightModel, IsRightCore, accepted, start, accepted_of}
 use Rattle.sat_checker.specs.matching.Expected.{Outcome, Sat, Unsat, Unknown}
 
--- of an ask, j being the state after its names came in
+-- The outcome of an ask, j being the state after its names were introduced. Unknown is right for every ask.
 abbrev pub IsRight : Judge → List Literal → Outcome → Type 0
 IsRight j ask (Sat line) = IsRightModel j ask line
 IsRight j ask (Unsat core) = IsRightCore j ask core

@@ -21,8 +21,8 @@ token_in (b ∷ bs) =
     if nat_eq b 45 then number true (digits 0 bs)
     else (if is_letter b then single (Letter b) bs else number false (digits 0 (b ∷ bs)))
 
--- The tokens of lines. One that begins with `%` ends the text, one that begins with `c` is a comment, and one that begins with `p` is a
--- header, which may stand once, before the first word of other lines.
+-- The tokens of lines. A line that begins with `%` ends the text, also within a command. One that begins with `c` is a comment, and one that
+-- begins with `p` is a header, which `may` come only once, and only before the first word of other lines.
 unfoldable pub tokens_in : Bool → List (List ℕ) → List Token
 tokens_in may [] = []
 tokens_in may (line ∷ lines) =
@@ -47,13 +47,14 @@ with_literal l (Hide names) = if l.positive then Some (Hide (names ++ l.name ∷
 with_literal l (Witness names) = if l.positive then Some (Witness (names ++ l.name ∷ [])) else None
 with_literal l (Sample names) = if l.positive then Some (Sample (names ++ l.name ∷ [])) else None
 
--- the text goes on where the command does, else it is malformed
+-- reads on with the command, or ends as malformed if there is none
 abbrev pub going_on : Option Command → (Option Command → Reading) → Reading
 going_on None more = ([], Malformed)
 going_on (Some command) more = more (Some command)
 
--- The commands that tokens spell, after one that has begun, and how they end. What begins with a number is a clause, a zero ends a
--- command, and letters stand before one.
+-- The commands that tokens spell, and how they end. `hand` is the command that has begun and lacks its zero. A zero ends it; with nothing in
+-- hand, a zero is the empty clause. Malformed are a wrong token, an unknown letter, a letter or the end within a command, and a negative
+-- name after `h`, `w` or `s`.
 unfoldable pub spelled : Option Command → List Token → Reading
 spelled None [] = ([], Clean)
 spelled (Some command) [] = ([], Malformed)

@@ -36,14 +36,15 @@ IsExact r script answers certificate old new =
 abbrev pub ReadsKept : {R : Type 0} → (R → Reader) → R → R → Type 0
 ReadsKept seen old new = (seen new).failures ≡ (seen old).failures
 
--- The answers are the text of right outcomes, one for each accepted ask of the script: models and cores are right; that an ask is unknown
--- is right of any ask.
+-- The answers are, byte for byte, the lines that the script calls for: one for each refused command, those of one outcome for each other ask,
+-- and a last one if the text is malformed. Every model and every core is right. Unknown is right for every ask, and a refused clause is no
+-- part of what is judged.
 pub record AreRightAnswers (script answers : List ℕ) : Type 0 where
   pub outcomes : List Outcome
   pub answered : answers ≡ lines_from 1 start (script_in script).0 (script_in script).1 outcomes
   pub right : EachIsRight (asks_of start (script_in script).0) outcomes
 
--- a yes says that the answers that were given are right
+-- If the verdict is `Yes`, the answers are right for the script, each with all that could still come. So the answers were read to their end.
 abbrev pub IsSoundVerdict : Reader × Reader → Reader × Reader → Verdict → Type 0
 IsSoundVerdict script answers v = v ≡ Yes → GaveTextWith script (λ s. GaveTextWith answers (AreRightAnswers s))
 

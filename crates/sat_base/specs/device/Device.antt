@@ -47,7 +47,7 @@ CountsWrite r piece old new failed = MatchResult r
     (λ n. (new ≡ (if takes_none n piece then old + 1 else old)) × (failed ≡ takes_none n piece))
     (λ _. (new ≡ old + 1) × (failed ≡ true))
 
--- a call adds the first bytes of the piece to those before, and a failed one adds none
+-- a call appends the first bytes of the piece to those before, and a failed one appends none
 abbrev pub AppendsFront : {E : Type 0} → Result ℕ E → List ℕ → List ℕ → List ℕ → Type 0
 AppendsFront r piece old new = MatchResult r (λ n. new ≡ old ++ take n piece) (λ _. new ≡ old)
 
@@ -55,7 +55,7 @@ AppendsFront r piece old new = MatchResult r (λ n. new ≡ old ++ take n piece)
 abbrev pub EndsIfNone : {E : Type 0} → Result ℕ E → List ℕ → Bool → Type 0
 EndsIfNone r piece ended = MatchResult r (λ n. ended ≡ (nat_eq n 0 && nat_lt 0 (length piece))) (λ _. ended ≡ false)
 
--- one read, of which this is the room
+-- One read. `room` is the complete buffer after it. If the result is `Ok n`, its first n bytes are those given.
 pub record ReadsOnce {E : Type 0} (r : Result ℕ E) (room : List ℕ) (old new : Reader) : Type 0 where
   pub told : ReadConsumes old.to_come new.to_come r room
   pub given : AppendsFront r room old.given new.given
@@ -115,11 +115,12 @@ pub record GaveAll (old new : Reader) (text : List ℕ) : Type 0 where
   pub few : FewReads old new
   pub loans : new.loans ≡ old.loans
 
--- what could follow: nothing where a read has found it at its end since
+-- These bytes could still come: any bytes, but none if the last read, made since `old`, found the end.
 abbrev pub CanFollow : Reader → Reader → List ℕ → Type 0
 CanFollow old new rest = old.calls < new.calls → new.ended ≡ true → rest ≡ []
 
--- It gave a text of which this is so whatever would follow.
+-- Between `old` and `new` the reader gave `text`, and P holds of `text` with any bytes that could still come after it. So what was read settles
+-- P. If the last read found the end, P holds of `text` itself.
 pub record GaveEnough (old new : Reader) (P : List ℕ → Type 0) : Type 0 where
   pub text : List ℕ
   pub front : GaveFront old new text

@@ -5,7 +5,8 @@ use Rattle.sat_base.specs.values.Literals.{coded, var_limit}
 use Rattle.sat_base.specs.values.Clauses.{Valuation, EachTrue, EachHolds}
 use Rattle.sat_base.specs.script.Script.{Literal, Command, Clause, Ask, Hide, Witness, Sample, names_of, Among, InOrder}
 
--- of a variable: clauses and asks may have a sampled one, and no witness
+-- The mode of a variable. A new variable is sampled; `w` and `s` change its mode. A clause or an ask with a witness is refused. Nothing else
+-- depends on modes: models and cores do not.
 pub data Mode : Type 0 where
   Sampled : Mode
   Witnessed : Mode
@@ -15,13 +16,14 @@ pub record Named : Type 0 where
   pub name : ℕ
   pub identity : ℕ
 
--- what a script's commands so far leave, of names, variables and accepted clauses
+-- The state of a script between two commands. A name in use stands for one variable, by its identity. Hiding a name frees it, and its next
+-- use makes a new variable with a new identity. Clauses keep the old one.
 pub record Judge : Type 0 where
   pub first_unused : ℕ  -- the first name never used
   pub in_use : List Named  -- by increasing name
   pub modes : List Mode  -- of each identity, in order
   pub identity_count : ℕ
-  pub clauses : List (List ℕ)  -- accepted, over identities; the newest first
+  pub clauses : List (List ℕ)  -- accepted, the newest first; a literal is twice its identity, and one more if negated
 
 -- before the first command
 abbrev pub start : Judge
@@ -36,7 +38,7 @@ identity_in (n ∷ ns) name = if n.name == name then Some n.identity else identi
 abbrev pub identity_of : Judge → ℕ → Option ℕ
 identity_of j name = identity_in j.in_use name
 
--- put in by its name
+-- inserted by its name
 abbrev pub placed : Named → List Named → List Named
 placed new [] = new ∷ []
 placed new (n ∷ ns) = if nat_lt n.name new.name then n ∷ placed new ns else new ∷ n ∷ ns
@@ -51,13 +53,13 @@ with_name name j = record {
   clauses = j.clauses;
 }
 
--- count names in order, from this one
+-- `count` names in a row, from `name` on
 abbrev pub names_from : ℕ → ℕ → List ℕ
 names_from zero name = []
 names_from (suc count) name = name ∷ names_from count (name + 1)
 
--- the names that become new variables where this one is brought in, in order: all from the first never used up to it, or a hidden one
--- itself
+-- The names that get a new variable when `name` is used: none if it is in use, and itself if it is hidden. A name never used comes with all
+-- smaller names never used, so a first clause `5 0` introduces 1 to 5.
 abbrev pub new_names : ℕ → Judge → List ℕ
 new_names name j =
     if nat_lt name j.first_unused
@@ -69,11 +71,11 @@ abbrev pub with_names : List ℕ → Judge → Judge
 with_names [] j = j
 with_names (name ∷ names) j = with_names names (with_name name j)
 
--- the name is in use from here on: each name that it makes new gets a new variable
+-- introduces the name: it is in use from now on
 abbrev pub bring_in : ℕ → Judge → Judge
 bring_in name j = with_names (new_names name j) j
 
--- from left to right
+-- introduces each of these names, from left to right
 abbrev pub bring_all : List ℕ → Judge → Judge
 bring_all [] j = j
 bring_all (name ∷ names) j = bring_all names (bring_in name j)
@@ -82,12 +84,13 @@ bring_all (name ∷ names) j = bring_all names (bring_in name j)
 abbrev pub without_name : ℕ → Judge → Judge
 without_name name j = record j { in_use = filter (λ n. not (n.name == name)) j.in_use }
 
--- the number that is there, or else 0
+-- The number, or else 0. It is only applied to identities of names in use, so there is one.
 abbrev pub or_zero : Option ℕ → ℕ
 or_zero None = 0
 or_zero (Some n) = n
 
--- the literal over identities; its name is in use
+-- The literal over identities. Its name is in use: an ask and a clause introduce their names first, a model lists the names in use, and a
+-- core has literals of the ask.
 abbrev pub over : Judge → Literal → ℕ
 over j l = coded (or_zero (identity_of j l.name)) l.positive
 
@@ -95,21 +98,21 @@ over j l = coded (or_zero (identity_of j l.name)) l.positive
 abbrev pub with_mode : Mode → ℕ → Judge → Judge
 with_mode mode name j = record j { modes = set j.modes (or_zero (identity_of j name)) mode }
 
--- a clause is accepted, all of whose names are in use
+-- accepts a clause, whose names are all in use
 abbrev pub with_clause : List Literal → Judge → Judge
 with_clause ls j = record j { clauses = map (over j) ls ∷ j.clauses }
 
--- each of these names is brought in, and is then no longer in use
+-- introduces each of these names, and hides it
 abbrev pub hide_all : List ℕ → Judge → Judge
 hide_all [] j = j
 hide_all (name ∷ names) j = hide_all names (without_name name (bring_in name j))
 
--- each of these names is brought in, and its variable gets this mode
+-- introduces each of these names, and sets the mode of its variable
 abbrev pub set_all : Mode → List ℕ → Judge → Judge
 set_all mode [] j = j
 set_all mode (name ∷ names) j = set_all mode names (with_mode mode name (bring_in name j))
 
--- what an accepted command leaves
+-- the state after an accepted command
 abbrev pub accepted : Command → Judge → Judge
 accepted (Clause ls) j = with_clause ls (bring_all (names_of ls) j)
 accepted (Ask ls) j = bring_all (names_of ls) j
@@ -122,29 +125,29 @@ pub data Refusal : Type 0 where
   PastLimit : Refusal
   WitnessName : ℕ → Refusal
 
--- whether clauses and asks may not have a variable of this mode
+-- whether a clause or an ask with a variable of this mode is refused
 abbrev pub is_witness : Mode → Bool
 is_witness Sampled = false
 is_witness Witnessed = true
 
--- a name in use of mode witness
+-- whether this is the identity of a variable of mode witness
 abbrev pub has_witness : Judge → Option ℕ → Bool
 has_witness j None = false
 has_witness j (Some identity) = is_witness (get_or j.modes identity Sampled)
 
--- the leftmost name past the limit or of mode witness decides
+-- For the names of a clause or an ask: the leftmost one that is past the limit or a witness decides. A name that is not in use is no witness.
 abbrev pub refused_literal : Judge → List ℕ → Option Refusal
 refused_literal j [] = None
 refused_literal j (name ∷ names) =
     if nat_lt var_limit name then Some PastLimit
     else (if has_witness j (identity_of j name) then Some (WitnessName name) else refused_literal j names)
 
--- a name that is hidden or gets a mode is refused past the limit alone
+-- for the names of `h`, `w` and `s`: only a name past the limit is refused
 abbrev pub refused_name : List ℕ → Option Refusal
 refused_name [] = None
 refused_name (name ∷ names) = if nat_lt var_limit name then Some PastLimit else refused_name names
 
--- why a command is refused, or none where it is accepted
+-- why a command is refused, or `None` if it is accepted
 abbrev pub refusal_of : Judge → Command → Option Refusal
 refusal_of j (Clause ls) = refused_literal j (names_of ls)
 refusal_of j (Ask ls) = refused_literal j (names_of ls)
@@ -167,7 +170,7 @@ accepted_of j [] = []
 accepted_of j (command ∷ commands) =
     if is_some (refusal_of j command) then accepted_of j commands else command ∷ accepted_of (accepted command j) commands
 
--- A right model of an ask, j being the state after the ask's names came in.
+-- A right model of an ask, j being the state after the ask's names were introduced.
 pub record IsRightModel (j : Judge) (ask line : List Literal) : Type 0 where
   -- one literal for each name in use, in increasing order
   pub names : names_of line ≡ map (λ n. n.name) j.in_use
@@ -177,7 +180,8 @@ pub record IsRightModel (j : Judge) (ask line : List Literal) : Type 0 where
   pub clauses : EachHolds valuation j.clauses
   pub asked : EachTrue valuation (map (over j) ask)
 
--- A right core of an ask.
+-- A right core of an ask: some of its literals, in order and without repeats, that cannot all be true where the accepted clauses hold. It
+-- need not be minimal.
 pub record IsRightCore (j : Judge) (ask core : List Literal) : Type 0 where
   pub order : InOrder core
   pub among : AllByRecursion (λ l. Among l ask) core

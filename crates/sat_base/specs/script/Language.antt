@@ -106,7 +106,7 @@ spoken ts = map (λ t. t.1) ts
 unfoldable pub written : List ℕ → Reading
 written text = commands_of Nothing (spoken (tokens text))
 
--- where it is due, a clean end behind no ask, refused or not, is an ask under no literals
+-- Adds an ask under no literals at the end, if it is due, the end is clean, and no command is an ask. A refused ask counts as one.
 abbrev pub with_ask : Bool → Reading → Reading
 with_ask due r = if due && (is_clean r.1 && not (has_ask r.0)) then (r.0 ++ Ask [] ∷ [], Clean) else r
 
