@@ -8,7 +8,7 @@ import os
 import random
 import sys
 
-LARGEST = 1 << 27
+LARGEST = 1 << 28
 
 
 def number(n):
