@@ -1,14 +1,14 @@
 #!/usr/bin/env bash
-# Solves a formula by eight cubes, each in a process of its own, and confirms the whole: bench/cubes.sh [--confirm] FORMULA [FOLDER [PROGRAM]]
+# Solves a formula by eight cubes, each in a process of its own, and confirms the result: bench/cubes.sh [--confirm] FORMULA [FOLDER [PROGRAM]]
 #
-# The three names that occur most often make eight cubes. For each cube there is a script: the clauses of the formula, and an ask for the
-# cube. Up to JOBS processes (as many as there are processors) answer and confirm these scripts; on many machines a batch system does the
-# same. If a cube has a model, the formula has. If none has, the negation of each core is a clause that follows from the formula, and one
-# last script of these eight clauses is unsatisfiable.
+# The three names that occur most often make eight cubes. Each cube has a script: the clauses of the formula, and an ask for the cube. Up to
+# JOBS processes (by default as many as processors) answer and confirm these scripts; on many machines a batch system does the same. A model of
+# one cube is a model of the formula. If no cube has one, the negation of each core follows from the formula, and a last script of these eight
+# clauses is unsatisfiable.
 #
-# The whole is confirmed from the files alone: each script is made anew from the formula and from the answers, and compared, and `confirm`
-# says yes to its answers. With --confirm nothing is answered: the files in FOLDER, from an earlier call, are confirmed. PROGRAM is the proved
-# program, crates/certify_cli/out/certify_cli, unless another one is given.
+# Only the files count when the result is confirmed. Each script is made again from the formula and from the answers, and compared, and `confirm`
+# has to accept its answers. With --confirm nothing is answered, and the files in FOLDER are confirmed. PROGRAM is by default the proved program,
+# crates/certify_cli/out/certify_cli.
 set -euo pipefail
 here=$(cd "$(dirname "$0")" && pwd)
 solve=yes

@@ -1,12 +1,11 @@
 #!/usr/bin/env python3
-"""examples.py [PROGRAM] runs and confirms each script of examples/ and compares the answers with those that are kept there.
+"""Runs and confirms each script of examples/, and compares the answers with those that are kept there: examples.py [PROGRAM]
 
-    examples.py --rows [PROGRAM]    prints rows for tests: script, printed text, status, and what comes on standard error; or script,
-                                    answers and budget
+    examples.py --rows [PROGRAM]    prints rows for tests: script, printed text, status and standard error; or script, answers and budget
     examples.py --check FILE        checks that FILE, a source with such rows, has each script and its answers as they are kept
 
-NAME.answers has the answers to NAME.script, and NAME-STEPS.answers those with a budget of STEPS rounds for each ask. PROGRAM is the proved
-program, crates/certify_cli/out/certify_cli, unless another one is given.
+NAME.answers has the answers to NAME.script, and NAME-STEPS.answers those with a budget of STEPS rounds for each ask. PROGRAM is by default
+the proved program, crates/certify_cli/out/certify_cli.
 """
 import os
 import re

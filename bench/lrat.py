@@ -3,14 +3,14 @@
 
     lrat.py convert HINTS CNF PROOF   writes the clauses of the `i` lines as DIMACS CNF, and the derivation as an LRAT proof
     lrat.py check CNF PROOF           prints `verified`, or `refused` with the line and the reason, and exits 1
-    lrat.py try [PROGRAM]             does both over twenty formulas, and drops lines of each proof
+    lrat.py try [PROGRAM]             does both with twenty formulas, and drops lines of each proof
 
-HINTS is what `certify hints` makes of the certificate of a formula, which is asked once under no literals. The clauses of the CNF are those of
-the formula, with its own names, without repeats of clauses and of literals and without tautologies. In an LRAT proof the clauses of the CNF
-have the numbers 1 to n in their order and derived clauses higher ones, so all clauses are numbered anew. A hint text with an `e` line, with
-a core that has literals, or without an empty clause has no such proof.
+HINTS is written by `certify hints` from the certificate of a formula that is asked once, without literals. The clauses of the CNF are those
+of the formula, with its own names, without repeated clauses and literals and without tautologies. In an LRAT proof the clauses of the CNF
+have the numbers 1 to n, in order, and derived clauses have higher ones, so all clauses are renumbered. A hint text with an `e` line, with a
+core that has literals, or without an empty clause has no such proof.
 
-The checker reads the CNF and the proof alone. It accepts the part of LRAT in which each added clause follows by unit propagation.
+The checker reads only the CNF and the proof. It accepts the part of LRAT in which each added clause follows by unit propagation.
 """
 import importlib.util
 import os

@@ -1,7 +1,7 @@
 #!/usr/bin/env bash
 # Runs two programs in turn on one input: bench/measure.sh TIMES INPUT PLAIN PROVED [ARGUMENT..]
 #
-# Prints what each wrote to standard error, its times in seconds, the fastest and the median, its peak memory, and the ratio of the medians. Standard
+# Prints what each wrote to standard error, its fastest and its median time in seconds, its peak memory, and the ratio of the medians. Standard
 # output is dropped. Needs GNU time.
 set -euo pipefail
 times=$1 input=$2 plain=$3 proved=$4

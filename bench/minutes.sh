@@ -1,10 +1,10 @@
 #!/usr/bin/env bash
-# Prints what each crate takes of the gate: bench/minutes.sh [CRATE..]
+# Prints what each crate adds to the gate: bench/minutes.sh [CRATE..]
 #
-# In a copy of the repository each crate, or each that is named, is proved from nothing, then its tests, and then the edits of its must-fail/
-# are tried, one thing after another. A line has the minutes of processors that each of the three took, and those of all by the clock; the
-# last line has their sums. What lies below a crate is built before, and not counted; nor is that the gate proves a crate once more before it
-# tries its edits. All crates take as long as the gate.
+# In a copy of the repository, proves each crate from nothing, or each that is named, then its tests, and then tries the edits of its
+# must-fail/. A line has the processor minutes of each of the three, and the minutes by the clock; the last line has the sums. The crates below
+# are built first, and not counted. Nor is the extra proof of the crate that the gate makes before it tries edits. All crates together take as
+# long as the gate.
 set -euo pipefail
 top=$(cd "$(dirname "$0")/.." && pwd)
 work=$(mktemp -d)

@@ -1,10 +1,10 @@
 #!/usr/bin/env python3
-"""Measures how the time of small, demanding texts grows with their size.
+"""Measures how the time of small, demanding texts grows with their size: scale.py [-i] PROGRAM [NAME..]
 
-scale.py [-i] PROGRAM [NAME..] measures PROGRAM (certify) on each text below, or on those that are named, at three sizes. A line has the
-bytes read of the largest size, the seconds of processor time at each size (the least of five runs), and the exponent by which the time
-grows with the bytes read. Exponents above 1.15 are marked. Each text is sized so that its largest time is some tenths of a second where the
-exponent matters; times below a hundredth of a second get no exponent.
+It measures PROGRAM (certify) on each text below, or on those that are named, at three sizes. A line has the bytes read of the largest size,
+the processor seconds at each size (the least of five runs), and the exponent by which the time grows with the bytes read. Exponents above
+1.15 are marked. If the exponent matters, the sizes are chosen so that the largest time is some tenths of a second. Times below a hundredth of
+a second get no exponent.
 
 With -i it counts millions of instructions, once each, instead of seconds. Other processes do not change these counts, but they ignore
 caches. They need valgrind and fifty times as long.

@@ -1,19 +1,19 @@
 #!/usr/bin/env python3
-"""speed.py [--keep FOLDER] [--only PART] [--checker CHECKS FOLLOWER PLAIN FOLDER] [PROGRAM] measures the program and writes its figures into
-docs/SPEED.md and docs/pictures.
+"""Measures the program and writes its figures into docs/SPEED.md and docs/pictures:
+
+    speed.py [--keep FOLDER] [--only PART] [--checker CHECKS FOLLOWER PLAIN FOLDER] [PROGRAM]
 
 It measures the proved program, crates/certify_cli/out/certify_cli, which `rt run` in crates/certify_cli leaves, and refuses if a source is
-newer. If PROGRAM is given, it measures that, and the document says that no proof was made of it.
+newer. If PROGRAM is given, it measures that, and the document states that it was not proved.
 
     formulas   bench/solver/run.sh and pictures.py: `run`, `confirm` and MiniSat over forty formulas, stopped after 60 seconds
     large      bench/solver/large.py: texts of a million commands
     scale      bench/scale.py: how time grows with the text
-    memory     bench/memory/run.sh: the texts that cost most memory for each byte
+    memory     bench/memory/run.sh: the texts that need the most memory for each byte
     checker    bench/checker/beside.py: `confirm`, `hints` and `check` compared with plain checkers, if --checker gives what that needs
 
 Each part replaces the lines of docs/SPEED.md between `<!-- PART -->` and `<!-- end -->`. The output of each part is kept in FOLDER/PART, and
-a part whose output is there already isn't measured again. All parts take some 20 minutes. It needs what the scripts need: python3, GNU time
-and Debian's minisat.
+a part whose output exists is not measured again. All parts take some 20 minutes. They need python3, GNU time and Debian's minisat.
 """
 import importlib.util
 import os

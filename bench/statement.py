@@ -5,7 +5,7 @@
     statement.py --check    fails if docs/STATEMENT.md is not what it would write
     statement.py --root D   of the checkout at D; --out F: another file; --why NAME: how a definition is reached
 
-It reads sources alone, and needs nothing but Python 3.
+It reads only sources, and needs only Python 3.
 """
 import argparse
 import re

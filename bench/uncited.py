@@ -1,12 +1,14 @@
 #!/usr/bin/env python3
-"""uncited.py [CRATE..]: lists what nothing cites, crate by crate, and fails where there is any.
+"""Lists what nothing cites, crate by crate, and fails if there is any: uncited.py [CRATE..]
 
-Of .antt files these are the definitions and lemmas to which neither a contract nor an answer to the prover leads; of .rt files the functions,
-types and constants to which neither what a library gives out leads, nor a program, nor a test. What only dead things cite is dead. A library
-gives out what its root file has in `pub use`, with public methods. Never dead are answers in proofs/FUNCTION/, functions that state laws, what
-a trait asks for, rows that are computed, and lemmas that a CALLING.md names with their file. Names are followed through `use` lines. A
-variable that bears a lemma's name counts as citing it, so something dead may be missing here. It isn't part of the gate, and takes some
-seconds."""
+In .antt files these are definitions and lemmas that neither a contract nor an answer to the prover leads to. In .rt files they are functions,
+types and constants that no library exports, directly or indirectly, and no program or test uses. What only dead items cite is dead. A library
+exports the `pub use` of its root file, with public methods.
+
+Never dead are answers in proofs/FUNCTION/, functions that state laws, what a trait requires, rows that are computed, and lemmas that a
+CALLING.md names with their file. Names are followed through `use` lines. A variable with a lemma's name counts as citing it, so something
+dead may be missing here. Not part of the gate. Takes some seconds.
+"""
 import collections
 import os
 import re

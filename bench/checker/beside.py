@@ -1,17 +1,19 @@
 #!/usr/bin/env python3
-"""`confirm`, hint texts and `check_proof` beside plain checkers in C++.
+"""Compares `confirm`, hint texts and `check_proof` with plain checkers in C++:
 
-beside.py [-i] PROGRAM CHECKS FOLLOWER PLAIN FOLDER [NAME..]: for each FOLDER/NAME.certificate (or those that are named), in turn, nine times:
+    beside.py [-i] PROGRAM CHECKS FOLLOWER PLAIN FOLDER [NAME..]
+
+For each FOLDER/NAME.certificate, or those that are named, it runs in turn, nine times:
 
     confirm      PROGRAM confirm NAME.cnf answers NAME.certificate
     hints        PROGRAM hints NAME.certificate, which writes its hint text
     check        PROGRAM check of that text
     check_proof  CHECKS < NAME.certificate, a program over checks.rt.txt, as run.sh builds it
     follower     FOLLOWER NAME.cnf NAME.trace, which checks the same derivation by ids
-    plain        PLAIN < NAME.certificate, which checks the certificate with no proof that it does
+    plain        PLAIN < NAME.certificate, an unproved checker of certificates
 
-It prints the least of user and system seconds and the peak memory of each, and then ratios with their geometric means. With -i it counts
-millions of instructions by valgrind, once each, in place of seconds. It isn't part of the gate, and needs GNU time.
+It prints the least user and system seconds and the peak memory of each, and then ratios with their geometric means. With -i it counts
+millions of instructions by valgrind, once each, instead of seconds. Not part of the gate. Needs GNU time.
 """
 import math
 import os

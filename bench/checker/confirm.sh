@@ -1,11 +1,12 @@
 #!/usr/bin/env bash
-# Measures confirm beside check_proof on the same certificates: bench/checker/confirm.sh FOLDER [NAME..]
+# Compares confirm with check_proof on the same certificates: bench/checker/confirm.sh FOLDER [NAME..]
 #
 # FOLDER/NAME.cnf, FOLDER/answers and FOLDER/NAME.certificate match as script, answers and certificate. One program runs `confirm` on the
-# three files, the other `check_proof` on the certificate from standard input; both run five times, in turn, on each certificate of the
-# folder or on those that are named. It prints what they say, the medians of seconds and of peak memory with their ratios, and the geometric
-# mean of the ratios of time. It fails where a certificate isn't confirmed. The program of `confirm`, over certify, also runs scripts:
-# `confirms run S A C`. It isn't part of the gate, and needs GNU time.
+# three files, the other `check_proof` on the certificate from standard input. Both run five times, in turn, on each certificate of the folder,
+# or on those that are named.
+#
+# Prints their results, the medians of seconds and of peak memory, with their ratios, and the geometric mean of the ratios of time. Fails if a
+# certificate is not confirmed. The program of `confirm` also runs scripts: `confirms run S A C`. Not part of the gate. Needs GNU time.
 set -euo pipefail
 here=$(cd "$(dirname "$0")" && pwd)
 top=$(cd "$here/../.." && pwd)

@@ -1,11 +1,12 @@
 #!/usr/bin/env bash
-# Measures the checker beside a plain one: bench/checker/run.sh YARDSTICK FOLDER [NAME..]
+# Compares the checker with a plain one: bench/checker/run.sh YARDSTICK FOLDER [NAME..]
 #
-# YARDSTICK is a program that is called as `YARDSTICK NAME.cnf NAME.trace` and checks a proof whose steps name their clauses by ids. Ours
+# YARDSTICK is a program that is called as `YARDSTICK NAME.cnf NAME.trace`, and checks a proof whose steps name their clauses by ids. Ours
 # checks FOLDER/NAME.certificate, the same proof with hashes, by `check_proof` from standard input. Both run five times, in turn, on each
-# certificate of the folder or on those that are named. It prints what ours says, the medians of seconds and of peak memory with their
-# ratios, and the geometric mean of the ratios of time. It fails where ours doesn't accept the proof or records no `unsat`. It isn't part of
-# the gate, and needs GNU time.
+# certificate of the folder, or on those that are named.
+#
+# Prints what ours reports, the medians of seconds and of peak memory, with their ratios, and the geometric mean of the ratios of time. Fails if
+# ours refuses the proof or does not record `unsat`. Not part of the gate. Needs GNU time.
 set -euo pipefail
 here=$(cd "$(dirname "$0")" && pwd)
 top=$(cd "$here/../.." && pwd)

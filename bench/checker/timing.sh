@@ -1,4 +1,4 @@
-# For scripts that measure two programs in turn, with their folder for work in `work`. Needs GNU time.
+# For scripts that measure two programs in turn, with their working folder in `work`. Needs GNU time.
 
 # The median of the numbers on standard input.
 median() {

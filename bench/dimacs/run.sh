@@ -1,8 +1,8 @@
 #!/usr/bin/env bash
-# Measures the parser of DIMACS CNF beside a plain one in Rust: bench/dimacs/run.sh [BYTES]
+# Compares the parser of DIMACS CNF with a plain one in Rust: bench/dimacs/run.sh [BYTES]
 #
-# It generates a formula of so many bytes (100,000,000 where none are given), and has both read it from standard input, five times in
-# turn. It prints what each read, its times and its peak memory. It isn't part of the gate, and needs rustc and GNU time.
+# Generates a formula of this size (100,000,000 bytes by default), and has both read it from standard input, five times in turn. Prints what
+# each read, its times and its peak memory. Not part of the gate. Needs rustc and GNU time.
 set -eu
 here=$(cd "$(dirname "$0")" && pwd)
 top=$(cd "$here/../.." && pwd)

@@ -1,10 +1,10 @@
 #!/usr/bin/env bash
 # Tries edits that the prover has to refuse and that the gate leaves out: bench/edits/run.sh [CRATE [WORD]]
 #
-# Each file of bench/edits/CRATE changes that crate as an edit of its must-fail/ does. A line says of each edit that it is refused, and at
-# which function, that the crate is still proved with it, or that it can't be applied. With WORD only the edits are tried whose names or
-# texts have that word, such as a file's or a function's name. The last line counts them, and the status is 1 where one isn't refused.
-# The first edit of a crate costs a whole check, each further one 15 to 40 seconds.
+# Each file of bench/edits/CRATE changes that crate as an edit of its must-fail/ does. A line reports for each edit that it is refused, and at
+# which function, that the crate is still proved with it, or that it cannot be applied. With WORD it tries only the edits whose name or text
+# has that word, such as the name of a file or a function. The last line counts them, and the status is 1 if one is not refused. The first edit
+# of a crate costs a complete check, each further one 15 to 40 seconds.
 set -euo pipefail
 here=$(cd "$(dirname "$0")" && pwd)
 top=$(cd "$here/../.." && pwd)

@@ -1,21 +1,25 @@
 #!/usr/bin/env bash
-# Refuses each allocation in turn, and looks at what is answered: bench/faults/run.sh
+# Refuses each allocation in turn, and compares the results with those of a run with all memory: bench/faults/run.sh
 #
-# First for calls.rt.txt, a program over sat_base: the call whose allocation is refused has to say that it is out of memory, what it leaves behind
-# has to be what its documentation says, and all other lines have to be those of a run with all memory. Then for feeds.rt.txt, a program over
-# sat_checker: the call has to say so, each later one has to answer that the checker has failed, and all who listen have to be handed back, with
-# no more told than in a run with all memory. Then for hints.rt.txt, a program over sat_hints: the call has to say so, what it wrote has to be the
-# beginning of what it writes with all memory, and all other lines the same. Then for the program certify, on two scripts: it has to end with
-# `certify: OutOfMemory` and status 3, with nothing else on standard error but a run's line of progress, and what it printed by then has to be the
-# beginning of what it prints with all memory. A line says for each N which call was out of memory; there is none where notes on a step's check
-# were lost that nobody reads. Last for three programs that tell by their status how it went: texts.rt.txt, over run, confirm, convert and check,
-# where exactly one call has to say so, and all others do as with all memory; solves.rt.txt, over a solver with a checker of its own, each later
-# call of which has to answer that the solver has failed; and refusals.rt.txt, where steps that are refused have to be answered so, whatever
-# allocation is refused as they are judged. It isn't part of the gate, and takes some minutes.
+# Each program makes calls and prints the results. The run with all memory is the reference.
 #
-# `rt try --fail-alloc N` refuses the Nth allocation. Since a build takes longer than a run, one build serves for each N: it always
-# refuses the same allocation, the `most`th, and the program first makes as many of no use as the first byte of its standard input
-# says, most - N (in the last three, all bytes together). The last allocation and the one behind it are then refused without that, too, in the program as it stands.
+#   calls.rt.txt, over sat_base: the call whose allocation is refused reports it, and leaves what its documentation states. All other lines are
+#   those of the reference.
+#   feeds.rt.txt, over sat_checker: the call reports it, every later call reports that the checker has failed, and all listeners are returned,
+#   without having heard more than in the reference.
+#   hints.rt.txt, over sat_hints: the call reports it, and what it wrote is a prefix of the reference. All other lines are the same.
+#   certify, on two scripts: it ends with `certify: OutOfMemory` and status 3, writes nothing else to standard error but a run's line of
+#   progress, and its output is a prefix of the reference.
+#   texts.rt.txt, over run, confirm, convert and check: exactly one call reports it, and all others do as in the reference.
+#   solves.rt.txt, over a solver with a checker of its own: every later call reports that the solver has failed.
+#   refusals.rt.txt: refused steps are refused, whatever allocation fails while they are judged.
+#
+# For the first four, a line says for each N which call was out of memory. There is no line if only notes on a step's check were lost that no
+# listener reads. The last three report by their status. Not part of the gate. Takes some minutes.
+#
+# `rt try --fail-alloc N` refuses the Nth allocation. Since a build takes longer than a run, one build serves for every N: it always refuses
+# the `most`th allocation, and the program first makes most - N useless ones, as the first byte of its standard input says (in the last three,
+# the sum of all bytes). The last allocation and the one after it are then refused directly, in the program as it is.
 set -euo pipefail
 here=$(cd "$(dirname "$0")" && pwd)
 top=$(cd "$here/../.." && pwd)

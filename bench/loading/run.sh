@@ -1,9 +1,9 @@
 #!/usr/bin/env bash
-# Measures loading clauses and building their watch lists beside plain Rust: bench/loading/run.sh [VARIABLES [LITERALS]]
+# Compares loading clauses and building their watch lists with plain Rust: bench/loading/run.sh [VARIABLES [LITERALS]]
 #
-# Both load the same clauses of 3 to 10 literals, until there are so many literals (10,000,000 over 1,000,000 variables where nothing is
-# given), while watch lists aren't kept up, and then build the lists, five times in turn. It prints the medians of both times and of peak
-# memory with their ratios. It fails where clauses, words or watches differ. It isn't part of the gate, and needs rustc and GNU time.
+# Both load the same clauses of 3 to 10 literals, and then build the watch lists, five times in turn. By default these are 10,000,000 literals
+# over 1,000,000 variables. Prints the medians of both times and of peak memory, with their ratios. Fails if clauses, words or watches differ.
+# Not part of the gate. Needs rustc and GNU time.
 set -euo pipefail
 here=$(cd "$(dirname "$0")" && pwd)
 top=$(cd "$here/../.." && pwd)

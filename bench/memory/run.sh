@@ -1,8 +1,8 @@
 #!/usr/bin/env bash
-# Prints the peak memory of the inputs that cost most a byte: bench/memory/run.sh PROGRAM
+# Prints the peak memory of the inputs that need the most memory for each byte: bench/memory/run.sh PROGRAM
 #
-# PROGRAM is a built `certify_cli`. A line has a call and its texts, their bytes, the peak in kilobytes, and how many bytes of memory it
-# took for each byte read, 20 MB left aside. Needs GNU time and Python 3.
+# PROGRAM is a built `certify_cli`. A line has a call and its texts, their bytes, the peak in kilobytes, and the bytes of memory for each byte
+# read, after the first 20 MB. Needs GNU time and Python 3.
 set -euo pipefail
 here=$(cd "$(dirname "$0")" && pwd)
 program=$(realpath "$1")

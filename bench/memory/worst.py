@@ -1,9 +1,10 @@
 #!/usr/bin/env python3
-"""worst.py OUT: writes the inputs that cost most memory a byte: OUT/*.certificate for `hints`, OUT/*.hints for `check`, and for `confirm`
-folders with script, answers and certificate.
+"""Writes the inputs that need the most memory for each byte: worst.py OUT
 
-Few names that are as large as a name can be; many names far from each other; many that lie just so near to each other that a list which
-grows with what was read holds them all, in order and shuffled; long lists of one short literal or hash."""
+These are OUT/*.certificate for `hints`, OUT/*.hints for `check`, and folders with script, answers and certificate for `confirm`. They have
+the largest names; many names far from each other; many names just close enough that a list which grows with the text holds them all, in order
+and shuffled; or long lists of one short literal or hash.
+"""
 import os
 import random
 import sys

@@ -1,13 +1,14 @@
 #!/usr/bin/env bash
-# Measures unit propagation beside a plain loop: bench/propagation/run.sh YARDSTICK FOLDER [ROUNDS]
+# Compares unit propagation with a plain loop: bench/propagation/run.sh YARDSTICK FOLDER [ROUNDS]
 #
-# YARDSTICK is a program that takes a formula in DIMACS CNF and a number of rounds (100 where none is given), and prints a line
-# `decisions D conflicts C full F assigned A seconds S`, the seconds without those of loading. In round r it decides open variables,
-# from variable (r * 7919) mod n on and around, until a conflict or a full assignment, and undoes all decisions; a decision is negative
-# where bit 31 of x is set, with x -> 6364136223846793005 x + 1442695040888963407 modulo 2^64 before each, from 1 on. Ours does the same
-# over `propagate`, `enqueue_assignment` and `backtrack`. Both run five times, in turn, on each formula FOLDER/*.cnf. It prints the
-# medians of seconds and of peak memory with their ratios, and the geometric mean of the ratios of time. It fails where decisions,
-# conflicts or full assignments differ. It isn't part of the gate, and needs rustc and GNU time.
+# YARDSTICK is a program. Its arguments are a formula in DIMACS CNF and a number of rounds (100 by default). It prints a line
+# `decisions D conflicts C full F assigned A seconds S`; the seconds are those after loading. Round r decides open variables, beginning with
+# variable (r * 7919) mod n, until there is a conflict or a full assignment, and then undoes all decisions. Before each decision x becomes
+# 6364136223846793005 x + 1442695040888963407 modulo 2^64, from 1 on; the decision is negative if bit 31 of x is set. Ours does the same by
+# `propagate`, `enqueue_assignment` and `backtrack`.
+#
+# Both run five times, in turn, on each formula FOLDER/*.cnf. Prints the medians of seconds and of peak memory, with their ratios, and the
+# geometric mean of the ratios of time. Fails if decisions, conflicts or full assignments differ. Not part of the gate. Needs rustc and GNU time.
 set -euo pipefail
 here=$(cd "$(dirname "$0")" && pwd)
 top=$(cd "$here/../.." && pwd)

@@ -1,6 +1,9 @@
 #!/usr/bin/env python3
-"""formulas.py OUT: writes the formulas that solvers are compared on as OUT/*.cnf, the same bytes each time: random ones at the
-threshold, pigeon holes, parities, multipliers, colourings, counters unrolled, schedules, and large ones that are easy."""
+"""Writes the formulas that solvers are compared on, the same bytes each time: formulas.py OUT
+
+OUT/*.cnf are random formulas at the threshold, pigeon holes, parities, multipliers, colourings, unrolled counters, schedules, and large
+formulas that are easy.
+"""
 import os
 import random
 import sys

@@ -1,7 +1,9 @@
 #!/usr/bin/env python3
-"""hidden.py COUNT [EVERY] [--kept]: prints a script in which COUNT names are hidden one after another, each used in three clauses before.
-Behind every EVERY of them (1,000) come an ask, a unit that makes their clauses true, so that the hidden variables are deleted, and an ask
-again. With --kept the unit isn't there, and all clauses stay. The time of `certify run` should grow as COUNT does."""
+"""Prints a script that hides COUNT names, one after another, each used in three clauses before: hidden.py COUNT [EVERY] [--kept]
+
+After every EVERY of them (1,000 by default) come an ask, a unit that satisfies their clauses, so that the hidden variables are deleted, and
+another ask. With --kept there is no unit, and all clauses remain. The time of `certify run` should grow as COUNT does.
+"""
 import sys
 
 kept = "--kept" in sys.argv

@@ -1,8 +1,8 @@
 #!/usr/bin/env python3
-"""Measures large texts that ask little: large.py PROGRAM prints a table of `certify run`, `confirm` and MiniSat without preprocessing.
+"""Measures large texts that ask little, and prints a table of `certify run`, `confirm` and MiniSat without preprocessing: large.py PROGRAM
 
 Each text has a million commands. A cell has the least user and system seconds of three runs, and the peak memory. The programs run in turn.
-MiniSat reads the texts without asks. It needs python3, GNU time and Debian's minisat.
+MiniSat reads the texts without asks. Needs python3, GNU time and Debian's minisat.
 """
 import math
 import os

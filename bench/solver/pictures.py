@@ -1,10 +1,11 @@
 #!/usr/bin/env python3
-"""pictures.py ROWS OUT [LIMIT] turns the rows of run.sh into the tables and the averages of docs/SPEED.md, on standard output, and into two
-pictures: OUT/run.svg has the seconds of `run` over those of MiniSat, OUT/confirm.svg those of `confirm` over those of `run`. A dot is a
-formula, and both scales are logarithmic. LIMIT is the number of seconds after which a program was stopped (60).
+"""Turns the rows of run.sh into the table and the averages of docs/SPEED.md, on standard output: pictures.py ROWS OUT [LIMIT]
 
-One filter chooses the rows of all averages: no program was stopped, and `run` or MiniSat took at least 0.05 seconds. A ratio is one of
-seconds as they are in the rows.
+It also writes two pictures: OUT/run.svg has the seconds of `run` over those of MiniSat, OUT/confirm.svg those of `confirm` over those of
+`run`. A dot is a formula, and both scales are logarithmic. LIMIT is the number of seconds after which a program was stopped (60).
+
+One filter chooses the rows of all averages: no program was stopped, and `run` or MiniSat took at least 0.05 seconds. Ratios are of the seconds
+in the rows.
 """
 import math
 import os

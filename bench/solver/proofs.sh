@@ -1,13 +1,14 @@
 #!/usr/bin/env bash
-# Has the solver's DRAT proofs checked, and measures what proofs and self checking cost: bench/solver/proofs.sh CHECKER [FOLDER]
+# Checks the solver's DRAT proofs, and measures the cost of proofs and self checking: bench/solver/proofs.sh CHECKER [FOLDER]
 #
-# CHECKER is a program that is called as `CHECKER NAME.cnf NAME.drat`, with a DRAT proof in bytes, and prints `s VERIFIED` where the proof
-# shows that the formula can't be satisfied. The script builds proofs.rt.txt over the crates of this checkout, in a folder of its own, and
-# takes the formulas of formulas.py, and FOLDER/*.cnf besides. Of each one that can't be satisfied the proof in bytes has to be verified, and
-# the one in words has to be the same lines. Each is solved RUNS times (3 where it isn't set), in turn, without a proof, with one in each
-# format, and with the solver's own checker and no proof; it prints the medians of seconds of processor time, and at the end the geometric
-# means of their ratios over the first, for formulas that take half a second at least. It isn't part of the gate, and needs python3 and GNU
-# time.
+# CHECKER is a program that is called as `CHECKER NAME.cnf NAME.drat`, with a binary DRAT proof. It prints `s VERIFIED` if the proof shows that
+# the formula is unsatisfiable. The script builds proofs.rt.txt over the crates of this checkout, in a folder of its own, and uses the formulas
+# of formulas.py and FOLDER/*.cnf. For each unsatisfiable one, CHECKER has to verify the binary proof, and the proof in words has to have the
+# same lines.
+#
+# Each formula is solved RUNS times (3 by default), in turn: without a proof, with one in each format, and with the solver's own checker and no
+# proof. Prints the medians of processor seconds. The last lines are the geometric means of their ratios to the first, over formulas that take
+# at least half a second. Not part of the gate. Needs python3 and GNU time.
 set -euo pipefail
 here=$(cd "$(dirname "$0")" && pwd)
 top=$(cd "$here/../.." && pwd)

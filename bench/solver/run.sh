@@ -1,15 +1,15 @@
 #!/usr/bin/env bash
-# Measures `certify run` and `confirm` next to MiniSat without preprocessing: [LIMIT=SECONDS] bench/solver/run.sh [PROGRAM [FOLDER]] > ROWS
+# Compares `certify run` and `confirm` with MiniSat without preprocessing: [LIMIT=SECONDS] bench/solver/run.sh [PROGRAM [FOLDER]] > ROWS
 #
-# PROGRAM is the proved program, crates/certify_cli/out/certify_cli, unless another one is given. The formulas are those of formulas.py and
-# FOLDER/*.cnf. Each program runs once on each formula, one after another: `run`, which writes answers and certificate to files, `confirm` of
-# these files, and MiniSat.
+# PROGRAM is by default the proved program, crates/certify_cli/out/certify_cli. The formulas are those of formulas.py and FOLDER/*.cnf. Each
+# program runs once on each formula, one after another: `run`, which writes answers and certificate to files, `confirm` of these files, and
+# MiniSat.
 #
 # A row is a line of ten words: the formula; the answer; user and system seconds, peak memory in MB and conflicts of `run`; seconds and
 # memory of `confirm`; seconds, memory and conflicts of MiniSat. A program is stopped after LIMIT seconds of processor time (300). Then its
 # words are `-`, and so is a word that a program does not report. pictures.py makes tables and pictures of the rows.
 #
-# It is not part of the gate, and needs python3, GNU time and Debian's minisat.
+# Not part of the gate. Needs python3, GNU time and Debian's minisat.
 set -euo pipefail
 here=$(cd "$(dirname "$0")" && pwd)
 program=${1:-$here/../../crates/certify_cli/out/certify_cli} limit=${LIMIT:-300}

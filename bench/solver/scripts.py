@@ -1,7 +1,9 @@
 #!/usr/bin/env python3
-"""scripts.py PROGRAM COUNT [SEED] [--plain]: random scripts of clauses and asks over up to 8 names, more than half of the asks with
-assumptions (none with --plain), each answered by PROGRAM (certify without arguments) and compared with truth tables. It prints how
-many asks it compared, or the first script that was answered wrongly, with status 1."""
+"""Compares answers to random scripts with truth tables: scripts.py PROGRAM COUNT [SEED] [--plain]
+
+The scripts have clauses and asks over up to 8 names. More than half of the asks have assumptions, none with --plain. PROGRAM (certify without
+arguments) answers each. Prints how many asks were compared, or the first script with a wrong answer, with status 1.
+"""
 import itertools
 import random
 import subprocess

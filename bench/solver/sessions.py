@@ -1,8 +1,10 @@
 #!/usr/bin/env python3
-"""sessions.py PROGRAM COUNT [SEED]: random sessions of calls of a solver over up to 6 names: clauses, assumptions, asks, names that are
-hidden, given a mode, made anew, and variables that are observed. PROGRAM is sessions.rt.txt, built (sessions.sh does both); each answer is
-compared with a search by cases, and each session's proof has to be accepted. It prints how many asks it compared, or the first session
-that was answered wrongly, with status 1."""
+"""Compares random sessions of calls of a solver with a search by cases: sessions.py PROGRAM COUNT [SEED]
+
+The calls are over up to 6 names: clauses, assumptions, asks, names that are hidden, given a mode or made again, and variables that are
+observed. PROGRAM is sessions.rt.txt, built (sessions.sh does both). The proof of each session has to be accepted. Prints how many asks were
+compared, or the first session with a wrong answer, with status 1.
+"""
 import itertools
 import random
 import subprocess

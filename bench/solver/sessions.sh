@@ -1,8 +1,8 @@
 #!/usr/bin/env bash
 # Compares random sessions of calls with a search by cases: bench/solver/sessions.sh COUNT [SEED]
 #
-# It builds sessions.rt.txt, whose proof needs sessions.antt.txt, over the crates of this checkout, in a folder of its own, and calls
-# sessions.py with it. Each session's proof is given to the checker. It isn't part of the gate, and needs python3.
+# Builds sessions.rt.txt, whose proof needs sessions.antt.txt, over the crates of this checkout, in a folder of its own, and calls sessions.py
+# with it. The checker checks the proof of each session. Not part of the gate. Needs python3.
 set -euo pipefail
 here=$(cd "$(dirname "$0")" && pwd)
 top=$(cd "$here/../.." && pwd)

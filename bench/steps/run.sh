@@ -1,9 +1,8 @@
 #!/usr/bin/env bash
-# Measures the reader and the writer of proof steps beside plain ones in Rust: bench/steps/run.sh [CERTIFICATE]
+# Compares the reader and the writer of proof steps with plain ones in Rust: bench/steps/run.sh [CERTIFICATE]
 #
-# Both read the certificate (one of 30,000,000 bytes is made where none is given) from standard input, and then both copy it step by step to
-# standard output; five times each, in turn. It prints what each read, its times and its peak memory. It isn't part of the gate, and
-# needs rustc and GNU time.
+# Both read the certificate from standard input, and then both copy it step by step to standard output, five times each, in turn. By default
+# it generates one of 30,000,000 bytes. Prints what each read, its times and its peak memory. Not part of the gate. Needs rustc and GNU time.
 set -eu
 here=$(cd "$(dirname "$0")" && pwd)
 top=$(cd "$here/../.." && pwd)
