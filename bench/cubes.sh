@@ -41,7 +41,7 @@ last() { # the script of the negated cores
     echo 'a 0'
 }
 
-answer() { # NUMBER: answers a script and confirms the answers where they were made
+answer() { # NUMBER: answers a script and confirms the answers in the same process
     set -euo pipefail
     "$program" run "$folder/$1.script" "$folder/$1.answers" "$folder/$1.certificate" 2> "$folder/$1.progress"
     said=$("$program" confirm "$folder/$1.script" "$folder/$1.answers" "$folder/$1.certificate")

@@ -14,7 +14,7 @@ git -C "$top" ls-files -z | (cd "$top" && xargs -0 tar cf - --) | tar xf - -C "$
 git init -q "$work"
 cd "$work"
 
-took() { # FOLDER COMMAND..: its minutes of processors
+took() { # FOLDER COMMAND..: its processor minutes
     local TIMEFORMAT='%U %S'
     { time (cd "$1" && "${@:2}" > "$work/said" 2>&1 < /dev/null); } 2> "$work/took" || { tail -n 20 "$work/said" >&2; exit 1; }
     awk '{ printf "%.1f", ($1 + $2) / 60 }' "$work/took"

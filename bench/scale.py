@@ -19,7 +19,7 @@ import tempfile
 
 
 def number(n):
-    """A number of a certificate: seven bits a byte, the lowest first."""
+    """Returns a number of a certificate: seven bits a byte, the lowest first."""
     out = bytearray()
     while n > 127:
         out.append(n & 127 | 128)
@@ -46,7 +46,7 @@ def solver_name(var, name):
 
 
 def user_name(var):
-    """Gives the variable its own number as the user's name."""
+    """Returns a step that gives the variable its own number as the user's name."""
     return b"\x02" + number(var) + number(var + 1)
 
 

@@ -161,7 +161,7 @@ class Repository:
     # CODE
 
     def code(self, crate, module):
-        """The file of code of a module, by its path within src/."""
+        """Returns the source file of a module, by its path within src/."""
         for path in (self.root / 'crates' / crate / 'src').rglob('*.rt'):
             inner = '.'.join(path.relative_to(self.root / 'crates' / crate / 'src').with_suffix('').parts)
             if inner == module:
@@ -176,7 +176,7 @@ class Repository:
         return None
 
     def typed(self, crate, module, name, kinds='enum|struct'):
-        """A type or trait of the code; without a module, wherever in the crate it stands."""
+        """Returns a type or trait of the code; without a module, anywhere in the crate."""
         key = (crate, module, name, kinds)
         if key in self.rust:
             return self.rust[key]
@@ -210,7 +210,7 @@ class Repository:
 
     @staticmethod
     def told(lines):
-        """Of a trait: its ghost members and the calls that it leaves open, and no provided bodies."""
+        """Returns a trait's ghost members and required calls, without provided bodies."""
         kept, block, depth = [lines[0]], [], 0
         for line in lines[1:-1]:
             block.append(line)
@@ -269,7 +269,7 @@ class Repository:
         return item
 
     def imported_type(self, file, name):
-        """A type that code names: of its own file, or of a `use` line."""
+        """Returns a type that code names: of its own file, or of a `use` line."""
         crate = file.module.split('.')[1]
         inner = file.module.split('.src.')[1]
         own = self.typed(crate, inner, name)
@@ -290,7 +290,7 @@ class Repository:
     # NAMES
 
     def named(self, module, name, item):
-        """What a name of a module is: a definition, the data of a maker, or a type of the code. Else a word of the library."""
+        """Returns what a name of a module is: a definition, the data of a constructor, or a type of the code. Otherwise it is a word of the library."""
         if (module, name) in self.items:
             return self.items[(module, name)]
         if (module, name) in self.makers:
@@ -363,7 +363,7 @@ class Repository:
 
     @staticmethod
     def groups(item):
-        """The signature and each equation, with the lines that go on from it. Of a record or a data type each member."""
+        """Returns the signature and each equation, with the lines that continue it; of a record or a data type each member."""
         groups = []
         for line in item.lines:
             if item.kind in ('record', 'data') or not line.startswith(' ') and not line.startswith('}'):
@@ -380,7 +380,7 @@ class Repository:
         return target in self.makers or '.TheVariants' in target[0] or name in ('true', 'false', 'zero', 'suc', 'None', 'Some', 'Ok', 'Err')
 
     def bound(self, text, item, file):
-        """Names that are bound in a piece of text: by a type, a lambda, a `let`, a pattern or a field's label."""
+        """Returns the names that a piece of text binds: by a type, a lambda, a `let`, a pattern or a field's label."""
         names = set()
         for group in re.findall(r'[({]((?:[^\s(){}:;=]+\s+)*[^\s(){}:;=]+)\s+:\s', text):
             names |= set(group.split())
@@ -421,7 +421,7 @@ class Repository:
         return seen
 
     def check_fields(self, items):
-        """Each field that is read belongs to a record or type that is printed; else something is missing on the page."""
+        """Checks that each field that is read belongs to a record or type that is printed."""
         items = list(items)
         known = set(OF_THE_LIBRARY)
         for item in items:
@@ -469,7 +469,7 @@ def subject_of(item):
 
 
 def in_order(repository, items):
-    """By subject, within one by the files' order of use, and within a file as it stands."""
+    """Orders by subject, then by the files' order of use, then as in the file."""
     heights = {}
     for item in items:
         repository.depth(item, heights)

@@ -32,7 +32,7 @@ def read_lines(path, comment):
 
 
 def braced(text):
-    """the names of `a, b as c`, each as theirs and ours"""
+    """Yields the names of `a, b as c`, each as theirs and ours."""
     for part in text.split(","):
         words = part.split()
         if words:
@@ -45,7 +45,7 @@ Item = collections.namedtuple("Item", "file name line words")
 
 
 def parts_of(lines):
-    """what begins at the left edge, as numbered lines; of a `module _ .. where` each part inside it, with the header behind"""
+    """Yields the parts that begin at the left edge, as numbered lines; of a `module _ .. where` each part inside it, then its header."""
     begins = [i for i, (_, line) in enumerate(lines) if line and line[0] not in " )}]"] + [len(lines)]
     for begin, end in zip(begins, begins[1:]):
         part = lines[begin:end]
@@ -59,7 +59,7 @@ def parts_of(lines):
 
 
 class Module:
-    """a file of definitions: what it imports, and which words each of its definitions has"""
+    """A file of definitions: what it imports, and the words of each of its definitions."""
 
     def __init__(self, path, crate, name):
         self.path, self.crate, self.name = path, crate, name
@@ -84,7 +84,7 @@ class Module:
             self.imports.update({ours: (source, theirs) for theirs, ours in braced(names)})
 
     def add(self, text, line, current):
-        """a signature or declaration, or an equation of what stands before it; its name"""
+        """Adds a signature, a declaration, or an equation of the item before it. Returns the name."""
         found = re.match(r"(?:(?:abbrev|pub|unfoldable) )*(?:(data|record|ruleset) (\S+)|(\S+)(?: \{[^}]*\})? :\s)", text)
         if not found:
             self.items[current].words.extend(self.words_of_equation(text))
@@ -101,7 +101,7 @@ class Module:
         return name
 
     def words_of_equation(self, text):
-        """the words of an equation but for those that its left side binds"""
+        """Returns the words of an equation, except those that its left side binds."""
         depth, left = 0, None
         for found in re.finditer(r"[({\[]|[)}\]]|(?<=\s)=(?=\s)", text):
             if found.group() == "=" and depth == 0:
@@ -115,13 +115,13 @@ class Module:
         return [w for w in patterns if w not in bound] + [w for w in body if w.split(".")[0] not in bound]
 
     def cites(self, modules):
-        """of each item the items that it cites"""
+        """Yields each item and the items that it cites."""
         operators = pieces([*self.items, *self.imports])
         for item in self.items.values():
             yield item, {found for word in item.words for name in [word, *operators[word]] if (found := self.meaning(name, modules))}
 
     def meaning(self, word, modules):
-        """where the definition is that a word cites, and its name"""
+        """Returns the module of the definition that a word cites, and its name."""
         first, *rest = word.replace("«", "").replace("»", "").split(".")
         if first in self.items:
             return self.name, first
@@ -135,7 +135,7 @@ class Module:
 
 
 def pieces(names):
-    """for a word of an operator, such as that of ◌∈◌, the names that it is a part of"""
+    """Returns, for each word of an operator such as ◌∈◌, the names that it is a part of."""
     found = collections.defaultdict(list)
     for name in names:
         if "◌" in name:
@@ -145,7 +145,7 @@ def pieces(names):
 
 
 def origin(source, name, modules):
-    """where a name is defined that is cited from this module, which may pass it on"""
+    """Returns where a name that is cited from this module is defined; the module may pass it on."""
     module = modules.get(source)
     if module is None:
         return None
@@ -165,7 +165,7 @@ def read_modules(crates):
 
 
 def cited_in_code(path, crate, modules):
-    """what the clauses and attributes of a .rt file cite"""
+    """Yields what the clauses and attributes of a .rt file cite."""
     text = "\n".join(read_lines(path, r"//.*"))
     imports, aliases = {}, {}
     for source, names, alias in re.findall(r"ghost use ([^\s{;]+?)\.?(?:\{([^}]*)\})?(?:\s+as\s+(\S+?))?;", text):
@@ -187,7 +187,7 @@ def cited_in_code(path, crate, modules):
 
 
 def told_callers(crate):
-    """the words of the crate's CALLING.md that stand in code"""
+    """Returns the words in the code of the crate's CALLING.md."""
     path = os.path.join(TOP, "crates", crate, "CALLING.md")
     if not os.path.exists(path):
         return set()
@@ -224,7 +224,7 @@ BEGIN = re.compile(r"( *)(pub )?(?:pub\([a-z]+\) )?(?:const |unsafe )*(fn|struct
 
 
 class Source:
-    """a .rt file: what it imports and gives out, and its functions, types and constants"""
+    """A .rt file: what it imports and exports, and its functions, types and constants."""
 
     def __init__(self, path, crate, crates):
         self.path, self.crate, self.name = path, crate, os.path.basename(path).split(".")[0]
@@ -262,7 +262,7 @@ class Source:
             at += 1
 
     def end_of(self, begin, margin):
-        """the line at which an item ends that begins at this margin"""
+        """Returns the line at which an item with this margin ends."""
         depth = 0
         for at in range(begin, len(self.lines)):
             line = self.lines[at]
@@ -275,7 +275,7 @@ class Source:
 
 
 def implemented(head):
-    """the type that an impl is for, and whether a trait asks for its functions"""
+    """Returns the type that an impl is for, and whether a trait requires its functions."""
     head = head.split(" where ")[0]
     while "<" in head:
         head = re.sub(r"<[^<>]*>", "", head)
@@ -284,7 +284,7 @@ def implemented(head):
 
 
 def names_item(text, item):
-    """whether a text names a function, type or constant that stands in no impl"""
+    """Whether a text names a function, type or constant outside of impls."""
     source, crate, name = text.file, item.file.crate, item.name
     if item.file is source or (crate, name) in source.imported:
         return name in text.words
@@ -293,7 +293,7 @@ def names_item(text, item):
 
 
 class Reach:
-    """the items that were reached, and the words of their texts"""
+    """The items that were reached, and the words of their texts."""
 
     def __init__(self, items, given):
         self.given, self.named, self.alive, self.texts, self.spoken = given, collections.defaultdict(list), set(), [], set()
@@ -318,7 +318,7 @@ class Reach:
                         self.add(item)
 
     def is_called(self, item):
-        """whether a method of a type that was reached is"""
+        """Whether a method of a type that was reached is reached."""
         owner = (item.file.crate, item.owner)
         if owner in self.types and all(id(t) not in self.alive for t in self.types[owner]):
             return False

@@ -25,7 +25,7 @@ import sys
 import tempfile
 
 BESIDE = [
-    # of what, beside what
+    # the ratio of what, to what
     ("check", "follower"),
     ("hints", "check_proof"),
     ("hints", "plain"),
@@ -38,7 +38,7 @@ BESIDE = [
 
 
 def called(command, stdin):
-    """What a call says on standard error."""
+    """Returns what a call writes to standard error."""
     with open(stdin or os.devnull, "rb") as text:
         answer = subprocess.run(command, stdin=text, stdout=subprocess.DEVNULL, stderr=subprocess.PIPE, check=False)
     told = answer.stderr.decode(errors="replace")
@@ -48,7 +48,7 @@ def called(command, stdin):
 
 
 def seconds(command, stdin):
-    """Of the call's own processor time."""
+    """Returns the seconds of the call's own processor time."""
     before = resource.getrusage(resource.RUSAGE_CHILDREN)
     called(command, stdin)
     after = resource.getrusage(resource.RUSAGE_CHILDREN)
@@ -56,19 +56,19 @@ def seconds(command, stdin):
 
 
 def instructions(command, stdin):
-    """Millions of them."""
+    """Returns the millions of instructions of one run."""
     told = called(["valgrind", "--tool=callgrind", "--callgrind-out-file=/dev/null", *command], stdin)
     return int(re.search(r"Collected : (\d+)", told)[1]) / 1e6
 
 
 def megabytes(command, stdin):
-    """The peak of memory."""
+    """Returns the peak memory."""
     told = called([shutil.which("time"), "-f", "%M", *command], stdin)
     return int(told.split()[-1]) / 1024
 
 
 def calls(tools, folder, name, out):
-    """The command of each call, and what it reads from standard input."""
+    """Returns the command of each call, and what it reads from standard input."""
     program, checks, follower, plain = tools
     formula, certificate, trace = (os.path.join(folder, name + end) for end in (".cnf", ".certificate", ".trace"))
     return {

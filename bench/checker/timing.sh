@@ -5,7 +5,7 @@ median() {
     sort -n | awk '{ t[NR] = $1 } END { print t[int((NR + 1) / 2)] }'
 }
 
-# Runs a command by this name: what it said is in $work/NAME.said, and its seconds and KiB are a further line of $work/NAME.took.
+# Runs a command under this name. Its output is in $work/NAME.said, and its seconds and KiB are added to $work/NAME.took.
 took() { # NAME COMMAND [ARGUMENT..]
     "$(command -v time)" -f '%e %M' -o "$work/took" "${@:2}" > "$work/$1.said" 2>&1
     tail -n 1 "$work/took" >> "$work/$1.took"

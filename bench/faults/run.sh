@@ -56,13 +56,13 @@ fail() {
     exit 1
 }
 
-# A text behind the byte that asks for this many allocations.
+# A text after the byte that asks for this many allocations.
 behind() { # TEXT COUNT
     printf "\\$(printf %03o "$2")"
     cat "$1"
 }
 
-# Builds a crate and runs it on each file of a folder. What a run printed is then in OUT/NAME.out, its errors in OUT/NAME.err, and its
+# Builds a crate and runs it on each file of a folder. The output of a run is then in OUT/NAME.out, its errors in OUT/NAME.err, and its
 # last line in OUT/NAME.end. No run may fault, hang, or differ between the interpreter and the compiled program.
 run() { # CRATE FOLDER OUT [FLAG..]
     local crate=$1 folder=$2 out=$3 text
@@ -94,7 +94,7 @@ sweep() { # CRATE
     run "$1" "$work/$1-cases" "$work/$1-runs" --fail-alloc "$most"
 }
 
-# Runs a crate on its texts with the Nth allocation refused. All has to be as in the sweep.
+# Runs a crate on its texts with the Nth allocation refused. The results have to be those of the sweep.
 directly() { # CRATE FOLDER N
     local text part
     run "$1" "$2" "$work/$1-$3" --fail-alloc "$3"
@@ -106,7 +106,7 @@ directly() { # CRATE FOLDER N
     echo "$1, as it stands, with allocation $3 refused: the same"
 }
 
-# A run of calls.rt.txt beside the one with all memory. Prints which call was out of memory, or nothing where none was.
+# Compares a run of calls.rt.txt with the one with all memory. Prints which call was out of memory, if any.
 beside='
     function bad(why) { print FILENAME ", line " FNR ", " why ": " $0 > "/dev/stderr"; failed = 1; exit 1 }
     { at = index($0, ":"); name = substr($0, 1, at - 1); value = substr($0, at + 1) }
@@ -148,7 +148,7 @@ directly calls "$work/calls-plain" $((count + 1))
 echo "calls: $count allocations"
 sed 's/^[0-9]*: //' "$work/calls.txt" | sort | uniq -c
 
-# A run of feeds.rt.txt beside the one with all memory. Prints which call was out of memory, or nothing where none was.
+# Compares a run of feeds.rt.txt with the one with all memory. Prints which call was out of memory, if any.
 failing='
     function bad(why) { print FILENAME ", line " FNR ", " why ": " $0 > "/dev/stderr"; failed = 1; exit 1 }
     function told(value) { sub(/.*told /, "", value); return value + 0 }
@@ -183,7 +183,7 @@ directly feeds "$work/feeds-plain" $((count + 1))
 echo "feeds: $(wc -l < "$work/feeds.txt") of $count allocations"
 sed 's/^[0-9]*: //' "$work/feeds.txt" | sort | uniq -c
 
-# A run of hints.rt.txt beside the one with all memory. Prints which call was out of memory, or nothing where none was.
+# Compares a run of hints.rt.txt with the one with all memory. Prints which call was out of memory, if any.
 short='
     function bad(why) { print FILENAME ", line " FNR ", " why ": " $0 > "/dev/stderr"; failed = 1; exit 1 }
     FNR == NR { all[FNR] = $0; count = FNR; next }
@@ -246,7 +246,7 @@ for text in sat unsat; do
     echo "certify $text: $(wc -l < "$work/$text.txt") of $count allocations"
 done
 
-# Bytes that sum up to a count.
+# Bytes whose sum is a count.
 summing() { # COUNT
     local left=$1
     while [ "$left" -gt 255 ]; do
@@ -256,8 +256,8 @@ summing() { # COUNT
     printf "\\$(printf %03o "$left")"
 }
 
-# Runs a program that tells by its status how it went with each of so many allocations refused: with 0 none was, and else one.
-told() { # CRATE MOST STATUS..
+# Runs a program that reports by its status, with each of MOST allocations refused: 0 means that none was, any other status that one was.
+reports() { # CRATE MOST STATUS..
     local crate=$1 many=$2 n count end
     shift 2
     mkdir -p "$work/$crate-cases"
@@ -277,6 +277,6 @@ told() { # CRATE MOST STATUS..
     sed 's/^[0-9]*: //' "$work/$crate.txt" | sort | uniq -c
 }
 
-told texts 400 3
-told solves 250 3
-told refusals 400 3 5
+reports texts 400 3
+reports solves 250 3
+reports refusals 400 3 5

@@ -11,7 +11,7 @@ variables=${1:-1000000} literals=${2:-10000000}
 work=$(mktemp -d)
 trap 'rm -rf "$work"' EXIT
 
-# A repository of our crates, and a static library over them whose functions have a premise that nothing meets: it is built without a
+# A repository of our crates, and a static library over them whose functions have a premise that nothing meets. So it is built without a
 # proof that a caller meets the conditions of its calls.
 mkdir -p "$work/repo/crates/loading/src" "$work/repo/crates/loading/proofs/measure"
 for crate in sat_base sat_store sat_parts; do

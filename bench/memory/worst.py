@@ -13,7 +13,7 @@ LARGEST = 1 << 28
 
 
 def number(n):
-    """groups of seven bits, the lowest first"""
+    """Returns a number as groups of seven bits, the lowest first."""
     text = bytearray()
     while n >= 128:
         text.append(n & 127 | 128)
@@ -42,12 +42,12 @@ END = b"\x0d"
 
 
 def parts(names, n):
-    """so many names each; those that are left over don't count"""
+    """Returns the names in groups of n, without the rest."""
     return [names[i : i + n] for i in range(0, len(names) - n + 1, n)]
 
 
 def of(kind, names):
-    """(name of the file, its bytes)"""
+    """Yields names of files, and their bytes."""
     yield f"units-{kind}", b"".join(clause([n]) for n in names)
     yield f"pairs-{kind}", b"".join(clause(p) for p in parts(names, 2))
     yield f"sixes-{kind}", b"".join(clause(p) for p in parts(names, 6))
@@ -65,7 +65,7 @@ def hints_of(kind, names):
 
 
 def repeats(n):
-    """of one literal, or of one hash, which take a byte each"""
+    """Yields lists of one literal or one hash, of a byte each."""
     yield "clause-same", b"\x05" + number(n) + b"\x00" * n
     yield "assumptions-same", b"\x0b" + number(n) + b"\x00" * n
     yield "hashes-same", clause([1]) + b"\x06\x01\x01\x02" + number(n) + b"\x00" * n
@@ -87,12 +87,12 @@ def named(variable, name):
 
 
 def all_named(variables):
-    """the names from 1 on, on these variables"""
+    """Returns steps that give these variables the names from 1 on."""
     return b"".join(named(v, i + 1) for i, v in enumerate(variables))
 
 
 def confirmed(kind, variables):
-    """(name of the folder, script, answers, certificate), the names being those of these variables"""
+    """Yields names of folders, with script, answers and certificate, over these variables."""
     n = len(variables)
     names = range(1, n + 1)
     put_on = all_named(variables)
@@ -124,7 +124,7 @@ def main():
     os.makedirs(out, exist_ok=True)
     draw = random.Random(1)
     far = draw.sample(range(LARGEST // 2, LARGEST), 300_000)
-    # A table's list may have 2^18 places, and eight more for each that room was made for.
+    # A table's list may have 2^18 places, and eight more for each place that was reserved.
     near = [8 * i + 1 for i in range(1_000_000)]
     shuffled = draw.sample([9 * i + 1 for i in range(1_000_000)], 1_000_000)
     for kind, names in [("one", [LARGEST]), ("two", [LARGEST - 1, LARGEST]), ("far", far), ("near", near), ("shuffled", shuffled)]:

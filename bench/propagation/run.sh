@@ -16,7 +16,7 @@ yardstick=$1 folder=$2 rounds=${3:-100}
 work=$(mktemp -d)
 trap 'rm -rf "$work"' EXIT
 
-# A repository of our crates, and a static library over them whose functions have a premise that nothing meets: it is built without a
+# A repository of our crates, and a static library over them whose functions have a premise that nothing meets. So it is built without a
 # proof that a caller of `propagate` meets its conditions.
 mkdir -p "$work/repo/crates/rounds/src"
 for crate in sat_base sat_store sat_parts; do

@@ -15,7 +15,7 @@ def random3(n, ratio, seed):
 
 
 def planted(n, ratio, seed):
-    """random clauses of three literals that a hidden valuation satisfies"""
+    """Random clauses of three literals that one chosen valuation satisfies."""
     r = random.Random(seed)
     hidden = [r.random() < 0.5 for _ in range(n + 1)]
     clauses = []
@@ -27,7 +27,7 @@ def planted(n, ratio, seed):
 
 
 def pigeons(holes):
-    """one pigeon more than there are holes"""
+    """One more pigeon than holes."""
     x = lambda p, h: p * holes + h + 1
     clauses = [[x(p, h) for h in range(holes)] for p in range(holes + 1)]
     for h in range(holes):
@@ -57,13 +57,13 @@ class Circuit:
         return c
 
     def sum(self, a, b, c):
-        """the sum of three bits, and its carry"""
+        """Returns the sum of three bits, and its carry."""
         x = self.odd(a, b)
         return self.odd(x, c), self.either(self.both(a, b), self.both(x, c))
 
 
 def parity(n, seed):
-    """the parity of n variables, chained in two orders, which differ"""
+    """The parity of n variables, chained in two orders, with different results."""
     r = random.Random(seed)
     c = Circuit()
     vs = [c.new() for _ in range(n)]
@@ -79,7 +79,7 @@ def parity(n, seed):
 
 
 def product(number, bits):
-    """two factors of so many bits, both above 1, whose product is the number"""
+    """Two factors of this many bits, both above 1, whose product is the number."""
     c = Circuit()
     a, b = [c.new() for _ in range(bits)], [c.new() for _ in range(bits)]
     none = c.new()
@@ -107,7 +107,7 @@ def colouring(n, edges, colours, seed):
 
 
 def counter(bits, steps, goal):
-    """a counter that may stand still or go on by one or by three at each step, unrolled: can it come to the goal?"""
+    """An unrolled counter that may pause or count by one or by three at each step: can it reach the goal?"""
     c = Circuit()
     none = c.new()
     c.clauses.append([-none])
@@ -127,7 +127,7 @@ def counter(bits, steps, goal):
 
 
 def schedule(jobs, slots, machines, conflicts, seed):
-    """jobs in slots, so many at a time at most, pairs of them never at once"""
+    """Jobs in slots, at most a given number at a time, some pairs never at once."""
     r = random.Random(seed)
     c = Circuit()
     x = [[c.new() for _ in range(slots)] for _ in range(jobs)]
@@ -152,7 +152,7 @@ def schedule(jobs, slots, machines, conflicts, seed):
 
 
 def chain(n):
-    """each variable implies the next, and the first holds"""
+    """Each variable implies the next, and the first is true."""
     return n, [[-i, i + 1] for i in range(1, n)] + [[1]]
 
 

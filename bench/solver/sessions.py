@@ -38,7 +38,7 @@ def spelled(call):
 
 
 def satisfiable(clauses):
-    """whether a valuation makes a literal of each clause true"""
+    """Whether a valuation satisfies a literal of each clause."""
     if not clauses:
         return True
     shortest = min(clauses, key=len)
@@ -50,7 +50,7 @@ def satisfiable(clauses):
 
 
 class Judge:
-    """names in use with their identities, modes, clauses over identities; which identity a name that was observed has is a guess"""
+    """Names in use with their identities, modes, and clauses over identities. The identity of an observed name is a guess."""
 
     def __init__(self):
         self.first, self.names, self.witness, self.next = 1, {}, set(), 1
@@ -86,7 +86,7 @@ def is_assumed(j, name):
 
 
 def steps(j, call, said):
-    """the judges that may stand behind a call that was answered so; none where the answer is wrong"""
+    """Returns the judges that this answer to a call allows; none if the answer is wrong."""
     kind, what = call
     if kind in "ca":
         if j.refused(what):
