@@ -1,4 +1,4 @@
-//! Writes a formula in DIMACS CNF of about so many bytes: clauses of three literals over a million variables.
+//! Writes a formula in DIMACS CNF of about the given number of bytes: clauses of three literals over a million variables.
 use std::io::{BufWriter, Write};
 
 fn main() {

@@ -1,4 +1,4 @@
-//! A plain parser of DIMACS CNF in Rust, to measure by: the same flat storage, pieces of 4,096 bytes, no proofs.
+//! A plain parser of DIMACS CNF in Rust, for comparison: the same flat storage and chunks of 4,096 bytes, no proofs.
 use std::io::Read;
 
 #[derive(Default)]

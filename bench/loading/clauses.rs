@@ -1,5 +1,5 @@
-/// Clauses of 3 to 10 different variables out of so many, as codes of literals with the end behind each clause, until there are so many
-/// literals.
+/// Returns clauses of 3 to 10 different variables out of `count`, as codes of literals with the end after each clause, with `literals`
+/// literals or a few more.
 fn clauses(count: u32, literals: usize) -> Vec<u32> {
     let mut x = 1u64;
     let mut random = |below: u32| {

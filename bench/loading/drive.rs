@@ -1,4 +1,4 @@
-//! Has a library load clauses and build their watch lists: drive VARIABLES LITERALS
+//! Calls a library that loads clauses and builds their watch lists: drive VARIABLES LITERALS
 use std::ffi::c_void;
 
 include!("clauses.rs");

@@ -1,7 +1,7 @@
-//! Reads a formula in DIMACS CNF and has a library run rounds of unit propagation over it: drive FORMULA ROUNDS
+//! Reads a formula in DIMACS CNF, and calls a library that runs rounds of unit propagation over it: drive FORMULA ROUNDS
 //!
-//! Repeated literals are dropped and tautologies left out, as in any loader. It prints decisions, conflicts, full assignments, literals that were
-//! assigned, and the seconds of the rounds, without those of loading, which stand behind.
+//! Repeated literals and tautologies are left out, as in any loader. It prints decisions, conflicts, full assignments, assigned literals, and
+//! the seconds of the rounds, then those of loading.
 use std::ffi::c_void;
 
 #[global_allocator]

@@ -1,5 +1,5 @@
-//! Writes a certificate of about so many bytes: input clauses, derived clauses with the hashes of their reasons, deletions, all of pseudorandom
-//! literals. Its steps are in form, and nothing more: it is for measuring readers and writers.
+//! Writes a certificate of about the given number of bytes: input clauses, derived clauses with the hashes of their reasons, and deletions, with
+//! pseudorandom literals. Its steps are well-formed, but not accepted: it serves to measure readers and writers.
 use std::io::{BufWriter, Write};
 
 fn number(out: &mut Vec<u8>, mut value: u64) {

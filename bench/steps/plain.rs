@@ -1,5 +1,5 @@
-//! A plain reader and writer of proof steps in Rust, to measure by: pieces of 4,096 bytes, lists whose room is used again, the same tests of
-//! each byte, no proofs. `plain read` counts steps, `plain copy` writes each step that it read.
+//! A plain reader and writer of proof steps in Rust, for comparison: chunks of 4,096 bytes, lists whose memory is reused, the same tests of each
+//! byte, no proofs. `plain read` counts steps, `plain copy` writes each step that it reads.
 use std::io::{Read, Write};
 
 enum Fault {
