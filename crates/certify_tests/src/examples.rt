@@ -8,9 +8,9 @@ use std::alloc::Global;
 static EXAMPLES: [(&str, &str, u8, &str); 6] = [
     (
         "\
-c A counter of two bits, which at each step counts on or stands still. When can it reach three?\n\
-c Names: 1 2 the low and the high bit now, 4 5 those after the step; 3 the input \"count on\", 6 the carry.\n\
-c The next step has the names the other way round: 4 5 are the bits now, 1 2 those after it.\n\
+c A counter of two bits, which counts or pauses at each step. When can it reach three?\n\
+c Names: 1 and 2 are the low and the high bit now, 4 and 5 those after the step; 3 is the input \"count\", 6 the carry.\n\
+c The next step swaps the names: 4 and 5 are the bits now, 1 and 2 those after it.\n\
 c\n\
 c At first both bits are false.\n\
 -1 0  -2 0\n\
@@ -22,7 +22,7 @@ c The carry: 6 = 1 and 3. The high bit changes with the carry: 5 = 2 xor 6.\n\
 -5 2 6 0  -5 -2 -6 0  5 -2 6 0  5 2 -6 0\n\
 c Are both bits true after one step?\n\
 a 4 5 0\n\
-c What belongs to the past loses its name. Clauses still constrain the variables.\n\
+c Hide the names of the past. Clauses still constrain their variables.\n\
 h 1 2 3 6 0\n\
 c\n\
 c Step 2: 1 = 4 xor 3, 6 = 4 and 3, 2 = 5 xor 6.\n\
@@ -37,7 +37,7 @@ c Step 3: as step 1.\n\
 -6 1 0  -6 3 0  6 -1 -3 0\n\
 -5 2 6 0  -5 -2 -6 0  5 -2 6 0  5 2 -6 0\n\
 a 4 5 0\n\
-c And if the counter stands still at the last step?\n\
+c And if the counter pauses at the last step?\n\
 a 4 5 -3 0\n",
         "\
 s UNSATISFIABLE\n\
@@ -55,7 +55,7 @@ c confirmed\n",
     ),
     (
         "\
-c The last script after those of four machines: their cores 1, 1, -1 5 and -1, each negated, are clauses that follow from theirs.\n\
+c The last script, after those of four machines. The negations of their cores 1, 1, -1 5 and -1 follow from their clauses.\n\
 -1 0\n\
 -1 0\n\
 1 -5 0\n\
@@ -82,8 +82,8 @@ c No two pigeons are in one hole. A line for each hole.\n\
 -2 -5 0  -2 -8 0  -2 -11 0  -5 -8 0  -5 -11 0  -8 -11 0\n\
 -3 -6 0  -3 -9 0  -3 -12 0  -6 -9 0  -6 -12 0  -9 -12 0\n\
 c\n\
-c Four cubes: pigeon 1 is in hole 1 or not, and pigeon 2 is in hole 2 or not. This is the script of the third of four machines;\n\
-c the others have the same clauses and ask a 1 5 0, a 1 -5 0 and a -1 -5 0.\n\
+c Four cubes: pigeon 1 is in hole 1 or not, and pigeon 2 is in hole 2 or not. This is the script of the third of four machines.\n\
+c The others have the same clauses, and the asks a 1 5 0, a 1 -5 0 and a -1 -5 0.\n\
 a -1 5 0\n",
         "\
 s UNSATISFIABLE\n\
@@ -126,7 +126,7 @@ a -2 0\n\
 a -8 0\n\
 c A customer chooses offline maps and a cheap colour screen. Which choices clash?\n\
 a 4 9 10 0\n\
-c The customer gives the colour screen up and chooses no other.\n\
+c The customer drops the colour screen, and chooses no other.\n\
 a 9 10 0\n\
 c Which screen can stay open? With offline maps, not having high resolution clashes.\n\
 a -5 10 0\n",
@@ -156,7 +156,7 @@ c confirmed\n",
         "\
 c Packages. A name is a package in one version, and true means \"installed\":\n\
 c 1 shop 2.0, 2 web 1.0, 3 web 2.0, 4 tls 1.1, 5 tls 3.0, 6 log 1.0, 7 log 2.0, 8 mail 1.4\n\
-c Each rule has a selector, from 11 on: the rule holds where its selector is assumed.\n\
+c Each rule has a selector, from 11 on: the rule holds if its selector is assumed.\n\
 c\n\
 c 11: shop 2.0 needs web 2.0\n\
 -11 -1 3 0\n\
@@ -205,7 +205,7 @@ c confirmed\n",
     (
         "\
 c Six exams in five slots. The name 5 * (e - 1) + s means that exam e, from 1 to 6, is in slot s, from 1 to 5.\n\
-c The selectors 31 to 36 mean that exam 1 to 6 takes place at all.\n\
+c The selectors 31 to 36 mean that exams 1 to 6 take place.\n\
 c\n\
 c Each exam that takes place has a slot.\n\
 -31 1 2 3 4 5 0\n\
