@@ -40,7 +40,7 @@ pub unsafe extern "C" fn rattle_dealloc(block: *mut c_void) {
     free(block)
 }
 
-/// The codes of the literals of each clause, sorted, with the end behind it; and the number of variables.
+/// Returns the codes of the literals of each clause, sorted, with the mark after it, and the number of variables.
 fn read(text: &str) -> (Vec<u32>, usize) {
     let (mut words, mut count, mut from) = (Vec::new(), 0, 0);
     for line in text.lines().filter(|line| !line.starts_with(['c', 'p'])) {
