@@ -26,7 +26,7 @@ took() { # NAME COMMAND..: prints seconds and peak memory in MB; the files NAME.
     tail -qn 1 "$work/seconds" "$work/memory" | paste -sd ' ' | awk '{ printf "%.3f %.1f", $1 + $2, $3 / 1024 }' > "$work/took"
     if ! grep -q 'terminated by signal' "$work/memory"; then
         cat "$work/took"
-    elif awk -v limit="$limit" '{ exit $1 < limit - 0.5 }' "$work/took"; then # killed at the limit
+    elif awk -v limit="$limit" '{ exit $1 < 0.9 * limit }' "$work/took"; then # killed at the limit
         echo '- -'
     else
         echo "$0: $*: $(head -n 1 "$work/memory")" >&2
