@@ -1,5 +1,4 @@
 pub mod OrderLemmas
 pub mod FlagLemmas
 pub mod QueueLemmas
-pub mod GrowsLemmas
 pub mod MoveLemmas

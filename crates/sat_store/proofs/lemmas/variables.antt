@@ -1,3 +1,2 @@
 pub mod MapLemmas
-pub mod GrowLemmas
 pub mod CodeLemmas

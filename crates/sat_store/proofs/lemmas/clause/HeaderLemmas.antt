@@ -3,7 +3,7 @@ use Rattle.std.proofs.Common.{◌≡◌, ℕ, ◌+◌, ◌*◌, ◌/◌, ◌%◌
 use Rattle.std.specs.Int.{from_bool}
 use Rattle.sat_store.specs.clause.Header.{header_of, index_of, tier_of}
 use Rattle.sat_store.specs.declared.clause.tier.Tier.{Tier}
-use Rattle.sat_store.specs.declared.clause.tier.Tier.TheVariants.{Irred, Core, Mid, Local}
+use Rattle.sat_store.specs.declared.clause.tier.Tier.TheVariants.{Irred}
 
 bit_test : (flag : Bool) → nat_eq (from_bool flag) 1 ≡ flag
 bit_test true = refl

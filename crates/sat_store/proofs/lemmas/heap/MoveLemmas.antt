@@ -1,10 +1,10 @@
 -- Variables that are exchanged, and heaps in another order.
-use Rattle.std.proofs.Common.{◌≡◌, ◌≢◌, ℕ, ◌-◌, ◌/◌, ◌<◌, ◌≤◌, inl, inr, List, length, nat_eq, if◌then◌else◌, get_or, set, refl, sym, ap, ◌∙◌, arith, subst}
+use Rattle.std.proofs.Common.{◌≡◌, ◌≢◌, ℕ, ◌-◌, ◌/◌, ◌<◌, inl, inr, List, length, nat_eq, if◌then◌else◌, get_or, set, refl, sym, ap, ◌∙◌, arith, subst}
 use Rattle.std.proofs.lemmas.Bool.{cases_eq}
 use Rattle.std.proofs.lemmas.Bool.Decides.{nat_tests}
 use Rattle.std.proofs.lemmas.List.{get_or-map, length-map, ext_get_or, get_or-set_same, get_or-set_other, length-set, set-get_or}
 use Rattle.sat_store.specs.declared.vsids.heap.Entry.{Entry}
-use Rattle.sat_store.specs.heap.Heap.{no_entry, var_at, key_at, Placed, rank, rank_at, parent, IsFirstChild, FirstAbove, NoneAbove, Exchanged, Rearranged, keys}
+use Rattle.sat_store.specs.heap.Heap.{no_entry, var_at, key_at, Placed, rank, rank_at, IsFirstChild, FirstAbove, Exchanged, Rearranged, keys}
 use Rattle.sat_store.proofs.lemmas.heap.FlagLemmas.{flags_same}
 
 -- the place of i and j that k isn't, or k
@@ -253,6 +253,3 @@ pub child_is_first : (h : List Entry) (m hole child : ℕ) (e : Entry) → First
 child_is_first h m hole child e f k pos small under =
     let under_child : (child - 1) / 4 ≡ hole = f.under in
     omega (arith, rank_elsewhere h hole k e (omega arith), rank_elsewhere h hole child e (omega (arith, f.some)), f.first k pos small under)
-
-pub none_is_above : (h : List Entry) (m hole : ℕ) (e : Entry) → hole < length h → NoneAbove h m e hole → (k : ℕ) → 0 < k → k < m → parent k ≡ hole → rank_at (set h hole e) k ≤ rank_at (set h hole e) hole
-none_is_above h m hole e within none k pos small under = omega (arith, rank_elsewhere h hole k e (omega arith), rank_there h hole e within, none k pos small under)

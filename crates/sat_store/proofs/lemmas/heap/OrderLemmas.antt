@@ -1,5 +1,5 @@
 -- Heaps by the rank at each place.
-use Rattle.std.proofs.Common.{◌≡◌, ◌≢◌, ℕ, zero, suc, ◌<◌, ◌≤◌, inl, inr, sym, ap, ◌∙◌, arith, subst}
+use Rattle.std.proofs.Common.{◌≡◌, ℕ, zero, suc, ◌<◌, ◌≤◌, inl, inr, sym, ap, ◌∙◌, arith, subst}
 use Rattle.std.proofs.lemmas.Bool.{cases_eq}
 use Rattle.sat_store.specs.heap.Heap.{parent, Ordered, UpFrom, DownFrom, Exchanges}
 
@@ -81,26 +81,6 @@ up_done r m hole fits up k pos small low = elim (cases_eq k hole) [
   | inl same ↦ subst (λ (x : ℕ). r x ≤ r (parent x)) (sym same) (fits (omega arith))
   | inr differ ↦ up.others k pos small differ
 ]
-
-pub down_done : (r : ℕ → ℕ) (m low hole : ℕ) → ((k : ℕ) → 0 < k → k < m → parent k ≡ hole → r k ≤ r hole) → DownFrom r m low hole → Ordered r m low
-down_done r m low hole fits down k pos small from = elim (cases_eq (parent k) hole) [
-  | inl under ↦ subst (λ (x : ℕ). r k ≤ r x) (sym under) (fits k pos small under)
-  | inr far ↦ down.others k pos small from far
-]
-
--- one rank raised
-pub raised_up : (r s : ℕ → ℕ) (m at : ℕ) → ((k : ℕ) → k ≢ at → s k ≡ r k) → r at ≤ s at → Ordered r m 0 → UpFrom s m at
-raised_up r s m at others more ordered = record {
-  others = λ k pos small differ. elim (cases_eq (parent k) at) [
-    | inl under ↦
-        let was : r (parent k) ≡ r at = ap r under in
-        subst (λ (x : ℕ). s k ≤ s x) (sym under) (omega (arith, others k differ, ordered k pos small (omega arith)))
-    | inr far ↦ omega (arith, others k differ, others (parent k) far, ordered k pos small (omega arith))
-  ];
-  across = λ some k pos small under.
-      let was : r (parent k) ≡ r at = ap r under in
-      omega (arith, others k (omega arith), others (parent at) (omega arith), ordered k pos small (omega arith), ordered at some (omega arith) (omega arith));
-}
 
 -- the first is the greatest
 

@@ -6,11 +6,11 @@ use Rattle.std.proofs.lemmas.List.Sums.{sum_by-set}
 use Rattle.std.proofs.lemmas.Nat.{div-add-mod', div_below}
 use Rattle.std.proofs.Math.Nat.{mul-add-div_right}
 use Rattle.std.proofs.lemmas.Bool.Decides.{nat_tests}
-use Rattle.std.proofs.lemmas.List.{get_or_read, set-get_or, get_or_append_left, get_or_at, get_or_past, get_or-map, length-map, ext_get_or, get_or-set_same, get_or-set_other, length-set, map-append, append-nil, replicate-append-replicate}
+use Rattle.std.proofs.lemmas.List.{get_or_read, set-get_or, get_or_append_left, get_or_at, get_or_past, get_or-map, length-map, ext_get_or, get_or-set_same, get_or-set_other, length-set, map-append, replicate-append-replicate}
 use Rattle.sat_base.specs.values.Literals.{var_limit}
 use Rattle.sat_store.specs.declared.vsids.heap.Entry.{Entry}
 use Rattle.sat_store.specs.heap.Vsids.{Queue, activity_of, bumped, quotient_up, decayed, IsFirst}
-use Rattle.sat_store.proofs.lemmas.heap.OrderLemmas.{top_greatest, raised_up}
+use Rattle.sat_store.proofs.lemmas.heap.OrderLemmas.{top_greatest}
 use Rattle.sat_store.proofs.lemmas.heap.FlagLemmas.{flag_at, flags_count, flags_taken, flags_given}
 use Rattle.sat_store.proofs.lemmas.heap.MoveLemmas.{key_of, keys_count}
 use Rattle.sat_store.specs.heap.Heap.{no_entry, var_at, key_at, Placed, rank, rank_at, parent, Ordered, UpFrom, DownFrom, Exchanges, Exchanged, Transposes, Rearranged, AddsHeapVars, flags, keys, scaled, IsHeap}
@@ -189,12 +189,6 @@ keyed_keys h p v at x placed within is =
 pub keyed_behind : (h : List Entry) (m at x : ℕ) → m ≤ at → Ordered (rank_at h) m 0 → Ordered (rank_at (keyed h at x)) m 0
 keyed_behind h m at x behind ordered = same_order (rank_at h) (rank_at (keyed h at x)) m (λ k small. ap rank (keyed_same h at x k (omega arith))) ordered
 
--- among them, to a higher one
-pub keyed_up : (h : List Entry) (m at x : ℕ) → at < length h → key_at h at ≤ x → Ordered (rank_at h) m 0 → UpFrom (rank_at (keyed h at x)) m at
-keyed_up h m at x within more ordered =
-    let higher : rank_at h at ≤ rank_at (keyed h at x) at = rw (keyed_at h at x within) (omega arith) in
-    raised_up (rank_at h) (rank_at (keyed h at x)) m at (λ k differ. ap rank (keyed_same h at x k differ)) higher ordered
-
 pub keyed_heap : (h : List Entry) (p : List ℕ) (m v at x : ℕ) → IsHeap h p m → v < length h → get_or p v 0 ≡ at → m ≤ at → x < 2 ^ 60 → IsHeap (keyed h at x) p m
 keyed_heap h p m v at x heap within is behind fits = record {
   placed = keyed_placed h p at x heap.placed (omega (arith, heap.placed.placed v within));
@@ -263,14 +257,6 @@ scaled_keys h p =
 
 pub one_more_copy {ℓ} : {X : Type ℓ} → (xs ys : List X) (x : X) (k : ℕ) → ys ≡ xs ++ replicate k x → ys ++ x ∷ [] ≡ xs ++ replicate (k + 1) x
 one_more_copy xs ys x k is = ap (λ zs. zs ++ x ∷ []) is ∙ append_assoc xs (replicate k x) (x ∷ []) ∙ ap (λ zs. xs ++ zs) (replicate-append-replicate k 1 x)
-
-pub none_added : (h : List Entry) (p : List ℕ) (n : ℕ) → n ≡ length h → AddsHeapVars n h p h p
-none_added h p n is =
-    let none : n - length h ≡ 0 = omega arith in
-    record {
-      flags = λ m within. sym (ap (λ (k : ℕ). flags m p ++ replicate k false) none ∙ append-nil (flags m p));
-      keys = sym (ap (λ (k : ℕ). keys h p ++ replicate k 0) none ∙ append-nil (keys h p));
-    }
 
 pub one_more_added : (h h' : List Entry) (p p' : List ℕ) (i : ℕ) → length h ≤ i → length h' ≡ i → Placed h' p' → AddsHeapVars i h p h' p' → AddsHeapVars (i + 1) h p (h' ++ newcomer i ∷ []) (p' ++ i ∷ [])
 one_more_added h h' p p' i some count placed adds =
@@ -361,21 +347,6 @@ taken_down r s last i within ex fits ordered = record {
 }
 
 -- where the variable that comes or goes was exchanged with the one behind the first
-
-pub given_up : (r s : ℕ → ℕ) (m i : ℕ) → m ≤ i → Exchanges r s i m → Ordered r m 0 → UpFrom s (m + 1) m
-given_up r s m i behind ex ordered = record {
-  others = λ k pos small differ. omega (arith, ex.others k (omega arith) differ, ex.others (parent k) (omega arith) (omega arith), ordered k pos (omega arith) (omega arith));
-  across = λ some k pos small under. absurd (omega arith);
-}
-
-pub heap_without_last : (h h' : List Entry) (p p' : List ℕ) (m i : ℕ) → IsHeap h p m → i < m → i ≡ m - 1 → Exchanged h p h' p' i (m - 1) → IsHeap h' p' (m - 1)
-heap_without_last h h' p p' m i heap within last ex = record {
-  placed = ex.placed;
-  within = omega (arith, heap.within, ex.count);
-  few = omega (arith, heap.few, ex.count);
-  small = λ v. rw ex.keys (heap.small v);
-  ordered = λ k pos small low. omega (arith, ex.ranks.others k (omega arith) (omega arith), ex.ranks.others (parent k) (omega arith) (omega arith), heap.ordered k pos (omega arith) low);
-}
 
 pub heap_of : (h h' h'' : List Entry) (p p' p'' : List ℕ) (m n i j : ℕ) → IsHeap h p m → Exchanged h p h' p' i j → Rearranged n h' p' h'' p'' → n ≤ length h → Ordered (rank_at h'') n 0 → IsHeap h'' p'' n
 heap_of h h' h'' p p' p'' m n i j heap ex same within ordered = record {

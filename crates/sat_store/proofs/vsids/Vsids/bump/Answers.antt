@@ -1,80 +1,78 @@
-use Rattle.std.proofs.Common.{◌≡◌, ◌+◌, ◌/◌, ◌<◌, ◌≤◌, ◌^◌, ◌∙◌, ℕ, List, length, get_or, set, map, refl, ap, sym, arith, subst}
+use Rattle.std.proofs.Common.{◌≡◌, ◌+◌, ◌/◌, ◌<◌, ◌^◌, ◌∙◌, ℕ, List, length, get_or, set, map, refl, ap, sym, arith, subst}
 use Rattle.std.proofs.lemmas.List.{get_or_read, length-map}
 use Rattle.sat_store.specs.declared.vsids.heap.Entry.{Entry}
-use Rattle.sat_store.specs.heap.Heap.{no_entry, Placed, rank_at, UpFrom, IsHeap, Rearranged, keys, scaled}
+use Rattle.sat_store.specs.heap.Heap.{no_entry, Placed, IsHeap, Rearranged, keys, scaled}
 use Rattle.sat_store.specs.heap.Vsids.{Queue}
 use Rattle.sat_store.proofs.lemmas.heap.FlagLemmas.{flags_count}
-use Rattle.sat_store.proofs.lemmas.heap.QueueLemmas.{keyed, keyed_count, keyed_placed, keyed_up, keyed_heap, keyed_keys, key_there, written_key, place_read, below_limit, scaled_small, scaled_placed, scaled_keys, heap_again, bumped_small, bumped_large}
+use Rattle.sat_store.proofs.lemmas.heap.QueueLemmas.{keyed, keyed_count, keyed_placed, keyed_heap, keyed_keys, key_there, written_key, place_read, below_limit, scaled_small, scaled_placed, scaled_keys, heap_again, bumped_small, bumped_large}
 use Rattle.sat_store.proofs.vsids.Vsids.bump.Goals as goal
+use Rattle.sat_store.proofs.vsids.Vsids.bump.Goals.{After-index-3, After-index_mut}
+
+-- the variable's entry, and its key
+module _ (c : After-index-3) where
+  abbrev h : List Entry
+  h = c.self.inside.heap.items
+
+  abbrev p : List ℕ
+  p = c.self.inside.positions.items
+
+  abbrev at : ℕ
+  at = c.index-2.result.now
+
+  abbrev raised : ℕ
+  raised = c.index-3.result.now.key + c.self.inside.bump
+
+  within : c.args.var < length h
+  within = omega (arith, c.requires, ap (λ (q : Queue). length q.available) (sym c.self.view_is) ∙ flags_count c.self.inside.available p, c.self.invariant.0.placed.count)
+
+  is : get_or p c.args.var 0 ≡ at
+  is = place_read p c.index.result c.args.var at (omega (arith, within, c.index.ensures.value, c.self.invariant.0.placed.count)) c.index.ensures.value c.index-2.ensures
+
+  there : at < length h
+  there = omega (arith, is, c.self.invariant.0.placed.placed c.args.var within)
+
+  read : c.index-3.result.now.key ≡ (get_or h at no_entry).key
+  read = ap (λ (e : Entry). e.key) (get_or_read h at c.index-3.result.now there c.index-3.ensures no_entry)
+
+  key : c.index-3.result.now.key ≡ get_or (keys h p) c.args.var 0
+  key = read ∙ key_there h p c.self.inside.available c.args.var at c.self.invariant.0 within is
+
+  sum : raised ≡ get_or (keys h p) c.args.var 0 + c.self.inside.bump
+  sum = ap (λ (k : ℕ). k + c.self.inside.bump) key
+
+  new_keys : keys (keyed h at raised) p ≡ set (keys h p) c.args.var raised
+  new_keys = keyed_keys h p c.args.var at raised c.self.invariant.0.placed within is
+
+-- the entry with its key raised
+module _ (c : After-index_mut) where
+  abbrev s : After-index-3
+  s = (goal.at.After-index_mut c).After-index-3
+
+  written : set (h s) (at s) (record { key = raised s; var = c.index_mut.result.now.var }) ≡ keyed (h s) (at s) (raised s)
+  written = written_key (h s) (at s) (raised s) c.index_mut.result.now (there s) c.index_mut.ensures.value
 
 pub overflow_add-raised : goal.overflow_add-raised
-overflow_add-raised c =
-    let h = c.self.inside.heap.items in
-    let p = c.self.inside.positions.items in
-    let m = c.self.inside.available in
-    let v = c.args.var in
-    let at = c.index-2.result.now in
-    let heap = c.self.invariant.0 in
-    let n : length c.args.self.now.available ≡ length p = ap (λ (q : Queue). length q.available) (sym c.self.view_is) ∙ flags_count m p in
-    let within : v < length h = omega (arith, c.requires, n, heap.placed.count) in
-    let is : get_or p v 0 ≡ at = place_read p c.index.result v at (omega (arith, within, c.index.ensures.value, heap.placed.count)) c.index.ensures.value c.index-2.ensures in
-    let there : at < length h = omega (arith, is, heap.placed.placed v within) in
-    let g = c.index-3.result.now in
-    let key : g.key ≡ get_or (keys h p) v 0 = ap (λ (e : Entry). e.key) (get_or_read h at g there c.index-3.ensures no_entry) ∙ key_there h p m v at heap within is in
-    omega (arith, key, heap.small v, c.self.invariant.2)
+overflow_add-raised c = let s = (goal.at.overflow_add-raised c).After-index-3 in omega (arith, key s, c.self.invariant.0.small c.args.var, c.self.invariant.2)
 
 pub index_mut-requires : goal.index_mut-requires
-index_mut-requires c =
-    let h = c.self.inside.heap.items in
-    let p = c.self.inside.positions.items in
-    let m = c.self.inside.available in
-    let v = c.args.var in
-    let at = c.index-2.result.now in
-    let heap = c.self.invariant.0 in
-    let n : length c.args.self.now.available ≡ length p = ap (λ (q : Queue). length q.available) (sym c.self.view_is) ∙ flags_count m p in
-    let within : v < length h = omega (arith, c.requires, n, heap.placed.count) in
-    let is : get_or p v 0 ≡ at = place_read p c.index.result v at (omega (arith, within, c.index.ensures.value, heap.placed.count)) c.index.ensures.value c.index-2.ensures in
-    let there : at < length h = omega (arith, is, heap.placed.placed v within) in
-    omega (arith, there, c.self.inside.heap.ok.0)
+index_mut-requires c = omega (arith, there (goal.at.index_mut-requires c).After-index-3, c.self.inside.heap.ok.0)
 
 pub heapify-requires-clause-placed : goal.heapify-requires-clause-placed
 heapify-requires-clause-placed c =
-    let h = c.self.inside.heap.items in
-    let p = c.self.inside.positions.items in
-    let m = c.self.inside.available in
-    let v = c.args.var in
-    let at = c.index-2.result.now in
-    let heap = c.self.invariant.0 in
-    let n : length c.args.self.now.available ≡ length p = ap (λ (q : Queue). length q.available) (sym c.self.view_is) ∙ flags_count m p in
-    let within : v < length h = omega (arith, c.requires, n, heap.placed.count) in
-    let is : get_or p v 0 ≡ at = place_read p c.index.result v at (omega (arith, within, c.index.ensures.value, heap.placed.count)) c.index.ensures.value c.index-2.ensures in
-    let there : at < length h = omega (arith, is, heap.placed.placed v within) in
-    let g = c.index-3.result.now in
-    let x = g.key + c.self.inside.bump in
-    let written : set h at (record { key = x; var = c.index_mut.result.now.var }) ≡ keyed h at x = written_key h at x c.index_mut.result.now there c.index_mut.ensures.value in
-    rw c.rescale-self-inside.ensures.heap (subst (λ (l : List Entry). Placed (map scaled l) p) (sym written) (scaled_placed (keyed h at x) p (keyed_placed h p at x heap.placed there)))
+    let m = (goal.at.heapify-requires-clause-placed c).After-index_mut in
+    let s = (goal.at.After-index_mut m).After-index-3 in
+    rw c.rescale-self-inside.ensures.heap (subst (λ (l : List Entry). Placed (map scaled l) (p s)) (sym (written m)) (scaled_placed (keyed (h s) (at s) (raised s)) (p s) (keyed_placed (h s) (p s) (at s) (raised s) c.self.invariant.0.placed (there s))))
 
 pub invariant_of-self : goal.invariant_of-self
 invariant_of-self c =
-    let h = c.self.inside.heap.items in
-    let p = c.self.inside.positions.items in
-    let m = c.self.inside.available in
-    let v = c.args.var in
-    let at = c.index-2.result.now in
-    let heap = c.self.invariant.0 in
-    let n : length c.args.self.now.available ≡ length p = ap (λ (q : Queue). length q.available) (sym c.self.view_is) ∙ flags_count m p in
-    let within : v < length h = omega (arith, c.requires, n, heap.placed.count) in
-    let is : get_or p v 0 ≡ at = place_read p c.index.result v at (omega (arith, within, c.index.ensures.value, heap.placed.count)) c.index.ensures.value c.index-2.ensures in
-    let there : at < length h = omega (arith, is, heap.placed.placed v within) in
-    let g = c.index-3.result.now in
-    let x = g.key + c.self.inside.bump in
-    let written : set h at (record { key = x; var = c.index_mut.result.now.var }) ≡ keyed h at x = written_key h at x c.index_mut.result.now there c.index_mut.ensures.value in
-    let key : g.key ≡ get_or (keys h p) v 0 = ap (λ (e : Entry). e.key) (get_or_read h at g there c.index-3.ensures no_entry) ∙ key_there h p m v at heap within is in
+    let m = (goal.at.invariant_of-self c).After-index_mut in
+    let s = (goal.at.After-index_mut m).After-index-3 in
+    let x = keyed (h s) (at s) (raised s) in
     let scale = c.rescale-self-inside.ensures in
-    let same : Rearranged m (map scaled (keyed h at x)) p c.heapify.new.heap.items c.heapify.new.positions.items = rw written at (rw scale.heap at c.heapify.ensures.same) in
-    let fits : (u : ℕ) → get_or (set (keys h p) v x) u 0 < 2 ^ 61 = λ u. below_limit (keys h p) v x u (2 ^ 61) (λ y. omega (arith, heap.small y)) (omega (arith, key, heap.small v, c.self.invariant.2)) in
-    let small : (u : ℕ) → get_or (keys (map scaled (keyed h at x)) p) u 0 < 2 ^ 60 = λ u. rw (scaled_keys (keyed h at x) p, keyed_keys h p v at x heap.placed within is) (scaled_small (set (keys h p) v x) u fits) in (
-      heap_again h (map scaled (keyed h at x)) c.heapify.new.heap.items p c.heapify.new.positions.items m heap (length-map (keyed h at x) scaled ∙ keyed_count h at x) same small c.heapify.ensures.ordered,
+    let same : Rearranged c.self.inside.available (map scaled x) (p s) c.heapify.new.heap.items c.heapify.new.positions.items = rw (written m) at (rw scale.heap at c.heapify.ensures.same) in
+    let fits : (u : ℕ) → get_or (set (keys (h s) (p s)) c.args.var (raised s)) u 0 < 2 ^ 61 = λ u. below_limit (keys (h s) (p s)) c.args.var (raised s) u (2 ^ 61) (λ y. omega (arith, c.self.invariant.0.small y)) (omega (arith, key s, c.self.invariant.0.small c.args.var, c.self.invariant.2)) in
+    let small : (u : ℕ) → get_or (keys (map scaled x) (p s)) u 0 < 2 ^ 60 = λ u. rw (scaled_keys x (p s), new_keys s) (scaled_small (set (keys (h s) (p s)) c.args.var (raised s)) u fits) in (
+      heap_again (h s) (map scaled x) c.heapify.new.heap.items (p s) c.heapify.new.positions.items c.self.inside.available c.self.invariant.0 (length-map x scaled ∙ keyed_count (h s) (at s) (raised s)) same small c.heapify.ensures.ordered,
       omega (arith, scale.bump),
       omega (arith, scale.bump, c.self.invariant.2),
       c.self.invariant.3,
@@ -83,64 +81,21 @@ invariant_of-self c =
 
 pub returns-then-raised-ge-LIMIT-clause-queue : goal.returns-then-raised-ge-LIMIT-clause-queue
 returns-then-raised-ge-LIMIT-clause-queue c =
-    let h = c.self.inside.heap.items in
-    let p = c.self.inside.positions.items in
-    let m = c.self.inside.available in
-    let v = c.args.var in
-    let at = c.index-2.result.now in
-    let heap = c.self.invariant.0 in
-    let n : length c.args.self.now.available ≡ length p = ap (λ (q : Queue). length q.available) (sym c.self.view_is) ∙ flags_count m p in
-    let within : v < length h = omega (arith, c.requires, n, heap.placed.count) in
-    let is : get_or p v 0 ≡ at = place_read p c.index.result v at (omega (arith, within, c.index.ensures.value, heap.placed.count)) c.index.ensures.value c.index-2.ensures in
-    let there : at < length h = omega (arith, is, heap.placed.placed v within) in
-    let g = c.index-3.result.now in
-    let x = g.key + c.self.inside.bump in
-    let written : set h at (record { key = x; var = c.index_mut.result.now.var }) ≡ keyed h at x = written_key h at x c.index_mut.result.now there c.index_mut.ensures.value in
-    let key : g.key ≡ get_or (keys h p) v 0 = ap (λ (e : Entry). e.key) (get_or_read h at g there c.index-3.ensures no_entry) ∙ key_there h p m v at heap within is in
-    let sum : x ≡ get_or (keys h p) v 0 + c.self.inside.bump = ap (λ (k : ℕ). k + c.self.inside.bump) key in
+    let m = (goal.at.returns-then-raised-ge-LIMIT-clause-queue c).After-index_mut in
+    let s = (goal.at.After-index_mut m).After-index-3 in
+    let x = keyed (h s) (at s) (raised s) in
     let scale = c.rescale-self-inside.ensures in
-    let same : Rearranged m (map scaled (keyed h at x)) p c.heapify.new.heap.items c.heapify.new.positions.items = rw written at (rw scale.heap at c.heapify.ensures.same) in
-    let raised = same.keys ∙ scaled_keys (keyed h at x) p ∙ ap (map (λ y. y / 2 ^ 40)) (keyed_keys h p v at x heap.placed within is) in
-    rw (← c.self.view_is) (bumped_large _ v x _ _ _ sum c.if-raised-ge-LIMIT.true same.flags raised scale.bump)
-
-pub sift_up-requires-clause-up : goal.sift_up-requires-clause-up
-sift_up-requires-clause-up c =
-    let h = c.self.inside.heap.items in
-    let p = c.self.inside.positions.items in
-    let m = c.self.inside.available in
-    let v = c.args.var in
-    let at = c.index-2.result.now in
-    let heap = c.self.invariant.0 in
-    let n : length c.args.self.now.available ≡ length p = ap (λ (q : Queue). length q.available) (sym c.self.view_is) ∙ flags_count m p in
-    let within : v < length h = omega (arith, c.requires, n, heap.placed.count) in
-    let is : get_or p v 0 ≡ at = place_read p c.index.result v at (omega (arith, within, c.index.ensures.value, heap.placed.count)) c.index.ensures.value c.index-2.ensures in
-    let there : at < length h = omega (arith, is, heap.placed.placed v within) in
-    let g = c.index-3.result.now in
-    let x = g.key + c.self.inside.bump in
-    let written : set h at (record { key = x; var = c.index_mut.result.now.var }) ≡ keyed h at x = written_key h at x c.index_mut.result.now there c.index_mut.ensures.value in
-    let key : g.key ≡ get_or (keys h p) v 0 = ap (λ (e : Entry). e.key) (get_or_read h at g there c.index-3.ensures no_entry) ∙ key_there h p m v at heap within is in
-    let more : g.key ≤ x = omega arith in
-    let read : g.key ≡ _ = ap (λ (e : Entry). e.key) (get_or_read h at g there c.index-3.ensures no_entry) in
-    subst (λ (l : List Entry). UpFrom (rank_at l) m at) (sym written) (keyed_up h m at x there (subst (λ (k : ℕ). k ≤ x) read more) heap.ordered)
+    let same : Rearranged c.self.inside.available (map scaled x) (p s) c.heapify.new.heap.items c.heapify.new.positions.items = rw (written m) at (rw scale.heap at c.heapify.ensures.same) in
+    rw (← c.self.view_is) (bumped_large _ c.args.var (raised s) _ _ _ (sum s) c.if-raised-ge-LIMIT.true same.flags (same.keys ∙ scaled_keys x (p s) ∙ ap (map (λ y. y / 2 ^ 40)) (new_keys s)) scale.bump)
 
 pub invariant_of-self-then-at-self : goal.invariant_of-self-then-at-self
 invariant_of-self-then-at-self c =
-    let h = c.self.inside.heap.items in
-    let p = c.self.inside.positions.items in
-    let m = c.self.inside.available in
-    let v = c.args.var in
-    let at = c.index-2.result.now in
-    let heap = c.self.invariant.0 in
-    let n : length c.args.self.now.available ≡ length p = ap (λ (q : Queue). length q.available) (sym c.self.view_is) ∙ flags_count m p in
-    let within : v < length h = omega (arith, c.requires, n, heap.placed.count) in
-    let is : get_or p v 0 ≡ at = place_read p c.index.result v at (omega (arith, within, c.index.ensures.value, heap.placed.count)) c.index.ensures.value c.index-2.ensures in
-    let there : at < length h = omega (arith, is, heap.placed.placed v within) in
-    let g = c.index-3.result.now in
-    let x = g.key + c.self.inside.bump in
-    let written : set h at (record { key = x; var = c.index_mut.result.now.var }) ≡ keyed h at x = written_key h at x c.index_mut.result.now there c.index_mut.ensures.value in
-    let same : Rearranged m (keyed h at x) p c.sift_up.new.heap.items c.sift_up.new.positions.items = rw written at c.sift_up.ensures.same in
-    let small : (u : ℕ) → get_or (keys (keyed h at x) p) u 0 < 2 ^ 60 = λ u. rw (keyed_keys h p v at x heap.placed within is) (below_limit (keys h p) v x u (2 ^ 60) heap.small (omega (arith, c.if-raised-ge-LIMIT.false))) in (
-      heap_again h (keyed h at x) c.sift_up.new.heap.items p c.sift_up.new.positions.items m heap (keyed_count h at x) same small c.sift_up.ensures.ordered,
+    let m = (goal.at.invariant_of-self-then-at-self c).After-index_mut in
+    let s = (goal.at.After-index_mut m).After-index-3 in
+    let x = keyed (h s) (at s) (raised s) in
+    let same : Rearranged c.self.inside.available x (p s) c.sift_up.new.heap.items c.sift_up.new.positions.items = rw (written m) at c.sift_up.ensures.same in
+    let small : (u : ℕ) → get_or (keys x (p s)) u 0 < 2 ^ 60 = λ u. rw (new_keys s) (below_limit (keys (h s) (p s)) c.args.var (raised s) u (2 ^ 60) c.self.invariant.0.small (omega (arith, c.if-raised-ge-LIMIT.false))) in (
+      heap_again (h s) x c.sift_up.new.heap.items (p s) c.sift_up.new.positions.items c.self.inside.available c.self.invariant.0 (keyed_count (h s) (at s) (raised s)) same small c.sift_up.ensures.ordered,
       c.self.invariant.1,
       c.self.invariant.2,
       c.self.invariant.3,
@@ -149,20 +104,9 @@ invariant_of-self-then-at-self c =
 
 pub invariant_of-self-else-at-self : goal.invariant_of-self-else-at-self
 invariant_of-self-else-at-self c =
-    let h = c.self.inside.heap.items in
-    let p = c.self.inside.positions.items in
-    let m = c.self.inside.available in
-    let v = c.args.var in
-    let at = c.index-2.result.now in
-    let heap = c.self.invariant.0 in
-    let n : length c.args.self.now.available ≡ length p = ap (λ (q : Queue). length q.available) (sym c.self.view_is) ∙ flags_count m p in
-    let within : v < length h = omega (arith, c.requires, n, heap.placed.count) in
-    let is : get_or p v 0 ≡ at = place_read p c.index.result v at (omega (arith, within, c.index.ensures.value, heap.placed.count)) c.index.ensures.value c.index-2.ensures in
-    let there : at < length h = omega (arith, is, heap.placed.placed v within) in
-    let g = c.index-3.result.now in
-    let x = g.key + c.self.inside.bump in
-    let written : set h at (record { key = x; var = c.index_mut.result.now.var }) ≡ keyed h at x = written_key h at x c.index_mut.result.now there c.index_mut.ensures.value in (
-      subst (λ (l : List Entry). IsHeap l p m) (sym written) (keyed_heap h p m v at x heap within is (omega (arith, c.if-at-self.false)) (omega (arith, c.if-raised-ge-LIMIT.false))),
+    let m = (goal.at.invariant_of-self-else-at-self c).After-index_mut in
+    let s = (goal.at.After-index_mut m).After-index-3 in (
+      subst (λ (l : List Entry). IsHeap l (p s) c.self.inside.available) (sym (written m)) (keyed_heap (h s) (p s) c.self.inside.available c.args.var (at s) (raised s) c.self.invariant.0 (within s) (is s) (omega (arith, c.if-at-self.false)) (omega (arith, c.if-raised-ge-LIMIT.false))),
       c.self.invariant.1,
       c.self.invariant.2,
       c.self.invariant.3,
@@ -171,39 +115,13 @@ invariant_of-self-else-at-self c =
 
 pub returns-then-at-self-clause-queue : goal.returns-then-at-self-clause-queue
 returns-then-at-self-clause-queue c =
-    let h = c.self.inside.heap.items in
-    let p = c.self.inside.positions.items in
-    let m = c.self.inside.available in
-    let v = c.args.var in
-    let at = c.index-2.result.now in
-    let heap = c.self.invariant.0 in
-    let n : length c.args.self.now.available ≡ length p = ap (λ (q : Queue). length q.available) (sym c.self.view_is) ∙ flags_count m p in
-    let within : v < length h = omega (arith, c.requires, n, heap.placed.count) in
-    let is : get_or p v 0 ≡ at = place_read p c.index.result v at (omega (arith, within, c.index.ensures.value, heap.placed.count)) c.index.ensures.value c.index-2.ensures in
-    let there : at < length h = omega (arith, is, heap.placed.placed v within) in
-    let g = c.index-3.result.now in
-    let x = g.key + c.self.inside.bump in
-    let written : set h at (record { key = x; var = c.index_mut.result.now.var }) ≡ keyed h at x = written_key h at x c.index_mut.result.now there c.index_mut.ensures.value in
-    let key : g.key ≡ get_or (keys h p) v 0 = ap (λ (e : Entry). e.key) (get_or_read h at g there c.index-3.ensures no_entry) ∙ key_there h p m v at heap within is in
-    let sum : x ≡ get_or (keys h p) v 0 + c.self.inside.bump = ap (λ (k : ℕ). k + c.self.inside.bump) key in
-    let same : Rearranged m (keyed h at x) p c.sift_up.new.heap.items c.sift_up.new.positions.items = rw written at c.sift_up.ensures.same in
-    rw (← c.self.view_is) (bumped_small _ v x _ _ sum (omega (arith, c.if-raised-ge-LIMIT.false)) same.flags (same.keys ∙ keyed_keys h p v at x heap.placed within is))
+    let m = (goal.at.returns-then-at-self-clause-queue c).After-index_mut in
+    let s = (goal.at.After-index_mut m).After-index-3 in
+    let same : Rearranged c.self.inside.available (keyed (h s) (at s) (raised s)) (p s) c.sift_up.new.heap.items c.sift_up.new.positions.items = rw (written m) at c.sift_up.ensures.same in
+    rw (← c.self.view_is) (bumped_small _ c.args.var (raised s) _ _ (sum s) (omega (arith, c.if-raised-ge-LIMIT.false)) same.flags (same.keys ∙ new_keys s))
 
 pub returns-else-at-self-clause-queue : goal.returns-else-at-self-clause-queue
 returns-else-at-self-clause-queue c =
-    let h = c.self.inside.heap.items in
-    let p = c.self.inside.positions.items in
-    let m = c.self.inside.available in
-    let v = c.args.var in
-    let at = c.index-2.result.now in
-    let heap = c.self.invariant.0 in
-    let n : length c.args.self.now.available ≡ length p = ap (λ (q : Queue). length q.available) (sym c.self.view_is) ∙ flags_count m p in
-    let within : v < length h = omega (arith, c.requires, n, heap.placed.count) in
-    let is : get_or p v 0 ≡ at = place_read p c.index.result v at (omega (arith, within, c.index.ensures.value, heap.placed.count)) c.index.ensures.value c.index-2.ensures in
-    let there : at < length h = omega (arith, is, heap.placed.placed v within) in
-    let g = c.index-3.result.now in
-    let x = g.key + c.self.inside.bump in
-    let written : set h at (record { key = x; var = c.index_mut.result.now.var }) ≡ keyed h at x = written_key h at x c.index_mut.result.now there c.index_mut.ensures.value in
-    let key : g.key ≡ get_or (keys h p) v 0 = ap (λ (e : Entry). e.key) (get_or_read h at g there c.index-3.ensures no_entry) ∙ key_there h p m v at heap within is in
-    let sum : x ≡ get_or (keys h p) v 0 + c.self.inside.bump = ap (λ (k : ℕ). k + c.self.inside.bump) key in
-    rw (← c.self.view_is) (bumped_small _ v x _ _ sum (omega (arith, c.if-raised-ge-LIMIT.false)) refl (ap (λ (l : List Entry). keys l p) written ∙ keyed_keys h p v at x heap.placed within is))
+    let m = (goal.at.returns-else-at-self-clause-queue c).After-index_mut in
+    let s = (goal.at.After-index_mut m).After-index-3 in
+    rw (← c.self.view_is) (bumped_small _ c.args.var (raised s) _ _ (sum s) (omega (arith, c.if-raised-ge-LIMIT.false)) refl (ap (λ (l : List Entry). keys l (p s)) (written m) ∙ new_keys s))

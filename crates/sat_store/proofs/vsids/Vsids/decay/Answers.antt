@@ -1,3 +1,4 @@
+use Rattle.std.proofs.lemmas.Grind.{common_steps}
 use Rattle.std.proofs.Common.{◌+◌, ◌-◌, ◌*◌, ◌/◌, ◌%◌, ◌<◌, ◌^◌, ◌∙◌, ℕ, get_or, map, arith}
 use Rattle.std.proofs.lemmas.List.{length-map}
 use Rattle.sat_store.specs.heap.Heap.{Rearranged, keys, scaled}
@@ -35,7 +36,4 @@ returns-then-later-ge-LIMIT-clause-queue c =
     rw (← c.self.view_is) (decayed_large _ _ _ _ _ parts c.if-later-ge-LIMIT.true same.flags (same.keys ∙ scaled_keys h p) c.rescale-self-inside.ensures.bump)
 
 pub returns-clause-queue : goal.returns-clause-queue
-returns-clause-queue c =
-    let some : 0 < c.self.inside.decay = omega (arith, c.self.invariant.3) in
-    let parts = thousandfold c.self.inside.bump c.self.inside.decay some in
-    rw (← c.self.view_is) (decayed_small _ _ parts c.if-later-ge-LIMIT.false)
+returns-clause-queue c = grind (arith, common_steps, thousandfold, decayed_small)

@@ -1,6 +1,7 @@
-use Rattle.std.proofs.Common.{◌≡◌, ◌<◌, ◌≤◌, ◌∙◌, ℕ, List, false, length, get_or, set, ap, sym, arith, subst}
+use Rattle.std.proofs.lemmas.Grind.{common_steps}
+use Rattle.std.proofs.Common.{◌≡◌, ◌<◌, ◌≤◌, ◌∙◌, List, false, length, get_or, set, ap, sym, arith, subst}
 use Rattle.sat_store.specs.declared.vsids.heap.Entry.{Entry}
-use Rattle.sat_store.specs.heap.Heap.{IsHeap, flags, keys}
+use Rattle.sat_store.specs.heap.Heap.{IsHeap, flags}
 use Rattle.sat_store.specs.heap.Vsids.{Queue, may_pick}
 use Rattle.sat_store.proofs.lemmas.heap.FlagLemmas.{flags_count}
 use Rattle.sat_store.proofs.lemmas.heap.QueueLemmas.{keyed, keyed_heap, keyed_keys, behind_those, written_key, place_read}
@@ -29,16 +30,4 @@ invariant_of-self c =
     )
 
 pub returns : goal.returns
-returns c =
-    let h = c.self.inside.heap.items in
-    let p = c.self.inside.positions.items in
-    let m = c.self.inside.available in
-    let v = c.args.var in
-    let at = c.index-2.result.now in
-    let heap = c.self.invariant.0 in
-    let n : length c.args.self.now.available ≡ length p = ap (λ (q : Queue). length q.available) (sym c.self.view_is) ∙ flags_count m p in
-    let within : v < length h = omega (arith, c.requires.within, n, heap.placed.count) in
-    let is : get_or p v 0 ≡ at = place_read p c.index.result v at (omega (arith, within, c.index.ensures.value, heap.placed.count)) c.index.ensures.value c.index-2.ensures in
-    let there : at < length h = omega (arith, is, heap.placed.placed v within) in
-    let written : set h at (record { key = 0; var = c.index_mut.result.now.var }) ≡ keyed h at 0 = written_key h at 0 c.index_mut.result.now there c.index_mut.ensures.value in
-    rw (← c.self.view_is) (ap (λ (a : List ℕ). record { available = flags m p; activities = a; bump = c.self.inside.bump; decay = c.self.inside.decay }) (ap (λ (x : List Entry). keys x p) written ∙ keyed_keys h p v at 0 heap.placed within is))
+returns c = grind (arith, common_steps, flags_count, keyed, keyed_keys, written_key, place_read)

@@ -1,18 +1,14 @@
-use Rattle.std.proofs.Common.{◌≡◌, ◌<◌, ◌+◌, ◌-◌, ℕ, List, Bool, false, length, get_or, set, ap, ◌∙◌, refl, sym, subst, arith}
+use Rattle.std.proofs.lemmas.Grind.{common_steps}
+use Rattle.std.proofs.Common.{◌≡◌, ◌<◌, ◌-◌, ℕ, List, Bool, false, length, set, ap, ◌∙◌, sym, subst, arith}
 use Rattle.std.proofs.lemmas.List.{get_or_read}
-use Rattle.std.specs.List.{count_by}
 use Rattle.sat_store.specs.declared.vsids.heap.Entry.{Entry}
 use Rattle.sat_store.specs.heap.Heap.{no_entry, var_at, flags, keys}
-use Rattle.sat_store.specs.heap.Vsids.{Queue, may_pick, IsFirst, with_available}
+use Rattle.sat_store.specs.heap.Vsids.{Queue, IsFirst, with_available}
 use Rattle.sat_store.proofs.lemmas.heap.QueueLemmas.{none_flagged, front_first, front_fewer}
 use Rattle.sat_store.proofs.vsids.VsidsIterator.next.Goals as goal
 
 pub returns-then-self-eq0-clause-steps : goal.returns-then-self-eq0-clause-steps
-returns-then-self-eq0-clause-steps c =
-    let p = c.self.inside.positions.items in (
-      (λ v. ap (λ (q : Queue). may_pick q v) (sym c.self.view_is) ∙ ap (λ (m : ℕ). get_or (flags m p) v false) c.if-self-eq0.true ∙ none_flagged p v),
-      refl,
-    )
+returns-then-self-eq0-clause-steps c = grind (arith, common_steps, none_flagged)
 
 pub returns-clause-steps : goal.returns-clause-steps
 returns-clause-steps c =
@@ -35,14 +31,4 @@ returns-clause-steps c =
     )
 
 pub returns-clause-goes : goal.returns-clause-goes
-returns-clause-goes c =
-    let h = c.self.inside.heap.items in
-    let p = c.self.inside.positions.items in
-    let m = c.self.inside.available in
-    let heap = c.self.invariant.0 in
-    let some : 0 < m = omega (arith, c.if-self-eq0.false) in
-    let fewer : count_by (λ b. b) (flags (m - 1) c.take_out.new.positions.items) + 1 ≡ count_by (λ b. b) c.args.self.now.available =
-    ap (λ (f : List Bool). count_by (λ b. b) f + 1) c.take_out.ensures.flags
-    ∙ front_fewer h p m heap some
-    ∙ ap (λ (q : Queue). count_by (λ b. b) q.available) c.self.view_is in
-    record { on = λ fin. (tt, fin, omega arith); keeps = tt; rests = λ fin. tt }
+returns-clause-goes c = grind (arith, common_steps, front_fewer)

@@ -1,20 +1,7 @@
-use Rattle.std.proofs.Common.{◌≡◌, ◌∷◌, ◌++◌, [], ℕ, length, ◌∙◌, sym, subst, arith, rules, refl, length-append}
+use Rattle.std.proofs.Common.{◌∷◌, ◌++◌, [], ℕ, ◌∙◌, subst, arith, length-append}
 use Rattle.sat_store.specs.heap.Heap.{Placed, IsHeap}
-use Rattle.sat_store.proofs.lemmas.heap.QueueLemmas.{newcomer, grown_heap, grown_placed, none_added, one_more_added}
+use Rattle.sat_store.proofs.lemmas.heap.QueueLemmas.{newcomer, grown_heap, grown_placed, one_more_added}
 use Rattle.sat_store.proofs.vsids.heap.add_variables.Goals as goal
-
-pub loop-index-init : goal.loop-index-init
-loop-index-init c =
-    let n : c.len-index.result ≡ length c.args.heap.now.items = search rules in
-    record {
-      heap = λ m heap. heap;
-      placed = c.requires.placed;
-      adds = none_added c.args.heap.now.items c.args.positions.now.items c.len-index.result n;
-      count = sym n;
-      counts = sym c.requires.placed.count ∙ sym n;
-      heap_room = refl;
-      positions_room = refl;
-    }
 
 pub loop-index-preserved : goal.loop-index-preserved
 loop-index-preserved c =

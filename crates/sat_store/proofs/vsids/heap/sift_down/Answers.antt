@@ -1,9 +1,9 @@
-use Rattle.std.proofs.Common.{◌≡◌, ◌≢◌, ◌-◌, ◌/◌, ◌<◌, ◌≤◌, ◌∙◌, ℕ, length, set, refl, sym, arith, subst}
+use Rattle.std.proofs.Common.{◌≡◌, ◌≢◌, ◌<◌, ◌∙◌, length, set, refl, sym, arith, subst}
 use Rattle.std.proofs.lemmas.List.{get_or_read, length-set}
 use Rattle.sat_store.specs.declared.vsids.heap.Entry.{Entry}
-use Rattle.sat_store.specs.heap.Heap.{no_entry, rank_at, FirstAbove, NoneAbove, DownFrom, Ordered, Exchanged}
-use Rattle.sat_store.proofs.lemmas.heap.OrderLemmas.{down_step, down_done}
-use Rattle.sat_store.proofs.lemmas.heap.MoveLemmas.{full_again, not_moved, written_listed, child_is_above, child_is_first, none_is_above, exchanged_by_moving, one_more_exchanged}
+use Rattle.sat_store.specs.heap.Heap.{no_entry, rank_at, FirstAbove, Exchanged}
+use Rattle.sat_store.proofs.lemmas.heap.OrderLemmas.{down_step}
+use Rattle.sat_store.proofs.lemmas.heap.MoveLemmas.{full_again, not_moved, written_listed, child_is_above, child_is_first, exchanged_by_moving, one_more_exchanged}
 use Rattle.sat_store.proofs.vsids.heap.sift_down.Goals as goal
 
 pub loop-child-init : goal.loop-child-init
@@ -37,7 +37,6 @@ loop-child-preserved c =
     let b = c.index-other.result.now in
     let within : hole < length h = omega (arith, before.within, before.count, c.requires.within) in
     let f : FirstAbove h m e hole child = rw c.deref.ensures.value at c.in-Some.ensures in
-    let under : (child - 1) / 4 ≡ hole = f.under in
     let differ : hole ≢ child = omega (arith, f.some) in
     let in_child : child < length h = omega (arith, f.within, before.count, c.requires.within) in
     let is : b ≡ _ = get_or_read h child b in_child c.index-other.ensures no_entry in
@@ -54,16 +53,3 @@ loop-child-preserved c =
       same = one_more_exchanged m hole child c.args.heap.now.items (set h hole e) (set (set h hole b) child e) c.args.positions.now.items (set p e.var hole) (set (set p b.var hole) e.var child) before.within f.within ex before.same;
       down = λ low below down. down_step (rank_at (set h hole e)) (rank_at (set (set h hole b) child e)) m low hole child f.under f.some f.within ex.ranks (child_is_above h m hole child e within f) (child_is_first h m hole child e f) (omega (arith, before.behind)) (before.down low below down);
     }
-
-pub returns-clause-ordered : goal.returns-clause-ordered
-returns-clause-ordered c =
-    let before = c.loop-child.invariant in
-    let h = c.loop-child.heap.items in
-    let hole = c.loop-child.hole in
-    let m = c.args.available in
-    let e = c.index-entry.result.now in
-    let within : hole < length h = omega (arith, before.within, before.count, c.requires.within) in
-    let none : NoneAbove h m e hole = rw c.deref.ensures.value at c.in_default.ensures in
-    let ordered : (low : ℕ) → low ≤ c.args.at → DownFrom (rank_at c.args.heap.now.items) m low c.args.at → Ordered (rank_at (set h hole e)) m low =
-    λ low below down. down_done (rank_at (set h hole e)) m low hole (none_is_above h m hole e within none) (before.down low below down) in
-    rw c.put-2.ensures.heap ordered

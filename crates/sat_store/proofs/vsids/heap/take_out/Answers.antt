@@ -3,11 +3,8 @@ use Rattle.std.proofs.lemmas.Bool.{cases_lt, false≢true}
 use Rattle.std.proofs.lemmas.List.{get_or_read}
 use Rattle.sat_store.specs.declared.vsids.heap.Entry.{Entry}
 use Rattle.sat_store.specs.heap.Heap.{no_entry, rank, rank_at, parent}
-use Rattle.sat_store.proofs.lemmas.heap.QueueLemmas.{taken_flags, taken_up, taken_down, one_fewer, heap_without_last, heap_of}
+use Rattle.sat_store.proofs.lemmas.heap.QueueLemmas.{taken_flags, taken_up, taken_down, one_fewer, heap_of}
 use Rattle.sat_store.proofs.vsids.heap.take_out.Goals as goal
-
-pub returns-then-at-last-clause-heap : goal.returns-then-at-last-clause-heap
-returns-then-at-last-clause-heap c = heap_without_last _ _ _ _ _ _ c.requires.heap c.requires.at c.if-at-last.true c.exchange.ensures
 
 pub returns-then-at-last-clause-flags : goal.returns-then-at-last-clause-flags
 returns-then-at-last-clause-flags c = taken_flags c.args.heap.now.items c.args.positions.now.items c.exchange.new.positions.items c.args.available c.args.at c.requires.heap.placed c.requires.at c.requires.heap.within c.exchange.ensures.places
@@ -22,9 +19,6 @@ sift_up-requires-clause-up c =
     let is : c.index.result.now ≡ _ = get_or_read new at c.index.result.now within c.index.ensures no_entry in
     let above : rank_at new (parent at) < rank_at new at = subst (λ (x : Entry). rank_at new (parent at) < rank x) is (rw c.deref.ensures.value at up.1) in
     taken_up (rank_at h) (rank_at new) (c.args.available - 1) at up.0 (omega arith) c.exchange.ensures.ranks above (one_fewer (rank_at h) c.args.available (omega arith) c.requires.heap.ordered)
-
-pub returns-then-goes_up-clause-heap : goal.returns-then-goes_up-clause-heap
-returns-then-goes_up-clause-heap c = heap_of _ _ _ _ _ _ _ _ _ _ c.requires.heap c.exchange.ensures c.sift_up.ensures.same (omega (arith, c.requires.heap.within)) c.sift_up.ensures.ordered
 
 pub returns-then-goes_up-clause-flags : goal.returns-then-goes_up-clause-flags
 returns-then-goes_up-clause-flags c = c.sift_up.ensures.same.flags ∙ taken_flags c.args.heap.now.items c.args.positions.now.items c.exchange.new.positions.items c.args.available c.args.at c.requires.heap.placed c.requires.at c.requires.heap.within c.exchange.ensures.places
