@@ -1,4 +1,4 @@
-//! Long clauses: three words of header and the literals, in one buffer.
+//! Long clauses in one buffer: a header of three words, then the literals.
 pub mod alloc;
 pub mod edit;
 pub mod header;

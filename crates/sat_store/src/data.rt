@@ -1,30 +1,33 @@
-//! What is kept of each variable.
+//! The data of a variable.
 ghost use Rattle.std.specs.Prelude.{◌≡◌};
 
-/// How a variable takes part in models: each model fixes it (`Sample`), some model goes with the others (`Witness`), or
-/// no user names it (`Hide`).
+/// How a variable takes part in models.
 #[derive(Clone, Copy, Debug, PartialEq, Eq)]
 pub enum SamplingMode {
+    /// Every model gives it a value.
     Sample,
+    /// Some value of it completes every model of the other variables.
     Witness,
+    /// It has no user name.
     Hide,
 }
 
-/// What is kept of a variable, also while the search doesn't know it.
+/// The data of a variable, whether or not the search uses it.
 #[derive(Clone, Drop)]
 pub struct VarData {
+    /// How it takes part in models.
     pub sampling_mode: SamplingMode,
 
-    /// The value that a unit clause gives it.
+    /// The value that a unit clause gives it, or `None`.
     pub unit: Option<bool>,
 
-    /// Whether no clause has it, but for its unit.
+    /// Whether no clause except its unit has it.
     pub isolated: bool,
 
     /// Whether an assumption has it.
     pub assumed: bool,
 
-    /// Whether it isn't in use.
+    /// Whether it is not in use.
     pub deleted: bool,
 }
 
@@ -34,6 +37,7 @@ impl Default for VarData {
 
     ghost is_default = { λ d. d ≡ unused_variable };
 
+    /// Returns the data of a variable that is not in use.
     fn default() -> VarData {
         VarData {
             sampling_mode: SamplingMode::Hide,
@@ -48,7 +52,7 @@ impl Default for VarData {
 impl VarData {
     ghost use Rattle.sat_store.specs.variables.VarData.{user_variable};
 
-    /// What is kept of a new variable of the user's.
+    /// Returns the data of a new variable of the user.
     pub fn user_default() -> VarData
         ensures { result ≡ user_variable }
     {

@@ -1,7 +1,7 @@
-//! What holds of activities: each law is the contract of a function that does nothing.
+//! Laws about activities. Each law is the contract of a function with an empty body.
 ghost use Rattle.sat_store.specs.heap.Rows.{BumpsPastTheLimit, SixtyDecays};
 
-/// Worked rows of activities that are brought to a smaller scale, by decays and by a bump.
+/// Computes examples in which decays and a bump rescale the activities.
 pub fn rows_of_smaller_scales()
     ensures decays { SixtyDecays }
     ensures bump { BumpsPastTheLimit }

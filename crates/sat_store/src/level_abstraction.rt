@@ -1,12 +1,13 @@
-//! A filter of decision levels.
+//! A filter for sets of decision levels.
 ghost use Rattle.std.specs.Prelude.{ℕ, ◌≡◌, ◌%◌, ◌==◌, if◌then◌else◌, true, false};
 ghost use Rattle.sat_store.specs.levels.Levels.{passes};
 
 use std::marker::Model;
 
-/// A set of levels, of which it keeps the remainder modulo 64: one bit for each.
+/// A set of decision levels, kept as one bit for each remainder modulo 64.
 #[derive(Clone, Copy)]
 pub struct LevelAbstraction {
+    /// The bit `level % 64` is set for each level that was added.
     bits: u64,
 }
 
@@ -26,13 +27,14 @@ impl Default for LevelAbstraction {
 
     ghost is_default = { λ filter. (level : ℕ) → passes filter level ≡ false };
 
+    /// Returns the empty set.
     fn default() -> LevelAbstraction {
         LevelAbstraction { bits: 0 }
     }
 }
 
 impl LevelAbstraction {
-    /// Lets a level pass from now on, with all that have its remainder.
+    /// Adds a level, and so all levels with the same remainder.
     pub fn add(&mut self, level: usize)
         ensures { (other : ℕ) → passes self.new other
             ≡ (if other % 64 == level % 64 then true else passes self.old other) }
@@ -40,7 +42,7 @@ impl LevelAbstraction {
         self.bits |= 1 << (level % 64);
     }
 
-    /// Whether the level, or one with its remainder, was added.
+    /// Whether the level, or one with the same remainder, was added.
     pub fn test(&self, level: usize) -> bool
         ensures { result ≡ passes self.now level }
     {

@@ -1,4 +1,4 @@
-//! What a solver keeps: clauses in one buffer, variables by activity, restarts, levels, and maps between variables.
+//! The data structures of a solver: clause buffer, variable queue, restart sequence, level filter, variable maps.
 #![tactic(auto)]
 
 pub mod clause;

@@ -1,13 +1,15 @@
-//! The lengths of the gaps between restarts.
+//! The Luby sequence, which gives the gaps between restarts.
 ghost use Rattle.std.specs.Prelude.{◌≡◌, ◌+◌, ◌<◌, ◌≤◌, ◌^◌};
 ghost use Rattle.sat_store.specs.schedule.Luby.{luby, wrapped_number};
 
 use std::marker::Model;
 
-/// The Luby sequence 1, 1, 2, 1, 1, 2, 4, .. from term 1 to term 2^64 - 1, and then from the first again. Contracts see
-/// it as the number of the last term that it gave.
+/// The Luby sequence: 1, 1, 2, 1, 1, 2, 4 and so on. After term 2^64 - 1 it starts again with the first.
+///
+/// Contracts see the number of the last term that was returned, 0 at first.
 #[derive(Drop)]
 pub struct LubySequence {
+    /// The number of the last term that was returned.
     given: u64,
 }
 
@@ -26,13 +28,14 @@ impl Default for LubySequence {
 
     ghost is_default = { λ s. s ≡ 0 };
 
+    /// Returns the sequence before its first term.
     fn default() -> LubySequence {
         LubySequence { given: 0 }
     }
 }
 
 impl LubySequence {
-    /// The next term.
+    /// Returns the next term.
     pub fn advance(&mut self) -> u64
         ensures term { result ≡ luby (self.old + 1) }
         ensures next { self.new ≡ wrapped_number (self.old + 1) }
@@ -43,7 +46,7 @@ impl LubySequence {
     }
 }
 
-/// The term of this number.
+/// Returns the term with this number, from 1 on.
 fn luby_term(number: u64) -> u64
     requires { 0 < number }
     ensures { result ≡ luby number }
@@ -63,6 +66,7 @@ fn luby_term(number: u64) -> u64
     0
 }
 
+/// Returns 2 to the power of `bits`.
 fn power_of_two(bits: u32) -> u64
     requires { bits < 64 }
     ensures value { result ≡ 2 ^ bits }

@@ -1,4 +1,4 @@
-//! Lists that the solver's parts use for a while.
+//! Scratch lists that the parts of a solver share.
 ghost use Rattle.std.specs.Prelude.{◌≡◌, ◌≤◌, [], OnOk, OnErr};
 ghost use Rattle.sat_store.specs.variables.Flags.{flags_for, GrowsFlags};
 ghost use Rattle.sat_base.specs.values.Literals.{var_limit};
@@ -6,7 +6,7 @@ ghost use Rattle.sat_base.specs.values.Literals.{var_limit};
 use sat_base::Lit;
 use std::alloc::{AllocError, Global};
 
-/// Two lists of literals, whose contents nobody counts on.
+/// Two scratch lists of literals. Their contents mean nothing between calls.
 #[derive(Drop)]
 pub struct TmpData {
     pub lits: Vec<Lit>,
@@ -14,7 +14,7 @@ pub struct TmpData {
 }
 
 impl TmpData {
-    /// Two empty lists. Takes no memory.
+    /// Returns two empty lists. Never allocates.
     pub fn new(alloc: Global) -> TmpData
         ensures first { result.lits.items ≡ [] }
         ensures second { result.lits_2.items ≡ [] }
@@ -26,14 +26,14 @@ impl TmpData {
     }
 }
 
-/// A flag for each literal. Who sets one clears it again: between the solver's calls all are false.
+/// A flag for every literal. Whoever sets one clears it again: all are false between the solver's calls.
 #[derive(Drop)]
 pub struct TmpFlags {
     pub flags: Vec<bool>,
 }
 
 impl TmpFlags {
-    /// No flags. Takes no memory.
+    /// Returns an empty list of flags. Never allocates.
     pub fn new(alloc: Global) -> TmpFlags
         ensures { result.flags.items ≡ [] }
     {
@@ -42,7 +42,7 @@ impl TmpFlags {
         }
     }
 
-    /// Makes it two flags for each of so many variables: new ones are false, those past the count are dropped.
+    /// Resizes the list to two flags for each of `count` variables. New flags are false.
     pub fn set_var_count(&mut self, count: usize) -> Result<(), AllocError>
         requires { count ≤ var_limit }
         ensures flags { OnOk result (self.new.flags.items ≡ flags_for count self.old.flags.items) }
@@ -52,6 +52,7 @@ impl TmpFlags {
         self.resize_flags(count)
     }
 
+    /// Resizes the list, with the contract from which `set_var_count` proves its own.
     fn resize_flags(&mut self, count: usize) -> Result<(), AllocError>
         requires { count ≤ var_limit }
         ensures flags { OnOk result (self.new.flags.items ≡ flags_for count self.old.flags.items) }

@@ -8,10 +8,10 @@ use sat_base::Var;
 use std::alloc::{AllocError, Global};
 use std::marker::Model;
 
-/// A map from variables to variables, which contracts see as the list of what each index is mapped to.
+/// A map from variables to variables. Contracts see the list of the targets, by index.
 #[derive(Debug, Drop)]
 pub struct VarMap {
-    /// One more than the target of each index, or 0 if it has none.
+    /// For every index one more than its target, or 0 if it has none.
     codes: Vec<u32>,
 }
 
@@ -27,7 +27,7 @@ impl Model for VarMap {
 }
 
 impl VarMap {
-    /// A map of no variable. Takes no memory.
+    /// Returns an empty map. Never allocates.
     pub fn new(alloc: Global) -> VarMap
         ensures { result ≡ [] }
     {
@@ -36,14 +36,14 @@ impl VarMap {
         }
     }
 
-    /// What a variable is mapped to.
+    /// Returns the target of a variable, or `None` if it is not mapped.
     pub fn get(&self, from: Var) -> Option<Var>
         ensures { result ≡ target self.now from }
     {
         target_at(&self.codes, from)
     }
 
-    /// Maps `from`, which isn't mapped, to `into`.
+    /// Maps `from` to `into`. `from` must not be mapped.
     #[inline(always)]
     pub fn insert(&mut self, into: Var, from: Var) -> Result<(), AllocError>
         requires { target self.old from ≡ None }
@@ -55,6 +55,7 @@ impl VarMap {
         self.put_target(into, from)
     }
 
+    /// Maps `from` to `into`, with the contract from which `insert` proves its own.
     #[inline(always)]
     fn put_target(&mut self, into: Var, from: Var) -> Result<(), AllocError>
         ensures put { OnOk result (PutsTarget self.old self.new from (Some into)) }
@@ -66,7 +67,7 @@ impl VarMap {
         Ok(())
     }
 
-    /// Leaves a variable unmapped, whether it was mapped or not.
+    /// Removes the target of a variable, if it has one.
     pub fn remove(&mut self, from: Var)
         ensures put { PutsTarget self.old self.new from None }
         ensures watermark { length self.new ≡ length self.old }
@@ -74,7 +75,7 @@ impl VarMap {
         forget(&mut self.codes, from);
     }
 
-    /// Leaves a variable unmapped, and all from this index on.
+    /// Removes the target of a variable, and lowers the watermark.
     fn cut(&mut self, from: Var, watermark: usize)
         requires { watermark ≤ length self.old }
         ensures put { (v : ℕ) → v < watermark → target self.new v ≡ (if v == from then None else target self.old v) }
@@ -84,7 +85,7 @@ impl VarMap {
         self.remove(from);
     }
 
-    /// One more than the largest index that was ever mapped, or 0.
+    /// Returns one more than the largest index that was ever mapped, or 0.
     pub fn watermark(&self) -> usize
         ensures { result ≡ length self.now }
     {
@@ -92,7 +93,7 @@ impl VarMap {
     }
 }
 
-/// Returns the target that the numbers hold for a variable.
+/// Returns the target that the codes hold for a variable.
 fn target_at(codes: &[u32], from: Var) -> Option<Var>
     requires { AreCodes codes.now }
     ensures { result ≡ target (targets_of codes.now) from }
@@ -104,7 +105,7 @@ fn target_at(codes: &[u32], from: Var) -> Option<Var>
     Some(Var::from_index((code - 1) as usize))
 }
 
-/// Sets the target of a variable to none.
+/// Removes the target of a variable from the codes.
 fn forget(codes: &mut [u32], from: Var)
     ensures put { PutsTarget (targets_of codes.old) (targets_of codes.new) from None }
     ensures codes { AreCodes codes.old → AreCodes codes.new }
@@ -115,7 +116,7 @@ fn forget(codes: &mut [u32], from: Var)
     }
 }
 
-/// Makes room for the target of a variable.
+/// Reserves capacity for the code of a variable.
 #[inline(always)]
 fn make_room(codes: &mut Vec<u32>, from: Var) -> Result<(), AllocError>
     ensures kept { codes.new.items ≡ codes.old.items }
@@ -128,7 +129,7 @@ fn make_room(codes: &mut Vec<u32>, from: Var) -> Result<(), AllocError>
     codes.reserve(index + 1 - codes.len())
 }
 
-/// Sets the target of a variable, for which there is room.
+/// Sets the target of a variable. Capacity for its code must be reserved.
 #[inline(always)]
 fn put(codes: &mut Vec<u32>, from: Var, into: Var)
     requires { from < vec_capacity codes.old }
@@ -161,7 +162,7 @@ impl Model for VarBiMap {
 }
 
 impl VarBiMap {
-    /// A map of no variable. Takes no memory.
+    /// Returns an empty map. Never allocates.
     pub fn new(alloc: Global) -> VarBiMap
         ensures fwd { result.fwd ≡ [] }
         ensures bwd { result.bwd ≡ [] }
@@ -172,7 +173,7 @@ impl VarBiMap {
         }
     }
 
-    /// The map.
+    /// Returns the map.
     pub fn fwd(&self) -> &VarMap
         ensures map { result.now ≡ self.now.fwd }
         ensures inverse { AreInverse self.now }
@@ -180,7 +181,7 @@ impl VarBiMap {
         &self.fwd
     }
 
-    /// Its inverse.
+    /// Returns the inverse map.
     pub fn bwd(&self) -> &VarMap
         ensures map { result.now ≡ self.now.bwd }
         ensures inverse { AreInverse self.now }
@@ -188,7 +189,7 @@ impl VarBiMap {
         &self.bwd
     }
 
-    /// The map, to be changed with its inverse.
+    /// Lends the map to be changed together with its inverse.
     pub fn fwd_mut(&mut self) -> VarBiMapMut<'_>
         ensures same { result.map.ghost_name ≡ self.entry.ghost_name }
         ensures map { result.map.now ≡ self.old }
@@ -200,7 +201,7 @@ impl VarBiMap {
         }
     }
 
-    /// The inverse, to be changed with the map.
+    /// Lends the inverse to be changed together with the map.
     pub fn bwd_mut(&mut self) -> VarBiMapMut<'_>
         ensures same { result.map.ghost_name ≡ self.entry.ghost_name }
         ensures map { result.map.now ≡ self.old }
@@ -212,6 +213,7 @@ impl VarBiMap {
         }
     }
 
+    /// Maps `from` to `into` in the map, and back in its inverse.
     fn link(&mut self, from: Var, into: Var) -> Result<(), AllocError>
         requires from_unmapped { target self.old.fwd from ≡ None }
         requires into_unmapped { target self.old.bwd into ≡ None }
@@ -227,6 +229,7 @@ impl VarBiMap {
         Ok(())
     }
 
+    /// Removes the target `into` of `from` from the map, and `from` from its inverse.
     fn unlink(&mut self, from: Var, into: Var)
         requires { target self.old.fwd from ≡ Some into }
         ensures { Unlinks self.old self.new from into }
@@ -236,18 +239,19 @@ impl VarBiMap {
     }
 }
 
-/// One of the two maps of a `VarBiMap`, to be changed with the other. The fields are the maps, and whether they are
-/// taken the other way round.
+/// One of the two maps of a `VarBiMap`, lent to be changed together with the other.
 #[derive(Drop)]
 pub struct VarBiMapMut<'a> {
+    /// Both maps.
     pub map: &'a mut VarBiMap,
+    /// Whether this is the inverse.
     pub is_turned: bool,
 }
 
 impl<'a> VarBiMapMut<'a> {
     ghost use Rattle.sat_store.specs.variables.Facing.{facing};
 
-    /// Maps `from` to `into`, neither of which is mapped on its side.
+    /// Maps `from` to `into`. Neither may be mapped on its side.
     pub fn insert(&mut self, into: Var, from: Var) -> Result<(), AllocError>
         requires from_unmapped { target (facing self.old).fwd from ≡ None }
         requires into_unmapped { target (facing self.old).bwd into ≡ None }
@@ -260,6 +264,7 @@ impl<'a> VarBiMapMut<'a> {
         self.link(into, from)
     }
 
+    /// Maps `from` to `into`, with the contract from which `insert` proves its own.
     fn link(&mut self, into: Var, from: Var) -> Result<(), AllocError>
         requires from_unmapped { target (facing self.old).fwd from ≡ None }
         requires into_unmapped { target (facing self.old).bwd into ≡ None }
@@ -274,7 +279,7 @@ impl<'a> VarBiMapMut<'a> {
         self.map.link(from, into)
     }
 
-    /// Leaves a variable unmapped, and answers what it was mapped to.
+    /// Removes the target of a variable, and returns it.
     pub fn remove(&mut self, from: Var) -> Option<Var>
         ensures same { self.new.map.ghost_name ≡ self.old.map.ghost_name }
         ensures side { self.new.is_turned ≡ self.old.is_turned }

@@ -1,8 +1,7 @@
-//! Variables by activity.
+//! A queue of variables by activity: VSIDS.
 //!
-//! A decision takes the variable of highest activity. Conflicts raise activities, and in place of lowering all others
-//! after each conflict, later conflicts raise by more; where numbers grow too large, all are brought to a smaller
-//! scale.
+//! A decision picks the variable with the highest activity. Conflicts raise activities. Activities decay because later
+//! conflicts raise by more. If the numbers grow too large, all of them are rescaled.
 ghost use Rattle.std.specs.Prelude.{◌≡◌, ◌<◌, ◌≤◌, ◌+◌, ◌*◌, ◌-◌, ◌/◌, ◌^◌, OnOk, OnErr, true, false, length, map, max};
 ghost use Rattle.std.specs.Prelude.{slice_set};
 ghost use Rattle.sat_base.specs.values.Literals.{var_limit};
@@ -17,23 +16,27 @@ use sat_base::Var;
 use std::alloc::{AllocError, Global};
 use std::marker::Model;
 
-/// Activities are below this.
+/// Activities are less than this.
 const LIMIT: u64 = 1 << 60;
 
-/// The variables that may be picked, by activity. Contracts see it as a `Queue`: which variables may be picked, the
-/// activity of each, what a bump adds, and the decay.
+/// A priority queue of the variables that may be picked, by activity.
+///
+/// Contracts see a `Queue`: which variables may be picked, every activity, what a bump adds, and the decay.
 #[derive(Drop)]
 pub struct Vsids {
-    /// All variables with their activities, the available ones first and in a heap.
+    /// All variables with their activities. The available ones are first and form a heap.
     heap: Vec<Entry>,
 
-    /// Where each variable stands in `heap`.
+    /// The position of every variable in `heap`.
     positions: Vec<u32>,
 
+    /// How many variables may be picked.
     available: usize,
+
+    /// What the next bump adds.
     bump: u64,
 
-    /// In thousandths.
+    /// The factor of a decay, in thousandths.
     decay: u64,
 }
 
@@ -56,7 +59,7 @@ impl Model for Vsids {
 }
 
 impl Vsids {
-    /// No variables, and a decay of 950. Takes no memory.
+    /// Returns a queue without variables and with a decay of 950 thousandths. Never allocates.
     pub fn new(alloc: Global) -> Vsids
         ensures { result ≡ no_variables }
     {
@@ -69,7 +72,7 @@ impl Vsids {
         }
     }
 
-    /// Raises the number of variables to this count, with room for all to be available. A lower count changes nothing.
+    /// Raises the number of variables to `count`, with room for all of them. A lower count changes nothing.
     pub fn set_var_count(&mut self, count: usize) -> Result<(), AllocError>
         requires { count ≤ var_limit }
         ensures counted { OnOk result (self.new ≡ with_variables count self.old) }
@@ -79,6 +82,7 @@ impl Vsids {
         self.raise_count(count)
     }
 
+    /// Raises the number of variables, with the contract from which `set_var_count` proves its own.
     fn raise_count(&mut self, count: usize) -> Result<(), AllocError>
         requires { count ≤ var_limit }
         ensures counted { OnOk result (self.new ≡ with_variables count self.old) }
@@ -94,7 +98,7 @@ impl Vsids {
         Ok(())
     }
 
-    /// Sets by how many thousandths activities decay.
+    /// Sets the factor of a decay, in thousandths.
     pub fn set_decay(&mut self, decay: u32)
         requires low { 500 ≤ decay }
         requires high { decay ≤ 999 }
@@ -103,7 +107,7 @@ impl Vsids {
         self.decay = u64::from(decay);
     }
 
-    /// Raises the activity of a variable.
+    /// Raises the activity of a variable. If it reaches 2^60, all activities and the bump are rescaled.
     pub fn bump(&mut self, var: Var)
         requires { var < length self.old.available }
         ensures queue { self.new ≡ bumped var self.old }
@@ -122,7 +126,7 @@ impl Vsids {
         }
     }
 
-    /// Lets all activities decay, in that later bumps add more.
+    /// Lets all activities decay: later bumps add more.
     pub fn decay(&mut self)
         ensures queue { self.new ≡ decayed self.old }
         ensures available { self.new.available ≡ self.old.available }
@@ -137,7 +141,7 @@ impl Vsids {
         self.bump = later;
     }
 
-    /// Sets the activity of a variable that may not be picked to 0.
+    /// Sets the activity of a variable to 0. The variable must not be available.
     pub fn reset(&mut self, var: Var)
         requires within { var < length self.old.available }
         requires unavailable { may_pick self.old var ≡ false }
@@ -147,7 +151,7 @@ impl Vsids {
         self.heap[at].key = 0;
     }
 
-    /// Lets a variable not be picked from now on.
+    /// Makes a variable unavailable: it is not picked from now on.
     pub fn make_unavailable(&mut self, var: Var)
         requires { var < length self.old.available }
         ensures { self.new ≡ with_available var false self.old }
@@ -159,7 +163,7 @@ impl Vsids {
         }
     }
 
-    /// Lets a variable be picked from now on.
+    /// Makes a variable available: it may be picked from now on.
     pub fn make_available(&mut self, var: Var)
         requires { var < length self.old.available }
         ensures { self.new ≡ with_available var true self.old }
@@ -183,8 +187,9 @@ impl Iterator for Vsids {
 
     ghost remaining = { λ q. at_most (count_by (λ b. b) q.available) };
 
-    /// The variable of highest activity of those that may be picked, of equals the one of the lowest index. It may not
-    /// be picked from then on. `None` where there is none.
+    /// Removes and returns the available variable with the highest activity, or `None` if no variable is available.
+    ///
+    /// Of equal activities the lowest index wins. The variable is unavailable from now on.
     fn next(&mut self) -> Option<Var> {
         if self.available == 0 {
             return None;
@@ -196,7 +201,7 @@ impl Iterator for Vsids {
     }
 }
 
-/// Brings all activities to a smaller scale, and answers what a bump adds on it.
+/// Rescales all activities, and returns what a bump adds on the new scale.
 fn rescale(heap: &mut Vec<Entry>, bump: u64) -> u64
     ensures heap { heap.new.items ≡ map scaled heap.old.items }
     ensures bump { result ≡ max (bump / 2 ^ 40) 1 }

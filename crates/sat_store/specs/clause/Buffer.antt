@@ -1,4 +1,4 @@
--- Clauses in one buffer of words: three words of header, then the literals. A clause goes by the place of its first word.
+-- Clauses in one buffer of words: three words of header, then the literals. A clause is named by the offset of its first word.
 use Rattle.std.specs.Prelude.{◌≡◌, ◌≢◌, ℕ, ◌+◌, ◌*◌, ◌^◌, ◌<◌, ◌≤◌, ◌⊎◌, List, [], ◌∷◌, ◌++◌, length, slice_index_or as get_or, slice_set as set, take, drop}
 use Rattle.std.specs.List.{Contains}
 use Rattle.sat_base.specs.values.Literals.{var_limit}
@@ -12,44 +12,44 @@ header_at words o = header_of (get_or words o 0) (get_or words (o + 1) 0) (get_o
 unfoldable pub lits_at : List ℕ → ℕ → List ℕ
 lits_at words o = take (get_or words (o + 2) 0) (drop (o + 3) words)
 
--- a clause stands at o, all of its words in the buffer
+-- there is a clause at o: all of its words are in the buffer, its flags fit, and its literals are codes
 pub record IsClause (words : List ℕ) (o : ℕ) : Type 0 where
   pub flags : get_or words (o + 1) 0 < 2 ^ 11
   pub whole : o + 3 + get_or words (o + 2) 0 ≤ length words
   pub lits : (k : ℕ) → k < get_or words (o + 2) 0 → get_or words (o + 3 + k) 0 < 2 * var_limit
 
--- the list with two of its elements exchanged
+-- the list with two elements swapped
 abbrev pub swapped : List ℕ → ℕ → ℕ → List ℕ
 swapped ls i j = set (set ls i (get_or ls j 0)) j (get_or ls i 0)
 
--- no word belongs to both clauses
+-- the clauses at o and p share no word
 unfoldable pub Apart : List ℕ → ℕ → ℕ → Type 0
 Apart words o p = (o + 3 + get_or words (o + 2) 0 ≤ p) ⊎ (p + 3 + get_or words (p + 2) 0 ≤ o)
 
--- a clause stands at each of these places, each with words of its own
+-- every one of these offsets is a clause, and no two of them share words
 pub record HoldsClauses (words : List ℕ) (live : List ℕ) : Type 0 where
   pub clauses : (o : ℕ) → Contains live o → IsClause words o
   pub apart : (o p : ℕ) → Contains live o → Contains live p → o ≢ p → Apart words o p
 
--- the clause at p is the same in both
+-- the clause at p is the same in both buffers
 pub record SameClauseAt (old new : List ℕ) (p : ℕ) : Type 0 where
   pub clause : IsClause new p
   pub header : header_at new p ≡ header_at old p
   pub lits : lits_at new p ≡ lits_at old p
 
--- a clause alone
+-- a clause without its buffer
 pub record HeadedClause : Type 0 where
   pub header : Header
   pub lits : List ℕ
 
--- no clause changed but the one at o, which is still there
+-- only the clause at o changed, and it is still a clause
 pub record ChangesAt (old new : List ℕ) (o : ℕ) : Type 0 where
   pub clause : IsClause new o
   pub size : length new ≡ length old
   pub others : (p : ℕ) → IsClause old p → Apart old o p → SameClauseAt old new p
   pub laid : (live : List ℕ) → Contains live o → HoldsClauses old live → HoldsClauses new live
 
--- a clause of this header, but for its length, and of these literals came to stand at c, behind all others
+-- a clause with these literals and this header, except for its length, was appended at c
 pub record AppendsClause (old new : List ℕ) (c : ℕ) (header : Header) (lits : List ℕ) : Type 0 where
   pub place : c ≡ length old
   pub clause : IsClause new c

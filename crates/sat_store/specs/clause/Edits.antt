@@ -1,10 +1,10 @@
--- What is done to a clause through a view that holds its buffer.
+-- Changes of a clause through a view that borrows its buffer.
 use Rattle.std.specs.Prelude.{◌≡◌, ℕ, List}
 use Rattle.sat_store.specs.declared.clause.edit.ClauseMut.{ClauseMut}
 use Rattle.sat_store.specs.clause.Header.{Header}
 use Rattle.sat_store.specs.clause.Buffer.{IsClause, header_at, lits_at, ChangesAt}
 
--- the view's clause stands in its buffer
+-- the view names a clause of its buffer
 abbrev pub IsViewOfClause : ClauseMut → Type 0
 IsViewOfClause view = IsClause view.buffer.now view.cref
 
@@ -16,7 +16,7 @@ header_there view = header_at view.buffer.now view.cref
 abbrev pub lits_there : ClauseMut → List ℕ
 lits_there view = lits_at view.buffer.now view.cref
 
--- the view's clause came to have this header and these literals, and no other clause changed
+-- the view's clause now has this header and these literals, and no other clause changed
 pub record Edits (old new : ClauseMut) (header : Header) (lits : List ℕ) : Type 0 where
   pub cref : new.cref ≡ old.cref
   pub stands : IsViewOfClause new

@@ -1,8 +1,8 @@
--- What an answer that the buffer is full comes with.
+-- What holds when the clause buffer is full.
 use Rattle.std.specs.Prelude.{◌≡◌, Result, Err}
 use Rattle.sat_store.specs.declared.clause.alloc.StoreError.{StoreError}
 use Rattle.sat_store.specs.declared.clause.alloc.StoreError.TheVariants.{StoreFull}
 
--- where the buffer is answered to be full, this holds
+-- if the result is `StoreFull`, this holds
 abbrev pub OnFull : {T : Type 0} → Result T StoreError → Type 0 → Type 0
 OnFull r p = r ≡ Err StoreFull → p

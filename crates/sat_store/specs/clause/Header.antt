@@ -1,9 +1,9 @@
--- The data of a long clause beside its literals, and the three words that hold it.
+-- The header of a long clause, and the three words that hold it.
 use Rattle.std.specs.Prelude.{ℕ, ◌+◌, ◌*◌, ◌/◌, ◌%◌, ◌==◌, Bool, true, false, if◌then◌else◌}
 use Rattle.sat_store.specs.declared.clause.tier.Tier.{Tier}
 use Rattle.sat_store.specs.declared.clause.tier.Tier.TheVariants.{Irred, Core, Mid, Local}
 
--- how useful a clause has been, how long it is kept, its marks, and how many literals it has
+-- how useful a clause was, how long it is kept, its flags, and its number of literals
 pub record Header : Type 0 where
   pub activity : ℕ
   pub tier : Tier
@@ -31,11 +31,11 @@ is_learned Core = true
 is_learned Mid = true
 is_learned Local = true
 
--- one for a true flag, else nothing
+-- 1 for a true flag, otherwise 0
 abbrev pub bit : Bool → ℕ
 bit flag = if flag then 1 else 0
 
--- the header in three words: an activity, flags (two bits of tier, deleted, mark, six bits of glue, active) and a length
+-- the header that three words hold: activity, flags (two bits of tier, deleted, mark, six bits of glue, active), length
 abbrev pub header_of : ℕ → ℕ → ℕ → Header
 header_of activity flags len = record {
   activity = activity;

@@ -1,25 +1,25 @@
--- All variables in a list with their activities, the first of them a heap, and where in the list each stands.
+-- A list of all variables with their activities, whose first m entries are a heap, and the position of every variable in it.
 use Rattle.std.specs.Prelude.{◌≡◌, ◌≢◌, ℕ, ◌+◌, ◌-◌, ◌*◌, ◌/◌, ◌^◌, ◌<◌, ◌≤◌, ◌++◌, Bool, false, nat_lt, List, length, map, replicate, slice_index_or as get_or, slice_set as set}
 use Rattle.sat_base.specs.values.Literals.{var_limit}
 use Rattle.sat_store.specs.declared.vsids.heap.Entry.{Entry}
 
--- what is read behind the end of the list
+-- what is read past the end of the list
 abbrev pub no_entry : Entry
 no_entry = record { key = 0; var = 0 }
 
--- the variable at this place of the list
+-- the variable at a position of the list
 abbrev pub var_at : List Entry → ℕ → ℕ
 var_at heap k = (get_or heap k no_entry).var
 
--- each entry of the list is one of a variable
+-- every entry of the list is that of a variable
 abbrev pub HoldsVariables : List Entry → Type 0
 HoldsVariables heap = (k : ℕ) → k < length heap → var_at heap k < var_limit
 
--- the activity of the variable at this place
+-- the activity of the variable at a position
 abbrev pub key_at : List Entry → ℕ → ℕ
 key_at heap k = (get_or heap k no_entry).key
 
--- each variable stands once in the list, where its position says
+-- every variable is in the list once, at its recorded position
 pub record Placed (heap : List Entry) (positions : List ℕ) : Type 0 where
   pub count : length heap ≡ length positions
   pub listed : (k : ℕ) → k < length heap → var_at heap k < length heap
@@ -27,41 +27,41 @@ pub record Placed (heap : List Entry) (positions : List ℕ) : Type 0 where
   pub placed : (v : ℕ) → v < length heap → get_or positions v 0 < length heap
   pub variable : (v : ℕ) → v < length heap → var_at heap (get_or positions v 0) ≡ v
 
--- what variables are ordered by: the activity, and of equals the lower index is the greater
+-- the order of variables: by activity, and of equal activities the lower index is greater
 abbrev pub rank : Entry → ℕ
 rank e = e.key * var_limit + (var_limit - 1 - e.var)
 
--- the rank of the variable at this place
+-- the rank of the variable at a position
 abbrev pub rank_at : List Entry → ℕ → ℕ
 rank_at heap k = rank (get_or heap k no_entry)
 
--- the place in the heap above this one; each is above four
+-- the position of the parent in the heap; every parent has four children
 abbrev pub parent : ℕ → ℕ
 parent k = (k - 1) / 4
 
--- of the first m, none is above its parent, where the parent stands at low or behind
+-- of the first m, no entry ranks above its parent, if the parent is at `low` or later
 abbrev pub Ordered : (ℕ → ℕ) → ℕ → ℕ → Type 0
 Ordered r m low = (k : ℕ) → 0 < k → k < m → low ≤ parent k → r k ≤ r (parent k)
 
--- the same but for the one at hole, which may be above its parent
+-- the same from position 0 on, except for the entry at `hole`, which may rank above its parent
 pub record UpFrom (r : ℕ → ℕ) (m hole : ℕ) : Type 0 where
   pub others : (k : ℕ) → 0 < k → k < m → k ≢ hole → r k ≤ r (parent k)
   pub across : 0 < hole → (k : ℕ) → 0 < k → k < m → parent k ≡ hole → r k ≤ r (parent hole)
 
--- the same but for the one at hole, which may be below those that it is parent of
+-- the same, except for the entry at `hole`, which may rank below its children
 pub record DownFrom (r : ℕ → ℕ) (m low hole : ℕ) : Type 0 where
   pub others : (k : ℕ) → 0 < k → k < m → low ≤ parent k → parent k ≢ hole → r k ≤ r (parent k)
   pub across : 0 < hole → low ≤ parent hole → (k : ℕ) → 0 < k → k < m → parent k ≡ hole → r k ≤ r (parent hole)
 
--- none of those that the place at is parent of is above this child
+-- no child of position `at` ranks above this child
 abbrev pub IsFirstChild : (r : ℕ → ℕ) (m at child : ℕ) → Type 0
 IsFirstChild r m at child = (k : ℕ) → 0 < k → k < m → parent k ≡ at → r k ≤ r child
 
--- none of those that the place at is parent of is above this entry
+-- no child of position `at` ranks above this entry
 abbrev pub NoneAbove : (heap : List Entry) (m : ℕ) (entry : Entry) (at : ℕ) → Type 0
 NoneAbove heap m entry at = (k : ℕ) → 0 < k → k < m → parent k ≡ at → rank_at heap k ≤ rank entry
 
--- the first of those that the place at is parent of, which is above this entry
+-- this child of position `at` ranks first among the children, and above this entry
 pub record FirstAbove (heap : List Entry) (m : ℕ) (entry : Entry) (at child : ℕ) : Type 0 where
   pub under : parent child ≡ at
   pub some : 0 < child
@@ -69,32 +69,32 @@ pub record FirstAbove (heap : List Entry) (m : ℕ) (entry : Entry) (at child : 
   pub first : IsFirstChild (rank_at heap) m at child
   pub above : rank entry < rank_at heap child
 
--- where the ranks r were ordered but for the one at a place, the ranks s are
+-- if the ranks r are ordered except for the one at a position, the ranks s are ordered
 abbrev pub SettlesDown : (r s : ℕ → ℕ) (m at : ℕ) → Type 0
 SettlesDown r s m at = (low : ℕ) → low ≤ at → DownFrom r m low at → Ordered s m low
 
--- s has the ranks of r, those at i and j exchanged
+-- the ranks s are those of r with i and j swapped
 pub record Exchanges (r s : ℕ → ℕ) (i j : ℕ) : Type 0 where
   pub first : s i ≡ r j
   pub second : s j ≡ r i
   pub others : (k : ℕ) → k ≢ i → k ≢ j → s k ≡ r k
 
--- those that stood at i and j stand at j and i
+-- the variables at i and j are now at j and i, and no other position changed
 pub record Transposes (old new : List ℕ) (i j : ℕ) : Type 0 where
   pub count : length new ≡ length old
   pub first : (v : ℕ) → v < length old → get_or old v 0 ≡ i → get_or new v 0 ≡ j
   pub second : (v : ℕ) → v < length old → get_or old v 0 ≡ j → get_or new v 0 ≡ i
   pub others : (v : ℕ) → v < length old → get_or old v 0 ≢ i → get_or old v 0 ≢ j → get_or new v 0 ≡ get_or old v 0
 
--- the flags of the variables: whether each stands before place m
+-- for every variable whether its position is before m
 abbrev pub flags : ℕ → List ℕ → List Bool
 flags m positions = map (λ p. nat_lt p m) positions
 
--- the activities of the variables
+-- the activities, by variable
 abbrev pub keys : List Entry → List ℕ → List ℕ
 keys heap positions = map (λ p. key_at heap p) positions
 
--- the variables at i and j exchanged
+-- the entries at i and j were swapped
 pub record Exchanged (heap : List Entry) (positions : List ℕ) (heap' : List Entry) (positions' : List ℕ) (i j : ℕ) : Type 0 where
   pub placed : Placed heap' positions'
   pub count : length heap' ≡ length heap
@@ -102,27 +102,27 @@ pub record Exchanged (heap : List Entry) (positions : List ℕ) (heap' : List En
   pub places : Transposes positions positions' i j
   pub keys : keys heap' positions' ≡ keys heap positions
 
--- the first m are the same variables in another order, and so are the others
+-- the first m entries are a permutation of the first m before, and so are the others
 pub record Rearranged (m : ℕ) (heap : List Entry) (positions : List ℕ) (heap' : List Entry) (positions' : List ℕ) : Type 0 where
   pub placed : Placed heap' positions'
   pub count : length heap' ≡ length heap
   pub flags : flags m positions' ≡ flags m positions
   pub keys : keys heap' positions' ≡ keys heap positions
 
--- the flags before place m' are those that were before place m, but for that of one variable
+-- the flags for m' are those for m, except for the flag of one variable
 abbrev pub SetsFlag : (m m' : ℕ) (positions positions' : List ℕ) (v : ℕ) (flag : Bool) → Type 0
 SetsFlag m m' positions positions' v flag = flags m' positions' ≡ set (flags m positions) v flag
 
--- new variables up to this count, which stand behind all others and have activity 0
+-- new variables with activity 0 were appended until there were `count`
 pub record AddsHeapVars (count : ℕ) (heap : List Entry) (positions : List ℕ) (heap' : List Entry) (positions' : List ℕ) : Type 0 where
   pub flags : (m : ℕ) → m ≤ length heap → flags m positions' ≡ flags m positions ++ replicate (count - length heap) false
   pub keys : keys heap' positions' ≡ keys heap positions ++ replicate (count - length heap) 0
 
--- an entry on a smaller scale
+-- an entry with its activity rescaled
 abbrev pub scaled : Entry → Entry
 scaled e = record e { key = e.key / 2 ^ 40 }
 
--- what is kept of a heap at all times
+-- the invariant of the heap
 pub record IsHeap (heap : List Entry) (positions : List ℕ) (m : ℕ) : Type 0 where
   pub placed : Placed heap positions
   pub within : m ≤ length heap
@@ -130,6 +130,6 @@ pub record IsHeap (heap : List Entry) (positions : List ℕ) (m : ℕ) : Type 0 
   pub small : (v : ℕ) → get_or (keys heap positions) v 0 < 2 ^ 60
   pub ordered : Ordered (rank_at heap) m 0
 
--- a heap stays one, whatever number of its variables may be picked
+-- a heap stays a heap, whatever number of its variables may be picked
 abbrev pub StaysHeap : (heap : List Entry) (positions : List ℕ) (heap' : List Entry) (positions' : List ℕ) → Type 0
 StaysHeap heap positions heap' positions' = (m : ℕ) → IsHeap heap positions m → IsHeap heap' positions' m

@@ -1,7 +1,7 @@
--- Variables by activity.
+-- A queue of variables by activity.
 use Rattle.std.specs.Prelude.{◌≡◌, ℕ, ◌+◌, ◌-◌, ◌*◌, ◌/◌, ◌^◌, ◌<◌, ◌≤◌, ◌⊎◌, Bool, true, false, nat_lt, if◌then◌else◌, Option, MatchOption, List, [], ◌++◌, length, map, max, replicate, slice_index_or as get_or, slice_set as set}
 
--- of each variable whether it may be picked, and its activity; what a bump adds; by how many thousandths activities decay
+-- for every variable whether it may be picked, and its activity; what a bump adds; the decay, in thousandths
 pub record Queue : Type 0 where
   pub available : List Bool
   pub activities : List ℕ
@@ -12,7 +12,7 @@ pub record Queue : Type 0 where
 abbrev pub may_pick : Queue → ℕ → Bool
 may_pick q v = get_or q.available v false
 
--- a variable's activity, 0 for one that isn't there; the highest is picked first
+-- the activity of a variable, 0 if there is no such variable; the highest is picked first
 abbrev pub activity_of : Queue → ℕ → ℕ
 activity_of q v = get_or q.activities v 0
 
@@ -20,14 +20,14 @@ activity_of q v = get_or q.activities v 0
 abbrev pub no_variables : Queue
 no_variables = record { available = []; activities = []; bump = 2 ^ 20; decay = 950 }
 
--- more variables, none of them to be picked, of activity 0
+-- the queue with new variables, which may not be picked and have activity 0
 abbrev pub with_variables : ℕ → Queue → Queue
 with_variables count q = record q {
   available = q.available ++ replicate (count - length q.available) false;
   activities = q.activities ++ replicate (count - length q.available) 0;
 }
 
--- the variables that were there stay as they were. Those that came to them may not be picked, and have activity 0
+-- the old variables stay as they were; the new ones may not be picked and have activity 0
 pub record GrowsQueue (count : ℕ) (old new : Queue) : Type 0 where
   pub size : length new.available ≡ max (length old.available) count
   pub kept_available : (v : ℕ) → v < length old.available → may_pick new v ≡ may_pick old v
@@ -37,11 +37,11 @@ pub record GrowsQueue (count : ℕ) (old new : Queue) : Type 0 where
   pub bump : new.bump ≡ old.bump
   pub decay : new.decay ≡ old.decay
 
--- all on a smaller scale: 40 bits less, but a bump adds at least 1
+-- all activities and the bump, 40 bits smaller; the bump is at least 1
 abbrev pub rescaled : Queue → Queue
 rescaled q = record q { activities = map (λ a. a / 2 ^ 40) q.activities; bump = max (q.bump / 2 ^ 40) 1 }
 
--- the variable's activity raised; on a smaller scale where it comes to 2 ^ 60
+-- the queue with the activity of a variable raised, and rescaled if the activity reaches 2 ^ 60
 abbrev pub bumped : ℕ → Queue → Queue
 bumped v q =
     let raised = record q { activities = set q.activities v (activity_of q v + q.bump) } in
@@ -51,25 +51,25 @@ bumped v q =
 abbrev pub quotient_up : ℕ → ℕ → ℕ
 quotient_up a b = (a + b - 1) / b
 
--- later bumps add more; on a smaller scale where that comes to 2 ^ 60
+-- the queue with a larger bump, and rescaled if the bump reaches 2 ^ 60
 abbrev pub decayed : Queue → Queue
 decayed q =
     let later = record q { bump = quotient_up (q.bump * 1000) q.decay } in
     if nat_lt later.bump (2 ^ 60) then later else rescaled later
 
--- the variable isn't to be picked, or is, from now on
+-- the queue in which a variable may be picked, or may not
 abbrev pub with_available : ℕ → Bool → Queue → Queue
 with_available v flag q = record q { available = set q.available v flag }
 
--- of those to be picked, none has a higher activity, nor the same and a lower index
+-- the variable may be picked, and no other one that may has a higher activity, or the same and a lower index
 pub record IsFirst (q : Queue) (v : ℕ) : Type 0 where
   pub available : may_pick q v ≡ true
   pub first : (u : ℕ) → may_pick q u ≡ true → (activity_of q u < activity_of q v) ⊎ ((activity_of q u ≡ activity_of q v) × (v ≤ u))
 
--- none is to be picked
+-- no variable may be picked
 abbrev pub NonePickable : Queue → Type 0
 NonePickable q = (v : ℕ) → may_pick q v ≡ false
 
--- a call of next: the variable that goes before all others, which isn't to be picked from then on, or none where none is left
+-- a call of `next` returns the first variable, which may not be picked from then on; or none if no variable may be picked
 abbrev pub Picks : Queue → Option ℕ → Queue → Type 0
 Picks q result after = MatchOption result (NonePickable q × (after ≡ q)) (λ v. IsFirst q v × (after ≡ with_available v false q))

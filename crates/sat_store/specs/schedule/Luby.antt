@@ -1,17 +1,17 @@
 -- The Luby sequence: 1 1 2 1 1 2 4 and so on.
 use Rattle.std.specs.Prelude.{◌≡◌, ℕ, zero, suc, ◌+◌, ◌-◌, ◌^◌, ◌==◌, [], ◌∷◌, if◌then◌else◌, nat_lt, refl}
 
--- the t-th term, for t below 2 ^ k: 2 ^ (k - 1) for t = 2 ^ k - 1, else, from 2 ^ (k - 1) on, that of t - 2 ^ (k - 1) + 1
+-- term t, for t below 2 ^ k: 2 ^ (k - 1) if t = 2 ^ k - 1; otherwise, from 2 ^ (k - 1) on, term t - 2 ^ (k - 1) + 1
 unfoldable pub luby_below : ℕ → ℕ → ℕ
 luby_below zero t = 0
 luby_below (suc k) t =
     if t == 2 ^ suc k - 1 then 2 ^ k else (if nat_lt t (2 ^ k) then luby_below k t else luby_below k (t - 2 ^ k + 1))
 
--- the t-th term, from 1 on
+-- term t of the sequence, from 1 on
 unfoldable pub luby : ℕ → ℕ
 luby t = luby_below t t
 
--- the number of the term behind this one: behind term 2 ^ 64 - 1 the terms begin again
+-- the number as the state counts it: 0 for term 2 ^ 64 - 1, after which the sequence starts again
 abbrev pub wrapped_number : ℕ → ℕ
 wrapped_number t = if t == 2 ^ 64 - 1 then 0 else t
 

@@ -1,15 +1,15 @@
--- Maps between variables as lists of numbers: one more than the target of each index, or 0 if it has none.
+-- Maps between variables as lists of codes: one more than the target of each index, or 0 if it has none.
 use Rattle.std.specs.Prelude.{ℕ, ◌-◌, ◌==◌, ◌≤◌, if◌then◌else◌, Option, Some, None, List, map, slice_index}
 use Rattle.sat_base.specs.values.Literals.{var_limit}
 
--- the target that a number stands for
+-- the target that a code means
 abbrev pub decoded : ℕ → Option ℕ
 decoded code = if code == 0 then None else Some (code - 1)
 
--- the targets that the numbers stand for
+-- the targets that the codes mean
 abbrev pub targets_of : List ℕ → List (Option ℕ)
 targets_of codes = map decoded codes
 
--- each number stands for a variable or for none
+-- every code means a variable or none
 abbrev pub AreCodes : List ℕ → Type 0
 AreCodes codes = (v : ℕ) → slice_index codes v ≤ var_limit

@@ -1,8 +1,8 @@
--- The two maps that a view of a map in both directions goes by.
+-- How a view sees the two maps that it borrows.
 use Rattle.std.specs.Prelude.{if◌then◌else◌}
 use Rattle.sat_store.specs.declared.var_map.VarBiMapMut.{VarBiMapMut}
 use Rattle.sat_store.specs.variables.Maps.{MapAndInverse, turned}
 
--- the maps as the view sees them, forward and backward
+-- the maps as the view sees them: its own map forward, the other one backward
 abbrev pub facing : VarBiMapMut → MapAndInverse
 facing view = if view.is_turned then turned view.map.now else view.map.now

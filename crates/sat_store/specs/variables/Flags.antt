@@ -1,11 +1,11 @@
--- Flags of literals.
+-- A flag for every literal.
 use Rattle.std.specs.Prelude.{ℕ, ◌≡◌, ◌*◌, ◌-◌, ◌<◌, ◌++◌, Bool, false, List, length, take, replicate, slice_index_or as get_or}
 
--- two flags for each of so many variables: those that were there, as far as they go, and false ones
+-- two flags for each of `count` variables: the old ones as far as they reach, then false ones
 abbrev pub flags_for : ℕ → List Bool → List Bool
 flags_for count flags = take (2 * count) flags ++ replicate (2 * count - length flags) false
 
--- two flags for each of so many variables: those that were there are kept, the others are false
+-- two flags for each of `count` variables: the old ones are kept, and the others are false
 pub record GrowsFlags (count : ℕ) (old new : List Bool) : Type 0 where
   pub size : length new ≡ 2 * count
   pub kept : (l : ℕ) → l < 2 * count → get_or new l false ≡ get_or old l false

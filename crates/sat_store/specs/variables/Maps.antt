@@ -1,16 +1,15 @@
--- Maps between variables, as the list of what each index is mapped to. The list is as long as one more than the largest index
--- that was ever mapped.
+-- Maps between variables, as the list of the targets by index. Its length is one more than the largest index that was ever mapped.
 use Rattle.std.specs.Prelude.{ℕ, ◌+◌, ◌==◌, ◌≡◌, ◌≢◌, ◌≤◌, max, if◌then◌else◌, Option, Some, None, List, length, slice_index_or}
 
--- what a variable is mapped to
+-- the target of a variable, or none
 abbrev pub target : List (Option ℕ) → ℕ → Option ℕ
 target map from = slice_index_or map from None
 
--- the map in which one variable has this target, and all others have theirs
+-- one variable now has this target, and every other keeps its own
 abbrev pub PutsTarget : List (Option ℕ) → List (Option ℕ) → ℕ → Option ℕ → Type 0
 PutsTarget old new from into = (v : ℕ) → target new v ≡ (if v == from then into else target old v)
 
--- one variable came to have this target. Each other one keeps its own, and has none where the map didn't reach it before
+-- one variable now has this target. Every other keeps its own; those that the map did not reach before have none
 pub record GrowsMap (old new : List (Option ℕ)) (from into : ℕ) : Type 0 where
   pub there : target new from ≡ Some into
   pub kept : (v : ℕ) → v ≢ from → target new v ≡ target old v
@@ -22,30 +21,30 @@ pub record MapAndInverse : Type 0 where
   pub fwd : List (Option ℕ)
   pub bwd : List (Option ℕ)
 
--- each is the inverse of the other
+-- each map is the inverse of the other
 pub record AreInverse (maps : MapAndInverse) : Type 0 where
   pub back : (v u : ℕ) → target maps.fwd v ≡ Some u → target maps.bwd u ≡ Some v
   pub forth : (v u : ℕ) → target maps.bwd u ≡ Some v → target maps.fwd v ≡ Some u
 
--- the maps in the other direction
+-- the same maps with their directions exchanged
 abbrev pub turned : MapAndInverse → MapAndInverse
 turned maps = record { fwd = maps.bwd; bwd = maps.fwd }
 
--- one variable was mapped to another, and back
+-- `from` is now mapped to `into`, and back
 pub record Links (old new : MapAndInverse) (from into : ℕ) : Type 0 where
   pub fwd : PutsTarget old.fwd new.fwd from (Some into)
   pub bwd : PutsTarget old.bwd new.bwd into (Some from)
   pub fwd_watermark : length new.fwd ≡ max (length old.fwd) (from + 1)
   pub bwd_watermark : length new.bwd ≡ max (length old.bwd) (into + 1)
 
--- one variable was mapped to another, and is no more
+-- `from` is no longer mapped to `into`, nor back
 pub record Unlinks (old new : MapAndInverse) (from into : ℕ) : Type 0 where
   pub fwd : PutsTarget old.fwd new.fwd from None
   pub bwd : PutsTarget old.bwd new.bwd into None
   pub fwd_watermark : length new.fwd ≡ length old.fwd
   pub bwd_watermark : length new.bwd ≡ length old.bwd
 
--- the same of a map and its inverse
+-- both maps gained one target
 pub record GrowsBoth (old new : MapAndInverse) (from into : ℕ) : Type 0 where
   pub fwd : GrowsMap old.fwd new.fwd from into
   pub bwd : GrowsMap old.bwd new.bwd into from

@@ -1,12 +1,12 @@
--- What is kept of a variable.
+-- The data of a variable.
 use Rattle.std.specs.Prelude.{true, false, None}
 use Rattle.sat_store.specs.declared.data.VarData.{VarData}
 use Rattle.sat_store.specs.declared.data.SamplingMode.TheVariants.{Sample, Hide}
 
--- a variable that isn't in use
+-- the data of a variable that is not in use
 abbrev pub unused_variable : VarData
 unused_variable = record { sampling_mode = Hide; unit = None; isolated = true; assumed = false; deleted = true }
 
--- a variable that a user's clauses may name
+-- the data of a new variable of the user
 abbrev pub user_variable : VarData
 user_variable = record { sampling_mode = Sample; unit = None; isolated = true; assumed = false; deleted = false }

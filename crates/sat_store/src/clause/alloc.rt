@@ -1,4 +1,4 @@
-//! Clauses in one buffer.
+//! The buffer of the long clauses.
 ghost use Rattle.std.specs.Prelude.{◌≡◌, ◌<◌, ◌≤◌, ◌^◌, ◌+◌, ◌-◌, ◌*◌, ◌↔◌, ◌++◌, [], length, slice_index, slice_set};
 ghost use Rattle.std.specs.Prelude.{take, IfOk, OnErr, vec_len, vec_capacity};
 ghost use Rattle.std.specs.List.{All};
@@ -15,11 +15,12 @@ use std::error::Error;
 use std::fmt;
 use std::marker::Model;
 
-/// How many words of the buffer a clause takes beside its literals.
+/// The number of words of a clause before its literals.
 const HEADER_LEN: usize = 3;
 
-/// A clause in a `ClauseAlloc`, which contracts see as the place of its first word. Clauses that were added later are
-/// greater.
+/// A reference to a clause of a `ClauseAlloc`. Clauses that were added later have greater references.
+///
+/// Contracts see the offset of the first word of the clause.
 #[derive(Clone, Copy, Debug, PartialEq, Eq, PartialOrd, Ord)]
 pub struct ClauseRef {
     offset: u32,
@@ -36,7 +37,7 @@ impl Model for ClauseRef {
 }
 
 impl ClauseRef {
-    /// The place of the clause's first word.
+    /// Returns the offset of the first word of the clause.
     pub fn offset(self) -> usize
         ensures { result ≡ self }
     {
@@ -44,15 +45,17 @@ impl ClauseRef {
     }
 }
 
-/// Why a clause wasn't stored.
+/// Why a clause was not stored.
 #[derive(Clone, Copy, Debug, PartialEq, Eq)]
 pub enum StoreError {
-    /// The buffer holds more than 2^32 - 1 words, so that no reference names the next place.
+    /// The buffer has more than 2^32 - 1 words, so that no reference can name the next offset.
     StoreFull,
+    /// An allocation failed.
     OutOfMemory,
 }
 
 impl fmt::Display for StoreError {
+    /// Writes the reason as a short message in lower case.
     fn fmt<W: fmt::Write>(&self, f: &mut fmt::Formatter<W>) -> fmt::Result {
         match self {
             StoreError::StoreFull => write!(f, "no room for another clause"),
@@ -69,13 +72,15 @@ impl From<AllocError> for StoreError {
 
     ghost from_gives = { λ _ e. e ≡ OutOfMemory };
 
+    /// Returns `OutOfMemory`.
     fn from(_e: AllocError) -> StoreError {
         StoreError::OutOfMemory
     }
 }
 
-/// The buffer that long clauses are kept in. It is a map from references to headers and literals: contracts see it as
-/// its words, and read them by `IsClause`, `header_at` and `lits_at` alone.
+/// The buffer of the long clauses: a map from references to headers and literals.
+///
+/// Contracts see its words, and read them only through `IsClause`, `header_at` and `lits_at`.
 #[derive(Debug, Drop)]
 pub struct ClauseAlloc {
     words: Vec<u32>,
@@ -90,7 +95,7 @@ impl Model for ClauseAlloc {
 }
 
 impl ClauseAlloc {
-    /// An empty buffer. Takes no memory.
+    /// Returns an empty buffer. Never allocates.
     pub fn new(alloc: Global) -> ClauseAlloc
         ensures { result ≡ [] }
     {
@@ -99,7 +104,7 @@ impl ClauseAlloc {
         }
     }
 
-    /// An empty buffer with room for so many words.
+    /// Returns an empty buffer with capacity for `capacity` words.
     pub fn with_capacity(alloc: Global, capacity: usize) -> Result<ClauseAlloc, AllocError>
         ensures { IfOk result (λ words. words ≡ []) }
     {
@@ -108,14 +113,14 @@ impl ClauseAlloc {
         })
     }
 
-    /// The number of words in use, those of deleted and shortened clauses among them.
+    /// Returns the number of words in use, including those of deleted and shortened clauses.
     pub fn buffer_size(&self) -> usize
         ensures { result ≡ length self.now }
     {
         self.words.len()
     }
 
-    /// Stores a clause behind all others. Its length is that of the literals, whatever the header says.
+    /// Appends a clause of three or more literals. Its length is the number of literals, whatever the header says.
     pub fn add_clause(
         &mut self,
         header: ClauseHeader,
@@ -141,8 +146,9 @@ impl ClauseAlloc {
         })
     }
 
-    /// Stores a copy of another buffer's clause behind all others. There is room at a place not behind the clause's
-    /// own.
+    /// Appends a copy of a clause of another buffer.
+    ///
+    /// It is never `StoreFull` if this buffer is no longer than the offset of that clause.
     pub fn copy_clause(
         &mut self,
         from: &ClauseAlloc,
@@ -167,14 +173,14 @@ impl ClauseAlloc {
         })
     }
 
-    /// Takes out the words from a clause on: the clause, if it is the last one, and nothing else.
+    /// Removes all words from a clause on. If the clause is the last one, only that clause is removed.
     pub fn truncate(&mut self, cref: ClauseRef)
         ensures { self.new ≡ take cref self.old }
     {
         self.words.truncate(cref.offset as usize);
     }
 
-    /// The header of a clause.
+    /// Returns the header of a clause.
     #[inline(always)] // read for each clause that an inner loop looks at
     pub fn header(&self, cref: ClauseRef) -> ClauseHeader
         requires { IsClause self.now cref }
@@ -185,7 +191,7 @@ impl ClauseAlloc {
         ClauseHeader::from_words(self.words[at], self.words[at + 1], self.words[at + 2])
     }
 
-    /// A clause, to set fields of its header.
+    /// Lends a clause to set fields of its header.
     pub fn header_mut(&mut self, cref: ClauseRef) -> ClauseMut<'_>
         ensures buffer { result.buffer.ghost_name ≡ self.entry.ghost_name }
         ensures words { result.buffer.now ≡ self.old }
@@ -194,7 +200,7 @@ impl ClauseAlloc {
         self.clause_mut(cref)
     }
 
-    /// Puts a header in the place of the clause's own. A smaller length drops literals from the end.
+    /// Replaces the header of a clause. A smaller length drops literals from the end.
     pub fn set_header(&mut self, cref: ClauseRef, header: ClauseHeader)
         requires clause { IsClause self.old cref }
         requires no_longer { header.len ≤ length (lits_at self.old cref) }
@@ -208,7 +214,7 @@ impl ClauseAlloc {
         self.words[at + 2] = header.len() as u32;
     }
 
-    /// A clause, to be read.
+    /// Lends a clause for reading.
     pub fn clause(&self, cref: ClauseRef) -> Clause<'_>
         requires { IsClause self.now cref }
         ensures header { result.header ≡ header_at self.now cref }
@@ -219,7 +225,7 @@ impl ClauseAlloc {
         Clause::new(&self.words[at..end])
     }
 
-    /// A clause, to be written.
+    /// Lends a clause for reading and writing.
     pub fn clause_mut(&mut self, cref: ClauseRef) -> ClauseMut<'_>
         ensures buffer { result.buffer.ghost_name ≡ self.entry.ghost_name }
         ensures words { result.buffer.now ≡ self.old }
@@ -228,7 +234,7 @@ impl ClauseAlloc {
         ClauseMut { buffer: self, cref }
     }
 
-    /// The number of literals of a clause.
+    /// Returns the number of literals of a clause.
     #[inline(always)] // read for each clause that an inner loop looks at
     pub fn len(&self, cref: ClauseRef) -> usize
         requires { IsClause self.now cref }
@@ -238,7 +244,7 @@ impl ClauseAlloc {
         self.words[cref.offset as usize + 2] as usize
     }
 
-    /// A literal of a clause.
+    /// Returns a literal of a clause.
     #[inline(always)] // read for each literal that an inner loop looks at
     pub fn lit(&self, cref: ClauseRef, at: usize) -> Lit
         requires clause { IsClause self.now cref }
@@ -249,7 +255,7 @@ impl ClauseAlloc {
         Lit::from_code(self.words[cref.offset as usize + HEADER_LEN + at] as usize)
     }
 
-    /// Writes a literal of a clause.
+    /// Replaces a literal of a clause.
     #[inline(always)] // written for each clause that an inner loop reorders
     pub fn set_lit(&mut self, cref: ClauseRef, at: usize, lit: Lit)
         requires clause { IsClause self.old cref }
@@ -261,7 +267,7 @@ impl ClauseAlloc {
         self.words[cref.offset as usize + HEADER_LEN + at] = lit.code() as u32;
     }
 
-    /// Exchanges two literals of a clause.
+    /// Swaps two literals of a clause.
     #[inline(always)] // written for each clause that an inner loop reorders
     pub fn swap_lits(&mut self, cref: ClauseRef, i: usize, j: usize)
         requires clause { IsClause self.old cref }
@@ -278,7 +284,7 @@ impl ClauseAlloc {
     }
 }
 
-/// Puts the codes of these literals behind the words, which have room for them.
+/// Appends the codes of literals to the words. Capacity for them must be reserved.
 fn push_lits(words: &mut Vec<u32>, lits: &[Lit])
     requires { vec_len words.old + length lits.now ≤ vec_capacity words.old }
     ensures words { words.new.items ≡ words.old.items ++ lits.now }

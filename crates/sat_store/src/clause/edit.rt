@@ -1,4 +1,4 @@
-//! A clause in the buffer, to be written.
+//! A view of a clause for reading and writing, lent from the buffer.
 ghost use Rattle.std.specs.Prelude.{◌≡◌, ◌<◌, ◌≤◌, ℕ, length, min, slice_index, slice_set, take};
 ghost use Rattle.std.specs.Map.Iter.{ShowsInOrder};
 ghost use Rattle.sat_store.specs.clause.Header.{is_learned};
@@ -10,17 +10,19 @@ use crate::clause::tier::Tier;
 use crate::clause::view::LitsIter;
 use sat_base::Lit;
 
-/// A clause in the buffer, to be read and written. The fields are what `ClauseAlloc::clause_mut` was given.
+/// A clause of the buffer, lent for reading and writing.
 #[derive(Drop)]
 pub struct ClauseMut<'a> {
+    /// The buffer of the clause.
     pub buffer: &'a mut ClauseAlloc,
+    /// The reference to the clause.
     pub cref: ClauseRef,
 }
 
 impl<'a> ClauseMut<'a> {
     ghost use Rattle.sat_store.specs.clause.Edits.{Edits, IsViewOfClause, header_there, lits_there};
 
-    /// The view, to set fields of the clause's header.
+    /// Returns this view, which sets the fields of the header.
     pub fn header_mut(&mut self) -> &mut ClauseMut<'a>
         ensures same { result.ghost_name ≡ self.entry.ghost_name }
         ensures value { result.now ≡ self.old }
@@ -28,7 +30,7 @@ impl<'a> ClauseMut<'a> {
         self
     }
 
-    /// The view, to set and exchange the clause's literals.
+    /// Returns this view, which sets and swaps the literals.
     pub fn lits_mut(&mut self) -> &mut ClauseMut<'a>
         ensures same { result.ghost_name ≡ self.entry.ghost_name }
         ensures value { result.now ≡ self.old }
@@ -36,6 +38,7 @@ impl<'a> ClauseMut<'a> {
         self
     }
 
+    /// Returns the header.
     pub fn header(&self) -> ClauseHeader
         requires { IsViewOfClause self.now }
         ensures { result ≡ header_there self.now }
@@ -43,6 +46,7 @@ impl<'a> ClauseMut<'a> {
         self.buffer.header(self.cref)
     }
 
+    /// Whether the clause was deleted.
     pub fn deleted(&self) -> bool
         requires { IsViewOfClause self.now }
         ensures { result ≡ (header_there self.now).deleted }
@@ -50,6 +54,7 @@ impl<'a> ClauseMut<'a> {
         self.header().deleted()
     }
 
+    /// Returns the tier of the clause.
     pub fn tier(&self) -> Tier
         requires { IsViewOfClause self.now }
         ensures { result ≡ (header_there self.now).tier }
@@ -57,7 +62,7 @@ impl<'a> ClauseMut<'a> {
         self.header().tier()
     }
 
-    /// Whether the clause is a learned one.
+    /// Whether the clause is a learned one: its tier is not `Irred`.
     pub fn redundant(&self) -> bool
         requires { IsViewOfClause self.now }
         ensures { result ≡ is_learned (header_there self.now).tier }
@@ -65,6 +70,7 @@ impl<'a> ClauseMut<'a> {
         self.header().redundant()
     }
 
+    /// Whether the clause is marked.
     pub fn mark(&self) -> bool
         requires { IsViewOfClause self.now }
         ensures { result ≡ (header_there self.now).mark }
@@ -72,6 +78,7 @@ impl<'a> ClauseMut<'a> {
         self.header().mark()
     }
 
+    /// Whether the clause was used since this flag was last cleared.
     pub fn active(&self) -> bool
         requires { IsViewOfClause self.now }
         ensures { result ≡ (header_there self.now).active }
@@ -79,6 +86,7 @@ impl<'a> ClauseMut<'a> {
         self.header().active()
     }
 
+    /// Returns the glue of the clause, at most 63.
     pub fn glue(&self) -> usize
         requires { IsViewOfClause self.now }
         ensures { result ≡ (header_there self.now).glue }
@@ -86,6 +94,7 @@ impl<'a> ClauseMut<'a> {
         self.header().glue()
     }
 
+    /// Returns the activity of the clause.
     pub fn activity(&self) -> u32
         requires { IsViewOfClause self.now }
         ensures { result ≡ (header_there self.now).activity }
@@ -93,7 +102,7 @@ impl<'a> ClauseMut<'a> {
         self.header().activity()
     }
 
-    /// The number of literals.
+    /// Returns the number of literals.
     pub fn len(&self) -> usize
         requires { IsViewOfClause self.now }
         ensures { result ≡ length (lits_there self.now) }
@@ -101,6 +110,7 @@ impl<'a> ClauseMut<'a> {
         self.buffer.len(self.cref)
     }
 
+    /// Returns a literal.
     pub fn get(&self, at: usize) -> Lit
         requires clause { IsViewOfClause self.now }
         requires within { at < length (lits_there self.now) }
@@ -109,7 +119,7 @@ impl<'a> ClauseMut<'a> {
         self.buffer.lit(self.cref, at)
     }
 
-    /// The literals, in order.
+    /// Returns an iterator over the literals, in order.
     pub fn iter(&self) -> LitsIter<'_>
         requires { IsViewOfClause self.now }
         ensures rest { result ≡ lits_there self.now }
@@ -118,6 +128,7 @@ impl<'a> ClauseMut<'a> {
         self.buffer.clause(self.cref).lits().iter()
     }
 
+    /// Replaces a literal.
     pub fn set(&mut self, at: usize, lit: Lit)
         requires clause { IsViewOfClause self.old }
         requires within { at < length (lits_there self.old) }
@@ -127,7 +138,7 @@ impl<'a> ClauseMut<'a> {
         self.buffer.set_lit(self.cref, at, lit);
     }
 
-    /// Exchanges two literals.
+    /// Swaps two literals.
     pub fn swap(&mut self, i: usize, j: usize)
         requires clause { IsViewOfClause self.old }
         requires first_within { i < length (lits_there self.old) }
@@ -138,6 +149,7 @@ impl<'a> ClauseMut<'a> {
         self.buffer.swap_lits(self.cref, i, j);
     }
 
+    /// Replaces the header by one of the same length.
     fn set_header(&mut self, header: ClauseHeader)
         requires clause { IsViewOfClause self.old }
         requires same_len { header.len ≡ (header_there self.old).len }
@@ -147,7 +159,7 @@ impl<'a> ClauseMut<'a> {
         self.buffer.set_header(self.cref, header);
     }
 
-    /// Drops the literals from this place on.
+    /// Drops the literals from position `len` on.
     pub fn set_len(&mut self, len: usize)
         requires clause { IsViewOfClause self.old }
         requires no_longer { len ≤ length (lits_there self.old) }
@@ -160,6 +172,7 @@ impl<'a> ClauseMut<'a> {
         self.buffer.set_header(self.cref, header);
     }
 
+    /// Sets whether the clause was deleted.
     pub fn set_deleted(&mut self, deleted: bool)
         requires { IsViewOfClause self.old }
         ensures buffer { self.new.buffer.ghost_name ≡ self.old.buffer.ghost_name }
@@ -171,6 +184,7 @@ impl<'a> ClauseMut<'a> {
         self.set_header(header);
     }
 
+    /// Sets the tier of the clause.
     pub fn set_tier(&mut self, tier: Tier)
         requires { IsViewOfClause self.old }
         ensures buffer { self.new.buffer.ghost_name ≡ self.old.buffer.ghost_name }
@@ -181,6 +195,7 @@ impl<'a> ClauseMut<'a> {
         self.set_header(header);
     }
 
+    /// Marks the clause, or clears its mark.
     pub fn set_mark(&mut self, mark: bool)
         requires { IsViewOfClause self.old }
         ensures buffer { self.new.buffer.ghost_name ≡ self.old.buffer.ghost_name }
@@ -191,6 +206,7 @@ impl<'a> ClauseMut<'a> {
         self.set_header(header);
     }
 
+    /// Sets whether the clause was used.
     pub fn set_active(&mut self, active: bool)
         requires { IsViewOfClause self.old }
         ensures buffer { self.new.buffer.ghost_name ≡ self.old.buffer.ghost_name }
@@ -202,7 +218,7 @@ impl<'a> ClauseMut<'a> {
         self.set_header(header);
     }
 
-    /// Keeps 63 in place of a larger glue.
+    /// Sets the glue of the clause, or 63 if it is larger.
     pub fn set_glue(&mut self, glue: usize)
         requires { IsViewOfClause self.old }
         ensures buffer { self.new.buffer.ghost_name ≡ self.old.buffer.ghost_name }
@@ -214,6 +230,7 @@ impl<'a> ClauseMut<'a> {
         self.set_header(header);
     }
 
+    /// Sets the activity of the clause.
     pub fn set_activity(&mut self, activity: u32)
         requires { IsViewOfClause self.old }
         ensures buffer { self.new.buffer.ghost_name ≡ self.old.buffer.ghost_name }

@@ -1,14 +1,15 @@
-//! The data of a long clause beside its literals.
+//! The header of a long clause: its data besides the literals.
 ghost use Rattle.std.specs.Prelude.{◌≡◌, ◌<◌, ◌^◌, min};
 ghost use Rattle.sat_store.specs.clause.Header.{header_of, no_header, is_learned};
 
 use crate::clause::tier::Tier;
 use std::marker::Model;
 
-/// Tier, glue, activity, marks and length of a clause, in three words. Contracts see it as a `Header` of these.
+/// The activity, tier, flags, glue and length of a clause, in three words. Contracts see a `Header` of these.
 #[derive(Clone, Copy)]
 pub struct ClauseHeader {
     activity: u32,
+    /// From the lowest bit: two bits of tier, deleted, mark, six bits of glue, active.
     flags: u32,
     len: u32,
 }
@@ -35,6 +36,7 @@ impl Default for ClauseHeader {
 
     ghost is_default = { λ h. h ≡ no_header };
 
+    /// Returns the same header as `new`.
     fn default() -> ClauseHeader {
         ClauseHeader {
             activity: 0,
@@ -45,14 +47,14 @@ impl Default for ClauseHeader {
 }
 
 impl ClauseHeader {
-    /// The header of an irredundant clause without literals, all marks false, glue and activity 0.
+    /// Returns the header of an irredundant clause without literals. All flags are false; glue and activity are 0.
     pub fn new() -> ClauseHeader
         ensures { result ≡ no_header }
     {
         ClauseHeader::default()
     }
 
-    /// The header in these words.
+    /// Returns the header that these words hold.
     #[inline(always)] // read for each clause that an inner loop looks at
     pub(crate) fn from_words(activity: u32, flags: u32, len: u32) -> ClauseHeader
         requires { flags < 2 ^ 11 }
@@ -66,7 +68,7 @@ impl ClauseHeader {
         }
     }
 
-    /// The word of flags.
+    /// Returns the word of flags.
     pub(crate) fn flags(&self) -> u32
         ensures value { header_of self.now.activity result self.now.len ≡ self.now }
         ensures bound { result < 2 ^ 11 }
@@ -74,7 +76,7 @@ impl ClauseHeader {
         self.flags
     }
 
-    /// The number of literals of the clause that it heads.
+    /// Returns the number of literals of the clause.
     pub fn len(&self) -> usize
         ensures value { result ≡ self.now.len }
         ensures bound { result < 2 ^ 32 }
@@ -82,6 +84,7 @@ impl ClauseHeader {
         self.len as usize
     }
 
+    /// Sets the number of literals of the clause.
     pub fn set_len(&mut self, len: usize)
         requires { len < 2 ^ 32 }
         ensures { self.new ≡ record self.old { len = len } }
@@ -89,19 +92,21 @@ impl ClauseHeader {
         self.len = len as u32;
     }
 
-    /// Whether the clause was deleted and waits for collection.
+    /// Whether the clause was deleted. Its words stay until garbage is collected.
     pub fn deleted(&self) -> bool
         ensures { result ≡ self.now.deleted }
     {
         self.flags / 4 % 2 == 1
     }
 
+    /// Sets whether the clause was deleted.
     pub fn set_deleted(&mut self, deleted: bool)
         ensures { self.new ≡ record self.old { deleted = deleted } }
     {
         self.flags = self.flags / 8 * 8 + u32::from(deleted) * 4 + self.flags % 4;
     }
 
+    /// Returns the tier of the clause.
     pub fn tier(&self) -> Tier
         ensures { result ≡ self.now.tier }
     {
@@ -113,53 +118,56 @@ impl ClauseHeader {
         }
     }
 
+    /// Sets the tier of the clause.
     pub fn set_tier(&mut self, tier: Tier)
         ensures { self.new ≡ record self.old { tier = tier } }
     {
         self.flags = self.flags / 4 * 4 + tier.index() as u32;
     }
 
-    /// Whether the clause is a learned one.
+    /// Whether the clause is a learned one: its tier is not `Irred`.
     pub fn redundant(&self) -> bool
         ensures { result ≡ is_learned self.now.tier }
     {
         self.flags % 4 != 0
     }
 
-    /// A mark for passes over all clauses.
+    /// Whether the clause is marked. Passes over all clauses use the mark.
     pub fn mark(&self) -> bool
         ensures { result ≡ self.now.mark }
     {
         self.flags / 8 % 2 == 1
     }
 
+    /// Marks the clause, or clears its mark.
     pub fn set_mark(&mut self, mark: bool)
         ensures { self.new ≡ record self.old { mark = mark } }
     {
         self.flags = self.flags / 16 * 16 + u32::from(mark) * 8 + self.flags % 8;
     }
 
-    /// Whether the clause was used since this was last cleared.
+    /// Whether the clause was used since this flag was last cleared.
     pub fn active(&self) -> bool
         ensures { result ≡ self.now.active }
     {
         self.flags / 1024 % 2 == 1
     }
 
+    /// Sets whether the clause was used.
     pub fn set_active(&mut self, active: bool)
         ensures { self.new ≡ record self.old { active = active } }
     {
         self.flags = u32::from(active) * 1024 + self.flags % 1024;
     }
 
-    /// The smallest number of levels that the clause was seen with, less one, at most 63.
+    /// Returns the glue, at most 63: one less than the smallest number of levels seen in the clause.
     pub fn glue(&self) -> usize
         ensures { result ≡ self.now.glue }
     {
         (self.flags / 16 % 64) as usize
     }
 
-    /// Keeps 63 in place of a larger glue.
+    /// Sets the glue, or 63 if it is larger.
     pub fn set_glue(&mut self, glue: usize)
         ensures { self.new ≡ record self.old { glue = min glue 63 } }
     {
@@ -167,13 +175,14 @@ impl ClauseHeader {
         self.flags = self.flags / 1024 * 1024 + kept * 16 + self.flags % 16;
     }
 
-    /// How useful the clause was, on the scale of the solver's current increment.
+    /// Returns the activity: how often the clause was useful, on the scale of the current bump.
     pub fn activity(&self) -> u32
         ensures { result ≡ self.now.activity }
     {
         self.activity
     }
 
+    /// Sets the activity.
     pub fn set_activity(&mut self, activity: u32)
         ensures { self.new ≡ record self.old { activity = activity } }
     {

@@ -1,26 +1,29 @@
-//! Tiers of clauses.
+//! The tiers of clauses.
 ghost use Rattle.std.specs.Prelude.{◌≡◌, ◌≤◌, MatchOption};
 ghost use Rattle.sat_store.specs.clause.Header.{index_of};
 
-/// How long a clause is kept: `Irred` is a clause of the formula, the others are learned clauses, from the most useful
-/// on.
+/// How long a clause is kept.
 #[derive(Clone, Copy, Debug, PartialEq, Eq)]
 pub enum Tier {
+    /// An irredundant clause, which is never dropped.
     Irred = 0,
+    /// A learned clause of low glue, which is kept.
     Core = 1,
+    /// A learned clause that becomes `Local` if it is not used for a while.
     Mid = 2,
+    /// A learned clause that is dropped if its activity is low.
     Local = 3,
 }
 
 impl Tier {
-    /// How many tiers there are.
+    /// Returns the number of tiers.
     pub const fn count() -> usize
         ensures { result ≡ 4 }
     {
         4
     }
 
-    /// The tier with this number, from 0. `None` from 4 on.
+    /// Returns the tier with this number, from 0 on, or `None` if there is none.
     pub fn from_index(index: usize) -> Option<Tier>
         ensures { MatchOption result (4 ≤ index) (λ tier. index_of tier ≡ index) }
     {
@@ -33,7 +36,7 @@ impl Tier {
         }
     }
 
-    /// The number of the tier, from 0.
+    /// Returns the number of the tier, from 0 on.
     pub fn index(self) -> usize
         ensures { result ≡ index_of self }
     {

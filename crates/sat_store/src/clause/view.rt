@@ -1,4 +1,4 @@
-//! Views of a clause, lent from the buffer.
+//! Views of a clause for reading, lent from the buffer.
 ghost use Rattle.std.specs.Prelude.{◌≡◌, ◌<◌, ◌*◌, List, ℕ, [], length, slice_index, drop, IsTrue, ◌↔◌};
 ghost use Rattle.std.specs.List.{All};
 ghost use Rattle.std.specs.Iterator.{at_most};
@@ -11,10 +11,10 @@ use sat_base::Lit;
 use std::iter::FusedIterator;
 use std::marker::Model;
 
-/// The words of a clause before its literals.
+/// The number of words of a clause before its literals.
 const HEADER_LEN: usize = 3;
 
-/// A clause, which contracts see as its header and its literals.
+/// A clause, lent for reading. Contracts see its header and its literals.
 #[derive(Drop)]
 pub struct Clause<'a> {
     words: &'a [u32],
@@ -31,6 +31,7 @@ impl<'a> Model for Clause<'a> {
 }
 
 impl<'a> Clause<'a> {
+    /// Returns the clause that these words hold.
     pub(crate) fn new(words: &'a [u32]) -> Clause<'a>
         requires { IsClause words.now 0 }
         ensures header { result.header ≡ header_at words.now 0 }
@@ -39,12 +40,14 @@ impl<'a> Clause<'a> {
         Clause { words }
     }
 
+    /// Returns the header.
     pub fn header(&self) -> ClauseHeader
         ensures { result ≡ self.now.header }
     {
         ClauseHeader::from_words(self.words[0], self.words[1], self.words[2])
     }
 
+    /// Returns the literals.
     pub fn lits(&self) -> Lits<'a>
         ensures { result ≡ self.now.lits }
     {
@@ -55,7 +58,7 @@ impl<'a> Clause<'a> {
     }
 }
 
-/// The literals of a clause, which contracts see as their list.
+/// The literals of a clause, lent for reading. Contracts see their list.
 #[derive(Drop)]
 pub struct Lits<'a> {
     words: &'a [u32],
@@ -74,14 +77,14 @@ impl<'a> Model for Lits<'a> {
 }
 
 impl<'a> Lits<'a> {
-    /// No literals.
+    /// Returns an empty list of literals.
     pub fn none() -> Lits<'a>
         ensures { result ≡ [] }
     {
         Lits { words: &[] }
     }
 
-    /// The literals behind the first.
+    /// Returns the literals after the first.
     pub fn without_first(&self) -> Lits<'a>
         requires { 0 < length self.now }
         ensures { result ≡ drop 1 self.now }
@@ -91,18 +94,21 @@ impl<'a> Lits<'a> {
         }
     }
 
+    /// Returns the number of literals.
     pub fn len(&self) -> usize
         ensures { result ≡ length self.now }
     {
         self.words.len()
     }
 
+    /// Whether there are no literals.
     pub fn is_empty(&self) -> bool
         ensures { IsTrue result ↔ self.now ≡ [] }
     {
         self.words.is_empty()
     }
 
+    /// Returns a literal.
     pub fn get(&self, at: usize) -> Lit
         requires { at < length self.now }
         ensures { result ≡ slice_index self.now at }
@@ -111,7 +117,7 @@ impl<'a> Lits<'a> {
         Lit::from_code(words[at] as usize)
     }
 
-    /// The literals, in order.
+    /// Returns an iterator over the literals, in order.
     pub fn iter(&self) -> LitsIter<'a>
         ensures rest { result ≡ self.now }
         ensures runs { ShowsInOrder (λ (x : ℕ). x) }
@@ -120,7 +126,7 @@ impl<'a> Lits<'a> {
     }
 }
 
-/// Gives the literals of a clause, in order. Contracts see it as those that are still to come.
+/// An iterator over the literals of a clause, in order. Contracts see the literals that it has yet to return.
 #[derive(Drop)]
 pub struct LitsIter<'a> {
     words: &'a [u32],
@@ -145,6 +151,7 @@ impl<'a> Iterator for LitsIter<'a> {
 
     ghost remaining = { λ s. at_most (length s) };
 
+    /// Returns the next literal, or `None` at the end.
     fn next(&mut self) -> Option<Lit> {
         let (first, others) = self.words.split_first()?;
         self.words = others;

@@ -1,4 +1,4 @@
-//! A heap of variables with their activities, in a list of all of them: each place is parent of four.
+//! A heap with four children per node, in a list of all variables with their activities.
 ghost use Rattle.std.specs.Prelude.{◌≡◌, ◌+◌, ◌*◌, ◌<◌, ◌≤◌, ◌↔◌, IsTrue, length, MatchOption, slice_set, ◌-◌, true};
 ghost use Rattle.std.specs.Prelude.{false, vec_capacity};
 ghost use Rattle.sat_base.specs.values.Literals.{var_limit};
@@ -6,14 +6,14 @@ ghost use Rattle.sat_store.specs.heap.Heap.{var_at, HoldsVariables, Placed, IsHe
 ghost use Rattle.sat_store.specs.heap.Heap.{Ordered, UpFrom, IsFirstChild, FirstAbove, NoneAbove, SettlesDown};
 ghost use Rattle.sat_store.specs.heap.Heap.{Exchanged, Rearranged, SetsFlag, AddsHeapVars, keys};
 
-/// A variable, and its activity.
+/// A variable and its activity.
 #[derive(Clone, Copy)]
 pub(super) struct Entry {
     pub(super) key: u64,
     pub(super) var: u32,
 }
 
-/// Writes an entry at a place, which is where its variable stands from then on.
+/// Writes an entry at a position, and records the position for its variable.
 #[inline(always)] // called for each step through the heap
 fn put(heap: &mut Vec<Entry>, positions: &mut Vec<u32>, at: usize, entry: Entry)
     requires few { length heap.old.items ≤ var_limit }
@@ -26,7 +26,7 @@ fn put(heap: &mut Vec<Entry>, positions: &mut Vec<u32>, at: usize, entry: Entry)
     positions[entry.var as usize] = at as u32;
 }
 
-/// Exchanges the variables at two places.
+/// Swaps the entries at two positions.
 pub(super) fn exchange(heap: &mut Vec<Entry>, positions: &mut Vec<u32>, i: usize, j: usize)
     requires placed { Placed heap.old.items positions.old.items }
     requires few { length heap.old.items ≤ var_limit }
@@ -40,7 +40,7 @@ pub(super) fn exchange(heap: &mut Vec<Entry>, positions: &mut Vec<u32>, i: usize
     put(heap, positions, j, first);
 }
 
-/// Whether a variable goes before another: its activity is higher, or the same and its index lower.
+/// Whether `a` comes before `b`: its activity is higher, or equal and its index is lower.
 #[inline(always)] // each step through the heap asks this once or more
 fn is_above(a: Entry, b: Entry) -> bool
     requires first { a.var < var_limit }
@@ -50,7 +50,7 @@ fn is_above(a: Entry, b: Entry) -> bool
     a.key > b.key || a.key == b.key && a.var < b.var
 }
 
-/// Whether a variable goes before the one at the parent of a place.
+/// Whether an entry comes before the parent of a position.
 #[inline(always)] // each step up asks this
 fn goes_up(heap: &[Entry], entry: Entry, at: usize) -> bool
     requires listed { HoldsVariables heap.now }
@@ -61,7 +61,7 @@ fn goes_up(heap: &[Entry], entry: Entry, at: usize) -> bool
     at > 0 && is_above(entry, heap[(at - 1) / 4])
 }
 
-/// Brings the heap in order again where the variable at one place may have to go up.
+/// Moves the entry at a position up until the heap is ordered.
 pub(super) fn sift_up(heap: &mut Vec<Entry>, positions: &mut Vec<u32>, available: usize, at: usize)
     requires placed { Placed heap.old.items positions.old.items }
     requires few { length heap.old.items ≤ var_limit }
@@ -82,7 +82,7 @@ pub(super) fn sift_up(heap: &mut Vec<Entry>, positions: &mut Vec<u32>, available
     put(heap, positions, hole, entry);
 }
 
-/// The child that goes before the others, of a place that has one.
+/// Returns the child that comes before the other children of a position. The position must have a child.
 #[inline(always)] // each step down asks this
 fn first_child(heap: &[Entry], available: usize, at: usize) -> usize
     requires listed { HoldsVariables heap.now }
@@ -108,7 +108,7 @@ fn first_child(heap: &[Entry], available: usize, at: usize) -> usize
     child
 }
 
-/// The child of a place that goes before the others, if it goes before an entry.
+/// Returns the first child of a position if it comes before `entry`, otherwise `None`.
 #[inline(always)] // each step down asks this
 fn child_above(heap: &[Entry], available: usize, entry: Entry, at: usize) -> Option<usize>
     requires listed { HoldsVariables heap.now }
@@ -129,7 +129,7 @@ fn child_above(heap: &[Entry], available: usize, entry: Entry, at: usize) -> Opt
     Some(child)
 }
 
-/// Brings the heap in order again where the variable at one place may have to go down.
+/// Moves the entry at a position down until the heap is ordered.
 pub(super) fn sift_down(
     heap: &mut Vec<Entry>,
     positions: &mut Vec<u32>,
@@ -153,7 +153,7 @@ pub(super) fn sift_down(
     put(heap, positions, hole, entry);
 }
 
-/// Brings the heap in order.
+/// Orders the heap from the bottom up.
 pub(super) fn heapify(heap: &mut Vec<Entry>, positions: &mut Vec<u32>, available: usize)
     requires placed { Placed heap.old.items positions.old.items }
     requires few { length heap.old.items ≤ var_limit }
@@ -168,7 +168,7 @@ pub(super) fn heapify(heap: &mut Vec<Entry>, positions: &mut Vec<u32>, available
     }
 }
 
-/// Takes the variable at one place out of the heap: one variable fewer is available.
+/// Removes the variable at a position from the heap, so that one variable less is available.
 pub(super) fn take_out(heap: &mut Vec<Entry>, positions: &mut Vec<u32>, available: usize, at: usize)
     requires heap { IsHeap heap.old.items positions.old.items available }
     requires at { at < available }
@@ -189,7 +189,7 @@ pub(super) fn take_out(heap: &mut Vec<Entry>, positions: &mut Vec<u32>, availabl
     sift_down(heap, positions, last, at);
 }
 
-/// Puts the variable at one place behind it into the heap: one variable more is available.
+/// Inserts the variable at a position after the heap, so that one variable more is available.
 pub(super) fn put_in(heap: &mut Vec<Entry>, positions: &mut Vec<u32>, available: usize, at: usize)
     requires heap { IsHeap heap.old.items positions.old.items available }
     requires behind { available ≤ at }
@@ -203,7 +203,7 @@ pub(super) fn put_in(heap: &mut Vec<Entry>, positions: &mut Vec<u32>, available:
     sift_up(heap, positions, available + 1, available);
 }
 
-/// Puts new variables behind all others, up to this count, with activity 0. There is room for them.
+/// Appends new variables with activity 0 until there are `count`. Capacity for them must be reserved.
 pub(super) fn add_variables(heap: &mut Vec<Entry>, positions: &mut Vec<u32>, count: usize)
     requires heap_room { count ≤ vec_capacity heap.old }
     requires positions_room { count ≤ vec_capacity positions.old }
