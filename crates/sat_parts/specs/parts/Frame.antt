@@ -8,7 +8,7 @@
 --   put_back: SameClauses, AddsNoUnit
 --   grow: Grown
 --   use_variable: SameContents, and what may be picked
---   free_variable: Freed; use_with_unit: SameClauses, GainsUnit
+--   use_with_unit: SameClauses, GainsUnit; and Freed for variables that a crate above frees
 --   load_unit: SameClauses, GainsUnit
 --   load_binary, load_long: AddsOriginalClause
 --   load: LoadSays (Loading), which says by the answer which of these it is

@@ -1,32 +1,14 @@
-//! Variables that are given up and used again.
-ghost use Rattle.std.specs.Prelude.{ℕ, List, ◌≡◌, ◌<◌, None, length, [], true, false, slice_set};
-ghost use Rattle.std.specs.List.{Contains};
+//! Variables that the search uses again after they were freed.
+ghost use Rattle.std.specs.Prelude.{◌≡◌, ◌<◌, length, [], true, false, slice_set};
 ghost use Rattle.sat_base.specs.values.Literals.{variable};
 ghost use Rattle.sat_store.specs.heap.Vsids.{may_pick, with_available};
 ghost use Rattle.sat_parts.specs.prop.State.{IsRemoved};
-ghost use Rattle.sat_parts.specs.prop.Values.{IsOpenLit, value_of, made_true};
-ghost use Rattle.sat_parts.specs.parts.Whole.{state, PartsInvariant, InNoClause};
-ghost use Rattle.sat_parts.specs.parts.Frame.{SameClauses, GainsUnit, Freed, SameContents};
-ghost use Rattle.sat_parts.specs.parts.Words.{TrailWordExtendsFor};
+ghost use Rattle.sat_parts.specs.prop.Values.{IsOpenLit, made_true};
+ghost use Rattle.sat_parts.specs.parts.Whole.{state, PartsInvariant};
+ghost use Rattle.sat_parts.specs.parts.Frame.{SameClauses, GainsUnit, SameContents};
 
 use crate::parts::Parts;
 use sat_base::{Lit, Var};
-
-/// Gives up a variable that no clause has, while nothing is on the trail.
-pub fn free_variable(parts: &mut Parts, var: Var)
-    requires holds { PartsInvariant parts.old }
-    requires bottom { parts.old.trail.starts ≡ [] }
-    requires empty { parts.old.trail.lits ≡ [] }
-    requires there { var < length parts.old.assignment.current }
-    requires unused { InNoClause parts.old var }
-    ensures holds { PartsInvariant parts.new }
-    ensures open { value_of parts.new.assignment.current var ≡ None }
-    ensures freed { Freed parts.old parts.new var }
-    ensures word { (assumed : List ℕ) → (Contains assumed var → ⊥) → TrailWordExtendsFor assumed parts.old parts.new }
-{
-    parts.assignment.set_var(var, None);
-    parts.vsids.make_unavailable(var);
-}
 
 /// Lets a variable that was given up be picked again.
 pub fn use_variable(parts: &mut Parts, var: Var)
