@@ -1,4 +1,4 @@
-use Rattle.std.proofs.Common.{◌≡◌, ◌<◌, length, get_or, refl, ap, ◌∙◌, arith, true, length-set}
+use Rattle.std.proofs.Common.{◌≡◌, ◌<◌, length, get_or, ap, ◌∙◌, arith, true, length-set}
 use Rattle.std.proofs.lemmas.Grind.{common_steps}
 use Rattle.std.proofs.lemmas.List.{get_or_read, length-map}
 use Rattle.sat_base.specs.values.Literals.{variable}
@@ -9,11 +9,7 @@ use Rattle.sat_parts.proofs.glue.mark_levels.Goals as goal
 use Rattle.sat_parts.proofs.glue.mark_levels.Goals.{then-not-index, else-not-index}
 
 pub loop-lit-init : goal.loop-lit-init
-loop-lit-init c = record {
-  size = refl;
-  marked = marked_none c.args.flags.now.flags.items (levels_of c.args.graph.now c.args.lits.now) c.requires.clear;
-  few = omega arith;
-}
+loop-lit-init c = grind (arith, common_steps, marked_none)
 
 pub loop-lit-preserved : goal.loop-lit-preserved
 loop-lit-preserved c =
@@ -45,8 +41,3 @@ pub returns-clause-glue : goal.returns-clause-glue
 returns-clause-glue c =
     let e : c.loop-lit.lit-index ≡ length (levels_of c.args.graph.now c.args.lits.now) = omega (arith, length-map c.args.lits.now (λ l. (node_of c.args.graph.now (variable l)).level)) in
     (marked_all c.loop-lit.flags.flags.items (levels_of c.args.graph.now c.args.lits.now) c.loop-lit.lit-index c.loop-lit.glue c.loop-lit.invariant.marked e).0
-
-pub returns-clause-marked : goal.returns-clause-marked
-returns-clause-marked c =
-    let e : c.loop-lit.lit-index ≡ length (levels_of c.args.graph.now c.args.lits.now) = omega (arith, length-map c.args.lits.now (λ l. (node_of c.args.graph.now (variable l)).level)) in
-    (marked_all c.loop-lit.flags.flags.items (levels_of c.args.graph.now c.args.lits.now) c.loop-lit.lit-index c.loop-lit.glue c.loop-lit.invariant.marked e).1

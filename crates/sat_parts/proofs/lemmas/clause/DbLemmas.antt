@@ -8,7 +8,7 @@ use Rattle.std.specs.List.{Contains, sum_by, count_by}
 use Rattle.sat_store.specs.clause.Buffer.{IsClause, HoldsClauses, SameClauseAt, AppendsClause, ChangesAt, header_at, lits_at}
 use Rattle.sat_store.specs.clause.Header.{Header, index_of}
 use Rattle.sat_store.specs.declared.clause.tier.Tier.{Tier}
-use Rattle.sat_store.specs.declared.clause.tier.Tier.TheVariants.{Irred, Core, Mid, Local}
+use Rattle.sat_store.specs.declared.clause.tier.Tier.TheVariants.{Irred}
 use Rattle.sat_store.proofs.lemmas.clause.Laying.{same_count, clause_within, kept_below}
 use Rattle.sat_parts.specs.clause.Db.{Db, is_live, live_refs, is_live_of, garbage_of, AreRising, HoldsDb, one_more, one_less, AddsLongClause, PutsHeader, DeletesClause, MovesClause, ShortensClause}
 use Rattle.sat_parts.proofs.lemmas.prop.BuildLemmas.{live_in, live_same}

@@ -176,20 +176,6 @@ follows_kept live refs' n (Long o) r1 r2 e other h = elim h [
   )
 ]
 
-follows_none : (live refs' : List ℕ) (r : Reason) → FollowsFirst live refs' 0 r r
-follows_none live refs' NoCause = refl
-follows_none live refs' (Binary ls) = refl
-follows_none live refs' (Long o) = inr (refl, λ k lt. absurd (omega arith))
-
-pub followed_none : (live refs' lits : List ℕ) (nodes : List ImplNode) → AreFollowed live refs' lits 0 nodes nodes
-followed_none live refs' lits nodes = record {
-  size = refl;
-  levels = λ v. refl;
-  depths = λ v. refl;
-  others = λ v h. refl;
-  reasons = λ i lt. follows_none live refs' (node_of nodes (variable (get_or lits i 0))).reason;
-}
-
 follows_all : (live refs' : List ℕ) (n : ℕ) (r0 r : Reason) → n ≡ length live → ((o : ℕ) → r0 ≡ Long o → Contains live o) → FollowsFirst live refs' n r0 r → FollowsClause live refs' r0 r
 follows_all live refs' n NoCause r e there h = h
 follows_all live refs' n (Binary ls) r e there h = h

@@ -16,21 +16,6 @@ use Rattle.sat_parts.proofs.lemmas.clause.ListLemmas.{place_in}
 use Rattle.sat_parts.specs.parts.Frame.{KeepsTo}
 use Rattle.sat_parts.specs.parts.Assumed.{variables, IsPlaced, AreDecided}
 
--- nothing was looked at
-pub placed_none : (ls : List ℕ) (s : State) → s.trail.starts ≡ [] ⊎ (ls ≡ []) → IsPlaced ls [] 0 s
-placed_none ls s why = record {
-  levels = omega arith;
-  within = omega arith;
-  low_within = λ j b. absurd (omega arith);
-  passed = λ k b. absurd (omega arith);
-  low_passed = λ j k b. absurd (omega arith);
-  begun = λ j b. absurd (omega arith);
-  all = λ some. elim why [
-    | inl e ↦ (let n : length s.trail.starts ≡ 0 = ap (λ (xs : List ℕ). length xs) e in absurd (omega arith))
-    | inr e ↦ sym (ap (λ (xs : List ℕ). length xs) e)
-  ];
-}
-
 -- assumptions that are true are passed
 pub placed_passed : (ls below : List ℕ) (place next : ℕ) (s : State) → Agrees s → IsPlaced ls below place s → place ≤ next → next ≤ length ls →
     ((k : ℕ) → place ≤ k → k < next → IsTrueLit s.values (get_or ls k 0)) → IsPlaced ls below next s

@@ -8,14 +8,10 @@ use Rattle.sat_parts.specs.declared.prop.graph.Reason.{Reason}
 use Rattle.sat_parts.specs.declared.prop.graph.Reason.TheVariants.{Unit as NoCause}
 use Rattle.sat_parts.specs.prop.Graphs.{is_unit, node_at}
 use Rattle.sat_parts.specs.prop.Values.{Values, IsTrueLit, IsOpenLit}
-use Rattle.sat_parts.specs.prop.Trails.{Trailed, with_level, cut_to}
-use Rattle.sat_parts.specs.prop.Undone.{undone_to, undone_lits}
+use Rattle.sat_parts.specs.prop.Trails.{Trailed, with_level}
 use Rattle.sat_parts.specs.prop.State.{State, node, level, lit_at, Agrees, Grows, enqueued}
 use Rattle.sat_parts.specs.prop.Ready.{state_of}
-use Rattle.sat_parts.specs.prop.Reasons.{PropagatesOn}
-use Rattle.sat_parts.specs.prop.Backtracked.{KeepsLow}
 use Rattle.sat_parts.proofs.lemmas.prop.StateLemmas.{grows_enqueued, lit_last, node_new}
-use Rattle.sat_parts.proofs.lemmas.prop.BacktrackLemmas.{keeps_low, undone_length}
 use Rattle.sat_parts.proofs.lemmas.prop.RoomLemmas.{room_for}
 use Rattle.sat_parts.specs.prop.Graphs.{removed_node, with_node, node_of}
 use Rattle.sat_parts.specs.prop.Trails.{with_cleared}
@@ -51,9 +47,6 @@ carries_grown s s' a g new = record {
   ];
   bottom = λ l t z. (g.kept l t, ap (λ (n : ImplNode). n.level) (g.nodes l t) ∙ z);
 }
-
-pub carries_moved : (live : List ℕ) (implied : List (List ℕ)) (words words' : List ℕ) (s s' : State) → Agrees s → PropagatesOn live implied words s words' s' → AddsNoUnit s s'
-carries_moved live implied words words' s s' a m = carries_grown s s' a m.grows (λ i ge lt z u. true≢false (sym u ∙ (m.caused i ge lt).1))
 
 -- an free literal that becomes true by a clause, or above level 0
 pub carries_enqueued : (s : State) (l : ℕ) (r : Reason) → Agrees s → IsOpenLit s.values l → variable l < length s.values → (is_unit r ≡ false) ⊎ (0 < length s.trail.starts) → AddsNoUnit s (enqueued l r s)
@@ -95,21 +88,6 @@ carries_decided s l a free below =
     let r : State = record s { trail = with_level s.trail } in
     let size : length (s.trail.starts ++ length s.trail.lits ∷ []) ≡ length s.trail.starts + 1 = length_push s.trail.starts (length s.trail.lits) in
     carries_trans s r (enqueued l NoCause r) (carries_level s) (carries_enqueued r l NoCause a free below (inr (omega arith)))
-
--- levels that are undone
-pub carries_undone : (v : ℕ) (a : Values) (g : List ImplNode) (t : Trailed) → Agrees (state_of a g t) → v < length t.starts → AddsNoUnit (state_of a g t) (state_of (undone_to v t a) g (cut_to v t))
-carries_undone v a g t h lt =
-    let s : State = state_of a g t in
-    let s' : State = state_of (undone_to v t a) g (cut_to v t) in
-    let k : KeepsLow v (state_of a g t) (state_of (undone_to v t a) g (cut_to v t)) = keeps_low v a g t h lt in
-    record {
-      size = undone_length (undone_lits v t) a;
-      units = λ l u. elim u [
-        | inl r ↦ inl (record { holds = k.true_kept l r.holds; depth = r.depth; bottom = r.bottom })
-        | inr b ↦ inr (record { place = b.place; within = omega (arith, b.within, k.shorter); there = sym (k.places b.place b.within) ∙ b.there; bottom = b.bottom; none = b.none })
-      ];
-      bottom = λ l x z. (k.low_kept l x (omega (arith, z)), z);
-    }
 
 -- a variable of level 0 stays of level 0 as units are marked
 marked_level : (g : List ImplNode) (u v : ℕ) → (node_of g v).level ≡ 0 → (node_of (with_node u removed_node g) v).level ≡ 0

@@ -17,9 +17,6 @@ use Rattle.sat_parts.proofs.lemmas.prop.BacktrackLemmas.{keeps_low}
 use Rattle.sat_parts.proofs.lemmas.prop.RoomLemmas.{room_for}
 use Rattle.sat_parts.specs.parts.Frame.{KeepsTo}
 
-pub keeps_refl : (top : ℕ) (s : State) → KeepsTo top s s
-keeps_refl top s = record { low = λ l t b. (t, refl); begun = λ j b lt. (lt, refl) }
-
 pub keeps_trans : (top : ℕ) (a b c : State) → KeepsTo top a b → KeepsTo top b c → KeepsTo top a c
 keeps_trans top a b c x y = record {
   low = λ l t le. (let p = x.low l t le in let q = y.low l p.0 (omega (arith, p.1)) in (q.0, q.1 ∙ p.1));

@@ -10,10 +10,9 @@ use Rattle.sat_store.specs.heap.Vsids.{with_available}
 use Rattle.sat_parts.specs.clause.Db.{Db, AddsLongClause}
 use Rattle.sat_parts.specs.prop.Binaries.{Binaries, with_binary}
 use Rattle.sat_parts.specs.prop.Graphs.{is_unit, node_at, node_of, new_node}
-use Rattle.sat_parts.specs.prop.Values.{IsTrueLit, IsOpenLit, value_of, assigned}
-use Rattle.sat_parts.specs.prop.State.{State, node, lit_at, IsRemoved, Agrees, Grows, enqueued}
-use Rattle.sat_parts.proofs.lemmas.prop.StateLemmas.{grows_enqueued, lit_front, lit_last, node_new, true_new}
-use Rattle.sat_parts.proofs.lemmas.prop.RoomLemmas.{room_for}
+use Rattle.sat_parts.specs.prop.Values.{IsTrueLit, value_of, assigned}
+use Rattle.sat_parts.specs.prop.State.{State, node, lit_at, IsRemoved, Agrees, enqueued}
+use Rattle.sat_parts.proofs.lemmas.prop.StateLemmas.{lit_front, lit_last}
 use Rattle.sat_parts.specs.declared.parts.Parts.{Parts}
 use Rattle.sat_parts.specs.declared.parts.load.Loaded.{Loaded}
 use Rattle.sat_parts.specs.declared.parts.load.Loaded.TheVariants.{Stored, Unit as One, Satisfied, Falsified}
@@ -23,34 +22,6 @@ use Rattle.sat_parts.specs.parts.Loading.{LoadSays}
 use Rattle.sat_parts.proofs.lemmas.parts.FrameLemmas.{carries_trans, carries_refl}
 use Rattle.sat_parts.proofs.lemmas.parts.ValueLemmas.{some_none}
 use Rattle.sat_parts.proofs.lemmas.parts.ClearLemmas.{dropped, again_true, again_back, again_level, again_size}
-
--- an open literal becomes true at level 0
-pub gains_enqueued : (s : State) (l : ℕ) → Agrees s → IsOpenLit s.values l → variable l < length s.values → s.trail.starts ≡ [] → GainsUnit l s (enqueued l NoCause s)
-gains_enqueued s l a free below bottom =
-    let s' : State = enqueued l NoCause s in
-    let g : Grows s (enqueued l NoCause s) = grows_enqueued s l NoCause a free below (room_for s l NoCause a free below) in
-    let size : length (s.trail.lits ++ l ∷ []) ≡ length s.trail.lits + 1 = length_push s.trail.lits l in
-    record {
-      size = g.size;
-      units = λ m u. elim u [
-        | inl r ↦ inl (inl (g.removed m r))
-        | inr b ↦ elim (cases_lt b.place (length s.trail.lits)) [
-          | inl lt ↦
-              let there : lit_at s b.place ≡ m = sym (g.front b.place lt) ∙ b.there in
-              let same : node s' m ≡ node s m = g.nodes m (subst (λ z. IsTrueLit s.values z) there (a.holds b.place lt)) in
-              inl (inr (record {
-                place = b.place;
-                within = lt;
-                there = there;
-                bottom = ap (λ (n : ImplNode). n.level) (sym same) ∙ b.bottom;
-                none = ap (λ (n : ImplNode). is_unit n.reason) (sym same) ∙ b.none;
-              }))
-          | inr ge ↦ (let last : b.place ≡ length s.trail.lits = omega (arith, b.within) in inr (sym b.there ∙ ap (λ k. lit_at s' k) last ∙ lit_last s l NoCause))
-        ]
-      ];
-      bottom = λ m t z. (g.kept m t, ap (λ (n : ImplNode). n.level) (g.nodes m t) ∙ z);
-      holds = (true_new s l NoCause below, ap (λ (n : ImplNode). n.level) (node_new s l NoCause (omega (arith, a.nodes))) ∙ ap (λ (xs : List ℕ). length xs) bottom);
-    }
 
 pub gains_after : (l : ℕ) (a b c : State) → AddsNoUnit a b → GainsUnit l b c → GainsUnit l a c
 gains_after l a b c x y = record {

@@ -1,5 +1,5 @@
 -- Clauses that are loaded at level 0, and variables that are given up.
-use Rattle.std.proofs.Common.{ℕ, ◌≡◌, ◌≢◌, ◌+◌, ◌*◌, ◌<◌, ◌≤◌, inl, inr, List, [], length, get_or, set, length-set, get_or-set_same, get_or-set_other, sym, ap, ◌∙◌, subst, arith, true, false, None}
+use Rattle.std.proofs.Common.{ℕ, ◌≡◌, ◌≢◌, ◌+◌, ◌*◌, ◌<◌, ◌≤◌, inl, inr, List, [], length, get_or, set, length-set, get_or-set_same, get_or-set_other, sym, ap, ◌∙◌, subst, arith, false, None}
 use Rattle.std.proofs.lemmas.Bool.{cases_Bool, cases_eq, true≢false}
 use Rattle.sat_base.specs.values.Literals.{variable, negated}
 use Rattle.sat_store.specs.clause.Buffer.{lits_at}
@@ -19,7 +19,7 @@ use Rattle.sat_parts.proofs.lemmas.prop.CallLemmas.{asks_added, asks_of_unit}
 use Rattle.sat_parts.proofs.lemmas.prop.WordLemmas.{levels_stay}
 use Rattle.sat_parts.specs.parts.Round.{IsUnused, IsSoundBelow, RoundInvariant}
 use Rattle.sat_parts.specs.parts.Loadable.{IsLoadable}
-use Rattle.sat_parts.proofs.lemmas.parts.ValueLemmas.{some_none, pick_set}
+use Rattle.sat_parts.proofs.lemmas.parts.ValueLemmas.{some_none}
 use Rattle.sat_parts.proofs.lemmas.parts.LearnLemmas.{turns_added, unused_added}
 use Rattle.sat_parts.proofs.lemmas.parts.BinaryLemmas.{asks_binary_added, turns_binary, unused_binary}
 
@@ -153,22 +153,5 @@ sound_freed words db w b a g t q v h bottom empty below unused =
         ];
       };
       units = λ i lt. absurd (omega arith);
-      base = h.base;
-    }
-
--- more variables may be picked
-pub sound_picked : (words : List ℕ) (db : Db) (w : Watching) (b : Binaries) (a : Values) (g : List ImplNode) (t : Trailed) (q : Queue) (v : ℕ) → RoundInvariant words db w b a g t q → RoundInvariant words db w b a g t (with_available v true q)
-sound_picked words db w b a g t q v h =
-    let y : IsSoundBelow words db w b a g t q (length t.starts + 1) = h.below in
-    record {
-      below = record {
-        held = y.held;
-        asks = y.asks;
-        turns = y.turns;
-        levelled = y.levelled;
-        queue = length-set q.available v true ∙ y.queue;
-        ready = λ u lt none. elim (y.ready u lt none) [ inl p ↦ inl (pick_set q v u p) | inr z ↦ inr z ];
-      };
-      units = h.units;
       base = h.base;
     }

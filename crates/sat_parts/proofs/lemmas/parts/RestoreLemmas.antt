@@ -10,7 +10,7 @@ use Rattle.sat_parts.specs.declared.prop.graph.Reason.TheVariants.{Unit as NoCau
 use Rattle.sat_parts.specs.clause.Db.{Db, live_refs}
 use Rattle.sat_parts.specs.clause.Stored.{AreClauses, lit_of}
 use Rattle.sat_parts.specs.prop.Binaries.{Binaries, implied_by}
-use Rattle.sat_parts.specs.prop.Graphs.{removed_node, with_node, new_node, is_unit}
+use Rattle.sat_parts.specs.prop.Graphs.{removed_node, with_node, new_node}
 use Rattle.sat_parts.specs.prop.Values.{Values, made_true, IsTrueLit, IsOpenLit}
 use Rattle.sat_parts.specs.prop.Trails.{Trailed, LevelIs}
 use Rattle.sat_parts.specs.prop.WatchLists.{Watching}
@@ -20,7 +20,6 @@ use Rattle.sat_parts.specs.prop.Reasons.{Implies}
 use Rattle.sat_parts.proofs.lemmas.prop.StateLemmas.{left_true, negated_variable, open_other, true_kept, true_back, true_new}
 use Rattle.sat_parts.proofs.lemmas.prop.WordLemmas.{levels_stay}
 use Rattle.sat_parts.specs.parts.Round.{IsUnused, IsSoundBelow, RoundInvariant}
-use Rattle.sat_parts.specs.parts.Frame.{GainsUnit}
 use Rattle.sat_parts.proofs.lemmas.parts.TurnLemmas.{implies_by}
 use Rattle.sat_parts.proofs.lemmas.parts.DecideLemmas.{still_open}
 
@@ -140,25 +139,4 @@ sound_restored words db w b a g t q l h bottom below free not =
       };
       units = λ i lt e. ap (λ (z : ImplNode). z.reason) (at i lt) ∙ h.units i lt (sym (ap (λ (z : ImplNode). z.level) (at i lt)) ∙ e);
       base = h.base;
-    }
-
-pub gains_restored : (s : State) (l : ℕ) → Agrees s → IsOpenLit s.values l → variable l < length s.values → GainsUnit l s (restored l s)
-gains_restored s l h free below =
-    let x : IsRemoved (restored l s) l = is_restored s l below h.nodes in
-    record {
-      size = length-set s.values (variable l) (Some (is_positive l));
-      units = λ m u. elim u [
-        | inl r ↦ elim (removed_back s l m below r) [ inl e ↦ inr e | inr y ↦ inl (inl y) ]
-        | inr b ↦
-            let same : node (restored l s) m ≡ node s m = old_node s l m free (subst (λ z. IsTrueLit s.values z) b.there (h.holds b.place b.within)) in
-            inl (inr (record {
-              place = b.place;
-              within = b.within;
-              there = b.there;
-              bottom = sym (ap (λ (z : ImplNode). z.level) same) ∙ b.bottom;
-              none = sym (ap (λ (z : ImplNode). is_unit z.reason) same) ∙ b.none;
-            }))
-      ];
-      bottom = λ m t z. (true_kept s l m NoCause free t, same_level s l m free t ∙ z);
-      holds = (x.holds, x.bottom);
     }

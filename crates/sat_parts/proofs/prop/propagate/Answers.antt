@@ -1,3 +1,5 @@
+use Rattle.std.proofs.lemmas.Grind.{common_steps}
+use Rattle.std.proofs.Common.{arith}
 use Rattle.std.proofs.Common.{◌+◌}
 use Rattle.std.proofs.lemmas.Result.{IfOk-weaker}
 use Rattle.sat_parts.specs.prop.State.{current_level}
@@ -22,7 +24,4 @@ returns-clause-given c =
     c.propagate_queue.ensures.propagated
 
 pub returns-clause-held : goal.returns-clause-held
-returns-clause-held c = λ held.
-    IfOk-weaker _ _ _
-    (λ r h. held_reordered c.args.clauses.now c.propagate_queue.new.clauses c.args.db.now held h.moves.reorders)
-    c.propagate_queue.ensures.propagated
+returns-clause-held c = grind (arith, common_steps, held_reordered)

@@ -6,12 +6,6 @@ use Rattle.sat_parts.specs.clause.Activity.{with_activity}
 use Rattle.sat_parts.proofs.lemmas.clause.HeaderLemmas.{holds_put}
 use Rattle.sat_parts.proofs.clause.activity.put_activity.Goals as goal
 
-pub returns-clause-put : goal.returns-clause-put
-returns-clause-put c =
-    subst (λ (h : Header). PutsHeader c.args.clauses.now c.put_header.new.clauses c.args._db.now.refs c.args.cref h)
-    (c.set_activity.ensures ∙ ap (λ (h : Header). with_activity h c.args.activity) c.header-header.ensures.value)
-    (c.put_header.ensures c.args._db.now.refs c.requires.db.laid c.requires.there)
-
 pub returns-clause-db : goal.returns-clause-db
 returns-clause-db c =
     let put = subst (λ (h : Header). PutsHeader c.args.clauses.now c.put_header.new.clauses c.args._db.now.refs c.args.cref h)

@@ -1,7 +1,8 @@
-use Rattle.std.proofs.Common.{◌≡◌, ◌<◌, ◌∙◌, true, get_or, sym, ap, subst}
+use Rattle.std.proofs.lemmas.Grind.{common_steps}
+use Rattle.std.proofs.Common.{arith}
+use Rattle.std.proofs.Common.{◌∙◌, true, ap, subst}
 use Rattle.sat_store.specs.clause.Buffer.{header_at}
-use Rattle.sat_store.specs.clause.Header.{Header, index_of}
-use Rattle.sat_store.specs.declared.clause.tier.Tier.{Tier}
+use Rattle.sat_store.specs.clause.Header.{Header}
 use Rattle.sat_parts.specs.clause.Db.{PutsHeader}
 use Rattle.sat_parts.proofs.lemmas.prop.BuildLemmas.{live_in}
 use Rattle.sat_parts.proofs.lemmas.clause.DbLemmas.{live_clause, counted_one, deleted_by}
@@ -11,9 +12,7 @@ pub header-header-requires : goal.header-header-requires
 header-header-requires c = live_clause c.args.clauses.now c.args.db.now c.args.cref c.requires.db c.requires.live
 
 pub count_less-requires : goal.count_less-requires
-count_less-requires c =
-    let e : c.tier.result ≡ (header_at c.args.clauses.now c.args.cref).tier = c.tier.ensures ∙ ap (λ (h : Header). h.tier) c.header-header.ensures.value in
-    subst (λ (t : Tier). 0 < get_or c.args.db.now.counts (index_of t) 0) (sym e) (counted_one c.args.clauses.now c.args.db.now c.args.cref c.requires.db c.requires.live)
+count_less-requires c = grind (arith, common_steps, counted_one)
 
 pub put_header-requires-clause-clause : goal.put_header-requires-clause-clause
 put_header-requires-clause-clause c = live_clause c.args.clauses.now c.args.db.now c.args.cref c.requires.db c.requires.live

@@ -1,4 +1,6 @@
-use Rattle.std.proofs.Common.{◌≡◌, ◌≢◌, ◌<◌, ◌∙◌, get_or, sym, ap, subst}
+use Rattle.std.proofs.lemmas.Grind.{common_steps}
+use Rattle.std.proofs.Common.{arith}
+use Rattle.std.proofs.Common.{◌≡◌, ◌≢◌, ◌∙◌, sym, ap, subst}
 use Rattle.sat_store.specs.clause.Buffer.{header_at}
 use Rattle.sat_store.specs.clause.Header.{Header, index_of}
 use Rattle.sat_store.specs.declared.clause.tier.Tier.{Tier}
@@ -11,16 +13,10 @@ pub header-header-requires : goal.header-header-requires
 header-header-requires c = live_clause c.args.clauses.now c.args.db.now c.args.cref c.requires.db c.requires.live
 
 pub count_less-requires : goal.count_less-requires
-count_less-requires c =
-    let e : c.tier-old.result ≡ (header_at c.args.clauses.now c.args.cref).tier = c.tier-old.ensures ∙ ap (λ (h : Header). h.tier) c.header-header.ensures.value in
-    subst (λ (t : Tier). 0 < get_or c.args.db.now.counts (index_of t) 0) (sym e) (counted_one c.args.clauses.now c.args.db.now c.args.cref c.requires.db c.requires.live)
+count_less-requires c = grind (arith, common_steps, counted_one)
 
 pub count_more-requires : goal.count_more-requires
-count_more-requires c =
-    let e : c.tier-old.result ≡ (header_at c.args.clauses.now c.args.cref).tier = c.tier-old.ensures ∙ ap (λ (h : Header). h.tier) c.header-header.ensures.value in
-    let differ : index_of (header_at c.args.clauses.now c.args.cref).tier ≢ index_of c.args.tier = λ q.
-    c.if-index.false (c.index.ensures ∙ ap (λ (t : Tier). index_of t) e ∙ q ∙ sym c.index-2.ensures) in
-    rw (c.count_less.ensures, e) (room_in_tier c.args.clauses.now c.args.db.now c.args.cref c.args.tier c.requires.db c.requires.live differ)
+count_more-requires c = grind (arith, common_steps, room_in_tier)
 
 pub put_header-requires-clause-clause : goal.put_header-requires-clause-clause
 put_header-requires-clause-clause c = live_clause c.args.clauses.now c.args.db.now c.args.cref c.requires.db c.requires.live

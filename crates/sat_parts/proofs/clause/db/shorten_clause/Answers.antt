@@ -1,3 +1,4 @@
+use Rattle.std.proofs.lemmas.Grind.{common_steps}
 use Rattle.std.proofs.Common.{◌≡◌, take, ap, ◌∙◌, arith}
 use Rattle.sat_store.specs.clause.Buffer.{header_at, lits_at}
 use Rattle.sat_store.specs.clause.Header.{Header}
@@ -9,9 +10,7 @@ pub header-header-requires : goal.header-header-requires
 header-header-requires c = live_clause c.args.clauses.now c.args.db.now c.args.cref c.requires.db c.requires.live
 
 pub set_len-requires : goal.set_len-requires
-set_len-requires c =
-    let n = same_count c.args.clauses.now c.args.cref (live_clause c.args.clauses.now c.args.db.now c.args.cref c.requires.db c.requires.live) in
-    omega (arith, n, c.requires.no_longer, c.header-header.ensures.bound, ap (λ (h : Header). h.len) c.header-header.ensures.value)
+set_len-requires c = grind (arith, common_steps, same_count, live_clause)
 
 pub set_header-requires-clause-clause : goal.set_header-requires-clause-clause
 set_header-requires-clause-clause c = live_clause c.args.clauses.now c.args.db.now c.args.cref c.requires.db c.requires.live

@@ -1,4 +1,5 @@
-use Rattle.std.proofs.Common.{◌≡◌, ◌<◌, ℕ, true, false, not, length, get_or, List, refl, sym, ap, ◌∙◌, subst, arith, Bool}
+use Rattle.std.proofs.lemmas.Grind.{common_steps}
+use Rattle.std.proofs.Common.{◌≡◌, ◌<◌, ℕ, true, false, not, length, get_or, List, sym, ap, ◌∙◌, subst, arith, Bool}
 use Rattle.sat_store.specs.clause.Buffer.{SameClauseAt, header_at}
 use Rattle.sat_store.specs.clause.Header.{Header}
 use Rattle.sat_parts.specs.clause.Db.{is_live, PutsHeader}
@@ -9,12 +10,7 @@ use Rattle.sat_parts.proofs.lemmas.clause.FilterLemmas.{filtering_none, filterin
 use Rattle.sat_parts.proofs.clause.filter.filter_clauses.Goals as goal
 
 pub loop-at-init : goal.loop-at-init
-loop-at-init g c = record {
-  db = c.requires.db;
-  refs = refl;
-  off = c.disable.ensures;
-  pass = filtering_none (AnswersAt g.F.FnMut c.args.clauses.now) c.args.keep c.args.clauses.now c.args.db.now.refs c.requires.db.laid;
-}
+loop-at-init g c = grind (arith, common_steps, filtering_none)
 
 pub loop-at-preserved-then-deleted : goal.loop-at-preserved-then-deleted
 loop-at-preserved-then-deleted g c =
@@ -89,9 +85,3 @@ returns-clause-kept g c =
     let h = c.loop-at.invariant in
     let end : c.loop-at.at ≡ length c.args.db.now.refs = omega arith in
     rw h.refs (filtering_all (AnswersAt g.F.FnMut c.args.clauses.now) c.args.keep c.loop-at.keep c.args.clauses.now c.loop-at.clauses c.args.db.now.refs c.loop-at.at h.pass end).1
-
-pub returns-clause-filtered : goal.returns-clause-filtered
-returns-clause-filtered g c =
-    let h = c.loop-at.invariant in
-    let end : c.loop-at.at ≡ length c.args.db.now.refs = omega arith in
-    rw h.refs (filtering_all (AnswersAt g.F.FnMut c.args.clauses.now) c.args.keep c.loop-at.keep c.args.clauses.now c.loop-at.clauses c.args.db.now.refs c.loop-at.at h.pass end).0

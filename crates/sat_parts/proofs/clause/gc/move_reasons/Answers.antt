@@ -1,24 +1,13 @@
-use Rattle.std.proofs.Common.{◌≡◌, ◌≤◌, ◌+◌, ℕ, List, ◌<◌, true, false, not, length, get_or, take, refl, sym, ap, ◌∙◌, subst, arith}
-use Rattle.std.proofs.lemmas.List.{get_or_read, length_push, take_all}
+use Rattle.std.proofs.lemmas.Grind.{common_steps}
+use Rattle.std.proofs.Common.{◌≡◌, ◌+◌, ℕ, List, ◌<◌, true, false, not, length, get_or, take, sym, ap, ◌∙◌, subst, arith}
+use Rattle.std.proofs.lemmas.List.{get_or_read, length_push}
 use Rattle.std.proofs.lemmas.List.Sums.{count_by-le-length, length-filter}
 use Rattle.sat_store.specs.clause.Header.{Header}
-use Rattle.sat_store.specs.clause.Buffer.{lits_at}
 use Rattle.sat_parts.specs.clause.Db.{is_live, live_refs}
-use Rattle.sat_parts.specs.clause.Collected.{AreFollowed}
 use Rattle.sat_parts.proofs.lemmas.prop.BuildLemmas.{live_next, live_skip}
-use Rattle.sat_parts.proofs.lemmas.clause.GcLemmas.{followed_none, followed_by, live_nth}
-use Rattle.sat_parts.proofs.lemmas.clause.ListLemmas.{place_in}
+use Rattle.sat_parts.proofs.lemmas.clause.GcLemmas.{followed_by, live_nth}
 use Rattle.sat_parts.proofs.clause.gc.move_reasons.Goals as goal
 use Rattle.sat_parts.proofs.clause.gc.move_reasons.Goals.{then-not-deleted, else-not-deleted}
-
-pub loop-at-init : goal.loop-at-init
-loop-at-init c = record { place = refl; followed = followed_none (live_refs c.args.clauses.now c.args.db.now.refs) c.args.refs.now.items c.args._trail.now.lits c.args.graph.now }
-
-pub lit-first-requires-clause-within : goal.lit-first-requires-clause-within
-lit-first-requires-clause-within c =
-    let lt : c.loop-at.at < length c.args.db.now.refs = omega arith in
-    let three : 3 ≤ length (lits_at c.args.clauses.now (get_or c.args.db.now.refs c.loop-at.at 0)) = c.requires.db.long (get_or c.args.db.now.refs c.loop-at.at 0) (place_in c.args.db.now.refs c.loop-at.at lt) in
-    subst (λ z. 0 < length (lits_at c.args.clauses.now z)) (sym c.cref-cref.ensures) (omega arith)
 
 pub index-requires : goal.index-requires
 index-requires c =
@@ -28,11 +17,7 @@ index-requires c =
     omega (arith, nth.1, c.loop-at.invariant.place, c.requires.size, c.args.refs.now.ok.0)
 
 pub overflow_add-next : goal.overflow_add-next
-overflow_add-next c =
-    let lt : c.loop-at.at < length c.args.db.now.refs = omega arith in
-    let live : is_live c.args.clauses.now c.cref-cref.result ≡ true = ap (λ b. not b) (ap (λ (h : Header). h.deleted) (sym c.header.ensures.value) ∙ sym c.deleted.ensures ∙ c.if-not-deleted.true) in
-    let nth = live_nth c.args.clauses.now c.args.db.now.refs c.loop-at.at lt (subst (λ z. is_live c.args.clauses.now z ≡ true) c.cref-cref.ensures live) in
-    omega (arith, nth.1, c.loop-at.invariant.place, c.requires.db.few, length-filter (is_live c.args.clauses.now) c.args.db.now.refs, count_by-le-length (is_live c.args.clauses.now) c.args.db.now.refs)
+overflow_add-next c = grind (arith, common_steps, count_by-le-length, length-filter, live_nth)
 
 pub loop-at-preserved : goal.loop-at-preserved
 loop-at-preserved c =
@@ -61,10 +46,3 @@ loop-at-preserved c =
             followed = rw (w.next-is, w.graph-is) c.loop-at.invariant.followed;
           }
     ]
-
-pub returns : goal.returns
-returns c =
-    let all : live_refs c.args.clauses.now (take c.loop-at.at c.args.db.now.refs) ≡ live_refs c.args.clauses.now c.args.db.now.refs =
-    ap (λ (xs : List ℕ). live_refs c.args.clauses.now xs) (take_all c.loop-at.at c.args.db.now.refs (omega arith)) in
-    subst (λ n. AreFollowed (live_refs c.args.clauses.now c.args.db.now.refs) c.args.refs.now.items c.args._trail.now.lits n c.args.graph.now c.loop-at.graph)
-    (c.loop-at.invariant.place ∙ ap (λ (xs : List ℕ). length xs) all) c.loop-at.invariant.followed

@@ -1,5 +1,5 @@
+use Rattle.std.proofs.lemmas.Grind.{common_steps}
 use Rattle.std.proofs.Common.{refl, arith, ap}
-use Rattle.sat_store.specs.clause.Buffer.{IsClause}
 use Rattle.sat_store.specs.declared.clause.tier.Tier.{Tier}
 use Rattle.sat_store.specs.clause.Header.{is_learned}
 use Rattle.sat_store.proofs.lemmas.clause.Laying.{same_count}
@@ -13,10 +13,7 @@ use Rattle.sat_parts.proofs.lemmas.parts.HeaderFrames.{headed_by, sides_one}
 use Rattle.sat_parts.proofs.parts.clauses.put_header.Goals as goal
 
 pub set_header-requires-clause-no_longer : goal.set_header-requires-clause-no_longer
-set_header-requires-clause-no_longer c =
-    let p = c.args.parts.now in
-    let clause : IsClause p.clauses c.args.cref = live_clause p.clauses p.db c.args.cref c.requires.holds.below.held c.requires.live in
-    omega (arith, same_count p.clauses c.args.cref clause, c.requires.len)
+set_header-requires-clause-no_longer c = grind (arith, common_steps, same_count, live_clause)
 
 pub returns : goal.returns
 returns c =

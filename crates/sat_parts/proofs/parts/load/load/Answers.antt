@@ -1,25 +1,16 @@
+use Rattle.std.proofs.lemmas.Grind.{common_steps}
 use Rattle.std.proofs.Common.{◌≡◌, ◌∙◌, length, arith}
-use Rattle.std.proofs.lemmas.Result.{IfOk-weaker}
 use Rattle.sat_parts.specs.parts.Loadable.{false_last, without_false}
-use Rattle.sat_parts.specs.parts.Loading.{LoadSays}
 use Rattle.sat_parts.specs.parts.Whole.{state}
 use Rattle.sat_parts.proofs.lemmas.parts.LoadFrames.{says_after}
 use Rattle.sat_parts.proofs.lemmas.parts.SortLemmas.{shuffled_last, gone_last, sorted_last, found_last}
 use Rattle.sat_parts.proofs.parts.load.load.Goals as goal
 
 pub put_all_back-requires-clause-back : goal.put_all_back-requires-clause-back
-put_all_back-requires-clause-back c =
-    let values = c.args.parts.now.assignment.current in
-    let given = c.args.given.now in
-    let all : c.deref.result.now ≡ false_last c.args.parts.now.assignment.current c.args.given.now =
-    rw (c.in_ok-found.ensures.lits, c.in_ok-found.ensures.false_lits) at (c.deref.ensures.value ∙ c.in_ok-kept.ensures.lits) in
-    let kept : c.in_ok-kept.kept ≡ length (without_false c.args.parts.now.assignment.current c.args.given.now) = rw c.in_ok-found.ensures.lits at c.in_ok-kept.ensures.kept in
-    rw (all, kept) (gone_last values given)
+put_all_back-requires-clause-back c = grind (arith, common_steps, gone_last)
 
 pub returns-then-found-clause-says : goal.returns-then-found-clause-says
-returns-then-found-clause-says c =
-    let values = c.args.parts.now.assignment.current in
-    (c.put_all_back.ensures.same, c.put_all_back.ensures.carries, found_last values c.args.given.now (rw c.if-found.true at c.in_ok-found.ensures.found))
+returns-then-found-clause-says c = grind (arith, common_steps, found_last)
 
 pub load_sorted-requires-clause-fits : goal.load_sorted-requires-clause-fits
 load_sorted-requires-clause-fits c =
@@ -45,14 +36,4 @@ load_sorted-requires-clause-sorted c =
     (sorted_last (state p) (state m) p.vsids m.vsids given e.size e.values e.queue c.requires.distinct c.requires.below c.requires.ready (rw c.if-found.false at c.in_ok-found.ensures.found) (rw (one, kept) at e.fresh))
 
 pub returns-clause-says : goal.returns-clause-says
-returns-clause-says c =
-    let p = c.args.parts.now in
-    let m = c.put_all_back.new.parts in
-    let e = c.put_all_back.ensures in
-    let values = c.args.parts.now.assignment.current in
-    let given = c.args.given.now in
-    let two : c.deref-2.result.now ≡ false_last c.args.parts.now.assignment.current c.args.given.now =
-    rw (c.in_ok-found.ensures.lits, c.in_ok-found.ensures.false_lits) at (c.deref-2.ensures.value ∙ c.in_ok-kept.ensures.lits) in
-    IfOk-weaker c.load_sorted.result (λ r. LoadSays r c.put_all_back.new.parts c.load_sorted.new.parts (false_last c.args.parts.now.assignment.current c.args.given.now))
-    (λ r. LoadSays r c.args.parts.now c.load_sorted.new.parts (false_last c.args.parts.now.assignment.current c.args.given.now))
-    (λ r h. says_after r p m c.load_sorted.new.parts (false_last values given) e.same e.carries e.values h) (rw two at c.load_sorted.ensures.says)
+returns-clause-says c = grind (arith, common_steps, says_after)

@@ -1,4 +1,4 @@
-use Rattle.std.proofs.Common.{◌≡◌, ◌∙◌, refl, get_or, arith, subst, sym, ap, inl, inr}
+use Rattle.std.proofs.Common.{◌≡◌, ◌∙◌, get_or, arith, subst, sym, ap, inl, inr}
 use Rattle.std.proofs.lemmas.Bool.{cases_eq}
 use Rattle.std.proofs.lemmas.List.{get_or_read}
 use Rattle.sat_base.specs.values.Literals.{negated, variable}
@@ -6,7 +6,7 @@ use Rattle.sat_parts.specs.prop.Values.{IsTrueLit}
 use Rattle.sat_parts.proofs.lemmas.prop.StateLemmas.{true_from_false}
 use Rattle.sat_parts.specs.prop.State.{HasLeft}
 use Rattle.sat_parts.specs.parts.Whole.{state}
-use Rattle.sat_parts.proofs.lemmas.parts.FrameLemmas.{carries_refl, carries_trans}
+use Rattle.sat_parts.proofs.lemmas.parts.FrameLemmas.{carries_trans}
 use Rattle.sat_parts.proofs.parts.load.put_all_back.Goals as goal
 
 pub loop-at-preserved : goal.loop-at-preserved
@@ -28,18 +28,6 @@ loop-at-preserved c =
         | inr n ↦ x.fresh k a (omega arith) (e.left (negated (get_or c.args.lits.now k 0)) left)
       ];
     }
-
-pub loop-at-init : goal.loop-at-init
-loop-at-init c = record {
-  holds = c.requires.holds;
-  bottom = c.requires.bottom;
-  values = λ v. refl;
-  size = refl;
-  queue = refl;
-  same = (refl, refl, refl);
-  carries = carries_refl (state c.args.parts.now);
-  fresh = λ k a b. absurd (omega arith);
-}
 
 pub put_back-requires-clause-true_lit : goal.put_back-requires-clause-true_lit
 put_back-requires-clause-true_lit c =

@@ -39,6 +39,3 @@ returns-clause-keeps c = λ top.
     let few = few_levels (state_of p.assignment p.graph p.trail) c.args.lit h.asks.agrees h.levelled c.requires.open c.requires.there in
     rw (c.enqueue_assignment.ensures.value, c.enqueue_assignment.ensures.node, c.enqueue_assignment.ensures.trail, c.in_ok-new_decision_level.ensures.done)
     (keeps_decided top (state_of p.assignment p.graph p.trail) c.args.lit (agrees_raised (state_of p.assignment p.graph p.trail) h.asks.agrees few) h.levelled c.requires.open c.requires.there)
-
-pub returns-clause-decided : goal.returns-clause-decided
-returns-clause-decided c = rw (c.enqueue_assignment.ensures.value, c.enqueue_assignment.ensures.node, c.enqueue_assignment.ensures.trail, c.in_ok-new_decision_level.ensures.done) refl

@@ -1,7 +1,6 @@
 use Rattle.sat_parts.specs.prop.Ready.{state_of}
 use Rattle.sat_parts.proofs.lemmas.parts.WordSteps.{gone_enqueued}
-use Rattle.sat_parts.specs.prop.Trails.{with_lit}
-use Rattle.std.proofs.Common.{inl, ◌≡◌, ◌∙◌, ap, get_or, arith, refl}
+use Rattle.std.proofs.Common.{inl, ◌≡◌, get_or, arith, refl}
 use Rattle.std.proofs.lemmas.List.{get_or_read}
 use Rattle.sat_parts.proofs.lemmas.parts.LearnLemmas.{sound_long}
 use Rattle.sat_parts.specs.declared.prop.graph.Reason.TheVariants.{Long}
@@ -15,12 +14,6 @@ returns-clause-holds c =
     let one : c.index-lits-0.result ≡ get_or c.args.lits.now 0 0 = get_or_read c.args.lits.now 0 c.index-lits-0.result (omega (arith, c.requires.long)) c.index-lits-0.is 0 in
     rw (c.enqueue_assignment.ensures.value, c.enqueue_assignment.ensures.node, c.enqueue_assignment.ensures.trail, c.in_ok-cref.ensures.watched, one)
     (sound_long p.clauses n.clauses p.db n.db p.watchlists p.binary p.assignment p.graph p.trail p.vsids c.args.lits.now c.in_ok-cref.cref c.args.header c.requires.holds c.requires.pending c.requires.long c.in_ok-cref.ensures.added)
-
-pub returns-clause-trail : goal.returns-clause-trail
-returns-clause-trail c =
-    let p = c.args.parts.now in
-    let one : c.index-lits-0.result ≡ get_or c.args.lits.now 0 0 = get_or_read c.args.lits.now 0 c.index-lits-0.result (omega (arith, c.requires.long)) c.index-lits-0.is 0 in
-    c.enqueue_assignment.ensures.trail ∙ ap (λ l. with_lit l p.trail) one
 
 pub returns-clause-stay : goal.returns-clause-stay
 returns-clause-stay c =

@@ -1,29 +1,15 @@
+use Rattle.std.proofs.lemmas.Grind.{common_steps}
 use Rattle.sat_parts.specs.prop.Ready.{state_of}
 use Rattle.sat_parts.proofs.lemmas.parts.WordSteps.{gone_enqueued}
-use Rattle.sat_parts.specs.prop.Trails.{with_lit}
-use Rattle.std.proofs.Common.{inl, ◌≡◌, ◌<◌, ◌∙◌, ap, sym, subst, length, get_or, arith, refl}
+use Rattle.std.proofs.Common.{inl, ◌≡◌, get_or, arith, refl}
 use Rattle.std.proofs.lemmas.List.{get_or_read}
-use Rattle.sat_base.specs.values.Literals.{variable}
-use Rattle.sat_parts.specs.prop.Values.{IsOpenLit}
 use Rattle.sat_parts.proofs.lemmas.parts.LearnLemmas.{sound_unit}
 use Rattle.sat_parts.specs.declared.prop.graph.Reason.TheVariants.{Unit as NoCause}
 use Rattle.sat_parts.specs.parts.Frame.{learnt_unit}
 use Rattle.sat_parts.proofs.parts.steps.learn_unit.Goals as goal
 
 pub returns-clause-holds : goal.returns-clause-holds
-returns-clause-holds c =
-    let p = c.args.parts.now in
-    let x = c.requires.pending in
-    let at : c.index-lits-0.result ≡ get_or c.args.lits.now 0 0 = get_or_read c.args.lits.now 0 c.index-lits-0.result (omega (arith, c.requires.one)) c.index-lits-0.is 0 in
-    rw (c.enqueue_assignment.ensures.value, c.enqueue_assignment.ensures.node, c.enqueue_assignment.ensures.trail)
-    (sound_unit p.clauses p.db p.watchlists p.binary p.assignment p.graph p.trail p.vsids c.index-lits-0.result c.requires.holds (x.unit c.requires.one)
-    (subst (λ l. IsOpenLit p.assignment.current l) (sym at) x.open_first) (subst (λ l. variable l < length p.assignment.current) (sym at) x.there))
-
-pub returns-clause-trail : goal.returns-clause-trail
-returns-clause-trail c =
-    let p = c.args.parts.now in
-    let at : c.index-lits-0.result ≡ get_or c.args.lits.now 0 0 = get_or_read c.args.lits.now 0 c.index-lits-0.result (omega (arith, c.requires.one)) c.index-lits-0.is 0 in
-    c.enqueue_assignment.ensures.trail ∙ ap (λ l. with_lit l p.trail) at
+returns-clause-holds c = grind (arith, common_steps, get_or_read, sound_unit)
 
 pub returns-clause-stay : goal.returns-clause-stay
 returns-clause-stay c =

@@ -1,6 +1,5 @@
 use Rattle.sat_parts.specs.parts.Whole.{state}
 use Rattle.sat_parts.proofs.lemmas.parts.WordSteps.{extends_fewer}
-use Rattle.sat_parts.proofs.lemmas.parts.KeepLemmas.{keeps_refl}
 use Rattle.sat_parts.proofs.parts.steps.make_decision.Goals as goal
 
 pub returns-in-None-clause-word : goal.returns-in-None-clause-word
@@ -12,6 +11,3 @@ pub returns-in_ok-decide_on-in-Some-clause-word : goal.returns-in_ok-decide_on-i
 returns-in_ok-decide_on-in-Some-clause-word c = λ am.
     let p = c.args.parts.now in
     c.in_ok-decide_on-in-Some.ensures.word am p.vsids c.in-Some.ensures.picked c.pick-picked.ensures.fewer
-
-pub returns-in-None-clause-keeps : goal.returns-in-None-clause-keeps
-returns-in-None-clause-keeps c = λ top. keeps_refl top (state c.args.parts.now)

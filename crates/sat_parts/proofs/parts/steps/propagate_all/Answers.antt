@@ -1,11 +1,10 @@
+use Rattle.std.proofs.lemmas.Grind.{common_steps}
+use Rattle.std.proofs.Common.{arith}
 use Rattle.std.proofs.lemmas.Result.{IfOk-weaker}
 use Rattle.sat_parts.specs.clause.Db.{live_refs}
 use Rattle.sat_parts.specs.prop.Ready.{state_of}
 use Rattle.sat_parts.proofs.lemmas.parts.WordSteps.{propagated_extends}
 use Rattle.sat_parts.proofs.lemmas.parts.MoveLemmas.{sound_propagated, agrees_given, base_given, units_moved}
-use Rattle.sat_parts.specs.parts.Frame.{Reordered, KeepsTo}
-use Rattle.sat_parts.proofs.lemmas.parts.FrameLemmas.{carries_moved}
-use Rattle.std.proofs.Common.{ℕ, refl}
 use Rattle.sat_parts.proofs.lemmas.parts.KeepLemmas.{keeps_grown}
 use Rattle.sat_parts.proofs.parts.steps.propagate_all.Goals as goal
 
@@ -37,27 +36,5 @@ returns-clause-word c =
     let n = c.propagate.new in
     IfOk-weaker _ _ _ (λ r h. propagated_extends p.clauses n.clauses p.db p.watchlists n.watchlists p.binary p.assignment n.assignment p.graph n.graph p.trail n.trail p.vsids r c.requires.holds h) c.propagate.ensures.given
 
-pub returns-clause-moved : goal.returns-clause-moved
-returns-clause-moved c =
-    let p = c.args.parts.now in
-    let n = c.propagate.new in
-    IfOk-weaker _ _ _
-    (λ r h.
-    let x : Reordered p (record p { clauses = n.clauses; watchlists = n.watchlists; assignment = n.assignment; graph = n.graph; trail = n.trail }) =
-    record { live = h.live; kept = h.moves.reorders.all (live_refs p.clauses p.db.refs) (λ o k. k) c.requires.holds.asks.clauses.laid; binary = refl } in
-    x)
-    c.propagate.ensures.given
-
-pub returns-clause-carries : goal.returns-clause-carries
-returns-clause-carries c =
-    let p = c.args.parts.now in
-    let n = c.propagate.new in
-    IfOk-weaker _ _ _
-    (λ r h. carries_moved (live_refs p.clauses p.db.refs) p.binary.implied p.clauses n.clauses (state_of p.assignment p.graph p.trail) (state_of n.assignment n.graph n.trail) c.requires.holds.asks.agrees h.moves)
-    c.propagate.ensures.given
-
 pub returns-clause-keeps : goal.returns-clause-keeps
-returns-clause-keeps c =
-    let p = c.args.parts.now in
-    let n = c.propagate.new in
-    IfOk-weaker _ _ (λ r. (top : ℕ) → KeepsTo top (state_of p.assignment p.graph p.trail) (state_of n.assignment n.graph n.trail)) (λ r h. λ top. keeps_grown top (state_of p.assignment p.graph p.trail) (state_of n.assignment n.graph n.trail) h.moves.grows c.requires.holds.levelled) c.propagate.ensures.given
+returns-clause-keeps c = grind (arith, common_steps, keeps_grown)

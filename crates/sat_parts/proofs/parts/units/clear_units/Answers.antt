@@ -1,5 +1,5 @@
-use Rattle.std.proofs.Common.{ap}
-use Rattle.sat_parts.specs.prop.Trails.{Trailed}
+use Rattle.std.proofs.lemmas.Grind.{common_steps}
+use Rattle.std.proofs.Common.{arith}
 use Rattle.sat_parts.proofs.lemmas.parts.WordSteps.{word_cleared}
 use Rattle.sat_parts.proofs.lemmas.parts.ClearLemmas.{sound_cleared}
 use Rattle.sat_parts.proofs.lemmas.parts.FrameLemmas.{clears_cleared}
@@ -15,9 +15,4 @@ returns-clause-word c =
     rw (c.mark_removed.ensures, c.clear.ensures) (λ am. word_cleared am p.assignment p.graph p.trail p.vsids c.requires.holds.asks.agrees c.requires.bottom)
 
 pub returns-clause-clears : goal.returns-clause-clears
-returns-clause-clears c =
-    let p = c.args.parts.now in
-    rw (c.mark_removed.ensures, c.clear.ensures) (clears_cleared p.assignment p.graph p.trail c.requires.holds.asks.agrees c.requires.bottom)
-
-pub returns-clause-empty : goal.returns-clause-empty
-returns-clause-empty c = ap (λ (t : Trailed). t.lits) c.clear.ensures
+returns-clause-clears c = grind (arith, common_steps, clears_cleared)

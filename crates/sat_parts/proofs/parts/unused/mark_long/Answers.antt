@@ -1,4 +1,5 @@
-use Rattle.std.proofs.Common.{◌≡◌, ◌∙◌, ◌<◌, true, false, not, ap, sym, subst, length, arith}
+use Rattle.std.proofs.lemmas.Grind.{common_steps}
+use Rattle.std.proofs.Common.{◌≡◌, ◌∙◌, ◌<◌, true, not, ap, sym, subst, length, arith}
 use Rattle.std.specs.List.{Contains}
 use Rattle.sat_store.specs.clause.Header.{Header}
 use Rattle.sat_parts.specs.clause.Db.{is_live}
@@ -8,10 +9,7 @@ use Rattle.sat_parts.proofs.lemmas.parts.ReduceLemmas.{in_filter}
 use Rattle.sat_parts.proofs.parts.unused.mark_long.Goals as goal
 
 pub loop-at-preserved-then-deleted : goal.loop-at-preserved-then-deleted
-loop-at-preserved-then-deleted c =
-    let p = c.args.parts.now in
-    let dead : is_live c.args.parts.now.clauses c.cref-cref.result ≡ false = ap (λ (h : Header). not h.deleted) (sym c.header.ensures.value) ∙ ap (λ b. not b) (sym c.deleted.ensures ∙ c.if-deleted.true) in
-    long_skip c.args.used.now.items c.loop-at.used.items p.clauses p.db.refs c.loop-at.at c.cref-cref.result c.loop-at.invariant (sym c.cref-cref.ensures) dead
+loop-at-preserved-then-deleted c = grind (arith, common_steps, long_skip)
 
 pub mark_clause-requires-clause-below : goal.mark_clause-requires-clause-below
 mark_clause-requires-clause-below c = λ k b.
@@ -23,7 +21,4 @@ mark_clause-requires-clause-below c = λ k b.
     omega (arith, c.requires.holds.below.asks.clauses.below o k (in_filter (is_live p.clauses) p.db.refs o there live) b, c.loop-at.invariant.size, c.requires.size)
 
 pub loop-at-preserved : goal.loop-at-preserved
-loop-at-preserved c =
-    let p = c.args.parts.now in
-    let live : is_live c.args.parts.now.clauses c.cref-cref.result ≡ true = ap (λ (h : Header). not h.deleted) (sym c.header.ensures.value) ∙ ap (λ b. not b) (sym c.deleted.ensures ∙ c.if-deleted.false) in
-    long_more c.args.used.now.items c.loop-at.used.items c.mark_clause.new.used.items p.clauses p.db.refs c.loop-at.at c.cref-cref.result c.loop-at.invariant (sym c.cref-cref.ensures) live c.mark_clause.ensures
+loop-at-preserved c = grind (arith, common_steps, long_more)

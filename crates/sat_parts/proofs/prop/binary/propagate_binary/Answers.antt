@@ -1,4 +1,4 @@
-use Rattle.std.proofs.Common.{inl, rules, ◌≡◌, ◌<◌, ℕ, List, length, get_or, ap, ◌∙◌, subst, arith, length-set}
+use Rattle.std.proofs.Common.{rules, ◌≡◌, ◌<◌, ℕ, List, length, get_or, ap, ◌∙◌, subst, arith, length-set}
 use Rattle.std.proofs.lemmas.List.{get_or_read}
 use Rattle.sat_base.specs.values.Literals.{variable}
 use Rattle.sat_parts.specs.prop.Values.{IsOpenLit, IsTrueLit}
@@ -25,9 +25,6 @@ returns-then-lit_is_false-clause-walked c =
       binary_conflict c.args.binary.now.implied c.args.lit (state_of c.args.assignment.now c.args.graph.now c.args.trail.now) (state_of c.loop-implied.assignment c.loop-implied.graph c.loop-implied.trail) c.loop-implied.implied-index c.implied-item.result c.not-false_lit.result
           c.loop-implied.invariant.walk lt' x_is c.not-false_lit.ensures (c.lit_is_false.ensures.0 c.if-lit_is_false.true),
     )
-
-pub enqueue_assignment-requires-clause-room : goal.enqueue_assignment-requires-clause-room
-enqueue_assignment-requires-clause-room c = inl c.loop-implied.invariant.walk.agrees
 
 pub loop-implied-preserved : goal.loop-implied-preserved
 loop-implied-preserved c =

@@ -1,4 +1,4 @@
-use Rattle.std.proofs.Common.{inl, ◌≡◌, ℕ, ◌<◌, length, sym, ◌∙◌, subst, arith, rules, length-set}
+use Rattle.std.proofs.Common.{◌≡◌, ℕ, ◌<◌, length, sym, ◌∙◌, subst, arith, rules, length-set}
 use Rattle.std.specs.List.{Contains}
 use Rattle.sat_base.specs.values.Literals.{variable}
 use Rattle.sat_parts.specs.prop.Values.{IsOpenLit}
@@ -57,9 +57,6 @@ pub enqueue_assignment-requires-clause-node : goal.enqueue_assignment-requires-c
 enqueue_assignment-requires-clause-node g c =
     let b : variable c.in-Propagates.first < length c.loop-at.assignment.current = enqueue_assignment-requires-clause-value g c in
     omega (arith, c.loop-at.invariant.walking.half.agrees.nodes)
-
-pub enqueue_assignment-requires-clause-room : goal.enqueue_assignment-requires-clause-room
-enqueue_assignment-requires-clause-room g c = inl c.loop-at.invariant.walking.half.agrees
 
 pub returns-in-Falsified-clause-walked : goal.returns-in-Falsified-clause-walked
 returns-in-Falsified-clause-walked g c =

@@ -1,3 +1,4 @@
+use Rattle.std.proofs.lemmas.Grind.{common_steps}
 use Rattle.std.proofs.Common.{◌≡◌, ◌*◌, ◌<◌, length, arith}
 use Rattle.sat_parts.specs.clause.Orders.{Shuffles}
 use Rattle.sat_parts.specs.clause.Stored.{lit_of, size_of}
@@ -22,17 +23,7 @@ add_watch-requires c =
     omega (arith, b, c.lit-second.ensures.value, c.not.ensures, c.requires.room)
 
 pub returns-in_err-add_watch-clause-shuffles : goal.returns-in_err-add_watch-clause-shuffles
-returns-in_err-add_watch-clause-shuffles c =
-    let p : Shuffles c.args.clauses.now c.orient.new.clauses c.args.cref = c.orient.ensures.shuffles in
-    let long : size_of c.orient.new.clauses c.args.cref ≡ size_of c.args.clauses.now c.args.cref = p.lits.size in
-    shuffles_trans c.args.clauses.now c.orient.new.clauses c.swap_lits.new.self c.args.cref p
-    (shuffles_swap c.orient.new.clauses c.swap_lits.new.self c.args.cref 1 c.find_open-at.result (omega (arith, c.requires.long)) (omega arith)
-    c.swap_lits.ensures.header c.swap_lits.ensures.lits c.swap_lits.ensures.others)
+returns-in_err-add_watch-clause-shuffles c = grind (arith, common_steps, shuffles_trans, shuffles_swap)
 
 pub returns-then-at-len-clause-shuffles : goal.returns-then-at-len-clause-shuffles
-returns-then-at-len-clause-shuffles c =
-    let p : Shuffles c.args.clauses.now c.orient.new.clauses c.args.cref = c.orient.ensures.shuffles in
-    let long : size_of c.orient.new.clauses c.args.cref ≡ size_of c.args.clauses.now c.args.cref = p.lits.size in
-    shuffles_trans c.args.clauses.now c.orient.new.clauses c.swap_lits.new.self c.args.cref p
-    (shuffles_swap c.orient.new.clauses c.swap_lits.new.self c.args.cref 1 c.find_open-at.result (omega (arith, c.requires.long)) (omega arith)
-    c.swap_lits.ensures.header c.swap_lits.ensures.lits c.swap_lits.ensures.others)
+returns-then-at-len-clause-shuffles c = grind (arith, common_steps, shuffles_trans, shuffles_swap)
