@@ -1,4 +1,4 @@
-//! Clauses of two literals.
+//! The binary clauses.
 ghost use Rattle.std.specs.Prelude.{ℕ, ◌≡◌, ◌+◌, ◌-◌, ◌*◌, ◌/◌, ◌<◌, ◌≤◌, ◌⊎◌, ◌∷◌, ◌++◌, [], length, take, drop, replicate, OnOk, OnErr};
 ghost use Rattle.std.specs.Prelude.{slice_index, slice_index_or, slice_set, vec_capacity};
 ghost use Rattle.sat_base.specs.values.Literals.{var_limit, negated};
@@ -12,7 +12,7 @@ use sat_base::Lit;
 use std::alloc::{AllocError, Global};
 use std::marker::Model;
 
-/// The part of the common list that holds the literals implied by one literal: the first `len` of `room` positions.
+/// The part of the common list for the literals that one literal implies: `len` of them, in `room` positions.
 #[derive(Clone, Copy)]
 struct Place {
     start: u32,
@@ -30,7 +30,7 @@ fn is_unset(assignment: &Assignment, index: usize) -> bool
     }
 }
 
-/// Changes the number of places. New ones have no room.
+/// Changes the number of places. New places have no room.
 fn resize(places: &mut Vec<Place>, count: usize) -> Result<(), AllocError>
     ensures done { OnOk result (places.new.items
         ≡ take count places.old.items ++ replicate (count - length places.old.items) no_place) }
@@ -49,7 +49,7 @@ fn resize(places: &mut Vec<Place>, count: usize) -> Result<(), AllocError>
     Ok(())
 }
 
-/// Copies a part of the list to its end, into a room of this size.
+/// Copies a part of the list to its end, and fills it up to `room` positions.
 fn copy_part(lits: &mut Vec<Lit>, start: usize, len: usize, room: usize) -> Result<(), AllocError>
     requires within { start + len ≤ length lits.old.items }
     requires fits { len ≤ room }
@@ -77,8 +77,9 @@ fn push_part(lits: &mut Vec<Lit>, start: usize, len: usize)
     }
 }
 
-/// Copies a literal's list to the end of the common list, with twice the room. Positions have 32 bits: a common list
-/// that would be longer is reported as out of memory.
+/// Copies a literal's list to the end of the common list, with twice the room.
+///
+/// Positions have 32 bits. A common list that would be longer is reported as out of memory.
 fn move_list(places: &mut Vec<Place>, lits: &mut Vec<Lit>, code: usize) -> Result<(), AllocError>
     requires places { ArePlaces places.old.items (length lits.old.items) }
     requires below { code < length places.old.items }
@@ -152,8 +153,9 @@ fn pop(places: &mut Vec<Place>, lits: &Vec<Lit>, code: usize)
     };
 }
 
-/// Moves the literals at a place whose variables have no value to its front, and returns how many they are. Returns 0 if
-/// the variable with this index has a value.
+/// Moves the unassigned literals of a place to its start, and returns their number.
+///
+/// Returns 0 if the variable with this index has a value.
 fn open_part(lits: &mut Vec<Lit>, place: Place, assignment: &Assignment, index: usize) -> u32
     requires { place.start + place.len ≤ length lits.old.items }
     ensures few { result ≤ place.len }
@@ -178,8 +180,9 @@ fn open_part(lits: &mut Vec<Lit>, place: Place, assignment: &Assignment, index: 
     left
 }
 
-/// Keeps the literals of a literal's list whose variables have no value, or none if the variable that implies them has
-/// one. Returns how many are left.
+/// Removes the assigned literals of a literal's list, and returns how many are left.
+///
+/// Removes all of them if the literal that implies them is assigned.
 fn keep_open(
     places: &mut Vec<Place>,
     lits: &mut Vec<Lit>,
@@ -204,12 +207,13 @@ fn keep_open(
     left as usize
 }
 
-/// The clauses of two literals, each as two implications. Contracts see the list of implied literals of each literal,
-/// by its code, and the number of clauses.
+/// The binary clauses, each stored as two implications.
+///
+/// Contracts see the literals that every literal implies, by its code, and the number of clauses.
 #[derive(Drop)]
 pub struct BinaryClauses {
     by_lit: Vec<Place>,
-    /// The literals of all lists. A list without room is copied to the end.
+    /// The literals of all lists. A list that is full moves to the end.
     lits: Vec<Lit>,
     count: usize,
 }
@@ -227,7 +231,7 @@ impl Model for BinaryClauses {
 }
 
 impl BinaryClauses {
-    /// No literals and no clauses. Takes no memory.
+    /// Returns an empty set of clauses over no variables. Never allocates.
     pub fn new(alloc: Global) -> BinaryClauses
         ensures implied { result.implied ≡ [] }
         ensures count { result.count ≡ 0 }
@@ -239,7 +243,7 @@ impl BinaryClauses {
         }
     }
 
-    /// Makes the literals those of so many variables. New ones imply nothing.
+    /// Sets the number of variables. New literals imply nothing.
     pub fn set_var_count(&mut self, alloc: Global, count: usize) -> Result<(), AllocError>
         requires { count ≤ var_limit }
         ensures done { OnOk result (self.new ≡ with_literals (2 * count) self.old) }
@@ -250,7 +254,7 @@ impl BinaryClauses {
         Ok(())
     }
 
-    /// The literals that are true where this one is, by the clauses of it.
+    /// Returns the literals that a literal implies by binary clauses.
     pub fn implied(&self, lit: Lit) -> &[Lit]
         requires { lit < length self.now.implied }
         ensures { result.now ≡ implied_by self.now.implied lit }
@@ -260,14 +264,14 @@ impl BinaryClauses {
         &self.lits[start..start + place.len as usize]
     }
 
-    /// The number of clauses, held at 2^64 - 1.
+    /// Returns the number of clauses. It saturates at 2^64 - 1.
     pub fn count(&self) -> usize
         ensures { result ≡ self.now.count }
     {
         self.count
     }
 
-    /// How many implications the lists have, two for each clause, held at 2^64 - 1.
+    /// Returns the number of implications, two for every clause. It saturates at 2^64 - 1.
     pub fn implications(&self) -> usize
         ensures { result ≡ implications self.now.implied }
     {
@@ -279,7 +283,7 @@ impl BinaryClauses {
         all
     }
 
-    /// Puts a literal behind those that another implies.
+    /// Appends a literal to those that another implies.
     fn add_implied(&mut self, lit: Lit, implied: Lit) -> Result<(), AllocError>
         requires { lit < length self.old.implied }
         ensures done { OnOk result (self.new
@@ -291,7 +295,7 @@ impl BinaryClauses {
         Ok(())
     }
 
-    /// Takes the last one of the literals that a literal implies out.
+    /// Removes the last of the literals that a literal implies.
     fn pop_implied(&mut self, lit: Lit)
         requires { lit < length self.old.implied }
         ensures { self.new ≡ record self.old { implied = without_last lit self.old.implied } }
@@ -299,7 +303,7 @@ impl BinaryClauses {
         pop(&mut self.by_lit, &self.lits, lit.code());
     }
 
-    /// Adds the clause of these two literals.
+    /// Adds the clause of two literals. If memory runs out, nothing changes.
     pub fn add_binary_clause(&mut self, lits: [Lit; 2]) -> Result<(), AllocError>
         requires first { negated (slice_index_or lits 0 0) < length self.old.implied }
         requires second { negated (slice_index_or lits 1 0) < length self.old.implied }
@@ -317,7 +321,7 @@ impl BinaryClauses {
         Ok(())
     }
 
-    /// Removes the clauses of which a variable has a value. The others stay, in order.
+    /// Removes the clauses with an assigned variable. The other clauses keep their order.
     pub fn remove_assigned(&mut self, assignment: &Assignment)
         ensures { RemovesAssigned assignment.now.current self.old self.new }
     {

@@ -1,4 +1,4 @@
-//! Long clauses as a whole.
+//! The set of long clauses: its list, activities, garbage collection and reductions.
 pub mod activity;
 pub mod db;
 pub mod filter;

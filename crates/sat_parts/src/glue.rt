@@ -1,4 +1,4 @@
-//! How many levels the literals of a clause are of.
+//! The glue of a clause: the number of different levels of its literals.
 ghost use Rattle.std.specs.Prelude.{ℕ, ◌≡◌, ◌<◌, ◌≤◌, min, length, take, slice_index_or, false};
 ghost use Rattle.sat_store.specs.clause.Buffer.{IsClause, lits_at};
 ghost use Rattle.sat_parts.specs.clause.Glue.{levels_of, different, HaveNodes, HaveFlags, AreClear, MarksLevels};
@@ -7,7 +7,7 @@ use crate::prop::graph::ImplGraph;
 use sat_base::Lit;
 use sat_store::{ClauseAlloc, ClauseRef, TmpFlags};
 
-/// The number of different levels of the literals. The flags are all false, and are so again.
+/// Returns the number of different levels of literals. All flags must be false, and are false again afterwards.
 pub fn compute_glue(flags: &mut TmpFlags, graph: &ImplGraph, lits: &[Lit]) -> usize
     requires nodes { HaveNodes graph.now lits.now }
     requires levels { HaveFlags graph.now flags.old.flags.items lits.now }
@@ -20,7 +20,7 @@ pub fn compute_glue(flags: &mut TmpFlags, graph: &ImplGraph, lits: &[Lit]) -> us
     glue
 }
 
-/// Sets the flag of each level of a literal, and counts them.
+/// Sets the flag of every level of the literals, and returns the number of levels.
 fn mark_levels(flags: &mut TmpFlags, graph: &ImplGraph, lits: &[Lit]) -> usize
     requires nodes { HaveNodes graph.now lits.now }
     requires levels { HaveFlags graph.now flags.old.flags.items lits.now }
@@ -40,7 +40,7 @@ fn mark_levels(flags: &mut TmpFlags, graph: &ImplGraph, lits: &[Lit]) -> usize
     glue
 }
 
-/// Clears the flag of each level of a literal.
+/// Clears the flag of every level of the literals.
 fn clear_levels(flags: &mut TmpFlags, graph: &ImplGraph, lits: &[Lit])
     requires nodes { HaveNodes graph.now lits.now }
     requires levels { HaveFlags graph.now flags.old.flags.items lits.now }
@@ -54,7 +54,7 @@ fn clear_levels(flags: &mut TmpFlags, graph: &ImplGraph, lits: &[Lit])
     }
 }
 
-/// The number of different levels of the literals of a long clause. The flags are all false, and are so again.
+/// Returns the number of different levels of a long clause. All flags must be false, and are false again afterwards.
 pub fn compute_clause_glue(
     flags: &mut TmpFlags,
     graph: &ImplGraph,
@@ -71,8 +71,9 @@ pub fn compute_clause_glue(
     compute_clause_glue_below(flags, graph, clauses, cref, clauses.len(cref))
 }
 
-/// The number of different levels of the literals of a long clause, or this limit if there are more. Stops reading the
-/// clause at the limit. The flags are all false, and are so again.
+/// Returns the number of different levels of a long clause, or `limit` if there are more.
+///
+/// Stops reading the clause at the limit. All flags must be false, and are false again afterwards.
 pub fn compute_clause_glue_below(
     flags: &mut TmpFlags,
     graph: &ImplGraph,
@@ -92,8 +93,7 @@ pub fn compute_clause_glue_below(
     glue
 }
 
-/// Sets the flag of each level of a clause's literal, and counts them, up to the limit. Returns their number and that of
-/// the literals read.
+/// Sets the flags of the levels of a clause, up to `limit` levels. Returns the numbers of levels and of literals read.
 fn mark_clause_levels(
     flags: &mut TmpFlags,
     graph: &ImplGraph,
@@ -126,7 +126,7 @@ fn mark_clause_levels(
     (glue, end)
 }
 
-/// Clears the flag of each level of a clause's first literals, as many as were read.
+/// Clears the flags of the levels of the first `seen` literals of a clause.
 fn clear_clause_levels(
     flags: &mut TmpFlags,
     graph: &ImplGraph,

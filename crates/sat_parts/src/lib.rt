@@ -1,5 +1,4 @@
-//! What a solver propagates with: values of variables, the trail, reasons, lists of clauses, and propagation itself;
-//! and all of these as one struct.
+//! Unit propagation and the data that it uses: values, trail, reasons, clauses; and all of these as one struct.
 #![tactic(auto)]
 
 pub mod binary;

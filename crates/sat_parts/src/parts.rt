@@ -1,4 +1,4 @@
-//! The parts of a search.
+//! The parts of a search as one struct, and the steps on it.
 ghost use Rattle.std.specs.Prelude.{◌≡◌, ◌≤◌, OnOk, length, []};
 ghost use Rattle.sat_base.specs.values.Literals.{var_limit};
 ghost use Rattle.sat_parts.specs.prop.Trails.{no_trail};
@@ -19,6 +19,7 @@ use crate::{Assignment, BinaryClauses, ClauseDb, ImplGraph, Trail, Watchlists};
 use sat_store::{ClauseAlloc, Vsids};
 use std::alloc::{AllocError, Global};
 
+/// The clauses, the assignment, and the queue of variables to decide.
 #[derive(Drop)]
 pub struct Parts {
     pub clauses: ClauseAlloc,
@@ -31,8 +32,9 @@ pub struct Parts {
     pub vsids: Vsids,
 }
 
-/// Makes the variables those with an index below the count, which is no lower than before. New ones have no value, are
-/// in no clause, and aren't to be picked.
+/// Raises the number of variables to `count`, which must not be lower than before.
+///
+/// New variables have no value, are in no clause, and may not be picked.
 pub fn grow(alloc: Global, parts: &mut Parts, count: usize) -> Result<(), AllocError>
     requires holds { PartsInvariant parts.old }
     requires more { length parts.old.assignment.current ≤ count }
@@ -48,7 +50,7 @@ pub fn grow(alloc: Global, parts: &mut Parts, count: usize) -> Result<(), AllocE
     parts.vsids.set_var_count(count)
 }
 
-/// No variables and no clauses. Watch lists are built by the first propagation.
+/// Returns parts without variables and clauses. The first propagation builds the watch lists.
 pub fn no_parts(alloc: Global) -> Parts
     ensures holds { PartsInvariant result }
     ensures none { result.assignment.current ≡ [] }

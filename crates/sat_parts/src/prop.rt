@@ -1,4 +1,4 @@
-//! Unit propagation, and what it works on.
+//! Unit propagation, and the data that it works on.
 ghost use Rattle.std.specs.Prelude.{◌≡◌, true, IfOk, OnOk};
 ghost use Rattle.sat_parts.specs.clause.Db.{HoldsDb};
 ghost use Rattle.sat_parts.specs.prop.Ready.{state_of};
@@ -24,9 +24,10 @@ use crate::prop::watch::{Watchlists, enable_watchlists};
 use sat_store::ClauseAlloc;
 use std::alloc::{AllocError, Global};
 
-/// Propagates all literals of the queue: for each, the clauses of two literals before the long ones. Watch lists that
-/// weren't kept up are built first. `Ok` within means that nothing is left to do, `Err` names a falsified clause. After
-/// want of memory the parts aren't used again.
+/// Propagates all literals of the queue, each over the binary clauses and then over the long ones.
+///
+/// Builds the watch lists first if they are disabled. Returns `Ok(Ok(()))` if every literal was propagated, and
+/// `Ok(Err(conflict))` if a clause is falsified. If memory runs out, the parts must not be used again.
 pub fn propagate(
     alloc: Global,
     clauses: &mut ClauseAlloc,

@@ -1,4 +1,4 @@
-//! Activities of clauses, as whole numbers on a scale that is made smaller before they grow too large.
+//! Activities of clauses, as integers that are rescaled before they grow too large.
 ghost use Rattle.std.specs.Prelude.{◌≡◌, ◌+◌, ◌*◌, ◌/◌, ◌^◌, ◌<◌, ◌≤◌};
 ghost use Rattle.std.specs.List.{Contains};
 ghost use Rattle.sat_store.specs.clause.Buffer.{header_at};
@@ -10,10 +10,10 @@ use crate::clause::db::{ClauseDb, put_header};
 use sat_store::{ClauseAlloc, ClauseRef};
 use std::marker::Model;
 
-/// Activities and bumps from this on are put on a smaller scale.
+/// Activities and bumps are rescaled when they reach this.
 const LIMIT: u64 = 1 << 30;
 
-/// What a bump adds to a clause's activity, and by how many thousandths activities decay. Contracts see a `Scale`.
+/// What a bump adds to the activity of a clause, and the decay in thousandths. Contracts see a `Scale`.
 #[derive(Drop)]
 pub struct ClauseActivity {
     bump: u64,
@@ -37,6 +37,7 @@ impl Default for ClauseActivity {
 
     ghost is_default = { λ a. a ≡ first_scale };
 
+    /// Returns a bump of 1024 and a decay of 999 thousandths.
     fn default() -> ClauseActivity {
         ClauseActivity {
             bump: 1024,
@@ -46,7 +47,7 @@ impl Default for ClauseActivity {
 }
 
 impl ClauseActivity {
-    /// Sets by how many thousandths activities decay.
+    /// Sets the factor of a decay, in thousandths.
     pub fn set_decay(&mut self, decay: u32)
         requires low { 500 ≤ decay }
         requires high { decay ≤ 999 }
@@ -55,7 +56,7 @@ impl ClauseActivity {
         self.decay = u64::from(decay);
     }
 
-    /// What a bump adds next. It is never 0.
+    /// Returns what the next bump adds. It is never 0.
     pub fn bump(&self) -> u64
         ensures value { result ≡ self.now.bump }
         ensures some { 0 < result }
@@ -64,7 +65,7 @@ impl ClauseActivity {
     }
 }
 
-/// Puts the activities of all clauses on a smaller scale.
+/// Rescales the activities of all clauses.
 fn rescale_clause_activities(clauses: &mut ClauseAlloc, db: &ClauseDb)
     requires { HoldsDb clauses.old db.now }
     ensures headers { PutsHeaders clauses.old clauses.new db.now.refs (shifted clauses.old) }
@@ -93,7 +94,7 @@ fn put_activity(clauses: &mut ClauseAlloc, _db: &ClauseDb, cref: ClauseRef, acti
     put_header(clauses, cref, header);
 }
 
-/// Raises the activity of a clause. Where it comes to 2^30, all activities and the bump are put on a smaller scale.
+/// Raises the activity of a clause. If it reaches 2^30, all activities and the bump are rescaled.
 pub fn bump_clause_activity(
     activity: &mut ClauseActivity,
     clauses: &mut ClauseAlloc,
@@ -116,8 +117,7 @@ pub fn bump_clause_activity(
     }
 }
 
-/// Lets all activities decay, in that later bumps add more. Where the bump comes to 2^30, it and all activities are put
-/// on a smaller scale.
+/// Lets all activities decay: later bumps add more. If the bump reaches 2^30, it and all activities are rescaled.
 pub fn decay_clause_activities(
     activity: &mut ClauseActivity,
     clauses: &mut ClauseAlloc,

@@ -19,12 +19,13 @@ use sat_store::{ClauseAlloc, ClauseHeader, ClauseRef, StoreError, Tier};
 use std::alloc::Global;
 use std::marker::Model;
 
-/// The words of a clause before its literals.
+/// The number of words of a clause before its literals.
 const HEADER_LEN: usize = 3;
 
-/// The long clauses, in the order in which they came, and how many there are of each tier. A clause that was deleted
-/// stays in the list until its words are collected: its header says so. Contracts see a `Db`, and say by `HoldsDb` that
-/// it is the list of the clauses of a buffer.
+/// The list of the long clauses, in the order of addition, and the number of clauses of every tier.
+///
+/// A deleted clause stays in the list until garbage is collected. Contracts see a `Db`; `HoldsDb` states that it lists
+/// the clauses of a buffer.
 #[derive(Drop)]
 pub struct ClauseDb {
     pub(crate) clauses: Vec<ClauseRef>,
@@ -41,7 +42,7 @@ impl Model for ClauseDb {
 }
 
 impl ClauseDb {
-    /// No clauses. Takes no memory.
+    /// Returns an empty list. Never allocates.
     pub fn new(alloc: Global) -> ClauseDb
         ensures empty { result ≡ no_clauses }
         ensures holds { HoldsDb [] result }
@@ -53,28 +54,28 @@ impl ClauseDb {
         }
     }
 
-    /// The number of clauses of a tier.
+    /// Returns the number of clauses of a tier.
     pub fn count_by_tier(&self, tier: Tier) -> usize
         ensures { result ≡ slice_index self.now.counts (index_of tier) }
     {
         self.count_by_tier[tier.index()]
     }
 
-    /// All clauses of the list, in the order in which they came, deleted ones among them.
+    /// Returns all clauses of the list, including deleted ones, in the order of addition.
     pub fn refs(&self) -> &[ClauseRef]
         ensures { result.now ≡ self.now.refs }
     {
         &self.clauses
     }
 
-    /// The number of clauses of the list, deleted ones among them.
+    /// Returns the number of clauses of the list, including deleted ones.
     pub fn len(&self) -> usize
         ensures { result ≡ length self.now.refs }
     {
         self.clauses.len()
     }
 
-    /// A clause of the list, deleted ones among them.
+    /// Returns a clause of the list, which may be deleted.
     pub fn cref(&self, at: usize) -> ClauseRef
         requires { at < length self.now.refs }
         ensures { result ≡ slice_index self.now.refs at }
@@ -82,14 +83,14 @@ impl ClauseDb {
         self.clauses[at]
     }
 
-    /// How many words deleted clauses take, held at 2^64 - 1.
+    /// Returns the number of words of deleted clauses. It saturates at 2^64 - 1.
     pub fn garbage_size(&self) -> usize
         ensures { result ≡ self.now.garbage }
     {
         self.garbage_size
     }
 
-    /// Counts one clause of a tier more.
+    /// Adds one to the number of clauses of a tier.
     fn count_more(&mut self, tier: Tier)
         requires { slice_index_or self.old.counts (index_of tier) 0 + 1 < 2 ^ 64 }
         ensures { self.new ≡ record self.old { counts = one_more tier self.old.counts } }
@@ -97,7 +98,7 @@ impl ClauseDb {
         self.count_by_tier[tier.index()] += 1;
     }
 
-    /// Counts one clause of a tier less.
+    /// Subtracts one from the number of clauses of a tier.
     fn count_less(&mut self, tier: Tier)
         requires { 0 < slice_index_or self.old.counts (index_of tier) 0 }
         ensures { self.new ≡ record self.old { counts = one_less tier self.old.counts } }
@@ -105,7 +106,7 @@ impl ClauseDb {
         self.count_by_tier[tier.index()] -= 1;
     }
 
-    /// Counts the words of a clause of so many literals as garbage.
+    /// Counts the words of a clause of `len` literals as garbage.
     fn waste(&mut self, len: usize)
         requires { len < 2 ^ 32 }
         ensures { self.new ≡ record self.old { garbage = min (self.old.garbage + (len + 3)) (2 ^ 64 - 1) } }
@@ -114,7 +115,7 @@ impl ClauseDb {
     }
 }
 
-/// Puts a header of the same length in the place of a clause's own.
+/// Replaces the header of a clause by one of the same length.
 pub(crate) fn put_header(clauses: &mut ClauseAlloc, cref: ClauseRef, header: ClauseHeader)
     requires clause { IsClause clauses.old cref }
     requires len { header.len ≡ (header_at clauses.old cref).len }
@@ -124,7 +125,7 @@ pub(crate) fn put_header(clauses: &mut ClauseAlloc, cref: ClauseRef, header: Cla
     clauses.set_header(cref, header);
 }
 
-/// Stores a clause and watches it by its first two literals.
+/// Stores a clause, and watches its first two literals.
 fn store_clause(
     clauses: &mut ClauseAlloc,
     watchlists: &mut Watchlists,
@@ -150,9 +151,10 @@ fn store_clause(
     Ok(cref)
 }
 
-/// Adds a clause, of the tier of its header, behind all others, and watches it by its first two literals where watch
-/// lists are kept up. Its length is that of the literals, whatever the header says. An `Err` leaves everything as it
-/// was: `StoreFull` where no reference names the next place, else `OutOfMemory`.
+/// Appends a clause, with the tier of its header, and watches its first two literals if watch lists are enabled.
+///
+/// Its length is the number of literals, whatever the header says. An error changes nothing: `StoreFull` if no
+/// reference can name the next offset, otherwise `OutOfMemory`.
 pub fn add_clause(
     clauses: &mut ClauseAlloc,
     db: &mut ClauseDb,
@@ -183,7 +185,7 @@ pub fn add_clause(
     Ok(cref)
 }
 
-/// Moves a live clause to a tier.
+/// Moves a live clause to another tier.
 pub fn set_clause_tier(clauses: &mut ClauseAlloc, db: &mut ClauseDb, cref: ClauseRef, tier: Tier)
     requires db { HoldsDb clauses.old db.old }
     requires live { Contains (live_refs clauses.old db.old.refs) cref }
@@ -200,7 +202,7 @@ pub fn set_clause_tier(clauses: &mut ClauseAlloc, db: &mut ClauseDb, cref: Claus
     put_header(clauses, cref, header);
 }
 
-/// Deletes a live clause. Watch lists aren't kept up from here on, until they are built anew.
+/// Deletes a live clause, and disables the watch lists.
 pub fn delete_clause(
     clauses: &mut ClauseAlloc,
     db: &mut ClauseDb,
@@ -220,7 +222,7 @@ pub fn delete_clause(
     put_header(clauses, cref, header);
 }
 
-/// Whether the clause has a true first literal, of which it is the reason.
+/// Whether the first literal of the clause is true and the clause is its reason.
 fn is_asserting(
     clauses: &ClauseAlloc,
     graph: &ImplGraph,
@@ -245,7 +247,7 @@ fn is_asserting(
     }
 }
 
-/// Deletes a live clause unless it is the reason of its true first literal, and answers whether it did.
+/// Deletes a live clause unless it is the reason of its true first literal. Returns whether it was deleted.
 pub fn try_delete_clause(
     clauses: &mut ClauseAlloc,
     db: &mut ClauseDb,
@@ -272,8 +274,7 @@ pub fn try_delete_clause(
     true
 }
 
-/// Drops the literals of a live clause from a place on, of which three or more are left. Watch lists aren't kept up
-/// from here on, until they are built anew.
+/// Drops the literals of a live clause from position `len` on, at least 3, and disables the watch lists.
 pub fn shorten_clause(
     clauses: &mut ClauseAlloc,
     db: &ClauseDb,

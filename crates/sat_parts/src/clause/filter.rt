@@ -1,4 +1,4 @@
-//! A pass over all live clauses that deletes some of them.
+//! Deletion of the live clauses that fail a test.
 ghost use Rattle.std.specs.Prelude.{◌≡◌, false};
 ghost use Rattle.std.specs.List.Retain.{IsFiltered};
 ghost use Rattle.sat_parts.specs.clause.Db.{HoldsDb, live_refs};
@@ -8,8 +8,9 @@ use crate::clause::db::{ClauseDb, delete_clause};
 use crate::prop::watch::Watchlists;
 use sat_store::{ClauseAlloc, ClauseRef};
 
-/// Asks a test for each live clause, once and in the order in which they came, and deletes those for which it answers
-/// false. Watch lists aren't kept up from here on, until they are built anew.
+/// Deletes the live clauses for which `keep` returns false, and disables the watch lists.
+///
+/// Calls `keep` once for every live clause, in the order of addition.
 pub fn filter_clauses<F: FnMut(&ClauseAlloc, ClauseRef) -> bool>(
     clauses: &mut ClauseAlloc,
     db: &mut ClauseDb,

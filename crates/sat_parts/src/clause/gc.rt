@@ -1,4 +1,4 @@
-//! Collection of deleted clauses.
+//! Garbage collection of deleted clauses.
 ghost use Rattle.std.specs.Prelude.{ℕ, ◌≡◌, ◌<◌, ◌≤◌, ◌/◌, [], length, slice_index, false, OnOk, OnErr, IfOk};
 ghost use Rattle.sat_base.specs.values.Literals.{variable};
 ghost use Rattle.sat_store.specs.clause.Buffer.{IsClause};
@@ -16,7 +16,7 @@ use sat_base::Lit;
 use sat_store::{ClauseAlloc, ClauseRef, StoreError};
 use std::alloc::Global;
 
-/// Copies a clause behind the others of a new buffer, and puts the copy behind a list.
+/// Appends a copy of a clause to a new buffer, and its reference to a list.
 fn copy_one(
     clauses: &ClauseAlloc,
     cref: ClauseRef,
@@ -59,7 +59,7 @@ fn copy_live(
     Ok(())
 }
 
-/// Makes a clause the reason of a literal in the place of another, where that is its reason.
+/// Replaces the reason of a literal by the clause `to` if it is the clause `from`.
 fn move_reason(graph: &mut ImplGraph, lit: Lit, from: ClauseRef, to: ClauseRef)
     ensures moved { HasReason graph.old (variable lit) from →
         graph.new ≡ with_reason (variable lit) (Reason.Long to) graph.old }
@@ -76,8 +76,9 @@ fn move_reason(graph: &mut ImplGraph, lit: Lit, from: ClauseRef, to: ClauseRef)
     }
 }
 
-/// Makes the copies of the live clauses the reasons that the clauses were. The trail isn't read: the contract's caller
-/// says by it which reasons count.
+/// Replaces every live clause that is the reason of its first literal by its copy.
+///
+/// The trail is not read: it states which reasons the contract speaks of.
 fn move_reasons(
     clauses: &ClauseAlloc,
     db: &ClauseDb,
@@ -103,21 +104,21 @@ fn move_reasons(
     }
 }
 
-/// The live clauses of a list, in a buffer of their own.
+/// Copies of the live clauses, in a buffer of their own.
 #[derive(Drop)]
 struct Copied {
     clauses: ClauseAlloc,
     refs: Vec<ClauseRef>,
 }
 
-/// Copies the live clauses of a list.
+/// Copies the live clauses into a new buffer.
 fn copy_all(alloc: Global, clauses: &ClauseAlloc, db: &ClauseDb) -> Result<Copied, StoreError>
     requires { HoldsDb clauses.now db.now }
     ensures copied { IfOk result (λ x. Copying clauses.now db.now.refs x.clauses x.refs.items (length db.now.refs)) }
     ensures room { OnFull result ⊥ }
 {
     let live = clauses.buffer_size().saturating_sub(db.garbage_size());
-    // Room for what is learned next, too.
+    // Reserves capacity for clauses that are learned next, too.
     let mut to = match ClauseAlloc::with_capacity(alloc, live.saturating_mul(2)) {
         Ok(to) => to,
         Err(_) => return Err(StoreError::OutOfMemory),
@@ -129,7 +130,7 @@ fn copy_all(alloc: Global, clauses: &ClauseAlloc, db: &ClauseDb) -> Result<Copie
     }
 }
 
-/// Puts the copied clauses in the place of the list's own, whose deleted ones are gone.
+/// Replaces the buffer and the list by the copied clauses.
 fn put_copied(copied: Copied, clauses: &mut ClauseAlloc, db: &mut ClauseDb)
     ensures words { clauses.new ≡ copied.clauses }
     ensures list { db.new ≡ after_collection copied.refs.items db.old }
@@ -140,9 +141,10 @@ fn put_copied(copied: Copied, clauses: &mut ClauseAlloc, db: &mut ClauseDb)
     db.garbage_size = 0;
 }
 
-/// Collects deleted clauses where they take more than half of the buffer: the live clauses are put behind one another
-/// in a new buffer, in order, and reasons of literals of the trail name them there. Watch lists aren't kept up from
-/// there on, until they are built anew. After want of memory everything is as it was.
+/// Collects garbage if deleted clauses have more than half of the words of the buffer.
+///
+/// Moves the live clauses to a new buffer, in order, updates the reasons of the literals of the trail, and disables the
+/// watch lists. If memory runs out, nothing changes.
 pub fn collect_garbage(
     alloc: Global,
     clauses: &mut ClauseAlloc,

@@ -1,4 +1,4 @@
-//! The live clauses, one by one.
+//! An iterator over the live clauses.
 ghost use Rattle.std.specs.Prelude.{ℕ, ◌≡◌, ◌<◌, ◌≤◌, [], length, take, false, slice_index};
 ghost use Rattle.std.specs.Iterator.{at_most};
 ghost use Rattle.std.specs.Map.Iter.{TakesFirst, ShowsInOrder};
@@ -10,7 +10,7 @@ use sat_store::{ClauseAlloc, ClauseRef};
 use std::iter::FusedIterator;
 use std::marker::Model;
 
-/// Gives the live clauses of a list, in order. Contracts see those that are still to come.
+/// An iterator over the live clauses of a list, in order. Contracts see the clauses that it has yet to return.
 #[derive(Drop)]
 pub struct ClausesIter<'a> {
     clauses: &'a ClauseAlloc,
@@ -28,7 +28,7 @@ impl<'a> Model for ClausesIter<'a> {
     ghost invariant = { λ i. AreClausePlaces i.clauses.now i.refs.now };
 }
 
-/// The live clauses of the list, in the order in which they came.
+/// Returns an iterator over the live clauses, in the order of addition.
 pub fn clauses_iter<'a>(clauses: &'a ClauseAlloc, db: &'a ClauseDb) -> ClausesIter<'a>
     requires { HoldsDb clauses.now db.now }
     ensures rest { result ≡ live_refs clauses.now db.now.refs }
@@ -40,7 +40,7 @@ pub fn clauses_iter<'a>(clauses: &'a ClauseAlloc, db: &'a ClauseDb) -> ClausesIt
     }
 }
 
-/// The place of the first live clause, or the number of clauses where none is live.
+/// Returns the position of the first live clause, or the number of clauses if none is live.
 fn first_live(clauses: &ClauseAlloc, refs: &[ClauseRef]) -> usize
     requires { AreClausePlaces clauses.now refs.now }
     ensures within { result ≤ length refs.now }
@@ -62,6 +62,7 @@ impl<'a> Iterator for ClausesIter<'a> {
 
     ghost remaining = { λ s. at_most (length s) };
 
+    /// Returns the next live clause, or `None` at the end.
     fn next(&mut self) -> Option<ClauseRef> {
         let at = first_live(self.clauses, self.refs);
         if at == self.refs.len() {

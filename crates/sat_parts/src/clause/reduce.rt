@@ -1,4 +1,4 @@
-//! Passes over the clauses of a tier.
+//! Passes over the clauses of one tier.
 ghost use Rattle.std.specs.Prelude.{◌≡◌, IfOk, OnOk, OnErr};
 ghost use Rattle.std.specs.List.{Contains, filter};
 ghost use Rattle.sat_store.specs.clause.Buffer.{IsClause, header_at};
@@ -10,7 +10,7 @@ use crate::clause::db::{ClauseDb, put_header, set_clause_tier};
 use sat_store::{ClauseAlloc, ClauseRef, Tier};
 use std::alloc::{AllocError, Global};
 
-/// Clears the flag of an active clause of tier Mid, and moves an inactive one to Local. Any other stays.
+/// Clears the flag of an active clause of tier Mid, or moves an inactive one to Local. Other clauses stay.
 fn reduce_one(clauses: &mut ClauseAlloc, db: &mut ClauseDb, cref: ClauseRef)
     requires db { HoldsDb clauses.old db.old }
     requires there { Contains db.old.refs cref }
@@ -34,7 +34,7 @@ fn reduce_one(clauses: &mut ClauseAlloc, db: &mut ClauseDb, cref: ClauseRef)
     set_clause_tier(clauses, db, cref, Tier::Local);
 }
 
-/// Moves the clauses of tier Mid that weren't used since the last call to Local, and clears the flag of the others.
+/// Moves the clauses of tier Mid that were not used since the last call to Local. Clears the flag of the others.
 pub fn reduce_mids(clauses: &mut ClauseAlloc, db: &mut ClauseDb)
     requires { HoldsDb clauses.old db.old }
     ensures headers { PutsHeaders clauses.old clauses.new db.old.refs (λ p. reduced (header_at clauses.old p)) }
@@ -48,7 +48,7 @@ pub fn reduce_mids(clauses: &mut ClauseAlloc, db: &mut ClauseDb)
     }
 }
 
-/// Whether a clause is a live one of a tier.
+/// Whether a clause is live and of a tier.
 fn is_of_tier(clauses: &ClauseAlloc, cref: ClauseRef, tier: Tier) -> bool
     requires { IsClause clauses.now cref }
     ensures { result ≡ is_live_of clauses.now tier cref }
@@ -60,7 +60,7 @@ fn is_of_tier(clauses: &ClauseAlloc, cref: ClauseRef, tier: Tier) -> bool
     header.tier().index() == tier.index()
 }
 
-/// The live clauses of a tier, in the order in which they came.
+/// Returns the live clauses of a tier, in the order of addition.
 fn clauses_of_tier(
     alloc: Global,
     clauses: &ClauseAlloc,
@@ -80,7 +80,7 @@ fn clauses_of_tier(
     Ok(list)
 }
 
-/// Sets the mark of a clause if it is a live one of a tier.
+/// Marks a clause if it is live and of a tier.
 fn mark_one(clauses: &mut ClauseAlloc, _db: &ClauseDb, cref: ClauseRef, tier: Tier)
     requires db { HoldsDb clauses.old _db.now }
     requires there { Contains _db.now.refs cref }
@@ -99,7 +99,7 @@ fn mark_one(clauses: &mut ClauseAlloc, _db: &ClauseDb, cref: ClauseRef, tier: Ti
     put_header(clauses, cref, header);
 }
 
-/// Sets the mark of each live clause of a tier.
+/// Marks every live clause of a tier.
 fn mark_tier(clauses: &mut ClauseAlloc, db: &ClauseDb, tier: Tier)
     requires { HoldsDb clauses.old db.now }
     ensures headers { PutsHeaders clauses.old clauses.new db.now.refs (λ p. marked tier (header_at clauses.old p)) }
@@ -112,8 +112,9 @@ fn mark_tier(clauses: &mut ClauseAlloc, db: &ClauseDb, tier: Tier)
     }
 }
 
-/// The live clauses of a tier, each once and in the order in which they came, with their marks set. After want of
-/// memory everything is as it was.
+/// Marks and returns the live clauses of a tier, each once and in the order of addition.
+///
+/// If memory runs out, nothing changes.
 pub fn dedup_and_mark_by_tier(
     alloc: Global,
     clauses: &mut ClauseAlloc,
