@@ -1,4 +1,4 @@
--- Headers of a list of clauses that are written one by one, and activities of clauses.
+-- Activities of clauses, and passes that replace the headers of all clauses.
 use Rattle.std.specs.Prelude.{ℕ, ◌≡◌, ◌+◌, ◌-◌, ◌*◌, ◌/◌, ◌^◌, ◌<◌, ◌≤◌, ◌==◌, min, max, List, length, slice_index_or as get_or, if◌then◌else◌}
 use Rattle.std.specs.List.{Contains}
 use Rattle.sat_store.specs.clause.Buffer.{HoldsClauses, header_at, lits_at}
@@ -6,14 +6,14 @@ use Rattle.sat_store.specs.clause.Header.{Header}
 use Rattle.sat_store.specs.heap.Vsids.{quotient_up}
 use Rattle.sat_parts.specs.clause.Db.{PutsHeader}
 
--- each clause of the list has the header that f gives, and its literals as before
+-- every clause of the list now has the header that f gives, and its literals are unchanged
 pub record PutsHeaders (words words' refs : List ℕ) (f : ℕ → Header) : Type 0 where
   pub size : length words' ≡ length words
   pub laid : HoldsClauses words' refs
   pub headers : (p : ℕ) → Contains refs p → header_at words' p ≡ f p
   pub lits : (p : ℕ) → Contains refs p → lits_at words' p ≡ lits_at words p
 
--- the same for the first n clauses of the list, where the others are as before
+-- the first n clauses of the list now have the headers that f gives, and the others are unchanged
 pub record PutsFirst (words words' refs : List ℕ) (f : ℕ → Header) (n : ℕ) : Type 0 where
   pub size : length words' ≡ length words
   pub laid : HoldsClauses words' refs
@@ -21,20 +21,20 @@ pub record PutsFirst (words words' refs : List ℕ) (f : ℕ → Header) (n : �
   pub rest : (k : ℕ) → n ≤ k → k < length refs → header_at words' (get_or refs k 0) ≡ header_at words (get_or refs k 0)
   pub lits : (k : ℕ) → k < length refs → lits_at words' (get_or refs k 0) ≡ lits_at words (get_or refs k 0)
 
--- what a bump adds, and by how many thousandths activities decay
+-- what a bump adds, and the decay in thousandths
 pub record Scale : Type 0 where
   pub bump : ℕ
   pub decay : ℕ
 
--- the scale on which clauses are bumped at first
+-- the scale at the start
 abbrev pub first_scale : Scale
 first_scale = record { bump = 1024; decay = 999 }
 
--- a bump on a smaller scale: 16 bits less, but at least 1
+-- a bump after rescaling: 16 bits smaller, but at least 1
 abbrev pub rescaled : ℕ → ℕ
 rescaled bump = max (bump / 2 ^ 16) 1
 
--- what a bump adds after a decay, on the scale before
+-- what a bump adds after a decay, before any rescaling
 abbrev pub later_bump : Scale → ℕ
 later_bump s = quotient_up (s.bump * 1000) s.decay
 
@@ -42,11 +42,11 @@ later_bump s = quotient_up (s.bump * 1000) s.decay
 abbrev pub with_activity : Header → ℕ → Header
 with_activity h a = record h { activity = a }
 
--- the headers on a smaller scale of activities
+-- the headers with rescaled activities
 abbrev pub shifted : List ℕ → ℕ → Header
 shifted words p = with_activity (header_at words p) ((header_at words p).activity / 2 ^ 16)
 
--- the activity of the clause at o with this much more, held at 2^32 - 1
+-- the activity of the clause at o plus this much; it saturates at 2^32 - 1
 abbrev pub raised : List ℕ → (o bump : ℕ) → ℕ
 raised words o bump = min ((header_at words o).activity + bump) (2 ^ 32 - 1)
 
@@ -54,34 +54,34 @@ raised words o bump = min ((header_at words o).activity + bump) (2 ^ 32 - 1)
 abbrev pub StaysBelow : List ℕ → ℕ → Scale → Type 0
 StaysBelow words o s = raised words o s.bump < 2 ^ 30
 
--- a bump of the clause at o comes to 2^30 or past it
+-- a bump of the clause at o reaches 2^30
 abbrev pub ReachesRescale : List ℕ → ℕ → Scale → Type 0
 ReachesRescale words o s = 2 ^ 30 ≤ raised words o s.bump
 
--- the headers where the clause at o was bumped, and then all on a smaller scale
+-- the headers after the clause at o was bumped and all activities were rescaled
 abbrev pub bumped_shifted : List ℕ → (o bump : ℕ) → ℕ → Header
 bumped_shifted words o bump p = with_activity (header_at words p) ((if p == o then raised words o bump else (header_at words p).activity) / 2 ^ 16)
 
--- a bump of the clause at o alone, on the scale that there was
+-- only the clause at o was bumped, and the scale is unchanged
 abbrev pub BumpsOne : (words words' refs : List ℕ) (o : ℕ) (s s' : Scale) → Type 0
 BumpsOne words words' refs o s s' = (s' ≡ s) × PutsHeader words words' refs o (with_activity (header_at words o) (raised words o s.bump))
 
--- a bump of the clause at o that puts all activities on a smaller scale
+-- the clause at o was bumped, and all activities were rescaled
 abbrev pub BumpsAll : (words words' refs : List ℕ) (o : ℕ) (s s' : Scale) → Type 0
 BumpsAll words words' refs o s s' = (s' ≡ record s { bump = rescaled s.bump }) × PutsHeaders words words' refs (bumped_shifted words o s.bump)
 
--- a bump that stays below 2^30 is one of the clause at o alone
+-- if the bump stays below 2^30, only the clause at o was bumped
 abbrev pub BumpsBelow : (words words' refs : List ℕ) (o : ℕ) (s s' : Scale) → Type 0
 BumpsBelow words words' refs o s s' = StaysBelow words o s → BumpsOne words words' refs o s s'
 
--- a bump that comes to 2^30 puts all activities on a smaller scale
+-- if the bump reaches 2^30, all activities were rescaled
 abbrev pub BumpsPast : (words words' refs : List ℕ) (o : ℕ) (s s' : Scale) → Type 0
 BumpsPast words words' refs o s s' = ReachesRescale words o s → BumpsAll words words' refs o s s'
 
--- the scale after a decay
+-- the scale after a decay without rescaling
 abbrev pub later_scale : Scale → Scale
 later_scale s = record s { bump = later_bump s }
 
--- a decay that puts all activities on a smaller scale
+-- the bump grew by a decay, and all activities were rescaled
 abbrev pub DecaysAll : (words words' refs : List ℕ) (s s' : Scale) → Type 0
 DecaysAll words words' refs s s' = (s' ≡ record s { bump = rescaled (later_bump s) }) × PutsHeaders words words' refs (shifted words)

@@ -1,4 +1,4 @@
--- Clauses that were copied into a new buffer, and reasons that follow their clauses.
+-- Garbage collection: clauses that were copied into a new buffer, and reasons that follow their clauses.
 use Rattle.std.specs.Prelude.{ℕ, ◌≡◌, ◌≢◌, ◌+◌, ◌<◌, ◌≤◌, ◌⊎◌, List, [], ◌∷◌, ◌++◌, length, drop, take, slice_index_or as get_or}
 use Rattle.std.specs.List.{Contains, sum_by}
 use Rattle.sat_base.specs.values.Literals.{variable}
@@ -11,17 +11,17 @@ use Rattle.sat_parts.specs.clause.Stored.{lit_of}
 use Rattle.sat_parts.specs.prop.Graphs.{node_of}
 use Rattle.sat_parts.specs.prop.WatchLists.{Watching}
 
--- the clauses of one list in order, as those of another: the same headers, and the same literals in order
+-- the clauses of the second list are those of the first, in order, with the same headers and literals
 pub record Copies (words live words' refs' : List ℕ) : Type 0 where
   pub size : length refs' ≡ length live
   pub headers : (k : ℕ) → k < length live → header_at words' (get_or refs' k 0) ≡ header_at words (get_or live k 0)
   pub lits : (k : ℕ) → k < length live → lits_at words' (get_or refs' k 0) ≡ lits_at words (get_or live k 0)
 
--- how many words these clauses take, each with its header
+-- the number of words of these clauses, including their headers
 abbrev pub words_of : List ℕ → List ℕ → ℕ
 words_of words refs = sum_by (λ o. length (lits_at words o) + 3) refs
 
--- the copies of the live clauses among the first i, each not behind its own place
+-- the live clauses among the first i were copied, none of them to a larger offset
 pub record Copying (words refs words' refs' : List ℕ) (i : ℕ) : Type 0 where
   pub copies : Copies words (live_refs words (take i refs)) words' refs'
   pub laid : HoldsClauses words' refs'
@@ -30,17 +30,17 @@ pub record Copying (words refs words' refs' : List ℕ) (i : ℕ) : Type 0 where
   pub room : (p : ℕ) → Contains (drop i refs) p → length words' ≤ p
   pub packed : length words' ≡ words_of words' refs'
 
--- a copy of the clause at o came to stand behind the words and the list
+-- a copy of the clause at o was appended to the buffer and to the list
 abbrev pub CopiesOne : (words : List ℕ) (o : ℕ) (to refs to' refs' : List ℕ) → Type 0
 CopiesOne words o to refs to' refs' = (c : ℕ) × ((AppendsClause to to' c (header_at words o) (lits_at words o)) × (refs' ≡ refs ++ c ∷ []))
 
--- a reason once the clauses of a list are those of another
+-- the second reason names the copy of the clause that the first one names
 abbrev pub FollowsClause : (live refs' : List ℕ) → Reason → Reason → Type 0
 FollowsClause live refs' NoCause r = r ≡ NoCause
 FollowsClause live refs' (Binary ls) r = r ≡ Binary ls
 FollowsClause live refs' (Long o) r = (k : ℕ) × ((k < length live) × (get_or live k 0 ≡ o) × (r ≡ Long (get_or refs' k 0)))
 
--- the same where the first n clauses are followed
+-- the same if only the first n clauses of the list were replaced by their copies
 abbrev pub FollowsFirst : (live refs' : List ℕ) (n : ℕ) → Reason → Reason → Type 0
 FollowsFirst live refs' n NoCause r = r ≡ NoCause
 FollowsFirst live refs' n (Binary ls) r = r ≡ Binary ls
@@ -48,7 +48,7 @@ FollowsFirst live refs' n (Long o) r =
     ((k : ℕ) × ((k < n) × (get_or live k 0 ≡ o) × (r ≡ Long (get_or refs' k 0))))
     ⊎ ((r ≡ Long o) × ((k : ℕ) → k < n → get_or live k 0 ≢ o))
 
--- reasons of the literals of a trail follow the first n clauses; nothing else of the nodes changes
+-- the reasons of the literals of the trail follow the first n clauses; nothing else of the nodes changed
 pub record AreFollowed (live refs' lits : List ℕ) (n : ℕ) (nodes nodes' : List ImplNode) : Type 0 where
   pub size : length nodes' ≡ length nodes
   pub levels : (v : ℕ) → (node_of nodes' v).level ≡ (node_of nodes v).level
@@ -57,12 +57,12 @@ pub record AreFollowed (live refs' lits : List ℕ) (n : ℕ) (nodes nodes' : Li
   pub reasons : (i : ℕ) → i < length lits →
       FollowsFirst live refs' n (node_of nodes (variable (get_or lits i 0))).reason (node_of nodes' (variable (get_or lits i 0))).reason
 
--- the same once all clauses are followed
+-- the reasons of the literals of the trail follow all clauses
 abbrev pub FollowsAll : (live refs' lits : List ℕ) (nodes nodes' : List ImplNode) → Type 0
 FollowsAll live refs' lits nodes nodes' = AreFollowed live refs' lits (length live) nodes nodes'
 
--- a collection: the live clauses are those of the new list, in order, none of them deleted, the buffer has their words and no
--- others, and each reason of a literal of the trail names the clause that it named
+-- garbage was collected: the new list has exactly the live clauses, in order; the buffer has only their words; and every reason of
+-- a literal of the trail names the copy of its clause
 pub record Collects (words : List ℕ) (db : Db) (nodes : List ImplNode) (lits words' : List ℕ) (db' : Db) (nodes' : List ImplNode) : Type 0 where
   pub copies : Copies words (live_refs words db.refs) words' db'.refs
   pub holds : HoldsDb words' db'
@@ -77,14 +77,14 @@ pub record Collects (words : List ℕ) (db : Db) (nodes : List ImplNode) (lits w
   pub reasons : (i : ℕ) → i < length lits →
       FollowsClause (live_refs words db.refs) db'.refs (node_of nodes (variable (get_or lits i 0))).reason (node_of nodes' (variable (get_or lits i 0))).reason
 
--- the clause of each long reason of a literal of the trail is live and has the literal first
+-- the clause of every long reason of a literal of the trail is live and has the literal first
 abbrev pub AreFirsts : (words live lits : List ℕ) (nodes : List ImplNode) → Type 0
 AreFirsts words live lits nodes = (i o : ℕ) → i < length lits → (node_of nodes (variable (get_or lits i 0))).reason ≡ Long o → Contains live o × (lit_of words o 0 ≡ get_or lits i 0)
 
--- the list once its live clauses were copied
+-- the list after garbage collection
 abbrev pub after_collection : List ℕ → Db → Db
 after_collection refs' db = record { refs = refs'; counts = db.counts; garbage = 0 }
 
--- a buffer, its list, nodes and watch lists stay as they were
+-- the buffer, its list, the nodes and the watch lists are unchanged
 abbrev pub CollectsNothing : (words : List ℕ) (db : Db) (nodes : List ImplNode) (w : Watching) (words' : List ℕ) (db' : Db) (nodes' : List ImplNode) (w' : Watching) → Type 0
 CollectsNothing words db nodes w words' db' nodes' w' = (words' ≡ words) × (db' ≡ db) × (nodes' ≡ nodes) × (w' ≡ w)

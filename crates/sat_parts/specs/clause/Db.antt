@@ -10,42 +10,42 @@ use Rattle.sat_parts.specs.declared.prop.graph.Reason.TheVariants.{Long}
 use Rattle.sat_parts.specs.prop.Values.{IsTrueLit}
 use Rattle.sat_parts.specs.prop.Graphs.{node_of}
 
--- references in the order in which they came, numbers by tier, and how many words deleted clauses take
+-- the references in the order of addition, the number of clauses of every tier, and the number of words of deleted clauses
 pub record Db : Type 0 where
   pub refs : List ℕ
   pub counts : List ℕ
   pub garbage : ℕ
 
--- the list before the first long clause, with a number for each of four tiers
+-- the empty list, with a number for each of the four tiers
 abbrev pub no_clauses : Db
 no_clauses = record { refs = []; counts = 0 ∷ 0 ∷ 0 ∷ 0 ∷ []; garbage = 0 }
 
--- whether the clause at o wasn't deleted
+-- whether the clause at o is live: it was not deleted
 abbrev pub is_live : List ℕ → ℕ → Bool
 is_live words o = not (header_at words o).deleted
 
--- the clauses of the list that weren't deleted, in order
+-- the live clauses of the list, in order
 abbrev pub live_refs : List ℕ → List ℕ → List ℕ
 live_refs words refs = filter (is_live words) refs
 
--- whether the clause at o is a live one of this tier
+-- whether the clause at o is live and of this tier
 abbrev pub is_live_of : List ℕ → Tier → ℕ → Bool
 is_live_of words tier o = is_live words o && (index_of (header_at words o).tier == index_of tier)
 
--- a clause stands at each of these places
+-- there is a clause at every one of these offsets
 abbrev pub AreClausePlaces : List ℕ → List ℕ → Type 0
 AreClausePlaces words refs = (o : ℕ) → Contains refs o → IsClause words o
 
--- the words that a deleted clause takes
+-- the number of words of the clause at o if it was deleted, otherwise 0
 abbrev pub garbage_of : List ℕ → ℕ → ℕ
 garbage_of words o = if is_live words o then 0 else length (lits_at words o) + 3
 
--- each number is above those before it
+-- every number is greater than those before it
 abbrev pub AreRising : List ℕ → Type 0
 AreRising xs = (j k : ℕ) → j < k → k < length xs → get_or xs j 0 < get_or xs k 0
 
--- each clause of the list has three or more literals and words of its own, behind those of the clause before it; the numbers are those of the live clauses
--- by tier, and the garbage that of the deleted ones (held at 2^64 - 1)
+-- the list has the clauses of the buffer: every one has three or more literals, no two share words, and offsets increase; the numbers
+-- count the live clauses by tier, and the garbage the words of deleted ones (it saturates at 2^64 - 1)
 pub record HoldsDb (words : List ℕ) (db : Db) : Type 0 where
   pub laid : HoldsClauses words db.refs
   pub rising : AreRising db.refs
@@ -55,11 +55,11 @@ pub record HoldsDb (words : List ℕ) (db : Db) : Type 0 where
   pub few : length db.refs < 2 ^ 64
   pub long : (o : ℕ) → Contains db.refs o → 3 ≤ length (lits_at words o)
 
--- the numbers by tier with one clause of this tier more
+-- the numbers with one clause of this tier more
 abbrev pub one_more : Tier → List ℕ → List ℕ
 one_more tier counts = set counts (index_of tier) (get_or counts (index_of tier) 0 + 1)
 
--- the numbers by tier with one clause of this tier less
+-- the numbers with one clause of this tier less
 abbrev pub one_less : Tier → List ℕ → List ℕ
 one_less tier counts = set counts (index_of tier) (get_or counts (index_of tier) 0 - 1)
 
@@ -67,14 +67,14 @@ one_less tier counts = set counts (index_of tier) (get_or counts (index_of tier)
 abbrev pub without : ℕ → List ℕ → List ℕ
 without o refs = filter (λ p. not (p == o)) refs
 
--- a clause of this header, but for its length, and of these literals came to stand behind all others
+-- a clause with these literals and this header, except for its length, was appended
 pub record AddsLongClause (words : List ℕ) (db : Db) (words' : List ℕ) (db' : Db) (o : ℕ) (header : Header) (lits : List ℕ) : Type 0 where
   pub added : AppendsClause words words' o header lits
   pub holds : HoldsDb words' db'
   pub refs : db'.refs ≡ db.refs ++ o ∷ []
   pub live : live_refs words' db'.refs ≡ live_refs words db.refs ++ o ∷ []
 
--- the clause at o came to have this header, of the same length, and no other clause of the list changed
+-- the clause at o now has this header, of the same length, and no other clause of the list changed
 pub record PutsHeader (words words' refs : List ℕ) (o : ℕ) (header : Header) : Type 0 where
   pub size : length words' ≡ length words
   pub laid : HoldsClauses words' refs
@@ -82,21 +82,21 @@ pub record PutsHeader (words words' refs : List ℕ) (o : ℕ) (header : Header)
   pub lits_there : lits_at words' o ≡ lits_at words o
   pub others : (p : ℕ) → Contains refs p → p ≢ o → SameClauseAt words words' p
 
--- the clause at o isn't live any more, and no other clause changed
+-- the clause at o is no longer live, and no other clause changed
 pub record DeletesClause (words : List ℕ) (db : Db) (words' : List ℕ) (db' : Db) (o : ℕ) : Type 0 where
   pub put : PutsHeader words words' db.refs o (record (header_at words o) { deleted = true })
   pub holds : HoldsDb words' db'
   pub refs : db'.refs ≡ db.refs
   pub live : live_refs words' db'.refs ≡ without o (live_refs words db.refs)
 
--- the clause at o came to be of this tier, and no other clause changed
+-- the clause at o is now of this tier, and no other clause changed
 pub record MovesClause (words : List ℕ) (db : Db) (words' : List ℕ) (db' : Db) (o : ℕ) (tier : Tier) : Type 0 where
   pub put : PutsHeader words words' db.refs o (record (header_at words o) { tier = tier })
   pub holds : HoldsDb words' db'
   pub refs : db'.refs ≡ db.refs
   pub live : live_refs words' db'.refs ≡ live_refs words db.refs
 
--- the clause at o lost its literals from this place on, and no other clause changed
+-- the clause at o lost its literals from position `len` on, and no other clause changed
 pub record ShortensClause (words : List ℕ) (db : Db) (words' : List ℕ) (o len : ℕ) : Type 0 where
   pub size : length words' ≡ length words
   pub header_there : header_at words' o ≡ record (header_at words o) { len = len }
@@ -105,6 +105,6 @@ pub record ShortensClause (words : List ℕ) (db : Db) (words' : List ℕ) (o le
   pub holds : HoldsDb words' db
   pub live : live_refs words' db.refs ≡ live_refs words db.refs
 
--- the clause at o has a true first literal, of which it is the reason
+-- the first literal of the clause at o is true, and the clause is its reason
 abbrev pub IsLockedClause : (words : List ℕ) (values : List (Option Bool)) (nodes : List ImplNode) (o : ℕ) → Type 0
 IsLockedClause words values nodes o = IsTrueLit values (get_or (lits_at words o) 0 0) × ((node_of nodes (variable (get_or (lits_at words o) 0 0))).reason ≡ Long o)

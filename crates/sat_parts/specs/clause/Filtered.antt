@@ -1,4 +1,4 @@
--- A pass over the live clauses that deletes some of them: what it asks of its test, and what it leaves.
+-- Deletion of the live clauses that fail a test: what it requires of the test, and what it leaves.
 use Rattle.std.specs.Prelude.{ℕ, ◌≡◌, ◌<◌, ◌≤◌, Bool, true, List, length, take, slice_index_or as get_or}
 use Rattle.std.specs.Borrow.{Bor}
 use Rattle.std.specs.Fn.{Called, Mut, Takes}
@@ -7,22 +7,22 @@ use Rattle.std.specs.List.Retain.{ReturnsInTurn}
 use Rattle.sat_store.specs.clause.Buffer.{SameClauseAt}
 use Rattle.sat_parts.specs.clause.Db.{is_live, live_refs}
 
--- the test may be called at each of these clauses, shown with the header and the literals that it has in these words
+-- the test can be called with every one of these clauses, each with the header and the literals that it has in these words
 abbrev pub TakesEach : {F : Type 0} → Mut F (Bor (List ℕ) × (ℕ × Unit {0})) Bool → (words live : List ℕ) → Type 0
 TakesEach {F} g words live = (f : F) (shown : Bor (List ℕ)) (o : ℕ) → Contains live o → SameClauseAt words shown.now o → Takes g f (shown, (o, tt))
 
--- a call of the test at the clause at o, shown with the header and the literals that it has in these words, may answer r
+-- a call of the test with the clause at o, with the header and the literals that it has in these words, may return r
 pub record AnswersAt {F : Type 0} (g : Mut F (Bor (List ℕ) × (ℕ × Unit {0})) Bool) (words : List ℕ) (f : F) (o : ℕ) (r : Bool) (f' : F) : Type 0 where
   pub shown : Bor (List ℕ)
   pub same : SameClauseAt words shown.now o
   pub called : Called g f (shown, (o, tt)) r f'
 
--- each of these clauses has the header and the literals that it had
+-- the headers and the literals of these clauses are unchanged
 abbrev pub SameClausesAt : (old new live : List ℕ) → Type 0
 SameClausesAt old new live = (o : ℕ) → Contains live o → SameClauseAt old new o
 
--- in the middle of the pass: the test R, which was f, has been asked for the live ones of the first clauses of the list, and those
--- for which it answered false are deleted. The others are as they were
+-- the invariant of the pass: the test R, at first in state f, was called for the live ones of the first `at` clauses; those for which
+-- it returned false are deleted, and the others are unchanged
 pub record Filtering {F : Type 0} (R : F → ℕ → Bool → F → Type 0) (f : F) (old new refs : List ℕ) (at : ℕ) (f' : F) : Type 0 where
   pub answers : List Bool
   pub size : length answers ≡ length (live_refs old (take at refs))

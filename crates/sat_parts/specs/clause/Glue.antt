@@ -1,4 +1,4 @@
--- Levels of the literals of a clause.
+-- The levels of the literals of a clause.
 use Rattle.std.specs.Prelude.{ℕ, ◌≡◌, ◌<◌, ◌==◌, nat_eq, Bool, false, List, length, map, slice_index_or as get_or}
 use Rattle.std.specs.List.{list_any}
 use Rattle.std.specs.Set.{distinct_count}
@@ -6,30 +6,30 @@ use Rattle.sat_base.specs.values.Literals.{variable}
 use Rattle.sat_parts.specs.declared.prop.graph.ImplNode.{ImplNode}
 use Rattle.sat_parts.specs.prop.Graphs.{node_of}
 
--- the level of each literal
+-- the levels of the literals
 abbrev pub levels_of : List ImplNode → List ℕ → List ℕ
 levels_of nodes ls = map (λ l. (node_of nodes (variable l)).level) ls
 
--- how many different numbers a list has
+-- the number of different numbers in a list
 abbrev pub different : List ℕ → ℕ
 different xs = distinct_count nat_eq xs
 
--- the literals are over variables below this number
+-- the variables of the literals are less than this number
 abbrev pub VariablesBelow : List ℕ → ℕ → Type 0
 VariablesBelow ls n = (k : ℕ) → k < length ls → variable (get_or ls k 0) < n
 
--- each literal's variable has a node
+-- the variable of every literal has a node
 abbrev pub HaveNodes : List ImplNode → List ℕ → Type 0
 HaveNodes nodes ls = VariablesBelow ls (length nodes)
 
--- there is a flag for the level of each literal
+-- the level of every literal has a flag
 abbrev pub HaveFlags : List ImplNode → List Bool → List ℕ → Type 0
 HaveFlags nodes flags ls = (k : ℕ) → k < length ls → (node_of nodes (variable (get_or ls k 0))).level < length flags
 
--- no flag is set
+-- all flags are false
 abbrev pub AreClear : List Bool → Type 0
 AreClear flags = (k : ℕ) → get_or flags k false ≡ false
 
--- exactly the flags of these levels are set
+-- exactly the flags of these levels are true
 abbrev pub MarksLevels : List Bool → List ℕ → Type 0
 MarksLevels flags levels = (k : ℕ) → k < length flags → get_or flags k false ≡ list_any (λ x. k == x) levels

@@ -1,14 +1,14 @@
--- Clauses whose literals changed places, and nothing else.
+-- Clauses of which only the order of literals changed.
 use Rattle.std.specs.Prelude.{ℕ, ◌≡◌, ◌≢◌, ◌<◌, List, length, slice_index_or as get_or}
 use Rattle.std.specs.List.{Contains}
 use Rattle.std.specs.List.Sorted.{IsPermutation}
 use Rattle.sat_store.specs.clause.Buffer.{IsClause, HoldsClauses, SameClauseAt, header_at, lits_at}
 
--- no literal stands at two places
+-- no literal is in the list twice
 abbrev pub AreDistinct : List ℕ → Type 0
 AreDistinct ls = (j k : ℕ) → j < length ls → k < length ls → get_or ls j 0 ≡ get_or ls k 0 → j ≡ k
 
--- the same literals, perhaps in another order
+-- the same literals, possibly in another order
 pub record Shuffled (ls ms : List ℕ) : Type 0 where
   pub order : IsPermutation ls ms
   pub size : length ms ≡ length ls
@@ -16,7 +16,7 @@ pub record Shuffled (ls ms : List ℕ) : Type 0 where
   pub back : (k : ℕ) → k < length ls → (j : ℕ) × ((j < length ls) × (get_or ls j 0 ≡ get_or ms k 0))
   pub apart : AreDistinct ls → AreDistinct ms
 
--- at most the order of the literals of the clause at o changed
+-- nothing changed except possibly the order of the literals of the clause at o
 pub record Shuffles (old new : List ℕ) (o : ℕ) : Type 0 where
   pub size : length new ≡ length old
   pub clause : IsClause new o
@@ -25,13 +25,13 @@ pub record Shuffles (old new : List ℕ) (o : ℕ) : Type 0 where
   pub laid : (refs : List ℕ) → Contains refs o → HoldsClauses old refs → HoldsClauses new refs
   pub others : (refs : List ℕ) (p : ℕ) → Contains refs o → HoldsClauses old refs → Contains refs p → o ≢ p → SameClauseAt old new p
 
--- the clauses at these places have the headers that they had, and the same literals, perhaps in another order
+-- the clauses at these offsets have the same headers and the same literals, possibly in another order
 pub record SameUpToOrder (old new refs : List ℕ) : Type 0 where
   pub laid : HoldsClauses new refs
   pub headers : (o : ℕ) → Contains refs o → header_at new o ≡ header_at old o
   pub lits : (o : ℕ) → Contains refs o → Shuffled (lits_at old o) (lits_at new o)
 
--- in each list of clauses that has the live ones, at most the order of literals changed
+-- in every list of clauses that contains the live ones, nothing changed except possibly the order of literals
 pub record Reorders (old new live : List ℕ) : Type 0 where
   pub size : length new ≡ length old
   pub all : (refs : List ℕ) → ((o : ℕ) → Contains live o → Contains refs o) → HoldsClauses old refs → SameUpToOrder old new refs

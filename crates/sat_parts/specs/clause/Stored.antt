@@ -1,4 +1,4 @@
--- What holds of the live clauses, in whatever order their literals are.
+-- What holds for the live clauses in any order of their literals.
 use Rattle.std.specs.Prelude.{ℕ, ◌*◌, ◌<◌, ◌≤◌, List, length, slice_index_or as get_or}
 use Rattle.std.specs.List.{Contains}
 use Rattle.sat_store.specs.clause.Buffer.{HoldsClauses, lits_at}
@@ -8,11 +8,11 @@ use Rattle.sat_parts.specs.clause.Orders.{AreDistinct}
 abbrev pub lit_of : List ℕ → ℕ → ℕ → ℕ
 lit_of words o k = get_or (lits_at words o) k 0
 
--- how many literals the clause at o has
+-- the number of literals of the clause at o
 abbrev pub size_of : List ℕ → ℕ → ℕ
 size_of words o = length (lits_at words o)
 
--- the live clauses have words of their own, and three or more different literals each, of variables below the count
+-- no two live clauses share words, and each has three or more different literals, of variables below `count`
 pub record AreClauses (words live : List ℕ) (count : ℕ) : Type 0 where
   pub laid : HoldsClauses words live
   pub long : (o : ℕ) → Contains live o → 3 ≤ size_of words o

@@ -1,4 +1,4 @@
--- What an ask assumes, and how far it was looked at.
+-- The assumptions of an ask, and which of them were considered.
 use Rattle.std.specs.Prelude.{ℕ, ◌≡◌, ◌<◌, ◌≤◌, true, List, map, length, slice_index_or as get_or}
 use Rattle.std.specs.List.{Contains}
 use Rattle.sat_base.specs.values.Literals.{variable}
@@ -17,12 +17,12 @@ use Rattle.sat_parts.specs.declared.parts.assumptions.EnqueueAssumption.TheVaria
 abbrev pub variables : List ℕ → List ℕ
 variables ls = map (λ l. variable l) ls
 
--- the variables of the literals are there
+-- the variables of the literals exist
 abbrev pub HaveVariablesIn : List ℕ → Parts → Type 0
 HaveVariablesIn ls p = VariablesBelow ls (length p.assignment.current)
 
--- how far these assumptions were looked at: on each level that one of them began, and on level 0, those in front of its place are
--- true at that level or below it. Levels that something else began come only once all were looked at
+-- which assumptions were considered: at level 0 and at every level that an assumption began, those before its place are true at that
+-- level or a lower one. Other levels begin only after all assumptions were considered
 pub record IsPlaced (ls below : List ℕ) (place : ℕ) (s : State) : Type 0 where
   pub levels : length below ≤ length s.trail.starts
   pub within : place ≤ length ls
@@ -32,27 +32,27 @@ pub record IsPlaced (ls below : List ℕ) (place : ℕ) (s : State) : Type 0 whe
   pub begun : (j : ℕ) → j < length below → Contains ls (lit_at s (get_or s.trail.starts j 0))
   pub all : length below < length s.trail.starts → place ≡ length ls
 
--- what the assumptions say of how far they were looked at is so in this state
+-- the places that the assumptions record are right in this state
 abbrev pub ArePlaced : Assumptions → State → Type 0
 ArePlaced a s = IsPlaced a.lits.items a.below.items a.place s
 
--- where the levels above one are undone, they stand as they did there
+-- the places are right again when the levels above this one were undone
 abbrev pub AreCutTo : (level : ℕ) (a a' : Assumptions) → Type 0
 AreCutTo level a a' = (s s' : State) → ArePlaced a s → level ≤ length s.trail.starts → KeepsTo level s s' → length s'.trail.starts ≡ level → ArePlaced a' s'
 
--- the literals from one place up to another are true
+-- the literals from position `from` up to `to`, exclusive, are true
 abbrev pub AreTrueFromTo : Parts → List ℕ → (from to : ℕ) → Type 0
 AreTrueFromTo p ls from to = (k : ℕ) → from ≤ k → k < to → IsTrueLit p.assignment.current (get_or ls k 0)
 
--- this literal stands at the place, and isn't true
+-- the literal is at this position, and is not true
 abbrev pub IsUntrueAt : Parts → List ℕ → (at l : ℕ) → Type 0
 IsUntrueAt p ls at l = (at < length ls) × (get_or ls at 0 ≡ l) × (IsTrueLit p.assignment.current l → ⊥)
 
--- each literal of the trail above level 0 that no clause makes true is among these
+-- every literal of the trail above level 0 that has no clause as its reason is among these
 abbrev pub AreDecided : List ℕ → State → Type 0
 AreDecided ls s = (i : ℕ) → i < length s.trail.lits → 0 < level s (lit_at s i) → is_unit (node s (lit_at s i)).reason ≡ true → Contains ls (lit_at s i)
 
--- what was found of the assumptions, and done
+-- the effect of enqueueing an assumption, by its result
 abbrev pub AssumedSays : EnqueueAssumption → Assumptions → Parts → Parts → Type 0
 AssumedSays Done a p p' = (p' ≡ p) × (a.place ≡ length a.lits.items) × ((k : ℕ) → k < length a.lits.items → IsTrueLit p.assignment.current (get_or a.lits.items k 0))
 AssumedSays Enqueued a p p' = Deepens p p'

@@ -1,22 +1,22 @@
--- What the rest of a solver sees of a step: which clauses there are, and which literals of level 0. A step's contract has these words:
+-- What other parts of a solver see of a step: the clauses, and the literals of level 0. The contracts use these words:
 --   propagate_all: Reordered, AddsNoUnit, KeepsLevels
 --   make_decision, assume, enqueue_assumption: AddsNothing, KeepsLevels
---   undo: SameClauses, AddsNoUnit, KeepsTo (to the level that is gone back to)
+--   undo: SameClauses, AddsNoUnit, KeepsTo (the level that remains)
 --   restart, full_restart: SameClauses, AddsNoUnit
 --   learn: Learnt
 --   clear_units: SameClauses, Clears
 --   put_back: SameClauses, AddsNoUnit
 --   grow: Grown
---   use_variable: SameContents, and what may be picked
---   use_with_unit: SameClauses, GainsUnit; and Freed for variables that a crate above frees
+--   use_variable: SameContents, and which variables may be picked
+--   use_with_unit: SameClauses, GainsUnit (and Freed for variables that the solver frees)
 --   load_unit: SameClauses, GainsUnit
 --   load_binary, load_long: AddsOriginalClause
---   load: LoadSays (Loading), which says by the answer which of these it is
---   drop_clause: Dropped where it deletes, else nothing changes
---   put_header, set_tier, reduce_middle, bump_clause, decay_clauses: Headed, beside the word of the parts
+--   load: LoadSays (Loading), which selects one of these by the result
+--   drop_clause: Dropped if it deletes, otherwise nothing changes
+--   put_header, set_tier, reduce_middle, bump_clause, decay_clauses: Headed, besides the word of the trail
 --   bump_variable, decay_variables: SameContents
 --   swap_behind: Swapped; shorten: Shortened; remove_binary: Removed; collect: Copied
--- At level 0 KeepsTo 0 follows from AddsNoUnit; where SameState or SameSearch holds, AddsNoUnit does (carries_same).
+-- At level 0, KeepsTo 0 follows from AddsNoUnit, which in turn follows from SameState or SameSearch (carries_same).
 use Rattle.std.specs.Prelude.{ℕ, ◌≡◌, ◌≢◌, ◌+◌, ◌*◌, ◌<◌, ◌≤◌, ◌⊎◌, true, false, None, List, length, slice_index_or as get_or}
 use Rattle.std.specs.List.{Contains}
 use Rattle.sat_base.specs.values.Literals.{variable}
@@ -35,7 +35,7 @@ use Rattle.sat_parts.specs.declared.parts.Parts.{Parts}
 use Rattle.sat_parts.specs.parts.Whole.{state}
 use Rattle.sat_parts.specs.prop.Trails.{with_lit}
 
--- a literal of level 0 that stands on the trail and has no clause as its reason
+-- the literal is on the trail at level 0 and has no clause as its reason
 pub record IsBare (s : State) (l : ℕ) : Type 0 where
   pub place : ℕ
   pub within : place < length s.trail.lits
@@ -43,33 +43,33 @@ pub record IsBare (s : State) (l : ℕ) : Type 0 where
   pub bottom : level s l ≡ 0
   pub none : is_unit (node s l).reason ≡ true
 
--- a unit: a literal of level 0 that no clause of the trail makes true
+-- the literal is a unit: it is of level 0 and has no clause as its reason, or it was taken off the trail
 abbrev pub IsUnitLit : State → ℕ → Type 0
 IsUnitLit s l = IsRemoved s l ⊎ IsBare s l
 
--- no unit is new, and literals of level 0 stay so
+-- no unit is new, and the literals of level 0 stay
 pub record AddsNoUnit (s s' : State) : Type 0 where
   pub size : length s'.values ≡ length s.values
   pub units : (l : ℕ) → IsUnitLit s' l → IsUnitLit s l
   pub bottom : (l : ℕ) → IsTrueLit s.values l → level s l ≡ 0 → IsTrueLit s'.values l × (level s' l ≡ 0)
 
--- units are taken off the trail: each of them was a literal of level 0, and these stay so
+-- units were taken off the trail: each of them was a literal of level 0, and the literals of level 0 stay
 pub record Clears (s s' : State) : Type 0 where
   pub size : length s'.values ≡ length s.values
   pub units : (l : ℕ) → IsUnitLit s' l → IsTrueLit s.values l × (level s l ≡ 0)
   pub bottom : (l : ℕ) → IsTrueLit s.values l → level s l ≡ 0 → IsTrueLit s'.values l × (level s' l ≡ 0)
 
--- the clauses are the same, written in the same order
+-- the clauses are unchanged
 abbrev pub SameClauses : Parts → Parts → Type 0
 SameClauses p p' = (p'.clauses ≡ p.clauses) × (p'.db ≡ p.db) × (p'.binary ≡ p.binary)
 
--- the clauses are the same but for the order of their literals
+-- the clauses are unchanged except possibly for the order of their literals
 pub record Reordered (p p' : Parts) : Type 0 where
   pub live : live_refs p'.clauses p'.db.refs ≡ live_refs p.clauses p.db.refs
   pub kept : SameUpToOrder p.clauses p'.clauses (live_refs p.clauses p.db.refs)
   pub binary : p'.binary ≡ p.binary
 
--- how a clause came in: as a unit, a clause of two literals, or a long one; its first literal is enqueued
+-- a clause was learned, as a unit, a binary clause or a long one, and its first literal was enqueued
 pub data Learnt (p p' : Parts) (header : Header) (ls : List ℕ) : Type 0 where
   learnt_unit : length ls ≡ 1 → SameClauses p p' → (r : Reason) → is_unit r ≡ true → state p' ≡ enqueued (get_or ls 0 0) r (state p) → Learnt p p' header ls
   learnt_binary : length ls ≡ 2 → p'.clauses ≡ p.clauses → p'.db ≡ p.db → p'.binary ≡ with_binary (get_or ls 0 0) (get_or ls 1 0) p.binary →
@@ -77,44 +77,44 @@ pub data Learnt (p p' : Parts) (header : Header) (ls : List ℕ) : Type 0 where
   learnt_long : 3 ≤ length ls → (o : ℕ) → AddsLongClause p.clauses p.db p'.clauses p'.db o header ls → p'.binary ≡ p.binary →
       (r : Reason) → is_unit r ≡ false → state p' ≡ enqueued (get_or ls 0 0) r (state p) → Learnt p p' header ls
 
--- what is true at a level up to this one stays so at that level, and the literals with which these levels begin stay there
+-- literals that are true at a level up to this one stay true at that level, and these levels begin with the same literals
 pub record KeepsTo (top : ℕ) (s s' : State) : Type 0 where
   pub low : (l : ℕ) → IsTrueLit s.values l → level s l ≤ top → IsTrueLit s'.values l × (level s' l ≡ level s l)
   pub begun : (j : ℕ) → j < top → j < length s.trail.starts → (j < length s'.trail.starts) × (lit_at s' (get_or s'.trail.starts j 0) ≡ lit_at s (get_or s.trail.starts j 0))
 
--- values, reasons and trail are the same
+-- values, reasons and trail are unchanged
 abbrev pub SameState : Parts → Parts → Type 0
 SameState p p' = (p'.assignment ≡ p.assignment) × (p'.graph ≡ p.graph) × (p'.trail ≡ p.trail)
 
--- clauses, values, reasons and trail are the same
+-- clauses, values, reasons and trail are unchanged
 abbrev pub SameContents : Parts → Parts → Type 0
 SameContents p p' = SameClauses p p' × SameState p p'
 
--- the variables that may be picked and the trail are the same
+-- the trail and the queue of variables are unchanged
 abbrev pub SameQueues : Parts → Parts → Type 0
 SameQueues p p' = (p'.vsids ≡ p.vsids) × (p'.trail ≡ p.trail)
 
--- no clause and no unit is new, and literals of level 0 stay so
+-- the clauses are unchanged, no unit is new, and the literals of level 0 stay
 abbrev pub AddsNothing : Parts → Parts → Type 0
 AddsNothing p p' = SameClauses p p' × AddsNoUnit (state p) (state p')
 
--- what is true stays so, each at its level
+-- true literals stay true, each at its level
 abbrev pub KeepsLevels : Parts → Parts → Type 0
 KeepsLevels p p' = (top : ℕ) → KeepsTo top (state p) (state p')
 
--- one level more is open
+-- there is one level more
 abbrev pub Deepens : Parts → Parts → Type 0
 Deepens p p' = length p'.trail.starts ≡ length p.trail.starts + 1
 
--- the first of these literals came onto the trail
+-- the first of these literals was appended to the trail
 abbrev pub EnqueuesFirst : List ℕ → Parts → Parts → Type 0
 EnqueuesFirst ls p p' = p'.trail ≡ with_lit (get_or ls 0 0) p.trail
 
--- all is the same but long clauses and their watch lists
+-- everything is unchanged except long clauses and watch lists
 abbrev pub SameSearch : Parts → Parts → Type 0
 SameSearch p p' = SameState p p' × (p'.binary ≡ p.binary) × (p'.vsids ≡ p.vsids)
 
--- headers of long clauses changed, none of them from learned to not learned or back
+-- only headers of long clauses changed, and no clause became or ceased to be a learned one
 pub record Headed (p p' : Parts) : Type 0 where
   pub live : live_refs p'.clauses p'.db.refs ≡ live_refs p.clauses p.db.refs
   pub lits : (o : ℕ) → Contains (live_refs p.clauses p.db.refs) o → lits_at p'.clauses o ≡ lits_at p.clauses o
@@ -126,19 +126,19 @@ pub record Dropped (p p' : Parts) (o : ℕ) : Type 0 where
   pub deletes : DeletesClause p.clauses p.db p'.clauses p'.db o
   pub same : SameSearch p p'
 
--- a long clause lost its literals from a place on
+-- a long clause lost its literals from position `len` on
 pub record Shortened (p p' : Parts) (o len : ℕ) : Type 0 where
   pub shortens : ShortensClause p.clauses p.db p'.clauses o len
   pub db : p'.db ≡ p.db
   pub same : SameSearch p p'
 
--- two literals of a long clause changed places
+-- two literals of a long clause were swapped
 pub record Swapped (p p' : Parts) (o i j : ℕ) : Type 0 where
   pub lits : lits_at p'.clauses o ≡ swapped (lits_at p.clauses o) i j
   pub moved : Reordered p p'
   pub same : SameSearch p p'
 
--- the live long clauses are at new places, in order, with the same headers and literals
+-- the live long clauses have new references, in order, with the same headers and literals
 pub record Copied (p p' : Parts) : Type 0 where
   pub copies : Copies p.clauses (live_refs p.clauses p.db.refs) p'.clauses (live_refs p'.clauses p'.db.refs)
   pub binary : p'.binary ≡ p.binary
@@ -148,7 +148,7 @@ pub record Copied (p p' : Parts) : Type 0 where
   pub carries : AddsNoUnit (state p) (state p')
   pub keeps : KeepsLevels p p'
 
--- the clauses of two literals of which a variable has a value are gone
+-- the binary clauses with an assigned variable were removed
 pub record Removed (p p' : Parts) : Type 0 where
   pub removes : RemovesAssigned p.assignment.current p.binary p'.binary
   pub clauses : p'.clauses ≡ p.clauses
@@ -156,7 +156,7 @@ pub record Removed (p p' : Parts) : Type 0 where
   pub state : SameState p p'
   pub queue : p'.vsids ≡ p.vsids
 
--- there are more variables: the new ones have no value, aren't to be picked, and no clause has them
+-- there are `count` variables; the new ones are unassigned, may not be picked, and are in no clause
 pub record Grown (p p' : Parts) (count : ℕ) : Type 0 where
   pub size : length p'.assignment.current ≡ count
   pub values : (v : ℕ) → value_of p'.assignment.current v ≡ value_of p.assignment.current v
@@ -167,7 +167,7 @@ pub record Grown (p p' : Parts) (count : ℕ) : Type 0 where
   pub units : (l : ℕ) → IsUnitLit (state p') l → IsUnitLit (state p) l
   pub keeps : KeepsLevels p p'
 
--- a variable lost its value, and isn't to be picked
+-- a variable lost its value, and may not be picked
 pub record Freed (p p' : Parts) (v : ℕ) : Type 0 where
   pub clauses : SameClauses p p'
   pub values : p'.assignment ≡ assigned v None p.assignment
@@ -177,14 +177,14 @@ pub record Freed (p p' : Parts) (v : ℕ) : Type 0 where
   pub units : (l : ℕ) → IsUnitLit (state p') l → IsUnitLit (state p) l × (variable l ≢ v)
   pub bottom : (l : ℕ) → variable l ≢ v → IsTrueLit p.assignment.current l → level (state p) l ≡ 0 → IsTrueLit p'.assignment.current l × (level (state p') l ≡ 0)
 
--- a literal becomes true at level 0; no other unit is new, and literals of level 0 stay so
+-- a literal became true at level 0; no other unit is new, and the literals of level 0 stay
 pub record GainsUnit (l : ℕ) (s s' : State) : Type 0 where
   pub size : length s'.values ≡ length s.values
   pub units : (m : ℕ) → IsUnitLit s' m → IsUnitLit s m ⊎ (m ≡ l)
   pub bottom : (m : ℕ) → IsTrueLit s.values m → level s m ≡ 0 → IsTrueLit s'.values m × (level s' m ≡ 0)
   pub holds : IsTrueLit s'.values l × (level s' l ≡ 0)
 
--- how a clause that is not a learned one came in, of two literals or a long one; no unit is new
+-- an irredundant clause was stored, as a binary or a long one, and no unit is new
 pub data AddsOriginalClause (p p' : Parts) (ls : List ℕ) : Type 0 where
   stores_binary : length ls ≡ 2 → p'.clauses ≡ p.clauses → p'.db ≡ p.db → p'.binary ≡ with_binary (get_or ls 0 0) (get_or ls 1 0) p.binary → AddsNoUnit (state p) (state p') → AddsOriginalClause p p' ls
   stores_long : 3 ≤ length ls → (o : ℕ) → AddsLongClause p.clauses p.db p'.clauses p'.db o no_header ls → p'.binary ≡ p.binary → AddsNoUnit (state p) (state p') → AddsOriginalClause p p' ls

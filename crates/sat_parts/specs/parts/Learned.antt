@@ -1,4 +1,4 @@
--- A clause that was learned from a conflict, before and after levels are undone.
+-- A clause learned from a conflict, before and after backtracking.
 use Rattle.std.specs.Prelude.{ℕ, ◌≡◌, ◌^◌, ◌<◌, ◌≤◌, true, List, [], length, slice_index_or as get_or}
 use Rattle.sat_base.specs.values.Literals.{variable}
 use Rattle.sat_store.specs.heap.Vsids.{Queue, may_pick}
@@ -7,8 +7,8 @@ use Rattle.sat_parts.specs.prop.Values.{IsFalseLit, IsOpenLit}
 use Rattle.sat_parts.specs.prop.State.{State, level, current_level}
 use Rattle.sat_parts.specs.prop.Ready.{IsFalsified}
 
--- what an analysis gives: literals that are false, none of level 0, of which the first alone is of the current level, and the second
--- of the highest level of the others, which is the level that is gone back to
+-- the result of an analysis: all literals are false and above level 0; only the first is of the current level, and the second is of
+-- the highest level of the others, to which the search backtracks
 pub record IsLearned (s : State) (ls : List ℕ) (to : ℕ) : Type 0 where
   pub some : 1 ≤ length ls
   pub fits : length ls < 2 ^ 32
@@ -21,7 +21,7 @@ pub record IsLearned (s : State) (ls : List ℕ) (to : ℕ) : Type 0 where
   pub second : 1 < length ls → level s (get_or ls 1 0) ≡ to
   pub unit : length ls ≡ 1 → to ≡ 0
 
--- the same once levels are undone: the first literal is open, and the others are false, the second at the current level
+-- the same after backtracking: the first literal is unassigned, and the others are false, the second at the current level
 pub record IsPending (s : State) (q : Queue) (ls : List ℕ) : Type 0 where
   pub some : 1 ≤ length ls
   pub fits : length ls < 2 ^ 32

@@ -1,4 +1,4 @@
--- What becomes of a clause that is loaded.
+-- The effect of loading a clause.
 use Rattle.std.specs.Prelude.{ℕ, ◌≡◌, ◌<◌, ◌≤◌, List, length, slice_index_or as get_or}
 use Rattle.sat_parts.specs.prop.Values.{IsTrueLit, IsFalseLit, IsOpenLit}
 use Rattle.sat_parts.specs.declared.parts.Parts.{Parts}
@@ -7,7 +7,7 @@ use Rattle.sat_parts.specs.declared.parts.load.Loaded.TheVariants.{Stored, Unit 
 use Rattle.sat_parts.specs.parts.Whole.{state}
 use Rattle.sat_parts.specs.parts.Frame.{AddsNoUnit, SameClauses, GainsUnit, AddsOriginalClause}
 
--- what became of the parts and of a clause of these literals
+-- the effect of loading a clause with these literals, by the result
 abbrev pub LoadSays : Loaded → Parts → Parts → List ℕ → Type 0
 LoadSays Stored p p' ls = AddsOriginalClause p p' ls
 LoadSays One p p' ls = (length ls ≡ 1) × IsOpenLit p.assignment.current (get_or ls 0 0) × SameClauses p p' × GainsUnit (get_or ls 0 0) (state p) (state p')

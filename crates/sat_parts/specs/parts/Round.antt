@@ -1,4 +1,4 @@
--- What holds of the parts of a search between rounds.
+-- The invariant of the parts of a search between rounds.
 use Rattle.std.specs.Prelude.{ℕ, ◌≡◌, ◌≢◌, ◌+◌, ◌<◌, ◌⊎◌, Bool, true, Option, None, List, length, slice_index_or as get_or}
 use Rattle.std.specs.List.{Contains}
 use Rattle.sat_base.specs.values.Literals.{variable}
@@ -22,19 +22,19 @@ pub record IsUnused (words live : List ℕ) (implied : List (List ℕ)) (v : ℕ
   pub long : (o k : ℕ) → Contains live o → k < size_of words o → variable (lit_of words o k) ≢ v
   pub binary : (l k : ℕ) → k < length (implied_by implied l) → (variable l ≢ v) × (variable (get_or (implied_by implied l) k 0) ≢ v)
 
--- each variable without a value may be picked, unless no clause has it
+-- every unassigned variable may be picked, unless no clause has it
 abbrev pub AreReady : (words live : List ℕ) (implied : List (List ℕ)) (values : List (Option Bool)) (q : Queue) → Type 0
 AreReady words live implied values q = (v : ℕ) → v < length values → value_of values v ≡ None → (may_pick q v ≡ true) ⊎ IsUnused words live implied v
 
--- what may be picked of the variables without a value stays so, but for one variable
+-- the unassigned variables that could be picked still can, except possibly v
 abbrev pub KeepsPicks : (values : List (Option Bool)) (q q' : Queue) (v : ℕ) → Type 0
 KeepsPicks values q q' v = (u : ℕ) → u ≢ v → value_of values u ≡ None → may_pick q u ≡ true → may_pick q' u ≡ true
 
--- the literals of level 0 that stand on the trail have no clause as their reason
+-- the literals of the trail at level 0 have no clause as their reason
 abbrev pub UnitsAreUncaused : State → Type 0
 UnitsAreUncaused s = (i : ℕ) → i < length s.trail.lits → level s (lit_at s i) ≡ 0 → (node s (lit_at s i)).reason ≡ NoCause
 
--- what holds of all parts, where what propagation asks is said of the literals of levels below the top
+-- the invariant of all parts, where propagation is complete for the literals of levels below `top`
 pub record IsSoundBelow (words : List ℕ) (db : Db) (w : Watching) (b : Binaries) (a : Values) (g : List ImplNode) (t : Trailed) (q : Queue) (top : ℕ) : Type 0 where
   pub held : HoldsDb words db
   pub asks : PropagationInvariant words db.refs w b.implied (state_of a g t) top
@@ -43,12 +43,12 @@ pub record IsSoundBelow (words : List ℕ) (db : Db) (w : Watching) (b : Binarie
   pub queue : length q.available ≡ length a.current
   pub ready : AreReady words (live_refs words db.refs) b.implied a.current q
 
--- above level 0 no literal of level 0 stands on the trail, and at level 0 all of them are in the queue
+-- above level 0 the trail has no literals of level 0; at level 0 all literals of the trail are in the queue
 pub record IsBased (t : Trailed) : Type 0 where
   pub above : 0 < length t.starts → get_or t.starts 0 0 ≡ 0
   pub bottom : length t.starts ≡ 0 → t.head ≡ 0
 
--- what holds between rounds
+-- the invariant between rounds
 pub record RoundInvariant (words : List ℕ) (db : Db) (w : Watching) (b : Binaries) (a : Values) (g : List ImplNode) (t : Trailed) (q : Queue) : Type 0 where
   pub below : IsSoundBelow words db w b a g t q (length t.starts + 1)
   pub units : UnitsAreUncaused (state_of a g t)

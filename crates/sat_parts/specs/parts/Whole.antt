@@ -1,4 +1,4 @@
--- What holds of the struct of parts.
+-- The invariant of the struct of parts, and what callers see of it.
 use Rattle.std.specs.Prelude.{ℕ, ◌≡◌, ◌<◌, None, List, length, slice_index_or as get_or}
 use Rattle.std.specs.List.{Contains}
 use Rattle.sat_parts.specs.clause.Stored.{lit_of, size_of}
@@ -17,19 +17,19 @@ use Rattle.sat_parts.specs.prop.Ready.{IsConflict}
 abbrev pub state : Parts → State
 state p = state_of p.assignment p.graph p.trail
 
--- a live long clause of the parts stands there
+-- the parts have a live long clause at o
 abbrev pub HasClause : Parts → ℕ → Type 0
 HasClause p o = Contains (live_refs p.clauses p.db.refs) o
 
--- one stands at each of these places
+-- the parts have a live long clause at every one of these offsets
 abbrev pub HasClauses : Parts → List ℕ → Type 0
 HasClauses p os = (k : ℕ) → k < length os → HasClause p (get_or os k 0)
 
--- no clause of the parts has the variable
+-- the variable is in no clause of the parts
 abbrev pub InNoClause : Parts → ℕ → Type 0
 InNoClause p v = IsUnused p.clauses (live_refs p.clauses p.db.refs) p.binary.implied v
 
--- between rounds
+-- the invariant of the parts between rounds
 abbrev pub PartsInvariant : Parts → Type 0
 PartsInvariant p = RoundInvariant p.clauses p.db p.watchlists p.binary p.assignment p.graph p.trail p.vsids
 
@@ -37,7 +37,7 @@ PartsInvariant p = RoundInvariant p.clauses p.db p.watchlists p.binary p.assignm
 abbrev pub PartsInvariantWith : Queue → Parts → Type 0
 PartsInvariantWith q p = RoundInvariant p.clauses p.db p.watchlists p.binary p.assignment p.graph p.trail q
 
--- the same but for a variable without a value, which was picked
+-- the same except for an unassigned variable, which was just picked
 pub record IsPicked (p : Parts) (v : ℕ) : Type 0 where
   pub before : Queue
   pub holds : PartsInvariantWith before p
@@ -46,26 +46,26 @@ pub record IsPicked (p : Parts) (v : ℕ) : Type 0 where
   pub there : v < length p.assignment.current
   pub unset : value_of p.assignment.current v ≡ None
 
--- for the literals of levels below the top
+-- the invariant, where propagation is complete for the literals of levels below `top`
 abbrev pub HoldsBelow : ℕ → Parts → Type 0
 HoldsBelow top p = IsSoundBelow p.clauses p.db p.watchlists p.binary p.assignment p.graph p.trail p.vsids top
 
--- nothing is to be propagated
+-- the queue is empty: every literal of the trail was propagated
 abbrev pub IsDone : Parts → Type 0
 IsDone p = p.trail.head ≡ length p.trail.lits
 
--- each variable without a value is in no clause
+-- every unassigned variable is in no clause
 abbrev pub AllAssigned : Parts → Type 0
 AllAssigned p = (u : ℕ) → u < length p.assignment.current → value_of p.assignment.current u ≡ None → InNoClause p u
 
--- a clause is false, and all holds once the current level is undone
+-- a clause is falsified, and the invariant holds again once the current level is undone
 abbrev pub IsRefuted : Parts → Conflict → Type 0
 IsRefuted p e =
     HoldsBelow (length p.trail.starts) p
     × IsConflict p.clauses (live_refs p.clauses p.db.refs) p.binary.implied p.assignment.current e
     × (0 < length p.trail.starts → UnitsAreUncaused (state p) × IsBased p.trail)
 
--- each live clause has a true literal, and each literal that is implied by a true one is true
+-- every live clause has a true literal, and every literal that a true one implies is true
 pub record IsModelled (p : Parts) : Type 0 where
   pub long : (o : ℕ) → Contains (live_refs p.clauses p.db.refs) o → (k : ℕ) × ((k < size_of p.clauses o) × IsTrueLit p.assignment.current (lit_of p.clauses o k))
   pub binary : (l k : ℕ) → k < length (implied_by p.binary.implied l) → IsTrueLit p.assignment.current l → IsTrueLit p.assignment.current (get_or (implied_by p.binary.implied l) k 0)

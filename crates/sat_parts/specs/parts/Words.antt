@@ -1,4 +1,4 @@
--- Words of trails since an ask began: the units that were taken off the trail since then, and then the literals that stand on it.
+-- Words of trails since an ask began, as a measure of progress: the units that were taken off the trail, then the literals on it.
 use Rattle.std.specs.Prelude.{ℕ, ◌≡◌, ◌<◌, ◌⊎◌, None, true, false, List, ◌++◌, length, replicate, slice_index_or as get_or}
 use Rattle.std.specs.List.{Contains}
 use Rattle.sat_base.specs.values.Literals.{variable}
@@ -11,70 +11,70 @@ use Rattle.sat_parts.specs.prop.TrailWord.{Letter, P, letters, IsLowerWord}
 use Rattle.sat_parts.specs.declared.parts.Parts.{Parts}
 use Rattle.sat_parts.specs.parts.Whole.{state}
 
--- a word begins another
+-- the first word is a prefix of the second
 abbrev pub Begins : List Letter → List Letter → Type 0
 Begins u v = (w : List Letter) × (v ≡ u ++ w)
 
--- the letters of the literals that stand on the trail
+-- the letters of the literals of the trail
 abbrev pub trail_letters : Trailed → List Letter
 trail_letters t = letters t.starts t.lits 0
 
--- the variable has no value, isn't to be picked, and isn't assumed
+-- the variable is unassigned, may not be picked, and is not assumed
 abbrev pub IsIdle : List ℕ → State → Queue → ℕ → Type 0
 IsIdle assumed s q v = (value_of s.values v ≡ None) × (may_pick q v ≡ false) × (Contains assumed v → ⊥)
 
--- the variable is to be picked, or assumed
+-- the variable may be picked, or is assumed
 abbrev pub IsAwaited : List ℕ → Queue → ℕ → Type 0
 IsAwaited assumed q v = (may_pick q v ≡ true) ⊎ Contains assumed v
 
--- the variable has a value and its literal was taken off the trail, or it is idle
+-- the literal of the variable was taken off the trail as a unit, or the variable is idle
 abbrev pub IsGone : List ℕ → State → Queue → ℕ → Type 0
 IsGone assumed s q v = (v < length s.values) × (((l : ℕ) × ((variable l ≡ v) × IsRemoved s l)) ⊎ IsIdle assumed s q v)
 
--- what is gone stays so, and so does what is idle, and the variables are as many
+-- variables that are gone or idle stay so, and the number of variables is unchanged
 pub record GoneAndIdleStay (assumed : List ℕ) (s : State) (q : Queue) (s' : State) (q' : Queue) : Type 0 where
   pub size : length s'.values ≡ length s.values
   pub gone : (v : ℕ) → IsGone assumed s q v → IsGone assumed s' q' v
   pub idle : (v : ℕ) → IsIdle assumed s q v → IsIdle assumed s' q' v
 
--- a word of the trail since an ask began that assumes these variables: a P for each of some variables that are gone, those of units
--- taken off since then, and the letters of the trail
+-- a word of the trail since an ask with these assumed variables began: a P for each of some variables that are gone (the units taken
+-- off since then), and the letters of the trail
 pub record IsWord (assumed : List ℕ) (s : State) (q : Queue) (w : List Letter) : Type 0 where
   pub gone : List ℕ
   pub distinct : AreDistinct gone
   pub each : (k : ℕ) → k < length gone → IsGone assumed s q (get_or gone k 0)
   pub is : w ≡ replicate (length gone) P ++ trail_letters s.trail
 
--- each word goes on to one that it begins
+-- every word before is a prefix of a word after
 abbrev pub WordExtends : (assumed : List ℕ) (s : State) (q : Queue) (s' : State) (q' : Queue) → Type 0
 WordExtends assumed s q s' q' =
     GoneAndIdleStay assumed s q s' q' × ((w : List Letter) → IsWord assumed s q w → (v : List Letter) × (IsWord assumed s' q' v × Begins w v))
 
--- each word goes on to a higher one
+-- every word before is lower than a word after
 abbrev pub WordRises : (assumed : List ℕ) (s : State) (q : Queue) (s' : State) (q' : Queue) → Type 0
 WordRises assumed s q s' q' =
     GoneAndIdleStay assumed s q s' q' × ((w : List Letter) → IsWord assumed s q w → (v : List Letter) × (IsWord assumed s' q' v × IsLowerWord w v))
 
--- the same of parts
+-- the words of the parts
 abbrev pub Words : List ℕ → Parts → List Letter → Type 0
 Words assumed p w = IsWord assumed (state p) p.vsids w
 
--- where these are assumed, each word of the trail goes on to one that it begins
+-- with these assumed, every word before is a prefix of a word after
 abbrev pub TrailWordExtendsFor : List ℕ → Parts → Parts → Type 0
 TrailWordExtendsFor assumed p p' = WordExtends assumed (state p) p.vsids (state p') p'.vsids
 
--- whatever is assumed, what is gone or idle stays so
+-- whatever is assumed, variables that are gone or idle stay so
 abbrev pub TrailWordStays : Parts → Parts → Type 0
 TrailWordStays p p' = (assumed : List ℕ) → GoneAndIdleStay assumed (state p) p.vsids (state p') p'.vsids
 
--- whatever is assumed, each word of the trail goes on to one that it begins
+-- whatever is assumed, every word before is a prefix of a word after
 abbrev pub TrailWordExtends : Parts → Parts → Type 0
 TrailWordExtends p p' = (assumed : List ℕ) → TrailWordExtendsFor assumed p p'
 
--- where these are assumed, each word of the trail goes on to a higher one
+-- with these assumed, every word before is lower than a word after
 abbrev pub TrailWordRisesFor : List ℕ → Parts → Parts → Type 0
 TrailWordRisesFor assumed p p' = WordRises assumed (state p) p.vsids (state p') p'.vsids
 
--- whatever is assumed, each word of the trail goes on to a higher one
+-- whatever is assumed, every word before is lower than a word after
 abbrev pub TrailWordRises : Parts → Parts → Type 0
 TrailWordRises p p' = (assumed : List ℕ) → TrailWordRisesFor assumed p p'

@@ -1,4 +1,4 @@
--- What propagation asks of all parts together, in the form in which it gives it back.
+-- What propagation requires of all parts together, and ensures again.
 use Rattle.std.specs.Prelude.{ℕ, ◌≡◌, ◌+◌, ◌*◌, ◌<◌, ◌≤◌, ◌⊎◌, true, List, length, slice_index_or as get_or, Result, MatchResult}
 use Rattle.std.specs.List.{Contains}
 use Rattle.sat_base.specs.values.Literals.{negated}
@@ -15,10 +15,10 @@ use Rattle.sat_parts.specs.prop.State.{State, level, current_level, HasLeft, Agr
 use Rattle.sat_parts.specs.prop.Reasons.{HaveFirsts, PropagatesOn}
 use Rattle.sat_parts.specs.prop.Ready.{AreWatched, AreSettled, AreImplied, AreLists, IsUnitFixpoint, IsConflict}
 
--- the clauses of the list have words of their own, and the live ones are clauses over the variables; watch lists that are kept
--- up watch them by their first two literals; values, nodes and trail agree; literals in the queue are of the current level;
--- long reasons have their literals first; and clauses made false in a watched literal by one that has left the queue, of a level
--- below the top, have a true literal of no higher level. Watch lists that aren't kept up may hold anything
+-- no two clauses share words, and the live ones are over the variables; enabled watch lists watch their first two literals (disabled
+-- ones may have anything); values, nodes and trail agree; literals in the queue are of the current level; long reasons have their
+-- literals first; and a clause with a watched literal that is false by a literal that has left the queue, of a level below `top`, has
+-- a true literal of the same level or lower
 pub record PropagationInvariant (words refs : List ℕ) (w : Watching) (implied : List (List ℕ)) (s : State) (top : ℕ) : Type 0 where
   pub laid : HoldsClauses words refs
   pub clauses : AreClauses words (live_refs words refs) (length s.values)
@@ -31,20 +31,20 @@ pub record PropagationInvariant (words refs : List ℕ) (w : Watching) (implied 
   pub ranges : AreLists implied (length s.values)
   pub binary : AreImplied implied s (λ l. level s l < top)
 
--- the clause at o is the one that a reason names
+-- the reason names the clause at o
 abbrev pub IsOwnLong : Reason → ℕ → Type 0
 IsOwnLong NoCause o = ⊥
 IsOwnLong (Binary ls) o = ⊥
 IsOwnLong (Long p) o = p ≡ o
 
--- the clause by which l implies m is the one that a reason for lit names
+-- the reason for lit names the clause by which l implies m
 abbrev pub IsOwnBinary : Reason → (lit l m : ℕ) → Type 0
 IsOwnBinary NoCause lit l m = ⊥
 IsOwnBinary (Binary ls) lit l m = (m ≡ lit) × (negated (get_or ls 0 0) ≡ l)
 IsOwnBinary (Long o) lit l m = ⊥
 
--- the same before an open literal becomes true by its reason: the clause that the reason names may be unsettled, as one is that
--- was just added, where its false literals that are watched are of the current level
+-- the same before an unassigned literal becomes true by its reason: the clause of the reason may have been just added, and not yet
+-- propagated, if its false watched literals are of the current level
 pub record AsksForReason (lit : ℕ) (reason : Reason) (words refs : List ℕ) (w : Watching) (implied : List (List ℕ)) (s : State) (top : ℕ) : Type 0 where
   pub laid : HoldsClauses words refs
   pub clauses : AreClauses words (live_refs words refs) (length s.values)
@@ -61,12 +61,12 @@ pub record AsksForReason (lit : ℕ) (reason : Reason) (words refs : List ℕ) (
       (IsTrueLit s.values (get_or (implied_by implied l) k 0) × (level s (get_or (implied_by implied l) k 0) ≤ level s l))
       ⊎ (IsOwnBinary reason lit l (get_or (implied_by implied l) k 0) × (current_level s ≤ level s l))
 
--- what propagation asks before it goes on
+-- what propagation requires
 abbrev pub AsksAll : (words refs : List ℕ) (w : Watching) (implied : List (List ℕ)) (s : State) → Type 0
 AsksAll words refs w implied s = PropagationInvariant words refs w implied s (current_level s + 1)
 
--- what propagation gives: the pieces in between, and either what it asked, with nothing in the queue and no clause left to do,
--- or a falsified clause, and what it asks once the current level is undone
+-- what propagation ensures: the literals that it assigned have reasons; and either the invariant, with an empty queue and no unit or
+-- falsified clause, or a falsified clause, and the invariant once the current level is undone
 pub record PropagationResult (refs : List ℕ) (implied : List (List ℕ)) (words : List ℕ) (s : State) (words' : List ℕ) (s' : State) (w : Watching) (r : Result (Unit {0}) Conflict) : Type 0 where
   pub moves : PropagatesOn (live_refs words refs) implied words s words' s'
   pub live : live_refs words' refs ≡ live_refs words refs

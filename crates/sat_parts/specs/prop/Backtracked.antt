@@ -1,4 +1,4 @@
--- What holds on where literals become true, levels begin or levels are undone.
+-- What is preserved when literals become true, levels begin or levels are undone.
 use Rattle.std.specs.Prelude.{ℕ, ◌≡◌, ◌<◌, ◌≤◌, List, length}
 use Rattle.std.specs.List.{Contains}
 use Rattle.sat_parts.specs.declared.prop.graph.Reason.{Reason}
@@ -14,35 +14,35 @@ use Rattle.sat_parts.specs.prop.Reasons.{AreInTurn}
 use Rattle.sat_parts.specs.prop.Ready.{state_of}
 use Rattle.sat_parts.specs.prop.Asks.{PropagationInvariant, AsksForReason, AsksAll}
 
--- where what propagation asks held for the literals of levels below a top, and this level is below it, it holds for all that is
--- left: after a propagation that found nothing false, and after one that did once its level is undone
+-- undoing the levels above this one gives what propagation requires, if its invariant held for the literals of levels below a higher
+-- `top`: after complete propagation, and after a conflict once its level is undone
 abbrev pub KeepsAllAsked : (level : ℕ) (a : Values) (t : Trailed) (a' : Values) (t' : Trailed) → Type 0
 KeepsAllAsked level a t a' t' =
     (words refs : List ℕ) (w : Watching) (implied : List (List ℕ)) (nodes : List ImplNode) (top : ℕ) → level < top →
     PropagationInvariant words refs w implied (state_of a nodes t) top → AsksAll words refs w implied (state_of a' nodes t')
 
--- reasons that are unit in turn stay so
+-- the reasons of the trail stay unit in the order of the trail
 abbrev pub KeepsTurns : (a : Values) (t : Trailed) (a' : Values) (t' : Trailed) → Type 0
 KeepsTurns a t a' t' =
     (words live : List ℕ) (implied : List (List ℕ)) (nodes : List ImplNode) (from : ℕ) → Agrees (state_of a nodes t) →
     AreInTurn words live implied (state_of a nodes t) from → AreInTurn words live implied (state_of a' nodes t') from
 
--- what propagation asks holds where an open literal has become true, by a live clause that has it first if by a long one. Before,
--- the clause of its reason may be unsettled
+-- the invariant of propagation holds after an unassigned literal became true, if a long clause as its reason is live and has it first;
+-- before, that clause may not yet be propagated
 abbrev pub KeepsAskedBy : (lit : ℕ) (reason : Reason) (a : Values) (nodes : List ImplNode) (t : Trailed) (a' : Values) (nodes' : List ImplNode) (t' : Trailed) → Type 0
 KeepsAskedBy lit reason a nodes t a' nodes' t' =
     (words refs : List ℕ) (w : Watching) (implied : List (List ℕ)) (top : ℕ) →
     ((o : ℕ) → reason ≡ Long o → Contains (live_refs words refs) o × (lit_of words o 0 ≡ lit)) →
     AsksForReason lit reason words refs w implied (state_of a nodes t) top → PropagationInvariant words refs w implied (state_of a' nodes' t') top
 
--- what propagation asks stays so where a level begins while nothing is in the queue
+-- a new level preserves the invariant of propagation if the queue is empty
 abbrev pub KeepsAskedAbove : (t t' : Trailed) → Type 0
 KeepsAskedAbove t t' =
     (a : Values) (words refs : List ℕ) (w : Watching) (implied : List (List ℕ)) (nodes : List ImplNode) → t.head ≡ length t.lits →
     AsksAll words refs w implied (state_of a nodes t) → AsksAll words refs w implied (state_of a nodes t')
 
--- what stays where the levels above this one are undone: exactly the literals that were true at a level not above it, those of
--- the trail at their places. The others are open
+-- what remains when the levels above `top` are undone: exactly the literals that were true at that level or lower, those of the trail
+-- at their positions; the others are unassigned
 pub record KeepsLow (top : ℕ) (s s' : State) : Type 0 where
   pub agrees : Agrees s'
   pub low_kept : (l : ℕ) → IsTrueLit s.values l → level s l ≤ top → IsTrueLit s'.values l
@@ -55,6 +55,6 @@ pub record KeepsLow (top : ℕ) (s s' : State) : Type 0 where
   pub places : (i : ℕ) → i < length s'.trail.lits → lit_at s' i ≡ lit_at s i
   pub low_places : (i : ℕ) → i < length s.trail.lits → level s (lit_at s i) ≤ top → i < length s'.trail.lits
 
--- the same of values and a trail, whatever nodes they agree with
+-- the same for values and a trail, whatever nodes they agree with
 abbrev pub KeepsBelow : (top : ℕ) (a : Values) (t : Trailed) (a' : Values) (t' : Trailed) → Type 0
 KeepsBelow top a t a' t' = (nodes : List ImplNode) → Agrees (state_of a nodes t) → KeepsLow top (state_of a nodes t) (state_of a' nodes t')

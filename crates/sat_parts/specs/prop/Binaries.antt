@@ -1,10 +1,10 @@
--- Clauses of two literals as lists of implied literals.
+-- Binary clauses as lists of implied literals.
 use Rattle.std.specs.Prelude.{ℕ, ◌≡◌, ◌+◌, ◌-◌, ◌/◌, ◌^◌, min, Bool, Option, if◌then◌else◌, List, [], ◌∷◌, ◌++◌, take, replicate, length, slice_index_or as get_or, slice_set as set}
 use Rattle.std.specs.List.{filter, sum_by}
 use Rattle.sat_base.specs.values.Literals.{negated, variable}
 use Rattle.sat_parts.specs.prop.Values.{is_unset}
 
--- the lists by code of literal, and the number of clauses (held at 2^64 - 1)
+-- the lists by literal code, and the number of clauses (it saturates at 2^64 - 1)
 pub record Binaries : Type 0 where
   pub implied : List (List ℕ)
   pub count : ℕ
@@ -13,34 +13,34 @@ pub record Binaries : Type 0 where
 abbrev pub implied_by : List (List ℕ) → ℕ → List ℕ
 implied_by implied l = get_or implied l []
 
--- the lists where l implies m as well
+-- the lists in which l implies m, too
 abbrev pub with_implied : ℕ → ℕ → List (List ℕ) → List (List ℕ)
 with_implied l m implied = set implied l (implied_by implied l ++ m ∷ [])
 
--- the lists without the last one of what l implies
+-- the lists without the last literal that l implies
 abbrev pub without_last : ℕ → List (List ℕ) → List (List ℕ)
 without_last l implied = set implied l (take (length (implied_by implied l) - 1) (implied_by implied l))
 
--- the clause of two literals: where one is false, the other is implied
+-- the clauses with one more: if one of its literals is false, the other is implied
 abbrev pub with_binary : ℕ → ℕ → Binaries → Binaries
 with_binary a b x = record {
   implied = with_implied (negated b) a (with_implied (negated a) b x.implied);
   count = min (x.count + 1) (2 ^ 64 - 1);
 }
 
--- the lists of so many literals
+-- the clauses with lists for `count` literals
 abbrev pub with_literals : ℕ → Binaries → Binaries
 with_literals count x = record x { implied = take count x.implied ++ replicate (count - length x.implied) [] }
 
--- those of these literals whose variables have no value, and none where the variable v has one
+-- the unassigned ones of these literals, or none of them if the variable v is assigned
 abbrev pub open_among : List (Option Bool) → (v : ℕ) → List ℕ → List ℕ
 open_among values v ls = if is_unset values v then filter (λ l. is_unset values (variable l)) ls else []
 
--- how many implications there are, two for each clause (held at 2^64 - 1)
+-- the number of implications, two for every clause (it saturates at 2^64 - 1)
 abbrev pub implications : List (List ℕ) → ℕ
 implications implied = min (sum_by (λ (ls : List ℕ). length ls) implied) (2 ^ 64 - 1)
 
--- the clauses of which a variable has a value are gone, and the others are there, in order
+-- the clauses with an assigned variable were removed, and the others are kept in order
 pub record RemovesAssigned (values : List (Option Bool)) (old new : Binaries) : Type 0 where
   pub size : length new.implied ≡ length old.implied
   pub implied : (l : ℕ) → implied_by new.implied l ≡ open_among values (variable l) (implied_by old.implied l)

@@ -1,4 +1,4 @@
--- Watch lists in the middle of being built.
+-- Watch lists while they are rebuilt.
 use Rattle.std.specs.Prelude.{ℕ, ◌≡◌, ◌*◌, ◌<◌, List, take, length, slice_index_or as get_or}
 use Rattle.std.specs.List.{Contains}
 use Rattle.sat_base.specs.values.Literals.{negated}
@@ -8,11 +8,11 @@ use Rattle.sat_parts.specs.clause.Stored.{lit_of}
 use Rattle.sat_parts.specs.prop.WatchLists.{no_watch, watches_of}
 use Rattle.sat_parts.specs.prop.Ready.{IsGood, HasWatch, AreWatched}
 
--- the live clauses of a list are watched by their first two literals
+-- the lists watch the first two literals of the live clauses
 abbrev pub WatchesLive : (words refs : List ℕ) (lists : List (List Watch)) (count : ℕ) → Type 0
 WatchesLive words refs lists count = AreWatched words (live_refs words refs) lists count
 
--- the live clauses among the first k are watched by their first two literals
+-- the lists watch the first two literals of the live clauses among the first k
 pub record AreBuilt (words refs : List ℕ) (lists : List (List Watch)) (count k : ℕ) : Type 0 where
   pub room : length lists ≡ 2 * count
   pub good : (l p : ℕ) → p < length (watches_of lists l) → IsGood words (live_refs words refs) (get_or (watches_of lists l) p no_watch)

@@ -1,41 +1,41 @@
--- Nodes of the implication graph, by index of variable.
+-- The nodes of the implication graph, indexed by variable.
 use Rattle.std.specs.Prelude.{ℕ, ◌≡◌, ◌+◌, ◌-◌, Bool, true, false, List, ◌++◌, take, replicate, length, slice_index_or as get_or, slice_set as set}
 use Rattle.sat_parts.specs.prop.Trails.{Trailed}
 use Rattle.sat_parts.specs.declared.prop.graph.ImplNode.{ImplNode}
 use Rattle.sat_parts.specs.declared.prop.graph.Reason.{Reason}
 use Rattle.sat_parts.specs.declared.prop.graph.Reason.TheVariants.{Unit as NoCause, Binary, Long}
 
--- whether no clause is the reason, as of a unit, a decision or an assumption
+-- whether the reason is no clause: the literal is a unit, a decision or an assumption
 abbrev pub is_unit : Reason → Bool
 is_unit NoCause = true
 is_unit (Binary _) = false
 is_unit (Long _) = false
 
--- a node that nothing has been written to
+-- the node of a new variable
 abbrev pub new_node : ImplNode
 new_node = record { reason = NoCause; level = 0; depth = 0 }
 
--- the node of a variable, a new one where there is none
+-- the node of a variable, or a new one if there is none
 abbrev pub node_of : List ImplNode → ℕ → ImplNode
 node_of nodes v = get_or nodes v new_node
 
--- the node of a literal that comes next on this trail
+-- the node of a literal that is appended to this trail
 abbrev pub node_at : Trailed → Reason → ImplNode
 node_at t reason = record { reason = reason; level = length t.starts; depth = length t.lits + 1 }
 
--- the nodes where a variable has this one
+-- the nodes with the node of a variable replaced
 abbrev pub with_node : ℕ → ImplNode → List ImplNode → List ImplNode
 with_node v node nodes = set nodes v node
 
--- the nodes where that of a variable has this reason
+-- the nodes with the reason of a variable replaced
 abbrev pub with_reason : ℕ → Reason → List ImplNode → List ImplNode
 with_reason v reason nodes = with_node v (record (node_of nodes v) { reason = reason }) nodes
 
--- the nodes of so many variables
+-- the nodes of `count` variables
 abbrev pub with_nodes : ℕ → List ImplNode → List ImplNode
 with_nodes count nodes = take count nodes ++ replicate (count - length nodes) new_node
 
--- the node of a unit taken off the trail
+-- the node of a unit that was taken off the trail
 abbrev pub removed_node : ImplNode
 removed_node = record { reason = NoCause; level = 0; depth = 4294967295 }
 

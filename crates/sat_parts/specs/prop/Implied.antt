@@ -9,14 +9,14 @@ use Rattle.sat_parts.specs.prop.Binaries.{implied_by}
 use Rattle.sat_parts.specs.prop.State.{State, node, lit_at, IsRemoved, Agrees}
 use Rattle.sat_parts.specs.prop.Reasons.{AreInTurn}
 
--- a valuation that satisfies all clauses, makes true what was assumed, decided or given as a unit, and the units taken off the trail
+-- a valuation that satisfies all clauses, all units, including those taken off the trail, and all decisions and assumptions
 pub record IsModelOf (words live : List ℕ) (implied : List (List ℕ)) (s : State) (v : ℕ → Bool) : Type 0 where
   pub long : (o : ℕ) → Contains live o → (k : ℕ) × ((k < size_of words o) × (literal_true v (lit_of words o k) ≡ true))
   pub binary : (l k : ℕ) → k < length (implied_by implied l) → literal_true v l ≡ true → literal_true v (get_or (implied_by implied l) k 0) ≡ true
   pub given : (i : ℕ) → i < length s.trail.lits → (node s (lit_at s i)).reason ≡ NoCause → literal_true v (lit_at s i) ≡ true
   pub removed : (l : ℕ) → IsRemoved s l → literal_true v l ≡ true
 
--- each literal that is true follows, where reasons are unit in the trail's order
+-- if reasons are unit in the order of the trail, every true literal holds in every such valuation
 abbrev pub AssignedIsImplied : Type 0
 AssignedIsImplied =
     (words live : List ℕ) (implied : List (List ℕ)) (s : State) (v : ℕ → Bool) → Agrees s → AreInTurn words live implied s 0 → IsModelOf words live implied s v →

@@ -1,4 +1,4 @@
--- A list of watches that is lent.
+-- Lending of a list of watches.
 use Rattle.std.specs.Prelude.{ℕ, List, slice_set as set}
 use Rattle.std.specs.Borrow.{Lends, MutBor, Fml}
 use Rattle.sat_parts.specs.declared.prop.watch.Watch.{Watch}
@@ -6,6 +6,6 @@ use Rattle.sat_parts.specs.prop.WatchLists.{Watching}
 use Rattle.sat_parts.specs.contracts.prop.watch.WatchList as watch_list
 use Rattle.sat_parts.specs.contracts.prop.watch.Watchlists as watchlists
 
--- r lends the watches of literal l: what is last written through it are the watches of l, and the rest stays
+-- r lends the watches of literal l: the last list written through it becomes the watches of l, and the rest stays
 abbrev pub LendsList : MutBor Watching → ℕ → MutBor (List Watch) → Fml
 LendsList w l r = Lends watchlists.the_row watch_list.the_row w r (λ list. record w.now { lists = set w.now.lists l list })

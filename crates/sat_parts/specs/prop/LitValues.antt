@@ -1,25 +1,25 @@
--- What literals are, by code, as their variables' values say.
+-- The values of literals, indexed by literal code.
 use Rattle.std.specs.Prelude.{ℕ, ◌≡◌, ◌+◌, ◌-◌, ◌*◌, ◌<◌, Bool, true, false, Option, None, Some, List, ◌++◌, take, replicate, length, if◌then◌else◌, slice_index_or as get_or, slice_set as set}
 use Rattle.sat_base.specs.values.Literals.{variable, is_positive}
 use Rattle.sat_parts.specs.prop.Values.{value_of}
 use Rattle.sat_parts.specs.declared.prop.lit_values.LitValue.{LitValue}
 use Rattle.sat_parts.specs.declared.prop.lit_values.LitValue.TheVariants.{Open, True, False}
 
--- the literal of this sign, where its variable has this value or none
+-- the value of the literal of this sign, if its variable has this value
 abbrev pub signed_value : Option Bool → Bool → LitValue
 signed_value None positive = Open
 signed_value (Some true) positive = if positive then True else False
 signed_value (Some false) positive = if positive then False else True
 
--- of each literal stands there what its variable's value says
+-- every literal has the value that its variable's value gives
 pub record MirrorsValues (values : List (Option Bool)) (codes : List LitValue) : Type 0 where
   pub count : length codes ≡ 2 * length values
   pub each : (l : ℕ) → l < 2 * length values → get_or codes l Open ≡ signed_value (value_of values (variable l)) (is_positive l)
 
--- with both literals of a variable set
+-- the values with both literals of a variable set
 abbrev pub with_value : ℕ → Option Bool → List LitValue → List LitValue
 with_value v value codes = set (set codes (2 * v) (signed_value value true)) (2 * v + 1) (signed_value value false)
 
--- so many literals, of which those that are new are open
+-- the values of `count` literals, of which new ones are unassigned
 abbrev pub with_lit_count : ℕ → List LitValue → List LitValue
 with_lit_count count codes = take count codes ++ replicate (count - length codes) Open

@@ -1,12 +1,12 @@
--- Lists of literals as parts of one list. Each has a room, of which it takes the first places.
+-- Lists of literals as parts of one list. Every list has a room, and uses its first positions.
 use Rattle.std.specs.Prelude.{ℕ, ◌≡◌, ◌≢◌, ◌+◌, ◌≤◌, ◌<◌, ◌⊎◌, List, map, take, drop, length, slice_index, slice_index_or}
 use Rattle.sat_parts.specs.declared.binary.Place.{Place}
 
--- no literals, and no room
+-- the place of an empty list without room
 abbrev pub no_place : Place
 no_place = record { start = 0; len = 0; room = 0 }
 
--- where the list with this number is
+-- the place of the list with this number
 abbrev pub place_at : List Place → ℕ → Place
 place_at places l = slice_index_or places l no_place
 
@@ -18,17 +18,17 @@ part_of lits p = take p.len (drop p.start lits)
 abbrev pub lists_of : List Place → List ℕ → List (List ℕ)
 lists_of places lits = map (part_of lits) places
 
--- two rooms have nothing in common
+-- the two rooms share no position
 abbrev pub Apart : Place → Place → Type 0
 Apart p q = (p.start + p.room ≤ q.start) ⊎ (q.start + q.room ≤ p.start)
 
--- the lists fit their rooms, which are within the list of so many literals and have nothing in common
+-- the lists fit into their rooms, and the rooms are within the list of `size` literals and share no position
 pub record ArePlaces (places : List Place) (size : ℕ) : Type 0 where
   pub few : (l : ℕ) → (place_at places l).len ≤ (place_at places l).room
   pub within : (l : ℕ) → (place_at places l).start + (place_at places l).room ≤ size
   pub apart : (l m : ℕ) → l ≢ m → Apart (place_at places l) (place_at places m)
 
--- a part of the list was copied to its end, where there is a room of this size
+-- a part of the list was copied to its end, into a new room of this size
 pub record CopiesPart (start len room : ℕ) (old new : List ℕ) : Type 0 where
   pub size : length new ≡ length old + room
   pub kept : (k : ℕ) → k < length old → slice_index new k ≡ slice_index old k

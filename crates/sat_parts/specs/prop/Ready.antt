@@ -1,4 +1,4 @@
--- What unit propagation asks and gives, over clauses, watch lists and the state of a search.
+-- What unit propagation requires and ensures for clauses, watch lists and the state of a search.
 use Rattle.std.specs.Prelude.{ℕ, ◌≡◌, ◌≢◌, ◌+◌, ◌*◌, ◌<◌, ◌≤◌, Bool, Option, List, length, slice_index_or as get_or, Result, MatchResult}
 use Rattle.std.specs.List.{Contains}
 use Rattle.sat_base.specs.values.Literals.{negated}
@@ -15,7 +15,7 @@ use Rattle.sat_parts.specs.prop.WatchLists.{no_watch, watches_of}
 use Rattle.sat_parts.specs.prop.State.{State, level, current_level, HasLeft, Agrees, IsQueueCurrent, IsSatisfied}
 use Rattle.sat_parts.specs.prop.Reasons.{HaveFirsts, PropagatesOn}
 
--- the state of these values, these nodes and this trail
+-- the state with these values, nodes and trail
 abbrev pub state_of : Values → List ImplNode → Trailed → State
 state_of a g t = record { values = a.current; nodes = g; trail = t }
 
@@ -23,34 +23,34 @@ state_of a g t = record { values = a.current; nodes = g; trail = t }
 abbrev pub HasLit : List ℕ → ℕ → ℕ → Type 0
 HasLit words o l = (k : ℕ) × ((k < size_of words o) × (lit_of words o k ≡ l))
 
--- a watch on a live clause, whose blocking literal is one of its literals
+-- the watch is on a live clause, and its blocking literal is one of the clause
 abbrev pub IsGood : List ℕ → List ℕ → Watch → Type 0
 IsGood words live x = Contains live x.cref × HasLit words x.cref x.blocking
 
--- a watch of the list is on the clause at o
+-- the list has a watch on the clause at o
 abbrev pub HasWatch : List Watch → ℕ → Type 0
 HasWatch xs o = (p : ℕ) × ((p < length xs) × ((get_or xs p no_watch).cref ≡ o))
 
--- each live clause is watched by its first two literals, and watches are on live clauses alone
+-- every live clause watches its first two literals, and there are no watches on other clauses
 pub record AreWatched (words live : List ℕ) (lists : List (List Watch)) (count : ℕ) : Type 0 where
   pub room : length lists ≡ 2 * count
   pub good : (l p : ℕ) → p < length (watches_of lists l) → IsGood words live (get_or (watches_of lists l) p no_watch)
   pub both : (o i : ℕ) → Contains live o → i < 2 → HasWatch (watches_of lists (negated (lit_of words o i))) o
 
--- each live clause with one of its first two literals made false by a literal that has left the queue (of those that are due)
--- has a true literal of a level not above that of the false one
+-- if one of the first two literals of a live clause is false by a due literal that has left the queue, the clause has a true literal
+-- of the same level or lower
 abbrev pub AreSettled : (words live : List ℕ) (s : State) (due : ℕ → Type 0) → Type 0
 AreSettled words live s due =
     (o i : ℕ) → Contains live o → i < 2 → HasLeft s (negated (lit_of words o i)) → due (negated (lit_of words o i)) →
     IsSatisfied s (lits_at words o) (level s (negated (lit_of words o i)))
 
--- each literal that is implied by one that has left the queue (of those that are due) is true, at a level not above it
+-- every literal that a due literal implies, if it has left the queue, is true at the same level or lower
 abbrev pub AreImplied : (implied : List (List ℕ)) (s : State) (due : ℕ → Type 0) → Type 0
 AreImplied implied s due =
     (l k : ℕ) → HasLeft s l → due l → k < length (implied_by implied l) →
     IsTrueLit s.values (get_or (implied_by implied l) k 0) × (level s (get_or (implied_by implied l) k 0) ≤ level s l)
 
--- the long clauses and their watch lists, settled for the literals that are due
+-- the long clauses and their watch lists, with the due literals propagated
 pub record LongReady (words live : List ℕ) (lists : List (List Watch)) (s : State) (due : ℕ → Type 0) : Type 0 where
   pub clauses : AreClauses words live (length s.values)
   pub watches : AreWatched words live lists (length s.values)
@@ -58,38 +58,38 @@ pub record LongReady (words live : List ℕ) (lists : List (List Watch)) (s : St
   pub queue : IsQueueCurrent s
   pub settled : AreSettled words live s due
 
--- a list of implied literals for each literal, and all of them in range
+-- there is a list of implied literals for every literal, and all of them are in range
 pub record AreLists (implied : List (List ℕ)) (count : ℕ) : Type 0 where
   pub room : length implied ≡ 2 * count
   pub below : (l k : ℕ) → k < length (implied_by implied l) → get_or (implied_by implied l) k 0 < 2 * count
 
--- what propagation asks, for the literals of levels below this one: with one more than the current level it may go on, with
--- the current level it may once that level is undone
+-- what propagation requires, for the literals of levels below `top`: one more than the current level to go on, the current level to
+-- go on once that level is undone
 pub record ReadyBelow (words live : List ℕ) (lists : List (List Watch)) (implied : List (List ℕ)) (s : State) (top : ℕ) : Type 0 where
   pub long : LongReady words live lists s (λ l. level s l < top)
   pub ranges : AreLists implied (length s.values)
   pub binary : AreImplied implied s (λ l. level s l < top)
   pub firsts : HaveFirsts words live s
 
--- what propagation asks
+-- what propagation requires
 abbrev pub IsReadyToPropagate : (words live : List ℕ) (lists : List (List Watch)) (implied : List (List ℕ)) (s : State) → Type 0
 IsReadyToPropagate words live lists implied s = ReadyBelow words live lists implied s (current_level s + 1)
 
--- each of these literals is false
+-- all of these literals are false
 abbrev pub IsFalsified : List (Option Bool) → List ℕ → Type 0
 IsFalsified values ls = (k : ℕ) → k < length ls → IsFalseLit values (get_or ls k 0)
 
--- the literal at place k is open, and each other one is false
+-- the literal at position k is unassigned, and the others are false
 abbrev pub IsUnitAt : List (Option Bool) → List ℕ → ℕ → Type 0
 IsUnitAt values ls k = IsOpenLit values (get_or ls k 0) × ((j : ℕ) → j < length ls → j ≢ k → IsFalseLit values (get_or ls j 0))
 
--- no clause is falsified, or unit with its literal open
+-- no clause is falsified or unit
 pub record IsUnitFixpoint (words live : List ℕ) (implied : List (List ℕ)) (values : List (Option Bool)) : Type 0 where
   pub not_falsified : (o : ℕ) → Contains live o → IsFalsified values (lits_at words o) → ⊥
   pub not_unit : (o k : ℕ) → Contains live o → k < size_of words o → IsUnitAt values (lits_at words o) k → ⊥
   pub binary : (l k : ℕ) → k < length (implied_by implied l) → IsTrueLit values l → IsTrueLit values (get_or (implied_by implied l) k 0)
 
--- the clause that a conflict names is there, and each of its literals is false
+-- the conflict names a clause, and all its literals are false
 abbrev pub IsConflict : (words live : List ℕ) (implied : List (List ℕ)) (values : List (Option Bool)) → Conflict → Type 0
 IsConflict words live implied values (Binary ls) =
     Contains (implied_by implied (negated (get_or ls 1 0))) (get_or ls 0 0)
@@ -97,8 +97,8 @@ IsConflict words live implied values (Binary ls) =
     × IsFalseLit values (get_or ls 1 0)
 IsConflict words live implied values (Long o) = Contains live o × IsFalsified values (lits_at words o)
 
--- what propagation makes of a state that is ready for it: the pieces in between, and either a state that is ready again, with
--- nothing in the queue and no clause left to do, or a falsified clause and a state that is ready once its level is undone
+-- what propagation ensures: the literals that it assigned have reasons; and either a state that is ready again, with an empty queue
+-- and no unit or falsified clause, or a falsified clause and a state that is ready once its level is undone
 pub record Propagated (live : List ℕ) (implied : List (List ℕ)) (words : List ℕ) (s : State) (words' : List ℕ) (s' : State) (lists : List (List Watch)) (r : Result (Unit {0}) Conflict) : Type 0 where
   pub moves : PropagatesOn live implied words s words' s'
   pub outcome : MatchResult r

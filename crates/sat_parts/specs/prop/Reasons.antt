@@ -10,12 +10,12 @@ use Rattle.sat_parts.specs.prop.Values.{IsTrueLit}
 use Rattle.sat_parts.specs.prop.Graphs.{is_unit}
 use Rattle.sat_parts.specs.prop.State.{State, node, lit_at, IsBefore, IsRemoved, Grows}
 
--- the literal is false: its negation stands on the trail before this place, or was taken off as a unit
+-- the literal is false: its negation is on the trail before this position, or was taken off as a unit
 abbrev pub IsFalseBefore : State → ℕ → ℕ → Type 0
 IsFalseBefore s bound l = IsBefore s bound (negated l) ⊎ IsRemoved s (negated l)
 
--- the literal at place i of the trail is implied by a clause of this reason whose other literals were false before it:
--- a clause of two literals by the lists of implied literals, or a live long clause that has it first
+-- the clause of this reason implies the literal at position i of the trail, and its other literals were false before:
+-- a binary clause of the lists of implied literals, or a live long clause that has the literal first
 abbrev pub Implies : (words live : List ℕ) (implied : List (List ℕ)) (s : State) (i : ℕ) → Reason → Type 0
 Implies words live implied s i NoCause = Unit {0}
 Implies words live implied s i (Binary ls) =
@@ -23,21 +23,21 @@ Implies words live implied s i (Binary ls) =
 Implies words live implied s i (Long o) =
     Contains live o × (lit_of words o 0 ≡ lit_at s i) × ((k : ℕ) → 1 ≤ k → k < size_of words o → IsFalseBefore s i (lit_of words o k))
 
--- the reasons of the literals of the trail from this place on are unit in the trail's order
+-- the reasons of the literals from this position on are unit in the order of the trail
 abbrev pub AreInTurn : (words live : List ℕ) (implied : List (List ℕ)) (s : State) (from : ℕ) → Type 0
 AreInTurn words live implied s from =
     (i : ℕ) → from ≤ i → i < length s.trail.lits → Implies words live implied s i (node s (lit_at s i)).reason
 
--- the clause of each long reason on the trail is live and has the literal first
+-- the clause of every long reason on the trail is live and has the literal first
 abbrev pub HaveFirsts : (words live : List ℕ) (s : State) → Type 0
 HaveFirsts words live s = (i o : ℕ) → i < length s.trail.lits → (node s (lit_at s i)).reason ≡ Long o → Contains live o × (lit_of words o 0 ≡ lit_at s i)
 
--- the literal at place i of the trail is true by a clause: its reason isn't that of a unit or decision
+-- the literal at position i of the trail is true and has a clause as its reason
 abbrev pub HasClauseReason : State → ℕ → Type 0
 HasClauseReason s i = IsTrueLit s.values (lit_at s i) × (is_unit (node s (lit_at s i)).reason ≡ false)
 
--- a piece of propagation: each literal that became true has a clause as its reason, reasons are unit in turn, and clauses
--- changed only in the order of their literals, none in its first literal where that was true
+-- a stretch of propagation: every literal that became true has a clause as its reason, reasons are unit in the order of the trail,
+-- and clauses changed only in the order of their literals; a true first literal stays first
 pub record PropagatesOn (live : List ℕ) (implied : List (List ℕ)) (words : List ℕ) (s : State) (words' : List ℕ) (s' : State) : Type 0 where
   pub grows : Grows s s'
   pub reorders : Reorders words words' live

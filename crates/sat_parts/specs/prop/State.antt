@@ -1,4 +1,4 @@
--- Values, nodes and trail of one search, and what ties them.
+-- Values, nodes and trail of a search, and how they agree.
 use Rattle.std.specs.Prelude.{ℕ, ◌≡◌, ◌+◌, ◌<◌, ◌≤◌, ◌⊎◌, Bool, Option, Some, List, length, slice_index_or as get_or, slice_set as set}
 use Rattle.sat_base.specs.values.Literals.{variable, is_positive}
 use Rattle.sat_parts.specs.declared.prop.graph.ImplNode.{ImplNode}
@@ -7,7 +7,7 @@ use Rattle.sat_parts.specs.prop.Values.{IsTrueLit}
 use Rattle.sat_parts.specs.prop.Trails.{Trailed, IsTrail, LevelIs, with_lit}
 use Rattle.sat_parts.specs.prop.Graphs.{node_of, node_at, with_node}
 
--- which literals are true, why, and in which order they became so
+-- which literals are true, why, and in which order they became true
 pub record State : Type 0 where
   pub values : List (Option Bool)
   pub nodes : List ImplNode
@@ -17,25 +17,25 @@ pub record State : Type 0 where
 abbrev pub node : State → ℕ → ImplNode
 node s l = node_of s.nodes (variable l)
 
--- the level of a literal, which it shares with its negation
+-- the level of a literal and of its negation
 abbrev pub level : State → ℕ → ℕ
 level s l = (node s l).level
 
--- how many levels have begun
+-- the current level: the number of levels above 0
 abbrev pub current_level : State → ℕ
 current_level s = length s.trail.starts
 
--- the literal at a place of the trail
+-- the literal at a position of the trail
 abbrev pub lit_at : State → ℕ → ℕ
 lit_at s i = get_or s.trail.lits i 0
 
--- a true literal of level 0 that was taken off the trail
+-- the literal is a unit, true at level 0, that was taken off the trail
 pub record IsRemoved (s : State) (l : ℕ) : Type 0 where
   pub holds : IsTrueLit s.values l
   pub depth : (node s l).depth ≡ 4294967295
   pub bottom : level s l ≡ 0
 
--- the literal stands on the trail, at a place before this one
+-- the literal is on the trail before this position
 pub record IsBefore (s : State) (bound l : ℕ) : Type 0 where
   pub place : ℕ
   pub before : place < bound
@@ -46,8 +46,8 @@ pub record IsBefore (s : State) (bound l : ℕ) : Type 0 where
 abbrev pub HasLeft : State → ℕ → Type 0
 HasLeft s l = IsBefore s s.trail.head l ⊎ IsRemoved s l
 
--- values, nodes and trail agree: the literals of the trail are true, their nodes say where they stand and at which level,
--- and what else is true was taken off the trail as a unit
+-- values, nodes and trail agree: the literals of the trail are true, their nodes have their positions and levels, and every other true
+-- literal was taken off the trail as a unit
 pub record Agrees (s : State) : Type 0 where
   pub trail : IsTrail s.trail
   pub nodes : length s.nodes ≡ length s.values
@@ -57,11 +57,11 @@ pub record Agrees (s : State) : Type 0 where
   pub levels : (i : ℕ) → i < length s.trail.lits → LevelIs s.trail.starts i (level s (lit_at s i))
   pub known : (l : ℕ) → IsTrueLit s.values l → IsBefore s (length s.trail.lits) l ⊎ IsRemoved s l
 
--- each literal that is still to be propagated is of the current level
+-- every literal of the queue is of the current level
 abbrev pub IsQueueCurrent : State → Type 0
 IsQueueCurrent s = (i : ℕ) → s.trail.head ≤ i → i < length s.trail.lits → level s (lit_at s i) ≡ current_level s
 
--- the state where an open literal became true as the last one of the trail
+-- the state after an unassigned literal became true and was appended to the trail
 abbrev pub enqueued : ℕ → Reason → State → State
 enqueued l reason s = record {
   values = set s.values (variable l) (Some (is_positive l));
@@ -69,7 +69,7 @@ enqueued l reason s = record {
   trail = with_lit l s.trail;
 }
 
--- only open literals became true, behind the others of the trail
+-- only unassigned literals became true, and were appended to the trail
 pub record Grows (old new : State) : Type 0 where
   pub size : length new.values ≡ length old.values
   pub starts : new.trail.starts ≡ old.trail.starts
@@ -81,7 +81,7 @@ pub record Grows (old new : State) : Type 0 where
   pub nodes : (l : ℕ) → IsTrueLit old.values l → node new l ≡ node old l
   pub removed : (l : ℕ) → IsRemoved new l → IsRemoved old l
 
--- one of these literals is true, at a level not above this one
+-- one of these literals is true at this level or lower
 pub record IsSatisfied (s : State) (ls : List ℕ) (bound : ℕ) : Type 0 where
   pub place : ℕ
   pub within : place < length ls

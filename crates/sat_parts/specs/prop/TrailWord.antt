@@ -1,4 +1,4 @@
--- The word of a trail: which of its literals are decisions, in order.
+-- The word of a trail: a letter for every literal, which says whether it is a decision.
 use Rattle.std.specs.Prelude.{ℕ, ◌≡◌, ◌≢◌, ◌<◌, ◌≤◌, ◌+◌, ◌==◌, ◌||◌, Bool, true, false, List, [], ◌∷◌, ◌++◌, length, replicate, slice_index_or as get_or, if◌then◌else◌}
 use Rattle.sat_base.specs.values.Literals.{variable}
 use Rattle.sat_parts.specs.declared.prop.graph.ImplNode.{ImplNode}
@@ -12,30 +12,30 @@ use Rattle.sat_parts.specs.prop.Reasons.{PropagatesOn}
 use Rattle.sat_parts.specs.prop.Undone.{undone_to}
 use Rattle.sat_parts.specs.prop.Ready.{state_of}
 
--- a decision or an assumption (D), or any other literal (P)
+-- D for a decision or an assumption, P for any other literal
 pub data Letter : Type 0 where
   D : Letter
   P : Letter
 
--- whether a level begins with the literal at this place
+-- whether a level begins with the literal at this position
 abbrev pub begins : List ℕ → ℕ → Bool
 begins [] i = false
 begins (k ∷ ks) i = (k == i) || begins ks i
 
--- the letter of the literal at place i of the trail
+-- the letter of the literal at position i of the trail
 abbrev pub letter : List ℕ → ℕ → Letter
 letter starts i = if begins starts i then D else P
 
--- the letters of literals, of which the first stands at this place
+-- the letters of these literals, the first of which is at this position
 abbrev pub letters : (starts lits : List ℕ) (at : ℕ) → List Letter
 letters starts [] at = []
 letters starts (l ∷ ls) at = letter starts at ∷ letters starts ls (at + 1)
 
--- the units that were taken off the trail, and then its literals
+-- the letters of the units that were taken off the trail, then those of its literals
 abbrev pub trail_word : Trailed → List Letter
 trail_word t = replicate t.cleared P ++ letters t.starts t.lits 0
 
--- D is before P, and a word before its extensions
+-- the lexical order: D is lower than P, and a word is lower than its extensions
 abbrev pub IsLowerWord : List Letter → List Letter → Type 0
 IsLowerWord [] [] = ⊥
 IsLowerWord [] (y ∷ v) = Unit {0}
@@ -45,12 +45,12 @@ IsLowerWord (P ∷ u) (D ∷ v) = ⊥
 IsLowerWord (D ∷ u) (D ∷ v) = IsLowerWord u v
 IsLowerWord (P ∷ u) (P ∷ v) = IsLowerWord u v
 
--- no level begins at this place
+-- no level begins at this position
 abbrev pub BeginsNoLevel : List ℕ → ℕ → Type 0
 BeginsNoLevel starts i = (k : ℕ) → k < length starts → get_or starts k 0 ≢ i
 
--- each level begins with a literal of its own, behind the ones before it. This literal has no clause as its reason, and each
--- other one above level 0 has one
+-- every level begins with a literal of its own, after those of the levels before. That literal has no clause as its reason, and every
+-- other literal above level 0 has one
 pub record IsLevelled (s : State) : Type 0 where
   pub strict : (j k : ℕ) → j < k → k < length s.trail.starts → get_or s.trail.starts j 0 < get_or s.trail.starts k 0
   pub begun : (k : ℕ) → k < length s.trail.starts → get_or s.trail.starts k 0 < length s.trail.lits
@@ -58,11 +58,11 @@ pub record IsLevelled (s : State) : Type 0 where
   pub caused : (i k : ℕ) → k < length s.trail.starts → get_or s.trail.starts k 0 ≤ i → i < length s.trail.lits → BeginsNoLevel s.trail.starts i →
       is_unit (node s (lit_at s i)).reason ≡ false
 
--- the state where a level begins with an open literal that is decided
+-- the state after an unassigned literal was decided on a new level
 abbrev pub decided_on : ℕ → State → State
 decided_on l s = enqueued l NoCause (record s { trail = with_level s.trail })
 
--- what keeps levels so: an open literal that is decided, or becomes true by a clause, or at level 0; propagation; levels that are undone
+-- this is preserved when a literal is decided, becomes true by a clause or at level 0, in propagation, and when levels are undone
 pub record LevelsStay : Type 0 where
   pub none : (s : State) → s.trail.starts ≡ [] → IsLevelled s
   pub decides : (s : State) (l : ℕ) → Agrees s → IsOpenLit s.values l → variable l < length s.values → IsLevelled s → IsLevelled (decided_on l s)
@@ -71,7 +71,7 @@ pub record LevelsStay : Type 0 where
   pub undone : (a : Values) (nodes : List ImplNode) (t : Trailed) (level : ℕ) → Agrees (state_of a nodes t) → level < length t.starts →
       IsLevelled (state_of a nodes t) → IsLevelled (state_of (undone_to level t a) nodes (cut_to level t))
 
--- the word of a trail with one literal more ends in its letter, and is above the word that there was where levels were undone before
+-- a new literal appends its letter to the word; if levels were undone before, the new word is higher than the old one
 pub record WordsRise : Type 0 where
   pub decided : (s : State) (l : ℕ) → IsLevelled s → trail_word (with_lit l (with_level s.trail)) ≡ trail_word s.trail ++ D ∷ []
   pub caused : (s : State) (l : ℕ) → IsLevelled s → trail_word (with_lit l s.trail) ≡ trail_word s.trail ++ P ∷ []

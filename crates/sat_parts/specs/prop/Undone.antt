@@ -1,4 +1,4 @@
--- Levels that are undone.
+-- Undoing of levels.
 use Rattle.std.specs.Prelude.{ℕ, Bool, true, false, Option, Some, None, List, [], ◌∷◌, drop, slice_index_or as get_or, slice_set as set}
 use Rattle.sat_base.specs.values.Literals.{variable}
 use Rattle.sat_parts.specs.prop.Values.{Values, value_of}
@@ -10,11 +10,11 @@ abbrev pub was_true : Option Bool → Bool
 was_true None = false
 was_true (Some b) = b
 
--- the literal's variable loses its value, which is kept as the last one
+-- the values after a literal's variable lost its value, which is stored as the last one
 abbrev pub lost : ℕ → Values → Values
 lost l a = record { current = set a.current (variable l) None; last = set a.last (variable l) (was_true (value_of a.current (variable l))) }
 
--- the same for one literal after the other
+-- the same for all these literals, one after the other
 abbrev pub undone : List ℕ → Values → Values
 undone [] a = a
 undone (l ∷ ls) a = undone ls (lost l a)
@@ -23,11 +23,11 @@ undone (l ∷ ls) a = undone ls (lost l a)
 abbrev pub undone_lits : ℕ → Trailed → List ℕ
 undone_lits level t = drop (get_or t.starts level 0) t.lits
 
--- the variables of these literals may be picked
+-- the queue in which the variables of these literals may be picked
 abbrev pub all_available : List ℕ → Queue → Queue
 all_available [] q = q
 all_available (l ∷ ls) q = all_available ls (with_available (variable l) true q)
 
--- the values without those of levels above this one
+-- the values after the levels above this one were undone
 abbrev pub undone_to : ℕ → Trailed → Values → Values
 undone_to level t a = undone (undone_lits level t) a

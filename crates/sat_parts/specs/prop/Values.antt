@@ -1,46 +1,46 @@
--- Which variables are assigned and to what, and so which literals are true, false or open.
+-- The values of variables, and so which literals are true, false or unassigned (open).
 use Rattle.std.specs.Prelude.{ℕ, ◌≡◌, ◌-◌, Bool, false, not, Option, None, Some, is_none, List, ◌++◌, take, replicate, length, if◌then◌else◌, slice_index_or as get_or, slice_set as set}
 use Rattle.sat_base.specs.values.Literals.{variable, is_positive}
 
--- by index of variable: the value that it has, and the one that it lost last
+-- for every variable its value, or none, and the value that it lost last
 pub record Values : Type 0 where
   pub current : List (Option Bool)
   pub last : List Bool
 
--- the value of a variable, None too for one that isn't there
+-- the value of a variable, or none if it is unassigned or does not exist
 abbrev pub value_of : List (Option Bool) → ℕ → Option Bool
 value_of values v = get_or values v None
 
--- whether the variable has no value
+-- whether the variable is unassigned
 abbrev pub is_unset : List (Option Bool) → ℕ → Bool
 is_unset values v = is_none (value_of values v)
 
--- the literal's variable has the value that makes the literal true
+-- the literal is true
 abbrev pub IsTrueLit : List (Option Bool) → ℕ → Type 0
 IsTrueLit values l = value_of values (variable l) ≡ Some (is_positive l)
 
--- the literal's variable has the value that makes the literal false
+-- the literal is false
 abbrev pub IsFalseLit : List (Option Bool) → ℕ → Type 0
 IsFalseLit values l = value_of values (variable l) ≡ Some (not (is_positive l))
 
--- neither true nor false
+-- the literal is unassigned
 abbrev pub IsOpenLit : List (Option Bool) → ℕ → Type 0
 IsOpenLit values l = value_of values (variable l) ≡ None
 
--- a variable's value as that of its literal of this sign
+-- the value of the literal of this sign, if its variable has this value
 abbrev pub seen_from : Bool → Option Bool → Option Bool
 seen_from positive None = None
 seen_from positive (Some b) = Some (if positive then b else not b)
 
--- the values with one of them set
+-- the values with that of a variable set or removed
 abbrev pub assigned : ℕ → Option Bool → Values → Values
 assigned v value a = record a { current = set a.current v value }
 
--- the values where the literal is true
+-- the values after the literal became true
 abbrev pub made_true : ℕ → Values → Values
 made_true l a = assigned (variable l) (Some (is_positive l)) a
 
--- the values of so many variables, of which those that are new have none, and were false last
+-- the values of `count` variables; new ones have none, and were false last
 abbrev pub with_var_count : ℕ → Values → Values
 with_var_count count a = record {
   current = take count a.current ++ replicate (count - length a.current) None;

@@ -1,4 +1,4 @@
--- Inside the walk through the watches of one literal.
+-- The walk through the watches of one literal.
 use Rattle.std.specs.Prelude.{ℕ, ◌≡◌, ◌≢◌, ◌*◌, ◌<◌, ◌≤◌, ◌⊎◌, Bool, Option, List, [], length, slice_index_or as get_or, MatchOption, MatchResult, Result, Some, None}
 use Rattle.std.specs.List.{Contains}
 use Rattle.sat_base.specs.values.Literals.{negated}
@@ -16,16 +16,16 @@ use Rattle.sat_parts.specs.prop.State.{State, level, current_level, HasLeft, Agr
 use Rattle.sat_parts.specs.prop.Reasons.{PropagatesOn}
 use Rattle.sat_parts.specs.prop.Ready.{IsGood, HasWatch, LongReady, IsFalsified, IsConflict}
 
--- among the first kept watches or those from at on
+-- one of the first `kept` watches, or of those from `at` on, is on the clause at o
 abbrev pub HasWatchOutside : List Watch → ℕ → ℕ → ℕ → Type 0
 HasWatchOutside xs kept at o = (p : ℕ) × ((p < length xs) × ((p < kept) ⊎ (at ≤ p)) × ((get_or xs p no_watch).cref ≡ o))
 
--- a watch of those from at on is on the clause at o
+-- one of the watches from `at` on is on the clause at o
 abbrev pub HasWatchFrom : List Watch → ℕ → ℕ → Type 0
 HasWatchFrom xs at o = (p : ℕ) × ((p < length xs) × (at ≤ p) × ((get_or xs p no_watch).cref ≡ o))
 
--- the watches while those of lit, taken out as a list, are gone through: those from at on are to be looked at, and the
--- first kept stay
+-- the watches during the walk through those of lit, which were taken out as a list: those from `at` on are still to visit, and the
+-- first `kept` stay
 pub record AreWalked (words live : List ℕ) (lists : List (List Watch)) (list : List Watch) (lit kept at count : ℕ) : Type 0 where
   pub room : length lists ≡ 2 * count
   pub good : (l p : ℕ) → p < length (watches_of lists l) → IsGood words live (get_or (watches_of lists l) p no_watch)
@@ -36,7 +36,7 @@ pub record AreWalked (words live : List ℕ) (lists : List (List Watch)) (list :
       ((negated (lit_of words o i) ≡ lit) × HasWatchOutside list kept at o)
       ⊎ ((negated (lit_of words o i) ≢ lit) × HasWatch (watches_of lists (negated (lit_of words o i))) o)
 
--- the parts in the middle of the walk: what isn't settled yet is to be looked at
+-- the invariant of the walk: every clause that is not yet propagated has a watch that is still to visit
 pub record Half (words live : List ℕ) (s : State) (lists : List (List Watch)) (list : List Watch) (lit kept at : ℕ) : Type 0 where
   pub clauses : AreClauses words live (length s.values)
   pub agrees : Agrees s
@@ -48,16 +48,16 @@ pub record Half (words live : List ℕ) (s : State) (lists : List (List Watch)) 
       IsSatisfied s (lits_at words o) (level s (negated (lit_of words o i)))
       ⊎ ((negated (lit_of words o i) ≡ lit) × HasWatchFrom list at o)
 
--- fl was one of the first two literals of the clause at o, and the other of them is now the first
+-- fl was one of the first two literals of the clause at o, and the other one is now first
 abbrev pub IsOther : List ℕ → List ℕ → ℕ → ℕ → Type 0
 IsOther w v o fl = ((lit_of w o 1 ≡ fl) × (lit_of v o 0 ≡ lit_of w o 0)) ⊎ ((lit_of w o 0 ≡ fl) × (lit_of v o 0 ≡ lit_of w o 1))
 
--- the same, and fl is now the second
+-- the same, and fl is now second
 pub record Oriented (w v : List ℕ) (o fl : ℕ) : Type 0 where
   pub other : IsOther w v o fl
   pub second : lit_of v o 1 ≡ fl
 
--- what a visit of the clause at o for the false literal fl makes of the words and the lists
+-- the effect on words and lists of visiting the clause at o for the false literal fl
 abbrev pub Visited : (w v : List ℕ) (a : List (Option Bool)) (lists lists' : List (List Watch)) (o fl : ℕ) → Visit → Type 0
 Visited w v a lists lists' o fl Stale = (lit_of w o 0 ≢ fl) × (lit_of w o 1 ≢ fl) × (v ≡ w) × (lists' ≡ lists)
 Visited w v a lists lists' o fl Moved =
@@ -77,27 +77,27 @@ Visited w v a lists lists' o fl (Falsified n) =
     × (lists' ≡ lists)
     × ((k : ℕ) → k < size_of v o → IsFalseLit a (lit_of v o k))
 
--- the same between values and lists
+-- the same for an assignment and watch lists
 abbrev pub VisitedIn : (w v : List ℕ) (a : Values) (lists lists' : Watching) (o fl : ℕ) → Visit → Type 0
 VisitedIn w v a lists lists' o fl r = Visited w v a.current lists.lists lists'.lists o fl r
 
--- what is settled after a walk: all that has left the queue, or what is below the current level where a clause was found false
+-- the due literals after a walk: all of them, or those below the current level if a clause was falsified
 abbrev pub due_after : Option ℕ → State → ℕ → Type 0
 due_after found s l = MatchOption found (Unit {0}) (λ _. level s l < current_level s)
 
--- what a walk makes of words and state, and of the lists once the walked one is back
+-- the effect of a walk on words and state, and on the lists once the walked one is put back
 pub record Walks (live : List ℕ) (words : List ℕ) (s : State) (words' : List ℕ) (s' : State) (lists : List (List Watch)) (found : Option ℕ) : Type 0 where
   pub moves : (implied : List (List ℕ)) → PropagatesOn live implied words s words' s'
   pub head : s'.trail.head ≡ s.trail.head
   pub ready : LongReady words' live lists s' (due_after found s')
   pub conflict : MatchOption found (Unit {0}) (λ o. Contains live o × IsFalsified s'.values (lits_at words' o))
 
--- the same, where the clause that was found is named as a conflict
+-- the same, with the falsified clause as a conflict
 abbrev pub WalksLong : (live : List ℕ) (words : List ℕ) (s : State) (words' : List ℕ) (s' : State) (lists : List (List Watch)) → Result (Unit {0}) Conflict → Type 0
 WalksLong live words s words' s' lists r =
     MatchResult r (λ _. Walks live words s words' s' lists None) (λ e. (o : ℕ) × ((e ≡ Long o) × Walks live words s words' s' lists (Some o)))
 
--- the state while the literals that lit implies are gone through: those before place at are true
+-- the state during the walk through the literals that lit implies: those before position `at` are true
 pub record BinaryWalk (implied : List (List ℕ)) (lit : ℕ) (s s' : State) (at : ℕ) : Type 0 where
   pub agrees : Agrees s'
   pub queue : IsQueueCurrent s'
@@ -108,7 +108,7 @@ pub record BinaryWalk (implied : List (List ℕ)) (lit : ℕ) (s s' : State) (at
   pub done : (k : ℕ) → k < at → k < length (implied_by implied lit) →
       IsTrueLit s'.values (get_or (implied_by implied lit) k 0) × (level s' (get_or (implied_by implied lit) k 0) ≤ level s' lit)
 
--- what propagation over the clauses of two literals makes of a state
+-- the effect of propagation over binary clauses
 abbrev pub WalksBinary : (implied : List (List ℕ)) (lit : ℕ) (s s' : State) → Result (Unit {0}) Conflict → Type 0
 WalksBinary implied lit s s' r =
     MatchResult r (λ _. BinaryWalk implied lit s s' (length (implied_by implied lit))) (λ e. BinaryWalk implied lit s s' 0 × IsConflict [] [] implied s'.values e)

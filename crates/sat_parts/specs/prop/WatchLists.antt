@@ -1,9 +1,9 @@
--- Lists of watches.
+-- The watch lists.
 use Rattle.std.specs.Prelude.{ℕ, ◌≤◌, ◌-◌, Bool, if◌then◌else◌, List, [], ◌∷◌, ◌++◌, take, replicate, length, slice_index_or as get_or, slice_set as set}
 use Rattle.sat_base.specs.values.Literals.{negated}
 use Rattle.sat_parts.specs.declared.prop.watch.Watch.{Watch}
 
--- the lists by code of literal, and whether they are kept up
+-- the lists by literal code, and whether they are enabled
 pub record Watching : Type 0 where
   pub lists : List (List Watch)
   pub enabled : Bool
@@ -12,7 +12,7 @@ pub record Watching : Type 0 where
 abbrev pub watch_on : ℕ → ℕ → Watch
 watch_on o l = record { cref = o; blocking = l }
 
--- what is read behind the end of a list of watches
+-- what is read past the end of a list of watches
 abbrev pub no_watch : Watch
 no_watch = watch_on 0 0
 
@@ -20,11 +20,11 @@ no_watch = watch_on 0 0
 abbrev pub watches_of : List (List Watch) → ℕ → List Watch
 watches_of lists l = get_or lists l []
 
--- the lists with one watch more at literal l
+-- the lists with one more watch for literal l
 abbrev pub more_at : ℕ → Watch → List (List Watch) → List (List Watch)
 more_at l watch lists = set lists l (watches_of lists l ++ watch ∷ [])
 
--- one watch more at literal l, whether the lists are kept up or not
+-- one more watch for literal l, whether the lists are enabled or not
 abbrev pub with_watch : ℕ → Watch → Watching → Watching
 with_watch l watch w = record w { lists = more_at l watch w.lists }
 
@@ -32,23 +32,23 @@ with_watch l watch w = record w { lists = more_at l watch w.lists }
 abbrev pub without_last : ℕ → List (List Watch) → List (List Watch)
 without_last l lists = set lists l (take (length (watches_of lists l) - 1) (watches_of lists l))
 
--- a clause watched by two of its literals, where the lists are kept up: each is the blocking literal of the other's watch
+-- two more watches for two literals of a clause if the lists are enabled; each is the blocking literal of the other's watch
 abbrev pub with_clause_watches : ℕ → ℕ → ℕ → Watching → Watching
 with_clause_watches o a b w = if w.enabled then with_watch (negated b) (watch_on o a) (with_watch (negated a) (watch_on o b) w) else w
 
--- the same for a clause of these literals, of which the first two are watched
+-- the same for the first two literals of a clause
 abbrev pub with_firsts : ℕ → List ℕ → Watching → Watching
 with_firsts o ls w = with_clause_watches o (get_or ls 0 0) (get_or ls 1 0) w
 
--- the lists of so many literals
+-- the lists of `count` literals
 abbrev pub with_lists : ℕ → Watching → Watching
 with_lists count w = record w { lists = take count w.lists ++ replicate (count - length w.lists) [] }
 
--- the lists of so many literals where those of the last ones, which are empty, are left out
+-- the lists of `count` literals, of which the last ones are empty and not yet created
 abbrev pub widened : ℕ → List (List Watch) → List (List Watch)
 widened count lists = lists ++ replicate (count - length lists) []
 
--- the lists of the first literals are at most so many, and there is room for all
+-- there are at most `count` lists, and capacity for `count`
 pub record HasRoom (count capacity : ℕ) (lists : List (List Watch)) : Type 0 where
   pub few : length lists ≤ count
   pub room : count ≤ capacity

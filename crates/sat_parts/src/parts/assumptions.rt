@@ -1,4 +1,4 @@
-//! Literals that an ask assumes, and how far they were looked at.
+//! The assumptions of an ask, and how many of them are on the trail.
 ghost use Rattle.std.specs.Prelude.{◌≡◌, ◌+◌, ◌-◌, ◌<◌, ◌≤◌, OnOk, IfOk, MatchOption, [], length, slice_index_or};
 ghost use Rattle.sat_base.specs.values.Literals.{variable};
 ghost use Rattle.sat_parts.specs.prop.Values.{IsOpenLit};
@@ -14,32 +14,33 @@ use crate::parts::steps::{assume, undo};
 use sat_base::Lit;
 use std::alloc::{AllocError, Global};
 
-/// The literals that an ask assumes. Those that aren't true yet are made true in their order, each on a level of its
-/// own, before anything is decided. One that is true already gets no level.
+/// The literals that an ask assumes.
+///
+/// Before any decision they are made true in order, each on a level of its own. A literal that is already true gets no
+/// level.
 #[derive(Drop)]
 pub struct Assumptions {
-    /// The whole list.
+    /// All assumptions.
     pub lits: Vec<Lit>,
-    /// For each level below the last one that an assumption began, from level 0 on, the first assumption that wasn't
-    /// looked at there.
+    /// For level 0 and every level of an assumption, except the last one: the first assumption not considered there.
     pub below: Vec<usize>,
-    /// The same for the last level that an assumption began.
+    /// The same for the last of these levels.
     pub place: usize,
 }
 
-/// What became of a list of assumptions.
+/// The result of enqueueing an assumption.
 #[derive(Clone, Copy)]
 pub enum EnqueueAssumption {
-    /// Each is true.
+    /// All assumptions are true.
     Done,
-    /// One became true, on a level of its own.
+    /// One assumption became true, on a level of its own.
     Enqueued,
-    /// This one is false.
+    /// This assumption is false.
     Conflict(Lit),
 }
 
 impl Assumptions {
-    /// No assumptions. Takes no memory.
+    /// Returns an empty list of assumptions. Never allocates.
     pub fn new(alloc: Global) -> Assumptions
         ensures none { result.lits.items ≡ [] }
         ensures placed { (s : State) → ArePlaced result s }
@@ -51,14 +52,14 @@ impl Assumptions {
         }
     }
 
-    /// How many levels assumptions began.
+    /// Returns the number of levels that assumptions began.
     pub fn levels(&self) -> usize
         ensures { result ≡ length self.now.below.items }
     {
         self.below.len()
     }
 
-    /// Looks at the list from its start on: for a new list, and where all levels were undone.
+    /// Starts again with the first assumption: for a new list, and after all levels were undone.
     pub fn begin(&mut self)
         ensures lits { self.new.lits ≡ self.old.lits }
         ensures placed { (s : State) → s.trail.starts ≡ [] → ArePlaced self.new s }
@@ -67,7 +68,7 @@ impl Assumptions {
         self.place = 0;
     }
 
-    /// Goes back to what was looked at up to a level, as the levels above it are undone.
+    /// Goes back to the assumptions considered up to a level, when the levels above it are undone.
     pub fn cut(&mut self, level: usize)
         ensures lits { self.new.lits ≡ self.old.lits }
         ensures placed { AreCutTo level self.old self.new }
@@ -80,7 +81,7 @@ impl Assumptions {
     }
 }
 
-/// Goes over assumptions that are true, and answers the first that isn't.
+/// Skips true assumptions, and returns the first that is not true, or `None` if all are.
 fn next_untrue(parts: &Parts, assumptions: &mut Assumptions) -> Option<Lit>
     requires there { HaveVariablesIn assumptions.old.lits.items parts.now }
     requires within { assumptions.old.place ≤ length assumptions.old.lits.items }
@@ -102,7 +103,7 @@ fn next_untrue(parts: &Parts, assumptions: &mut Assumptions) -> Option<Lit>
     None
 }
 
-/// Begins a level with the assumption that is looked at, which is open.
+/// Begins a level with the current assumption, which must be unassigned.
 fn begin_level(parts: &mut Parts, assumptions: &mut Assumptions, lit: Lit) -> Result<(), AllocError>
     requires holds { PartsInvariant parts.old }
     requires done { IsDone parts.old }
@@ -124,7 +125,7 @@ fn begin_level(parts: &mut Parts, assumptions: &mut Assumptions, lit: Lit) -> Re
     assume(parts, lit)
 }
 
-/// Makes the first assumption true that isn't true yet, of those that weren't looked at.
+/// Makes the next assumption true that is not true yet, if there is one and it is not false.
 pub fn enqueue_assumption(
     parts: &mut Parts,
     assumptions: &mut Assumptions,
@@ -154,7 +155,7 @@ pub fn enqueue_assumption(
     }
 }
 
-/// Undoes decisions, and keeps the levels of assumptions.
+/// Undoes all decisions, and keeps the levels of assumptions.
 pub fn restart(parts: &mut Parts, assumptions: &Assumptions)
     requires holds { PartsInvariant parts.old }
     requires placed { ArePlaced assumptions.now (state parts.old) }

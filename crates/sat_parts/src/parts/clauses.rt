@@ -1,4 +1,4 @@
-//! Clauses that are deleted, moved or collected between rounds.
+//! Changes of the clauses between rounds: deletion, reduction, garbage collection, activities.
 ghost use Rattle.std.specs.Prelude.{ℕ, ◌≡◌, ◌^◌, ◌<◌, ◌≢◌, ◌≤◌, ◌/◌, OnOk, length, [], true, false};
 ghost use Rattle.sat_base.specs.values.Literals.{negated};
 ghost use Rattle.sat_store.specs.clause.Buffer.{header_at};
@@ -24,7 +24,7 @@ use sat_base::Var;
 use sat_store::{ClauseHeader, ClauseRef, StoreError, Tier};
 use std::alloc::Global;
 
-/// Deletes a live clause unless it is the reason of its first literal, and answers whether it did.
+/// Deletes a live clause unless it is the reason of its true first literal. Returns whether it was deleted.
 pub fn drop_clause(parts: &mut Parts, cref: ClauseRef) -> bool
     requires holds { PartsInvariant parts.old }
     requires live { HasClause parts.old cref }
@@ -47,7 +47,7 @@ pub fn drop_clause(parts: &mut Parts, cref: ClauseRef) -> bool
     )
 }
 
-/// Deletes a live clause while nothing is on the trail.
+/// Deletes a live clause. The trail must be empty.
 pub fn delete_long(parts: &mut Parts, cref: ClauseRef)
     requires holds { PartsInvariant parts.old }
     requires empty { parts.old.trail.lits ≡ [] }
@@ -64,7 +64,7 @@ pub fn delete_long(parts: &mut Parts, cref: ClauseRef)
     );
 }
 
-/// Moves unused clauses of tier Mid to Local.
+/// Moves the clauses of tier Mid that were not used since the last call to Local.
 pub fn reduce_middle(parts: &mut Parts)
     requires holds { PartsInvariant parts.old }
     ensures holds { PartsInvariant parts.new }
@@ -76,7 +76,7 @@ pub fn reduce_middle(parts: &mut Parts)
     reduce_mids(&mut parts.clauses, &mut parts.db);
 }
 
-/// Collects deleted clauses.
+/// Collects garbage if deleted clauses have more than half of the words of the buffer.
 pub fn collect(alloc: Global, parts: &mut Parts) -> Result<(), StoreError>
     requires holds { PartsInvariant parts.old }
     ensures holds { PartsInvariant parts.new }
@@ -96,7 +96,7 @@ pub fn collect(alloc: Global, parts: &mut Parts) -> Result<(), StoreError>
     )
 }
 
-/// Puts a header in the place of a live clause's own, with the same tier and length.
+/// Replaces the header of a live clause by one with the same tier and length.
 pub fn put_header(parts: &mut Parts, cref: ClauseRef, header: ClauseHeader)
     requires holds { PartsInvariant parts.old }
     requires live { HasClause parts.old cref }
@@ -112,7 +112,7 @@ pub fn put_header(parts: &mut Parts, cref: ClauseRef, header: ClauseHeader)
     parts.clauses.set_header(cref, header);
 }
 
-/// Moves a live clause to a tier. That of a clause that wasn't learned stays so.
+/// Moves a live clause to another tier. A learned clause stays a learned one, an irredundant clause irredundant.
 pub fn set_tier(parts: &mut Parts, cref: ClauseRef, tier: Tier)
     requires holds { PartsInvariant parts.old }
     requires live { HasClause parts.old cref }
@@ -125,7 +125,7 @@ pub fn set_tier(parts: &mut Parts, cref: ClauseRef, tier: Tier)
     set_clause_tier(&mut parts.clauses, &mut parts.db, cref, tier);
 }
 
-/// Exchanges two literals of a live clause that stand behind its first two.
+/// Swaps two literals of a live clause, neither of which is among its first two.
 pub fn swap_behind(parts: &mut Parts, cref: ClauseRef, i: usize, j: usize)
     requires holds { PartsInvariant parts.old }
     requires live { HasClause parts.old cref }
@@ -141,8 +141,9 @@ pub fn swap_behind(parts: &mut Parts, cref: ClauseRef, i: usize, j: usize)
     parts.clauses.swap_lits(cref, i, j);
 }
 
-/// Drops the literals of a live clause from a place on, where the first two aren't false by literals that have left the
-/// queue.
+/// Drops the literals of a live clause from position `len` on, at least 3.
+///
+/// The first two literals must not be false by literals that have left the queue.
 pub fn shorten(parts: &mut Parts, cref: ClauseRef, len: usize)
     requires holds { PartsInvariant parts.old }
     requires live { HasClause parts.old cref }
@@ -162,7 +163,7 @@ pub fn shorten(parts: &mut Parts, cref: ClauseRef, len: usize)
     );
 }
 
-/// Removes the clauses of two literals of which a variable has a value, while nothing is on the trail.
+/// Removes the binary clauses with an assigned variable. The trail must be empty.
 pub fn remove_binary(parts: &mut Parts)
     requires holds { PartsInvariant parts.old }
     requires empty { parts.old.trail.lits ≡ [] }
@@ -200,7 +201,7 @@ pub fn bump_variable(parts: &mut Parts, var: Var)
     parts.vsids.bump(var);
 }
 
-/// Lets later bumps of clauses raise more.
+/// Lets the activities of clauses decay: later bumps add more.
 pub fn decay_clauses(parts: &mut Parts, activity: &mut ClauseActivity)
     requires holds { PartsInvariant parts.old }
     ensures holds { PartsInvariant parts.new }
@@ -215,7 +216,7 @@ pub fn decay_clauses(parts: &mut Parts, activity: &mut ClauseActivity)
     decay_clause_activities(activity, &mut parts.clauses, &parts.db);
 }
 
-/// Lets later bumps of variables raise more.
+/// Lets the activities of variables decay: later bumps add more.
 pub fn decay_variables(parts: &mut Parts)
     requires holds { PartsInvariant parts.old }
     ensures holds { PartsInvariant parts.new }

@@ -1,4 +1,4 @@
-//! Clauses that are loaded at level 0.
+//! Loading of clauses at level 0.
 ghost use Rattle.std.specs.Prelude.{ℕ, ◌≡◌, ◌-◌, ◌*◌, ◌^◌, ◌<◌, ◌≤◌, OnOk, IfOk, None, length, slice_index_or, []};
 ghost use Rattle.std.specs.Prelude.{true, false};
 ghost use Rattle.sat_base.specs.values.Literals.{variable, negated};
@@ -24,20 +24,20 @@ use sat_base::{Lit, Var};
 use sat_store::{ClauseHeader, StoreError};
 use std::alloc::{AllocError, Global};
 
-/// What became of a clause that was loaded.
+/// The result of loading a clause.
 #[derive(Clone, Copy)]
 pub enum Loaded {
-    /// It came to the other clauses.
+    /// The clause was stored.
     Stored,
-    /// It has one literal, which is true from here on.
+    /// The clause has one literal, which is true from now on.
     Unit,
-    /// One of its literals was true already: it didn't come to the others.
+    /// A literal of the clause was already true, so the clause was not stored.
     Satisfied,
-    /// It has no literal, or one that is false: no valuation satisfies it.
+    /// The clause is empty, or its only literal is false: no assignment satisfies the formula.
     Falsified,
 }
 
-/// Loads a long clause.
+/// Stores a long clause.
 pub fn load_long(parts: &mut Parts, lits: &[Lit]) -> Result<(), StoreError>
     requires holds { PartsInvariant parts.old }
     requires long { 3 ≤ length lits.now }
@@ -60,7 +60,7 @@ pub fn load_long(parts: &mut Parts, lits: &[Lit]) -> Result<(), StoreError>
     Ok(())
 }
 
-/// Loads a clause of two literals.
+/// Stores a binary clause.
 pub fn load_binary(parts: &mut Parts, lits: &[Lit]) -> Result<(), AllocError>
     requires holds { PartsInvariant parts.old }
     requires two { length lits.now ≡ 2 }
@@ -75,7 +75,7 @@ pub fn load_binary(parts: &mut Parts, lits: &[Lit]) -> Result<(), AllocError>
     Ok(())
 }
 
-/// Loads a unit clause whose literal is open.
+/// Makes the literal of a unit clause true. It must be unassigned.
 pub fn load_unit(parts: &mut Parts, lit: Lit)
     requires holds { PartsInvariant parts.old }
     requires bottom { parts.old.trail.starts ≡ [] }
@@ -97,7 +97,7 @@ pub fn load_unit(parts: &mut Parts, lit: Lit)
     );
 }
 
-/// Puts the units back that make the literals from a place on false.
+/// Puts the units that falsify the literals from position `kept` on back into the queue.
 fn put_all_back(parts: &mut Parts, lits: &[Lit], kept: usize)
     requires holds { PartsInvariant parts.old }
     requires bottom { parts.old.trail.starts ≡ [] }
@@ -118,7 +118,7 @@ fn put_all_back(parts: &mut Parts, lits: &[Lit], kept: usize)
     }
 }
 
-/// Loads a clause of two or more literals.
+/// Stores a clause of two or more literals.
 fn load_some(parts: &mut Parts, lits: &[Lit]) -> Result<(), StoreError>
     requires holds { PartsInvariant parts.old }
     requires some { 2 ≤ length lits.now }
@@ -136,7 +136,7 @@ fn load_some(parts: &mut Parts, lits: &[Lit]) -> Result<(), StoreError>
     load_long(parts, lits)
 }
 
-/// Loads a clause none of whose literals is true, where false ones are behind the others.
+/// Loads a clause without true literals, in which the false literals come last.
 fn load_sorted(parts: &mut Parts, lits: &[Lit], kept: usize) -> Result<Loaded, StoreError>
     requires holds { PartsInvariant parts.old }
     requires bottom { parts.old.trail.starts ≡ [] }
@@ -158,9 +158,10 @@ fn load_sorted(parts: &mut Parts, lits: &[Lit], kept: usize) -> Result<Loaded, S
     Ok(Loaded::Unit)
 }
 
-/// Loads a clause at level 0. Its false literals in front of the first true one go last, in order, and the units that
-/// make them false are put back into the queue. It is stored in this order unless one of its literals is true, or it
-/// has less than two.
+/// Loads a clause at level 0.
+///
+/// The false literals before the first true one move to the end, in order, and the units that falsify them return to
+/// the queue. The clause is stored in this order, unless a literal is true or it has less than two literals.
 pub fn load(parts: &mut Parts, given: &[Lit], sorting: &mut Sorting) -> Result<Loaded, StoreError>
     requires holds { PartsInvariant parts.old }
     requires bottom { parts.old.trail.starts ≡ [] }

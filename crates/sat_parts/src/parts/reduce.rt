@@ -1,4 +1,4 @@
-//! Which learned clauses a reduction looks at.
+//! The learned clauses that a reduction considers.
 ghost use Rattle.std.specs.Prelude.{ℕ, ◌≡◌, ◌<◌, OnOk, map, length, slice_index_or};
 ghost use Rattle.std.specs.List.{filter};
 ghost use Rattle.std.specs.List.Sorted.{IsPermutation, IsNonDecreasingBy};
@@ -12,7 +12,7 @@ use crate::parts::Parts;
 use sat_store::{ClauseAlloc, ClauseRef, Tier};
 use std::alloc::{AllocError, Global};
 
-/// Whether a clause is a live one of tier Local.
+/// Whether a clause is live and of tier Local.
 fn is_local(clauses: &ClauseAlloc, cref: ClauseRef) -> bool
     requires { IsClause clauses.now cref }
     ensures { result ≡ is_live_of clauses.now Tier.Local cref }
@@ -24,7 +24,7 @@ fn is_local(clauses: &ClauseAlloc, cref: ClauseRef) -> bool
     header.tier().index() == 3
 }
 
-/// Puts the live clauses of tier Local into a list, in the order in which they came.
+/// Fills a list with the live clauses of tier Local, in the order of addition.
 fn find_locals(parts: &Parts, list: &mut Vec<ClauseRef>) -> Result<(), AllocError>
     requires holds { PartsInvariant parts.now }
     ensures { OnOk result (list.new.items ≡ filter (is_live_of parts.now.clauses Tier.Local) parts.now.db.refs) }
@@ -39,7 +39,7 @@ fn find_locals(parts: &Parts, list: &mut Vec<ClauseRef>) -> Result<(), AllocErro
     Ok(())
 }
 
-/// The activity of a clause, and then its place.
+/// Returns the rank of a clause: by activity, then by offset.
 fn rank_of(clauses: &ClauseAlloc, cref: ClauseRef) -> u128
     requires { IsClause clauses.now cref }
     ensures { result ≡ clause_rank clauses.now cref }
@@ -47,7 +47,7 @@ fn rank_of(clauses: &ClauseAlloc, cref: ClauseRef) -> u128
     u128::from(clauses.header(cref).activity()) * 18446744073709551616 + cref.offset() as u128
 }
 
-/// Puts clauses with their ranks into a list.
+/// Fills a list with clauses and their ranks.
 fn rank_all(
     clauses: &ClauseAlloc,
     list: &[ClauseRef],
@@ -63,7 +63,7 @@ fn rank_all(
     Ok(())
 }
 
-/// Puts the clauses of a list with ranks into a list without.
+/// Fills a list with the clauses of a list of ranks.
 fn take_clauses(ranks: &[(u128, ClauseRef)], list: &mut Vec<ClauseRef>) -> Result<(), AllocError>
     ensures { OnOk result (list.new.items ≡ map (λ x. x.1) ranks.now) }
 {
@@ -74,8 +74,7 @@ fn take_clauses(ranks: &[(u128, ClauseRef)], list: &mut Vec<ClauseRef>) -> Resul
     Ok(())
 }
 
-/// Puts the live clauses of tier Local into a list: those of lower activity first, and of equals the one that came
-/// first.
+/// Fills a list with the live clauses of tier Local, lowest activity first. Of equal activities the older comes first.
 pub fn list_locals(
     alloc: Global,
     parts: &Parts,

@@ -1,4 +1,4 @@
-//! The steps of a round.
+//! The steps of a round of the search: propagate, decide, learn, backtrack.
 ghost use Rattle.std.specs.Prelude.{ℕ, List, ◌≡◌, ◌≢◌, ◌+◌, ◌<◌, ◌≤◌, OnOk, IfOk, MatchResult, MatchOption, Some, None};
 ghost use Rattle.std.specs.Prelude.{true, false, [], length};
 ghost use Rattle.sat_base.specs.values.Literals.{variable};
@@ -25,7 +25,7 @@ use sat_base::{Lit, Var};
 use sat_store::{ClauseHeader, StoreError, Vsids};
 use std::alloc::{AllocError, Global};
 
-/// Propagates. After a conflict the parts hold again once the current level is undone.
+/// Propagates all literals of the queue. After a conflict, the invariant holds again once the current level is undone.
 pub fn propagate_all(alloc: Global, parts: &mut Parts) -> Result<Result<(), Conflict>, AllocError>
     requires holds { HoldsBelow (length parts.old.trail.starts + 1) parts.old }
     ensures holds { IfOk result (λ r. MatchResult r (λ _. HoldsBelow (length parts.new.trail.starts + 1) parts.new)
@@ -54,7 +54,7 @@ pub fn propagate_all(alloc: Global, parts: &mut Parts) -> Result<Result<(), Conf
     )
 }
 
-/// The variable of highest activity of those without a value.
+/// Removes and returns the unassigned variable with the highest activity, or `None` if all are assigned.
 pub fn pick(vsids: &mut Vsids, assignment: &Assignment) -> Option<Var>
     requires size { length vsids.old.available ≡ length assignment.now.current }
     ensures size { length vsids.new.available ≡ length vsids.old.available }
@@ -74,7 +74,7 @@ pub fn pick(vsids: &mut Vsids, assignment: &Assignment) -> Option<Var>
     None
 }
 
-/// Decides a variable without a value, which was picked.
+/// Decides an unassigned variable that was picked.
 fn decide_on(parts: &mut Parts, var: Var) -> Result<(), AllocError>
     requires picked { IsPicked parts.old var }
     requires done { IsDone parts.old }
@@ -98,7 +98,7 @@ fn decide_on(parts: &mut Parts, var: Var) -> Result<(), AllocError>
     Ok(())
 }
 
-/// Makes a unit true at level 0.
+/// Makes the literal of a unit clause true at level 0.
 fn learn_unit(parts: &mut Parts, header: ClauseHeader, lits: &[Lit])
     requires holds { PartsInvariant parts.old }
     requires one { length lits.now ≡ 1 }
@@ -118,7 +118,7 @@ fn learn_unit(parts: &mut Parts, header: ClauseHeader, lits: &[Lit])
     );
 }
 
-/// Adds a clause of two literals, and makes it the reason of the first.
+/// Adds a binary clause, and makes its first literal true with the clause as the reason.
 fn learn_binary(parts: &mut Parts, header: ClauseHeader, lits: &[Lit]) -> Result<(), AllocError>
     requires holds { PartsInvariant parts.old }
     requires two { length lits.now ≡ 2 }
@@ -142,7 +142,7 @@ fn learn_binary(parts: &mut Parts, header: ClauseHeader, lits: &[Lit]) -> Result
     Ok(())
 }
 
-/// Adds a long clause, and makes it the reason of its first literal.
+/// Adds a long clause, and makes its first literal true with the clause as the reason.
 fn learn_long(parts: &mut Parts, header: ClauseHeader, lits: &[Lit]) -> Result<(), StoreError>
     requires holds { PartsInvariant parts.old }
     requires live { header.deleted ≡ false }
@@ -171,7 +171,7 @@ fn learn_long(parts: &mut Parts, header: ClauseHeader, lits: &[Lit]) -> Result<(
     Ok(())
 }
 
-/// Adds a pending clause, and makes its first literal true.
+/// Adds a learned clause, and makes its first literal true. All its other literals must be false.
 pub fn learn(parts: &mut Parts, header: ClauseHeader, lits: &[Lit]) -> Result<(), StoreError>
     requires holds { PartsInvariant parts.old }
     requires live { header.deleted ≡ false }
@@ -193,7 +193,7 @@ pub fn learn(parts: &mut Parts, header: ClauseHeader, lits: &[Lit]) -> Result<()
     learn_long(parts, header, lits)
 }
 
-/// Undoes the levels above one that is below the current one.
+/// Undoes the levels above `level`, which must be lower than the current one.
 pub fn undo(parts: &mut Parts, level: usize)
     ghost top: { ℕ }
     requires holds { HoldsBelow top parts.old }
@@ -220,7 +220,7 @@ pub fn undo(parts: &mut Parts, level: usize)
     );
 }
 
-/// Undoes all levels.
+/// Undoes all levels above 0.
 pub fn full_restart(parts: &mut Parts)
     requires holds { PartsInvariant parts.old }
     ensures holds { PartsInvariant parts.new }
@@ -235,7 +235,7 @@ pub fn full_restart(parts: &mut Parts)
     undo(parts, 0);
 }
 
-/// Decides an open variable, if there is one. Answers whether it did.
+/// Decides an unassigned variable, if there is one. Returns whether it did.
 pub fn make_decision(parts: &mut Parts) -> Result<bool, AllocError>
     requires holds { PartsInvariant parts.old }
     requires done { IsDone parts.old }
@@ -257,7 +257,7 @@ pub fn make_decision(parts: &mut Parts) -> Result<bool, AllocError>
     }
 }
 
-/// Makes an open literal true as an assumption, on a level of its own.
+/// Makes an unassigned literal true as an assumption, on a level of its own.
 pub fn assume(parts: &mut Parts, lit: Lit) -> Result<(), AllocError>
     requires holds { PartsInvariant parts.old }
     requires done { IsDone parts.old }

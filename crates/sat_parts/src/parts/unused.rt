@@ -1,4 +1,4 @@
-//! Which variables clauses have.
+//! The variables that occur in clauses.
 ghost use Rattle.std.specs.Prelude.{ℕ, ◌≡◌, ◌<◌, OnOk, true, false, length, slice_index_or};
 ghost use Rattle.sat_base.specs.values.Literals.{variable};
 ghost use Rattle.sat_store.specs.clause.Buffer.{IsClause};
@@ -76,7 +76,7 @@ fn mark_binary(used: &mut Vec<bool>, parts: &Parts)
     }
 }
 
-/// Finds the variables that clauses have, in place of what the list had: the others are in no clause.
+/// Fills a list of flags with whether each variable occurs in a clause.
 pub fn mark_used(used: &mut Vec<bool>, parts: &Parts) -> Result<(), AllocError>
     requires holds { PartsInvariant parts.now }
     ensures size { OnOk result (length used.new.items ≡ length parts.now.assignment.current) }

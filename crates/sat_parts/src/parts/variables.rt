@@ -10,7 +10,7 @@ ghost use Rattle.sat_parts.specs.parts.Frame.{SameClauses, GainsUnit, SameConten
 use crate::parts::Parts;
 use sat_base::{Lit, Var};
 
-/// Lets a variable that was given up be picked again.
+/// Makes a variable available to decisions.
 pub fn use_variable(parts: &mut Parts, var: Var)
     requires holds { PartsInvariant parts.old }
     requires there { var < length parts.old.assignment.current }
@@ -21,7 +21,7 @@ pub fn use_variable(parts: &mut Parts, var: Var)
     parts.vsids.make_available(var);
 }
 
-/// Sets the activity of a variable that was given up to 0.
+/// Sets the activity of an unavailable variable to 0.
 pub fn reset_activity(parts: &mut Parts, var: Var)
     requires holds { PartsInvariant parts.old }
     requires there { var < length parts.old.assignment.current }
@@ -34,8 +34,7 @@ pub fn reset_activity(parts: &mut Parts, var: Var)
     parts.vsids.reset(var);
 }
 
-/// Gives a variable that was given up the value that makes a unit true, as it had when the unit was taken off the
-/// trail.
+/// Assigns a freed variable so that a unit is true, as a unit that was taken off the trail.
 pub fn use_with_unit(parts: &mut Parts, lit: Lit)
     requires holds { PartsInvariant parts.old }
     requires bottom { parts.old.trail.starts ≡ [] }

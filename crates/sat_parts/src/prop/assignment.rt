@@ -1,4 +1,4 @@
-//! Values of variables.
+//! The values of variables.
 ghost use Rattle.std.specs.Prelude.{◌≡◌, ◌<◌, ◌≤◌, ◌↔◌, [], length, IsTrue, OnOk, OnErr, None, slice_index_or};
 ghost use Rattle.sat_base.specs.values.Literals.{var_limit, variable, is_positive};
 ghost use Rattle.sat_parts.specs.prop.Values.{assigned, made_true, with_var_count, value_of, seen_from, IsTrueLit};
@@ -10,13 +10,14 @@ use sat_base::{Lit, Var};
 use std::alloc::{AllocError, Global};
 use std::marker::Model;
 
-/// The value of each variable that has one, and for each variable the value that it lost last, false at first.
-/// Contracts see both lists, by index of variable.
+/// The values of the assigned variables, and for every variable the value that it lost last, false at first.
+///
+/// Contracts see both lists, indexed by variable.
 #[derive(Drop)]
 pub struct Assignment {
     values: Vec<Option<bool>>,
     last_values: Vec<bool>,
-    /// The values again, by code of literal: one load and one branch for what an inner loop asks.
+    /// The same values indexed by literal code: an inner loop needs one load and one branch.
     lit_values: LitValues,
 }
 
@@ -34,7 +35,7 @@ impl Model for Assignment {
         × MirrorsValues a.values.items a.lit_values.codes.items };
 }
 
-/// Whether both are the same value, or both none.
+/// Whether both are the same value, or both `None`.
 #[inline(always)] // called for each literal that an inner loop looks at
 pub fn fast_option_eq(a: Option<bool>, b: Option<bool>) -> bool
     ensures { IsTrue result ↔ (a ≡ b) }
@@ -43,7 +44,7 @@ pub fn fast_option_eq(a: Option<bool>, b: Option<bool>) -> bool
 }
 
 impl Assignment {
-    /// No variables. Takes no memory.
+    /// Returns an assignment of no variables. Never allocates.
     pub fn new(alloc: Global) -> Assignment
         ensures current { result.current ≡ [] }
         ensures last { result.last ≡ [] }
@@ -55,7 +56,7 @@ impl Assignment {
         }
     }
 
-    /// Makes the variables those with an index below the count. New ones have no value.
+    /// Sets the number of variables. New ones have no value.
     pub fn set_var_count(&mut self, count: usize) -> Result<(), AllocError>
         requires { count ≤ var_limit }
         ensures done { OnOk result (self.new ≡ with_var_count count self.old) }
@@ -70,7 +71,7 @@ impl Assignment {
         Ok(())
     }
 
-    /// The values, by index of variable.
+    /// Returns the values, indexed by variable.
     #[inline(always)] // called for each literal that an inner loop looks at
     pub fn assignment(&self) -> &[Option<bool>]
         ensures values { result.now ≡ self.now.current }
@@ -80,6 +81,7 @@ impl Assignment {
         &self.values
     }
 
+    /// Returns the value of a variable, or `None` if it is unassigned.
     pub fn var_value(&self, var: Var) -> Option<bool>
         requires { var < length self.now.current }
         ensures { result ≡ value_of self.now.current var }
@@ -87,7 +89,7 @@ impl Assignment {
         self.values[var.index()]
     }
 
-    /// The value that the variable lost last.
+    /// Returns the value that a variable lost last.
     pub fn last_var_value(&self, var: Var) -> bool
         requires { var < length self.now.current }
         ensures { result ≡ slice_index_or self.now.last var result }
@@ -95,7 +97,7 @@ impl Assignment {
         self.last_values[var.index()]
     }
 
-    /// The literal's value, none where its variable has none.
+    /// Returns the value of a literal, or `None` if it is unassigned.
     pub fn lit_value(&self, lit: Lit) -> Option<bool>
         requires { variable lit < length self.now.current }
         ensures { result ≡ seen_from (is_positive lit) (value_of self.now.current (variable lit)) }
@@ -106,6 +108,7 @@ impl Assignment {
         }
     }
 
+    /// Whether a literal is true.
     #[inline(always)] // called for each literal that an inner loop looks at
     pub fn lit_is_true(&self, lit: Lit) -> bool
         requires { variable lit < length self.now.current }
@@ -114,6 +117,7 @@ impl Assignment {
         self.lit_values.is_true(lit)
     }
 
+    /// Whether a literal is false.
     #[inline(always)] // called for each literal that an inner loop looks at
     pub fn lit_is_false(&self, lit: Lit) -> bool
         requires { variable lit < length self.now.current }
@@ -122,7 +126,7 @@ impl Assignment {
         self.lit_values.is_false(lit)
     }
 
-    /// Whether the literal's variable has no value.
+    /// Whether a literal is unassigned.
     pub fn lit_is_unk(&self, lit: Lit) -> bool
         requires { variable lit < length self.now.current }
         ensures { IsTrue result ↔ IsOpenLit self.now.current lit }
@@ -130,7 +134,7 @@ impl Assignment {
         self.lit_values.is_open(lit)
     }
 
-    /// Makes the literal true.
+    /// Makes a literal true.
     pub fn assign_lit(&mut self, lit: Lit)
         requires { variable lit < length self.old.current }
         ensures { self.new ≡ made_true lit self.old }
@@ -139,7 +143,7 @@ impl Assignment {
         self.lit_values.set_var(lit.var(), Some(lit.is_positive()));
     }
 
-    /// Takes the variable's value away. The value that it lost last stays as it was.
+    /// Removes the value of a variable. The value that it lost last stays as it was.
     pub fn unassign_var(&mut self, var: Var)
         requires { var < length self.old.current }
         ensures { self.new ≡ assigned var None self.old }
@@ -148,7 +152,7 @@ impl Assignment {
         self.lit_values.set_var(var, None);
     }
 
-    /// Takes the value of a literal's variable away, and keeps it as the last one.
+    /// Removes the value of a literal's variable, and stores it as the value that it lost last.
     pub(crate) fn lose(&mut self, lit: Lit)
         requires { variable lit < length self.old.current }
         ensures { self.new ≡ lost lit self.old }
@@ -162,7 +166,7 @@ impl Assignment {
         self.lit_values.set_var(lit.var(), None);
     }
 
-    /// Gives the variable this value, or none.
+    /// Sets or removes the value of a variable.
     pub fn set_var(&mut self, var: Var, value: Option<bool>)
         requires { var < length self.old.current }
         ensures { self.new ≡ assigned var value self.old }

@@ -1,4 +1,4 @@
-//! Propagation over clauses of two literals.
+//! Propagation over binary clauses.
 ghost use Rattle.std.specs.Prelude.{◌≡◌, length, IfOk, IsOk};
 ghost use Rattle.sat_parts.specs.prop.State.{Agrees, IsQueueCurrent, HasLeft, level, current_level};
 ghost use Rattle.sat_parts.specs.prop.Ready.{state_of, AreLists};
@@ -11,8 +11,9 @@ use crate::prop::trail::{Trail, enqueue_assignment};
 use sat_base::Lit;
 use std::alloc::AllocError;
 
-/// Makes the literals true that a literal taken off the queue implies. An `Err` within is a clause of two literals,
-/// both of which are false. Takes no memory.
+/// Makes the literals true that a literal taken off the queue implies by binary clauses. Never allocates.
+///
+/// Returns `Ok(Err(conflict))` if both literals of a binary clause are false.
 pub fn propagate_binary(
     binary: &BinaryClauses,
     assignment: &mut Assignment,

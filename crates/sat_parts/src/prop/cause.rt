@@ -1,4 +1,4 @@
-//! The literals by which a literal became true, or a clause false.
+//! The literals of reasons and conflicts.
 ghost use Rattle.std.specs.Prelude.{ℕ, ◌≡◌, ◌<◌, ◌↔◌, ◌++◌, [], length, slice_index, IsTrue};
 ghost use Rattle.std.specs.Iterator.{at_most};
 ghost use Rattle.std.specs.Map.Iter.{TakesFirst, ShowsInOrder};
@@ -11,7 +11,7 @@ use sat_store::{ClauseAlloc, Lits, LitsIter};
 use std::iter::FusedIterator;
 use std::marker::Model;
 
-/// Literals that a reason or a conflict has itself, or those of a long clause. Contracts see their list.
+/// The literals of a reason or a conflict: its own, or those of a long clause. Contracts see their list.
 #[derive(Drop)]
 pub struct CauseLits<'a> {
     own: &'a [Lit],
@@ -29,6 +29,7 @@ impl<'a> Model for CauseLits<'a> {
 }
 
 impl<'a> CauseLits<'a> {
+    /// Returns the number of literals.
     pub fn len(&self) -> usize
         ensures { result ≡ length self.now }
     {
@@ -39,12 +40,14 @@ impl<'a> CauseLits<'a> {
         }
     }
 
+    /// Whether there are no literals.
     pub fn is_empty(&self) -> bool
         ensures { IsTrue result ↔ self.now ≡ [] }
     {
         self.len() == 0
     }
 
+    /// Returns a literal.
     pub fn get(&self, at: usize) -> Lit
         requires { at < length self.now }
         ensures { result ≡ slice_index self.now at }
@@ -57,7 +60,7 @@ impl<'a> CauseLits<'a> {
         }
     }
 
-    /// The literals in two parts: those that the reason or the conflict has itself, and then those of its long clause.
+    /// Returns the literals in two parts, one of which is empty: its own, and those of its long clause.
     #[inline(always)] // called for each reason that an analysis looks at
     pub fn parts(&self) -> (&'a [Lit], &Lits<'a>)
         ensures { result.0.now ++ result.1.now ≡ self.now }
@@ -65,7 +68,7 @@ impl<'a> CauseLits<'a> {
         (self.own, &self.long)
     }
 
-    /// The literals, in order.
+    /// Returns an iterator over the literals, in order.
     pub fn iter(&self) -> CauseLitsIter<'a>
         ensures rest { result ≡ self.now }
         ensures runs { ShowsInOrder (λ (x : ℕ). x) }
@@ -77,7 +80,7 @@ impl<'a> CauseLits<'a> {
     }
 }
 
-/// Gives the literals of a reason or a conflict, in order. Contracts see those that are still to come.
+/// An iterator over the literals of a reason or a conflict. Contracts see the literals that it has yet to return.
 #[derive(Drop)]
 pub struct CauseLitsIter<'a> {
     own: &'a [Lit],
@@ -99,6 +102,7 @@ impl<'a> Iterator for CauseLitsIter<'a> {
 
     ghost remaining = { λ s. at_most (length s) };
 
+    /// Returns the next literal, or `None` at the end.
     fn next(&mut self) -> Option<Lit> {
         if let Some((first, others)) = self.own.split_first() {
             self.own = others;
@@ -111,8 +115,9 @@ impl<'a> Iterator for CauseLitsIter<'a> {
 impl<'a> FusedIterator for CauseLitsIter<'a> {}
 
 impl Reason {
-    /// The false literals by which the reason's literal became true: none of a unit or a decision. A long clause has
-    /// that literal first, and the others are lent from it.
+    /// Returns the false literals that made the reason's literal true: none for a unit or a decision.
+    ///
+    /// A long clause has that literal first; the others are returned.
     pub fn lits<'a>(&'a self, clauses: &'a ClauseAlloc) -> CauseLits<'a>
         requires clause { (o : ℕ) → self.now ≡ Reason.Long o → IsClause clauses.now o }
         requires some { (o : ℕ) → self.now ≡ Reason.Long o → 0 < length (lits_at clauses.now o) }
@@ -136,7 +141,7 @@ impl Reason {
 }
 
 impl Conflict {
-    /// The literals of the clause, all of which are false.
+    /// Returns the literals of the falsified clause.
     pub fn lits<'a>(&'a self, clauses: &'a ClauseAlloc) -> CauseLits<'a>
         requires { (o : ℕ) → self.now ≡ Conflict.Long o → IsClause clauses.now o }
         ensures { result ≡ falsified clauses.now self.now }

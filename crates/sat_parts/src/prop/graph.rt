@@ -1,4 +1,4 @@
-//! Why variables have their values: for each the reason, the level and the place on the trail.
+//! The implication graph: for every variable the reason, the level and the position on the trail.
 ghost use Rattle.std.specs.Prelude.{◌≡◌, ◌<◌, ◌↔◌, [], length, IsTrue, OnOk, OnErr};
 ghost use Rattle.sat_parts.specs.prop.Graphs.{node_of, with_node, with_nodes, removed_node, is_unit};
 
@@ -7,16 +7,19 @@ use sat_store::ClauseRef;
 use std::alloc::{AllocError, Global};
 use std::marker::Model;
 
-/// Why a literal is true. `Unit` is said of units, decisions and assumptions alike. `Binary` has the false literal of a
-/// clause of two literals, and `Long` a clause that has the literal first and whose others are false.
+/// Why a literal is true.
 #[derive(Clone, Copy, Debug, PartialEq, Eq)]
 pub enum Reason {
+    /// The literal is a unit, a decision or an assumption.
     Unit,
+    /// The other literal of a binary clause is false.
     Binary([Lit; 1]),
+    /// The clause has the literal first, and its other literals are false.
     Long(ClauseRef),
 }
 
 impl Reason {
+    /// Whether there is no clause: the literal is a unit, a decision or an assumption.
     pub fn is_unit(&self) -> bool
         ensures { result ≡ is_unit self.now }
     {
@@ -28,15 +31,19 @@ impl Reason {
     }
 }
 
-/// A clause whose literals are all false.
+/// A falsified clause: all its literals are false.
 #[derive(Clone, Copy, Debug, PartialEq, Eq)]
 pub enum Conflict {
+    /// A binary clause.
     Binary([Lit; 2]),
+    /// A long clause.
     Long(ClauseRef),
 }
 
-/// What is known of an assigned variable: the reason, the level, and the trail's length once its literal stood there.
-/// A unit taken off the trail has the level 0 and the depth 2^32 - 1.
+/// The reason, the level and the depth of an assigned variable.
+///
+/// The depth is the length of the trail just after the literal was added. A unit that was taken off the trail has
+/// level 0 and depth 2^32 - 1.
 #[derive(Clone, Copy)]
 pub struct ImplNode {
     pub reason: Reason,
@@ -44,7 +51,7 @@ pub struct ImplNode {
     pub depth: u32,
 }
 
-/// A node for each variable, by index.
+/// A node for every variable, by index.
 #[derive(Drop)]
 pub struct ImplGraph {
     pub nodes: Vec<ImplNode>,
@@ -60,7 +67,7 @@ impl Model for ImplGraph {
 }
 
 impl ImplGraph {
-    /// No variables. Takes no memory.
+    /// Returns a graph of no variables. Never allocates.
     pub fn new(alloc: Global) -> ImplGraph
         ensures { result ≡ [] }
     {
@@ -69,7 +76,7 @@ impl ImplGraph {
         }
     }
 
-    /// Makes the variables those with an index below the count.
+    /// Sets the number of variables.
     pub fn set_var_count(&mut self, count: usize) -> Result<(), AllocError>
         ensures done { OnOk result (self.new ≡ with_nodes count self.old) }
         ensures same { OnErr result (self.new ≡ self.old) }
@@ -82,6 +89,7 @@ impl ImplGraph {
         self.nodes.resize(count, node)
     }
 
+    /// Returns the reason of a variable's value.
     pub fn reason(&self, var: Var) -> Reason
         requires { var < length self.now }
         ensures { result ≡ (node_of self.now var).reason }
@@ -89,6 +97,7 @@ impl ImplGraph {
         self.nodes[var.index()].reason
     }
 
+    /// Returns the level of a variable.
     pub fn level(&self, var: Var) -> usize
         requires { var < length self.now }
         ensures { result ≡ (node_of self.now var).level }
@@ -96,7 +105,7 @@ impl ImplGraph {
         self.nodes[var.index()].level as usize
     }
 
-    /// The trail's length once the variable's literal stood there.
+    /// Returns the length of the trail just after the variable's literal was added.
     pub fn depth(&self, var: Var) -> usize
         requires { var < length self.now }
         ensures { result ≡ (node_of self.now var).depth }
@@ -104,6 +113,7 @@ impl ImplGraph {
         self.nodes[var.index()].depth as usize
     }
 
+    /// Replaces the reason of a variable's value.
     pub fn update_reason(&mut self, var: Var, reason: Reason)
         requires { var < length self.old }
         ensures { self.new ≡ with_node var (record (node_of self.old var) { reason = reason }) self.old }
@@ -111,7 +121,7 @@ impl ImplGraph {
         self.nodes[var.index()].reason = reason;
     }
 
-    /// Marks the variable as that of a unit taken off the trail, of level 0.
+    /// Marks a variable as that of a unit that was taken off the trail.
     pub fn update_removed_unit(&mut self, var: Var)
         requires { var < length self.old }
         ensures { self.new ≡ with_node var removed_node self.old }
@@ -123,7 +133,7 @@ impl ImplGraph {
         };
     }
 
-    /// Whether the variable is that of a unit taken off the trail.
+    /// Whether a variable is marked as that of a unit that was taken off the trail.
     pub fn is_removed_unit(&self, var: Var) -> bool
         requires { var < length self.now }
         ensures { IsTrue result ↔ ((node_of self.now var).depth ≡ 4294967295) }

@@ -1,4 +1,4 @@
-//! Values by literal.
+//! Values indexed by literal.
 ghost use Rattle.std.specs.Prelude.{◌≡◌, ◌+◌, ◌*◌, ◌<◌, ◌≤◌, ◌↔◌, [], length, IsTrue, OnOk, OnErr, slice_index_or};
 ghost use Rattle.sat_base.specs.values.Literals.{var_limit};
 ghost use Rattle.sat_parts.specs.prop.LitValues.{signed_value, with_value, with_lit_count};
@@ -6,7 +6,7 @@ ghost use Rattle.sat_parts.specs.prop.LitValues.{signed_value, with_value, with_
 use sat_base::{Lit, Var};
 use std::alloc::{AllocError, Global};
 
-/// What a literal is: of no value, or of one.
+/// The value of a literal, or `Open` if it is unassigned.
 #[derive(Clone, Copy)]
 pub(crate) enum LitValue {
     Open,
@@ -14,13 +14,13 @@ pub(crate) enum LitValue {
     False,
 }
 
-/// What each literal is, by code.
+/// The value of every literal, indexed by its code.
 #[derive(Drop)]
 pub(crate) struct LitValues {
     pub(crate) codes: Vec<LitValue>,
 }
 
-/// What the positive or the negative literal of a variable with this value is.
+/// Returns the value of the positive or the negative literal of a variable with this value.
 #[inline(always)]
 fn lit_value(value: Option<bool>, positive: bool) -> LitValue
     ensures { result ≡ signed_value value positive }
@@ -45,7 +45,7 @@ fn lit_value(value: Option<bool>, positive: bool) -> LitValue
 }
 
 impl LitValues {
-    /// Of no variables. Takes no memory.
+    /// Returns the values of no literals. Never allocates.
     pub(crate) fn new(alloc: Global) -> LitValues
         ensures { result.codes.items ≡ [] }
     {
@@ -54,7 +54,7 @@ impl LitValues {
         }
     }
 
-    /// Makes the variables those with an index below the count. Literals of new ones are open.
+    /// Sets the number of variables. Literals of new variables are unassigned.
     pub(crate) fn set_var_count(&mut self, count: usize) -> Result<(), AllocError>
         requires { count ≤ var_limit }
         ensures done { OnOk result (self.new.codes.items ≡ with_lit_count (2 * count) self.old.codes.items) }
@@ -66,6 +66,7 @@ impl LitValues {
         Ok(())
     }
 
+    /// Whether a literal is true.
     #[inline(always)] // called for each literal that an inner loop looks at
     pub(crate) fn is_true(&self, lit: Lit) -> bool
         requires { lit < length self.now.codes.items }
@@ -78,6 +79,7 @@ impl LitValues {
         }
     }
 
+    /// Whether a literal is false.
     #[inline(always)] // called for each literal that an inner loop looks at
     pub(crate) fn is_false(&self, lit: Lit) -> bool
         requires { lit < length self.now.codes.items }
@@ -90,6 +92,7 @@ impl LitValues {
         }
     }
 
+    /// Whether a literal is unassigned.
     #[inline(always)] // called for each literal that an inner loop looks at
     pub(crate) fn is_open(&self, lit: Lit) -> bool
         requires { lit < length self.now.codes.items }
@@ -102,7 +105,7 @@ impl LitValues {
         }
     }
 
-    /// Both literals of the variable are what they are under this value.
+    /// Sets the values of both literals of a variable from the variable's value.
     #[inline(always)] // called for each literal that is assigned
     pub(crate) fn set_var(&mut self, var: Var, value: Option<bool>)
         requires { 2 * var + 1 < length self.old.codes.items }

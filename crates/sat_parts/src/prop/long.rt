@@ -16,18 +16,22 @@ use sat_base::Lit;
 use sat_store::{ClauseAlloc, ClauseRef};
 use std::alloc::{AllocError, Global};
 
-/// What became of a watch whose literal is false: the clause isn't watched by it, has found another literal, or keeps
-/// the watch, with its first literal true, to become true, or false as all others.
+/// The result of visiting a clause whose watched literal became false. It carries the first literal of the clause.
 #[derive(Clone, Copy)]
 enum Visit {
+    /// The clause does not watch the literal any more.
     Stale,
+    /// The clause watches another literal instead.
     Moved,
+    /// The first literal is true.
     Keep(Lit),
+    /// The first literal is unassigned, and all others are false.
     Propagates(Lit),
+    /// All literals are false.
     Falsified(Lit),
 }
 
-/// The place of the first literal from the third on that isn't false, or the clause's length.
+/// Returns the position of the first literal from the third on that is not false, or the length of the clause.
 #[inline(always)] // called for each clause that propagation reads
 fn find_open(clauses: &ClauseAlloc, assignment: &Assignment, cref: ClauseRef) -> usize
     requires clause { IsClause clauses.now cref }
@@ -49,8 +53,9 @@ fn find_open(clauses: &ClauseAlloc, assignment: &Assignment, cref: ClauseRef) ->
     len
 }
 
-/// Brings a literal to the second place if it is one of the first two, and says whether it is. The second place is
-/// tested first, so that a literal that is true by this clause stays its first.
+/// Moves a literal to the second position if it is one of the first two. Returns whether it is.
+///
+/// The second position is tested first, so that a literal that is true by this clause stays first.
 #[inline(always)] // called for each clause that propagation reads
 fn orient(clauses: &mut ClauseAlloc, cref: ClauseRef, lit: Lit) -> bool
     requires clause { IsClause clauses.old cref }
@@ -70,7 +75,7 @@ fn orient(clauses: &mut ClauseAlloc, cref: ClauseRef, lit: Lit) -> bool
     false
 }
 
-/// Looks at a clause after a literal that it may watch has become false.
+/// Visits a clause after a literal that it may watch became false.
 fn visit_clause(
     clauses: &mut ClauseAlloc,
     watchlists: &mut Watchlists,
@@ -114,8 +119,9 @@ fn visit_clause(
     }
 }
 
-/// Goes through the watches of a literal that was taken off the queue, and answers a clause that it finds falsified.
-/// After want of memory the parts aren't used again.
+/// Visits the watches of a literal that was taken off the queue. Returns a clause if it is falsified.
+///
+/// If memory runs out, the parts must not be used again.
 fn propagate_list(
     clauses: &mut ClauseAlloc,
     watchlists: &mut Watchlists,
@@ -168,9 +174,10 @@ fn propagate_list(
     Ok(None)
 }
 
-/// Propagates a literal that was taken off the queue, over the long clauses. The literals before it are settled
-/// already. An `Err` within is a live clause whose literals are all false. After want of memory the parts aren't used
-/// again.
+/// Propagates a literal that was taken off the queue over the long clauses.
+///
+/// All literals before it must be propagated. Returns `Ok(Err(conflict))` if a live clause is falsified. If memory
+/// runs out, the parts must not be used again.
 pub fn propagate_long(
     alloc: Global,
     clauses: &mut ClauseAlloc,

@@ -1,4 +1,4 @@
-//! Propagation of the literals of the queue.
+//! Propagation of all literals of the queue.
 ghost use Rattle.std.specs.Prelude.{ℕ, List, ◌≡◌, IfOk};
 ghost use Rattle.sat_parts.specs.prop.Ready.{state_of, IsReadyToPropagate, Propagated};
 
@@ -13,9 +13,10 @@ use crate::prop::watch::Watchlists;
 use sat_store::ClauseAlloc;
 use std::alloc::{AllocError, Global};
 
-/// Takes literal after literal off the queue and propagates it, over the clauses of two literals before the long ones.
-/// After want of memory the parts aren't used again. The list of clauses isn't read: the contract's caller says by it
-/// which are live.
+/// Propagates all literals of the queue, each over the binary clauses and then over the long ones.
+///
+/// The list of clauses is not read: it states which clauses are live. If memory runs out, the parts must not be used
+/// again.
 pub(crate) fn propagate_queue(
     alloc: Global,
     clauses: &mut ClauseAlloc,

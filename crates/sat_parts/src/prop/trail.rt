@@ -1,4 +1,4 @@
-//! The trail of literals that were made true.
+//! The trail: the literals that are true, in the order of assignment.
 ghost use Rattle.std.specs.Prelude.{◌≡◌, ◌+◌, ◌-◌, ◌^◌, ◌<◌, ◌≤◌, ◌↔◌, ◌⊎◌, [], length, min, max, IsTrue, OnOk, OnErr};
 ghost use Rattle.std.specs.Prelude.{MatchOption, slice_get, IfNone, IfSome};
 ghost use Rattle.sat_base.specs.values.Literals.{var_limit, variable};
@@ -21,14 +21,19 @@ use sat_store::Vsids;
 use std::alloc::{AllocError, Global};
 use std::marker::Model;
 
-/// The literals that were made true and not undone, in order, which of them are still to be propagated, and where each
-/// level begins. Contracts see a `Trailed`.
+/// The true literals in the order of assignment, the queue of those to propagate, and the starts of the levels.
+///
+/// Contracts see a `Trailed`.
 #[derive(Drop)]
 pub struct Trail {
     trail: Vec<Lit>,
+    /// The position of the next literal to propagate.
     queue_head_pos: usize,
+    /// For every level above 0 the position of its first literal.
     decisions: Vec<u32>,
+    /// How many literals were cleared. It saturates.
     units_removed: usize,
+    /// How many literals there is capacity for.
     room: usize,
 }
 
@@ -45,7 +50,7 @@ impl Model for Trail {
 }
 
 impl Trail {
-    /// No literals, and room for none. Takes no memory.
+    /// Returns an empty trail, without capacity. Never allocates.
     pub fn new(alloc: Global) -> Trail
         ensures { result ≡ no_trail }
     {
@@ -58,7 +63,7 @@ impl Trail {
         }
     }
 
-    /// Makes room for a literal of each variable. A lower count than before changes nothing.
+    /// Reserves capacity for a literal of each of `count` variables. A lower count than before changes nothing.
     pub fn set_var_count(&mut self, count: usize) -> Result<(), AllocError>
         requires { count ≤ var_limit }
         ensures done { OnOk result (self.new ≡ record self.old { room = max self.old.room count }) }
@@ -70,7 +75,7 @@ impl Trail {
         Ok(())
     }
 
-    /// The next literal to be propagated.
+    /// Returns the next literal to propagate, or `None` if the queue is empty.
     pub fn queue_head(&self) -> Option<Lit>
         ensures next { MatchOption result (self.now.head ≡ length self.now.lits)
             (λ l. slice_get self.now.lits self.now.head ≡ Some l) }
@@ -79,7 +84,7 @@ impl Trail {
         self.trail.get(self.queue_head_pos).copied()
     }
 
-    /// Takes the next literal to be propagated off the queue. It stays on the trail.
+    /// Removes the next literal from the queue and returns it, or `None` if the queue is empty. It stays on the trail.
     pub fn pop_queue(&mut self) -> Option<Lit>
         ensures none { IfNone result ((self.old.head ≡ length self.old.lits) × (self.new ≡ self.old)) }
         ensures next { IfSome result (λ l. PopsNext self.old l self.new) }
@@ -92,14 +97,14 @@ impl Trail {
         Some(head)
     }
 
-    /// Puts all literals of the trail into the queue.
+    /// Puts all literals of the trail back into the queue.
     pub fn reset_queue(&mut self)
         ensures { self.new ≡ record self.old { head = 0 } }
     {
         self.queue_head_pos = 0;
     }
 
-    /// The literals, in the order in which they were made true.
+    /// Returns the literals, in the order of assignment.
     pub fn trail(&self) -> &[Lit]
         ensures lits { result.now ≡ self.now.lits }
         ensures sound { IsTrail self.now }
@@ -107,7 +112,7 @@ impl Trail {
         &self.trail
     }
 
-    /// Takes all literals off the trail. They stay counted as literals of level 0.
+    /// Removes all literals from the trail. They still count as literals of level 0.
     pub fn clear(&mut self)
         requires { self.old.starts ≡ [] }
         ensures { self.new ≡ with_cleared self.old }
@@ -117,7 +122,7 @@ impl Trail {
         self.queue_head_pos = 0;
     }
 
-    /// Begins a level behind the literals that are there.
+    /// Begins a level after the literals that are there.
     pub fn new_decision_level(&mut self) -> Result<(), AllocError>
         requires { length self.old.starts + 1 < 2 ^ 32 }
         ensures done { OnOk result (self.new ≡ with_level self.old) }
@@ -127,6 +132,7 @@ impl Trail {
         self.push_level()
     }
 
+    /// Begins a level, with the contract from which `new_decision_level` proves its own.
     fn push_level(&mut self) -> Result<(), AllocError>
         requires { length self.old.starts + 1 < 2 ^ 32 }
         ensures done { OnOk result (self.new ≡ with_level self.old) }
@@ -137,7 +143,7 @@ impl Trail {
         Ok(())
     }
 
-    /// The number of levels above 0.
+    /// Returns the current level: the number of levels above 0.
     pub fn current_level(&self) -> usize
         ensures level { result ≡ length self.now.starts }
         ensures sound { IsTrail self.now }
@@ -145,7 +151,7 @@ impl Trail {
         self.decisions.len()
     }
 
-    /// How many literals were cleared or are of level 0, held at 2^64 - 1.
+    /// Returns the number of literals that were cleared or are of level 0. It saturates at 2^64 - 1.
     pub fn top_level_assignment_count(&self) -> usize
         ensures { result ≡ min (first_start self.now + self.now.cleared) (2 ^ 64 - 1) }
     {
@@ -156,7 +162,7 @@ impl Trail {
         end.saturating_add(self.units_removed)
     }
 
-    /// Whether no literal is to be propagated.
+    /// Whether the queue is empty.
     pub fn fully_propagated(&self) -> bool
         ensures { IsTrue result ↔ (self.now.head ≡ length self.now.lits) }
     {
@@ -164,7 +170,7 @@ impl Trail {
     }
 }
 
-/// Makes an open literal true, as the last one of the trail and of its queue. Takes no memory.
+/// Makes an unassigned literal true, and appends it to the trail and its queue. Never allocates.
 #[inline(always)] // called for each literal that propagation finds
 pub fn enqueue_assignment(
     assignment: &mut Assignment,
@@ -188,7 +194,7 @@ pub fn enqueue_assignment(
     push_assignment(assignment, graph, trail, lit, reason);
 }
 
-/// The same, where there is room.
+/// Makes an unassigned literal true, with the contract from which `enqueue_assignment` proves its own.
 #[inline(always)] // called for each literal that propagation finds
 fn push_assignment(
     assignment: &mut Assignment,
@@ -214,7 +220,7 @@ fn push_assignment(
     };
 }
 
-/// Takes the values of the literals' variables away, one after the other. These variables may be picked again.
+/// Removes the values of the literals' variables, and makes these variables available again.
 fn undo(assignment: &mut Assignment, vsids: &mut Vsids, lits: &[Lit])
     requires values { VariablesBelow lits.now (length assignment.old.current) }
     requires queue { VariablesBelow lits.now (length vsids.old.available) }
@@ -227,9 +233,9 @@ fn undo(assignment: &mut Assignment, vsids: &mut Vsids, lits: &[Lit])
     }
 }
 
-/// Undoes the levels above this one: their literals leave the trail, their variables lose their values and may be
-/// picked again, and nothing is to be propagated. A level that isn't below the current one changes nothing. Takes no
-/// memory.
+/// Undoes the levels above `level`. Does nothing if `level` is not lower than the current one. Never allocates.
+///
+/// Their literals leave the trail, their variables become unassigned and available, and the queue is empty.
 pub fn backtrack(assignment: &mut Assignment, trail: &mut Trail, vsids: &mut Vsids, level: usize)
     requires values { VariablesBelow trail.old.lits (length assignment.old.current) }
     requires queue { VariablesBelow trail.old.lits (length vsids.old.available) }
@@ -251,7 +257,7 @@ pub fn backtrack(assignment: &mut Assignment, trail: &mut Trail, vsids: &mut Vsi
     undo_levels(assignment, trail, vsids, level);
 }
 
-/// Undoes the levels above one that is below the current one.
+/// Undoes the levels above `level`, which must be lower than the current one.
 fn undo_levels(assignment: &mut Assignment, trail: &mut Trail, vsids: &mut Vsids, level: usize)
     requires below { level < length trail.old.starts }
     requires values { VariablesBelow trail.old.lits (length assignment.old.current) }

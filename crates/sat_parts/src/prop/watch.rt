@@ -1,4 +1,4 @@
-//! Lists of the long clauses that are to be looked at when a literal becomes true.
+//! The watch lists: for every literal the long clauses to visit when it becomes true.
 ghost use Rattle.std.specs.Prelude.{ℕ, IsTrue, ◌≡◌, ◌-◌, ◌*◌, ◌<◌, ◌≤◌, ◌∷◌, ◌++◌, [], length, OnOk, OnErr, take, drop};
 ghost use Rattle.std.specs.Prelude.{true, false, slice_index_or, slice_set, if◌then◌else◌, is_ok, vec_capacity};
 ghost use Rattle.sat_base.specs.values.Literals.{var_limit, negated};
@@ -16,14 +16,14 @@ use std::alloc::{AllocError, Global};
 use std::marker::Model;
 use std::mem;
 
-/// A long clause to be looked at, and one of its literals: where that is true, the clause needn't be read.
+/// A long clause to visit, and its blocking literal: if that is true, the clause is not read.
 #[derive(Clone, Copy)]
 pub struct Watch {
     pub cref: ClauseRef,
     pub blocking: Lit,
 }
 
-/// The watches of one literal, which contracts see as their list.
+/// The watches of one literal. Contracts see their list.
 #[derive(Drop)]
 pub struct WatchList {
     watches: Vec<Watch>,
@@ -39,7 +39,7 @@ impl Model for WatchList {
 }
 
 impl WatchList {
-    /// No watches. Takes no memory.
+    /// Returns an empty list. Never allocates.
     pub fn new(alloc: Global) -> WatchList
         ensures { result ≡ [] }
     {
@@ -48,13 +48,14 @@ impl WatchList {
         }
     }
 
+    /// Returns the number of watches.
     pub fn len(&self) -> usize
         ensures { result ≡ length self.now }
     {
         self.watches.len()
     }
 
-    /// The clause of a watch.
+    /// Returns the clause of a watch.
     #[inline(always)] // called for each watch that propagation goes through
     pub fn cref(&self, at: usize) -> ClauseRef
         requires { at < length self.now }
@@ -64,7 +65,7 @@ impl WatchList {
         watch.cref
     }
 
-    /// The blocking literal of a watch.
+    /// Returns the blocking literal of a watch.
     #[inline(always)] // called for each watch that propagation goes through
     pub fn blocking(&self, at: usize) -> Lit
         requires { at < length self.now }
@@ -74,7 +75,7 @@ impl WatchList {
         watch.blocking
     }
 
-    /// Writes a watch over another.
+    /// Replaces a watch.
     #[inline(always)] // called for each watch that propagation goes through
     pub fn set(&mut self, at: usize, cref: ClauseRef, blocking: Lit)
         requires { at < length self.old }
@@ -83,6 +84,7 @@ impl WatchList {
         self.watches[at] = Watch { cref, blocking };
     }
 
+    /// Appends a watch.
     pub fn push(&mut self, watch: Watch) -> Result<(), AllocError>
         ensures { self.new ≡ (if is_ok result then self.old ++ watch ∷ [] else self.old) }
     {
@@ -90,14 +92,14 @@ impl WatchList {
         Ok(())
     }
 
-    /// Takes the last watch out.
+    /// Removes the last watch.
     fn pop(&mut self)
         ensures { self.new ≡ take (length self.old - 1) self.old }
     {
         let _ = self.watches.pop();
     }
 
-    /// Takes the watches from place `kept` up to `at` out.
+    /// Removes the watches from position `kept` up to `at`, exclusive.
     pub fn cut(&mut self, kept: usize, at: usize)
         requires order { kept ≤ at }
         requires within { at ≤ length self.old }
@@ -113,6 +115,7 @@ impl WatchList {
         self.watches.truncate(to);
     }
 
+    /// Removes all watches.
     pub fn clear(&mut self)
         ensures { self.new ≡ [] }
     {
@@ -120,13 +123,13 @@ impl WatchList {
     }
 }
 
-/// For each literal the watches that are gone through once it is true. Contracts see a `Watching`: the lists by code of
-/// the literal, and whether they are kept up.
+/// For every literal the watches to visit when it becomes true.
+///
+/// Contracts see a `Watching`: the lists, by literal code, and whether they are enabled.
 #[derive(Drop)]
 pub struct Watchlists {
     alloc: Global,
-    /// The lists of the first literals, with capacity for those of all. The others are empty, and are made when one of
-    /// them is first watched.
+    /// The lists of the first literals, with capacity for all. The others are empty and created when first watched.
     watches: Vec<WatchList>,
     /// The number of literals.
     count: usize,
@@ -148,7 +151,7 @@ impl Watchlists {
     ghost use Rattle.std.specs.Borrow.{sem};
     ghost use Rattle.sat_parts.specs.prop.Lending.{LendsList};
 
-    /// No literals, and lists that are kept up. Takes no memory.
+    /// Returns enabled lists for no literals. Never allocates.
     pub fn new(alloc: Global) -> Watchlists
         ensures lists { result.lists ≡ [] }
         ensures enabled { result.enabled ≡ true }
@@ -161,7 +164,7 @@ impl Watchlists {
         }
     }
 
-    /// Makes the literals those of so many variables. New ones have no watches.
+    /// Sets the number of variables. New literals have no watches.
     pub fn set_var_count(&mut self, alloc: Global, count: usize) -> Result<(), AllocError>
         requires { count ≤ var_limit }
         ensures done { OnOk result (self.new ≡ with_lists (2 * count) self.old) }
@@ -176,21 +179,21 @@ impl Watchlists {
         Ok(())
     }
 
-    /// Whether the lists are kept up.
+    /// Whether the lists are enabled.
     pub fn enabled(&self) -> bool
         ensures { result ≡ self.now.enabled }
     {
         self.enabled
     }
 
-    /// From here on the lists aren't kept up, until they are built anew.
+    /// Disables the lists: they are not updated until `enable_watchlists` rebuilds them.
     pub fn disable(&mut self)
         ensures { self.new ≡ record self.old { enabled = false } }
     {
         self.enabled = false;
     }
 
-    /// The watches of a literal, to be changed.
+    /// Lends the watches of a literal to be changed.
     pub fn watched_by_mut(&mut self, lit: Lit) -> &mut WatchList
         requires { lit < length self.old.lists }
         ensures value { result.now ≡ watches_of self.old.lists lit }
@@ -201,7 +204,7 @@ impl Watchlists {
         &mut self.watches[code]
     }
 
-    /// Puts a watch behind those of a literal.
+    /// Appends a watch to those of a literal.
     #[inline(always)] // called for each clause that gets a new watch in propagation
     pub fn add_watch(&mut self, lit: Lit, watch: Watch) -> Result<(), AllocError>
         requires { lit < length self.old.lists }
@@ -215,7 +218,7 @@ impl Watchlists {
         Ok(())
     }
 
-    /// Takes out the watches of a literal, which has none until they are put back.
+    /// Removes the watches of a literal, and returns them.
     pub(crate) fn take_list(&mut self, alloc: Global, lit: Lit) -> WatchList
         requires { lit < length self.old.lists }
         ensures list { result ≡ slice_index_or self.old.lists lit [] }
@@ -229,7 +232,7 @@ impl Watchlists {
         mem::replace(list, WatchList::new(alloc))
     }
 
-    /// Makes these the watches of a literal.
+    /// Replaces the watches of a literal.
     pub(crate) fn put_list(&mut self, lit: Lit, list: WatchList)
         requires { lit < length self.old.lists }
         ensures { self.new ≡ record self.old { lists = slice_set self.old.lists lit list } }
@@ -242,7 +245,7 @@ impl Watchlists {
         self.watches[code] = list;
     }
 
-    /// Takes the last watch of a literal out.
+    /// Removes the last watch of a literal.
     fn pop_watch(&mut self, lit: Lit)
         requires { lit < length self.old.lists }
         ensures { self.new ≡ record self.old { lists = without_last lit self.old.lists } }
@@ -255,7 +258,7 @@ impl Watchlists {
         list.pop();
     }
 
-    /// Watches a clause by these two literals of it. Does nothing while the lists aren't kept up.
+    /// Watches two literals of a clause. Does nothing while the lists are disabled.
     pub fn watch_clause(&mut self, cref: ClauseRef, lits: [Lit; 2]) -> Result<(), AllocError>
         requires first { negated (slice_index_or lits 0 0) < length self.old.lists }
         requires second { negated (slice_index_or lits 1 0) < length self.old.lists }
@@ -286,7 +289,7 @@ impl Watchlists {
     }
 }
 
-/// Makes the lists of all literals, for which capacity is reserved.
+/// Creates the lists of all literals. Capacity for them must be reserved.
 #[inline(never)] // called at the first watch, and at the first after new variables
 fn widen(alloc: Global, watches: &mut Vec<WatchList>, count: usize)
     requires { HasRoom count (vec_capacity watches.old) watches.old.items }
@@ -298,7 +301,7 @@ fn widen(alloc: Global, watches: &mut Vec<WatchList>, count: usize)
     }
 }
 
-/// Makes the lists of all literals if the one with this code is not made yet.
+/// Creates the lists of all literals if the one with this code does not exist yet.
 #[inline(always)] // called for each clause that gets a new watch in propagation
 fn make_list(alloc: Global, watches: &mut Vec<WatchList>, count: usize, code: usize)
     requires room { HasRoom count (vec_capacity watches.old) watches.old.items }
@@ -312,7 +315,7 @@ fn make_list(alloc: Global, watches: &mut Vec<WatchList>, count: usize, code: us
     }
 }
 
-/// Empties these lists.
+/// Empties all lists of a vector.
 fn clear_all(watches: &mut Vec<WatchList>)
     ensures size { length watches.new.items ≡ length watches.old.items }
     ensures empty { (l : ℕ) → watches_of watches.new.items l ≡ [] }
@@ -326,7 +329,7 @@ fn clear_all(watches: &mut Vec<WatchList>)
 }
 
 impl Watchlists {
-    /// Empties all lists. They are kept up from here on.
+    /// Empties all lists, and enables them.
     fn clear_lists(&mut self)
         ensures size { length self.new.lists ≡ length self.old.lists }
         ensures empty { (l : ℕ) → watches_of self.new.lists l ≡ [] }
@@ -337,8 +340,9 @@ impl Watchlists {
     }
 }
 
-/// Builds all watch lists anew where they weren't kept up: each live clause is watched by its first two literals. After
-/// want of memory the parts aren't used again.
+/// Rebuilds the watch lists if they are disabled: every live clause watches its first two literals.
+///
+/// If memory runs out, the parts must not be used again.
 pub fn enable_watchlists(
     watchlists: &mut Watchlists,
     clauses: &ClauseAlloc,
