@@ -1,5 +1,4 @@
-use Rattle.std.proofs.lemmas.Grind.{common_steps}
-use Rattle.std.proofs.Common.{◌≡◌, ◌≢◌, ◌<◌, ◌∙◌, length, set, refl, sym, arith, subst}
+use Rattle.std.proofs.Common.{◌≡◌, ◌≢◌, ◌<◌, ◌≤◌, ◌∙◌, inl, inr, length, set, refl, sym, arith, subst}
 use Rattle.std.proofs.lemmas.Bool.{cases_lt, false≢true}
 use Rattle.std.proofs.lemmas.List.{get_or_read, length-set}
 use Rattle.sat_store.specs.declared.vsids.heap.Entry.{Entry}
@@ -56,4 +55,14 @@ loop-above-preserved c =
     }
 
 pub returns-clause-ordered : goal.returns-clause-ordered
-returns-clause-ordered c = grind (arith, common_steps, cases_lt, false≢true, up_done, rank_there, rank_elsewhere)
+returns-clause-ordered c =
+    let before = c.loop-above.invariant in
+    let h = c.loop-above.heap.items in
+    let hole = c.loop-above.hole in
+    let e = c.index-entry.result.now in
+    let within : hole < length h = omega (arith, before.within, before.count, c.requires.within) in
+    let fits : 0 < hole → rank_at (set h hole e) hole ≤ rank_at (set h hole e) (parent hole) = λ some. elim (cases_lt (rank_at h (parent hole)) (rank e)) [
+      | inl above ↦ absurd (false≢true (c.loop-above-test.ensures.1 (some, rw c.deref.ensures.value above)))
+      | inr below ↦ omega (arith, rank_there h hole e within, rank_elsewhere h hole (parent hole) e (omega arith))
+    ] in
+    rw c.put-2.ensures.heap (up_done (rank_at (set h hole e)) c.args.available hole fits before.up)
