@@ -2,7 +2,7 @@
 ghost use Rattle.std.specs.Prelude.{◌≡◌, true, IfOk, OnOk};
 ghost use Rattle.sat_parts.specs.clause.Db.{HoldsDb};
 ghost use Rattle.sat_parts.specs.prop.Ready.{state_of};
-ghost use Rattle.sat_parts.specs.prop.Asks.{AsksAll, PropagationResult};
+ghost use Rattle.sat_parts.specs.prop.Asks.{PropagationPrecondition, PropagationResult};
 
 pub mod assignment;
 pub mod binary;
@@ -38,7 +38,7 @@ pub fn propagate(
     trail: &mut Trail,
     binary: &BinaryClauses,
 ) -> Result<Result<(), Conflict>, AllocError>
-    requires { AsksAll clauses.old db.now.refs watchlists.old binary.now.implied
+    requires { PropagationPrecondition clauses.old db.now.refs watchlists.old binary.now.implied
         (state_of assignment.old graph.old trail.old) }
     ensures given { IfOk result (λ r. PropagationResult db.now.refs binary.now.implied
         clauses.old (state_of assignment.old graph.old trail.old)

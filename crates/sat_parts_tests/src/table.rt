@@ -2,7 +2,7 @@
 ghost use Rattle.std.specs.Prelude.{ℕ, ◌≡◌, ◌<◌, IfOk, IsTrue, OnOk, [], length, slice_index, slice_index_or, false};
 ghost use Rattle.sat_base.specs.values.Literals.{variable};
 ghost use Rattle.sat_parts.specs.prop.Graphs.{node_of};
-ghost use Rattle.sat_parts.specs.parts.Whole.{PartsInvariant, IsDone};
+ghost use Rattle.sat_parts.specs.parts.Whole.{PartsInvariant, IsFullyPropagated};
 
 use crate::loading::loaded;
 use sat_base::{Lit, Var};
@@ -32,7 +32,7 @@ fn begun(alloc: Global, parts: &mut Parts) -> Result<bool, StoreError>
     requires holds { PartsInvariant parts.old }
     requires none { parts.old.assignment.current ≡ [] }
     ensures holds { IfOk result (λ ok. IsTrue ok → PartsInvariant parts.new) }
-    ensures done { IfOk result (λ ok. IsTrue ok → IsDone parts.new) }
+    ensures done { IfOk result (λ ok. IsTrue ok → IsFullyPropagated parts.new) }
 {
     let clauses: [&[i64]; 3] = [&[-3, 4], &[-3, -4, 5], &[1]];
     if !loaded(alloc, parts, COUNT, &clauses)? {
@@ -51,9 +51,9 @@ fn begun(alloc: Global, parts: &mut Parts) -> Result<bool, StoreError>
 /// Decides an open literal and propagates. Answers whether that could be done, and without a conflict.
 fn advance(alloc: Global, parts: &mut Parts, lit: Lit) -> Result<bool, AllocError>
     requires holds { PartsInvariant parts.old }
-    requires done { IsDone parts.old }
+    requires done { IsFullyPropagated parts.old }
     ensures holds { IfOk result (λ ok. IsTrue ok → PartsInvariant parts.new) }
-    ensures done { IfOk result (λ ok. IsTrue ok → IsDone parts.new) }
+    ensures done { IfOk result (λ ok. IsTrue ok → IsFullyPropagated parts.new) }
 {
     if lit.index() >= parts.assignment.assignment().len() || !parts.assignment.lit_is_unk(lit) {
         return Ok(false);
@@ -119,7 +119,7 @@ fn glue_of(flags: &mut TmpFlags, graph: &ImplGraph, lits: &[Lit]) -> Result<usiz
 /// Whether the decisions can be made, and the nodes are right.
 fn decisions(alloc: Global, parts: &mut Parts) -> Result<bool, AllocError>
     requires holds { PartsInvariant parts.old }
-    requires done { IsDone parts.old }
+    requires done { IsFullyPropagated parts.old }
     ensures holds { IfOk result (λ ok. IsTrue ok → PartsInvariant parts.new) }
 {
     if !advance(alloc, parts, Lit::from_code(2))? {

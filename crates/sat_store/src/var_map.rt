@@ -249,16 +249,16 @@ pub struct VarBiMapMut<'a> {
 }
 
 impl<'a> VarBiMapMut<'a> {
-    ghost use Rattle.sat_store.specs.variables.Facing.{facing};
+    ghost use Rattle.sat_store.specs.variables.Facing.{maps_of_view};
 
     /// Maps `from` to `into`. Neither may be mapped on its side.
     pub fn insert(&mut self, into: Var, from: Var) -> Result<(), AllocError>
-        requires from_unmapped { target (facing self.old).fwd from ≡ None }
-        requires into_unmapped { target (facing self.old).bwd into ≡ None }
+        requires from_unmapped { target (maps_of_view self.old).fwd from ≡ None }
+        requires into_unmapped { target (maps_of_view self.old).bwd into ≡ None }
         ensures same { self.new.map.ghost_name ≡ self.old.map.ghost_name }
         ensures side { self.new.is_turned ≡ self.old.is_turned }
-        ensures linked { OnOk result (Links (facing self.old) (facing self.new) from into) }
-        ensures grows { OnOk result (GrowsBoth (facing self.old) (facing self.new) from into) }
+        ensures linked { OnOk result (Links (maps_of_view self.old) (maps_of_view self.new) from into) }
+        ensures grows { OnOk result (GrowsBoth (maps_of_view self.old) (maps_of_view self.new) from into) }
         ensures kept { OnErr result (self.new.map.now ≡ self.old.map.now) }
     {
         self.link(into, from)
@@ -266,11 +266,11 @@ impl<'a> VarBiMapMut<'a> {
 
     /// Maps `from` to `into`, with the contract from which `insert` proves its own.
     fn link(&mut self, into: Var, from: Var) -> Result<(), AllocError>
-        requires from_unmapped { target (facing self.old).fwd from ≡ None }
-        requires into_unmapped { target (facing self.old).bwd into ≡ None }
+        requires from_unmapped { target (maps_of_view self.old).fwd from ≡ None }
+        requires into_unmapped { target (maps_of_view self.old).bwd into ≡ None }
         ensures same { self.new.map.ghost_name ≡ self.old.map.ghost_name }
         ensures side { self.new.is_turned ≡ self.old.is_turned }
-        ensures linked { OnOk result (Links (facing self.old) (facing self.new) from into) }
+        ensures linked { OnOk result (Links (maps_of_view self.old) (maps_of_view self.new) from into) }
         ensures kept { OnErr result (self.new.map.now ≡ self.old.map.now) }
     {
         if self.is_turned {
@@ -283,9 +283,9 @@ impl<'a> VarBiMapMut<'a> {
     pub fn remove(&mut self, from: Var) -> Option<Var>
         ensures same { self.new.map.ghost_name ≡ self.old.map.ghost_name }
         ensures side { self.new.is_turned ≡ self.old.is_turned }
-        ensures answer { result ≡ target (facing self.old).fwd from }
+        ensures answer { result ≡ target (maps_of_view self.old).fwd from }
         ensures absent { IfNone result (self.new.map.now ≡ self.old.map.now) }
-        ensures unlinked { IfSome result (Unlinks (facing self.old) (facing self.new) from) }
+        ensures unlinked { IfSome result (Unlinks (maps_of_view self.old) (maps_of_view self.new) from) }
     {
         if self.is_turned {
             let into = self.map.bwd().get(from)?;

@@ -53,7 +53,7 @@ abbrev pub AreDecided : List ℕ → State → Type 0
 AreDecided ls s = (i : ℕ) → i < length s.trail.lits → 0 < level s (lit_at s i) → is_unit (node s (lit_at s i)).reason ≡ true → Contains ls (lit_at s i)
 
 -- the effect of enqueueing an assumption, by its result
-abbrev pub AssumedSays : EnqueueAssumption → Assumptions → Parts → Parts → Type 0
-AssumedSays Done a p p' = (p' ≡ p) × (a.place ≡ length a.lits.items) × ((k : ℕ) → k < length a.lits.items → IsTrueLit p.assignment.current (get_or a.lits.items k 0))
-AssumedSays Enqueued a p p' = Deepens p p'
-AssumedSays (Conflict l) a p p' = (p' ≡ p) × Contains a.lits.items l × IsFalseLit p.assignment.current l × (length a.below.items ≡ length p.trail.starts) × AreDecided a.lits.items (state p)
+abbrev pub EnqueueAssumptionEffect : EnqueueAssumption → Assumptions → Parts → Parts → Type 0
+EnqueueAssumptionEffect Done a p p' = (p' ≡ p) × (a.place ≡ length a.lits.items) × ((k : ℕ) → k < length a.lits.items → IsTrueLit p.assignment.current (get_or a.lits.items k 0))
+EnqueueAssumptionEffect Enqueued a p p' = Deepens p p'
+EnqueueAssumptionEffect (Conflict l) a p p' = (p' ≡ p) × Contains a.lits.items l × IsFalseLit p.assignment.current l × (length a.below.items ≡ length p.trail.starts) × AreDecided a.lits.items (state p)

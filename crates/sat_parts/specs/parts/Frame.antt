@@ -11,7 +11,7 @@
 --   use_with_unit: SameClauses, GainsUnit (and Freed for variables that the solver frees)
 --   load_unit: SameClauses, GainsUnit
 --   load_binary, load_long: AddsOriginalClause
---   load: LoadSays (Loading), which selects one of these by the result
+--   load: LoadEffect (Loading), which selects one of these by the result
 --   drop_clause: Dropped if it deletes, otherwise nothing changes
 --   put_header, set_tier, reduce_middle, bump_clause, decay_clauses: Headed, besides the word of the trail
 --   bump_variable, decay_variables: SameContents

@@ -4,13 +4,13 @@ use Rattle.sat_base.specs.values.Literals.{variable, negated, is_positive}
 use Rattle.sat_store.specs.heap.Vsids.{Queue, may_pick}
 use Rattle.sat_parts.specs.clause.Orders.{AreDistinct}
 use Rattle.sat_parts.specs.prop.Values.{value_of, seen_from, IsTrueLit, IsFalseLit, IsOpenLit}
-use Rattle.sat_parts.specs.prop.State.{State, HasLeft}
+use Rattle.sat_parts.specs.prop.State.{State, HasLeftQueue}
 
 -- different literals of known variables; the first two are unassigned, true, or false by literals that are still in the queue
 pub record IsLoadable (s : State) (q : Queue) (ls : List ℕ) : Type 0 where
   pub distinct : AreDistinct ls
   pub below : (k : ℕ) → k < length ls → get_or ls k 0 < 2 * length s.values
-  pub fresh : (i : ℕ) → i < 2 → HasLeft s (negated (get_or ls i 0)) → ⊥
+  pub fresh : (i : ℕ) → i < 2 → HasLeftQueue s (negated (get_or ls i 0)) → ⊥
   pub ready : (k : ℕ) → k < length ls → value_of s.values (variable (get_or ls k 0)) ≡ None → may_pick q (variable (get_or ls k 0)) ≡ true
 
 -- the value of a literal, or none if it is unassigned
@@ -72,5 +72,5 @@ pub record IsSorted (s : State) (q : Queue) (ls : List ℕ) (kept : ℕ) : Type 
   pub within : kept ≤ length ls
   pub free : (k : ℕ) → k < kept → IsOpenLit s.values (get_or ls k 0)
   pub gone : (k : ℕ) → kept ≤ k → k < length ls → IsFalseLit s.values (get_or ls k 0)
-  pub fresh : (k : ℕ) → kept ≤ k → k < length ls → HasLeft s (negated (get_or ls k 0)) → ⊥
+  pub fresh : (k : ℕ) → kept ≤ k → k < length ls → HasLeftQueue s (negated (get_or ls k 0)) → ⊥
   pub ready : (k : ℕ) → k < kept → may_pick q (variable (get_or ls k 0)) ≡ true

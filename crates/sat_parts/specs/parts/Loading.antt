@@ -8,8 +8,8 @@ use Rattle.sat_parts.specs.parts.Whole.{state}
 use Rattle.sat_parts.specs.parts.Frame.{AddsNoUnit, SameClauses, GainsUnit, AddsOriginalClause}
 
 -- the effect of loading a clause with these literals, by the result
-abbrev pub LoadSays : Loaded → Parts → Parts → List ℕ → Type 0
-LoadSays Stored p p' ls = AddsOriginalClause p p' ls
-LoadSays One p p' ls = (length ls ≡ 1) × IsOpenLit p.assignment.current (get_or ls 0 0) × SameClauses p p' × GainsUnit (get_or ls 0 0) (state p) (state p')
-LoadSays Satisfied p p' ls = SameClauses p p' × AddsNoUnit (state p) (state p') × ((k : ℕ) × ((k < length ls) × IsTrueLit p.assignment.current (get_or ls k 0)))
-LoadSays Falsified p p' ls = (length ls ≤ 1) × ((k : ℕ) → k < length ls → IsFalseLit p.assignment.current (get_or ls k 0)) × SameClauses p p' × AddsNoUnit (state p) (state p')
+abbrev pub LoadEffect : Loaded → Parts → Parts → List ℕ → Type 0
+LoadEffect Stored p p' ls = AddsOriginalClause p p' ls
+LoadEffect One p p' ls = (length ls ≡ 1) × IsOpenLit p.assignment.current (get_or ls 0 0) × SameClauses p p' × GainsUnit (get_or ls 0 0) (state p) (state p')
+LoadEffect Satisfied p p' ls = SameClauses p p' × AddsNoUnit (state p) (state p') × ((k : ℕ) × ((k < length ls) × IsTrueLit p.assignment.current (get_or ls k 0)))
+LoadEffect Falsified p p' ls = (length ls ≤ 1) × ((k : ℕ) → k < length ls → IsFalseLit p.assignment.current (get_or ls k 0)) × SameClauses p p' × AddsNoUnit (state p) (state p')

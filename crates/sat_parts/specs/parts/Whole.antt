@@ -51,8 +51,8 @@ abbrev pub HoldsBelow : ℕ → Parts → Type 0
 HoldsBelow top p = IsSoundBelow p.clauses p.db p.watchlists p.binary p.assignment p.graph p.trail p.vsids top
 
 -- the queue is empty: every literal of the trail was propagated
-abbrev pub IsDone : Parts → Type 0
-IsDone p = p.trail.head ≡ length p.trail.lits
+abbrev pub IsFullyPropagated : Parts → Type 0
+IsFullyPropagated p = p.trail.head ≡ length p.trail.lits
 
 -- every unassigned variable is in no clause
 abbrev pub AllAssigned : Parts → Type 0

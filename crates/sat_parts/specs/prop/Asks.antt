@@ -11,7 +11,7 @@ use Rattle.sat_parts.specs.clause.Stored.{AreClauses, lit_of}
 use Rattle.sat_parts.specs.prop.WatchLists.{Watching}
 use Rattle.sat_parts.specs.prop.Binaries.{implied_by}
 use Rattle.sat_parts.specs.prop.Values.{IsTrueLit}
-use Rattle.sat_parts.specs.prop.State.{State, level, current_level, HasLeft, Agrees, IsQueueCurrent, IsSatisfied}
+use Rattle.sat_parts.specs.prop.State.{State, level, current_level, HasLeftQueue, Agrees, IsQueueCurrent, IsSatisfied}
 use Rattle.sat_parts.specs.prop.Reasons.{HaveFirsts, PropagatesOn}
 use Rattle.sat_parts.specs.prop.Ready.{AreWatched, AreSettled, AreImplied, AreLists, IsUnitFixpoint, IsConflict}
 
@@ -45,7 +45,7 @@ IsOwnBinary (Long o) lit l m = ⊥
 
 -- the same before an unassigned literal becomes true by its reason: the clause of the reason may have been just added, and not yet
 -- propagated, if its false watched literals are of the current level
-pub record AsksForReason (lit : ℕ) (reason : Reason) (words refs : List ℕ) (w : Watching) (implied : List (List ℕ)) (s : State) (top : ℕ) : Type 0 where
+pub record EnqueuePrecondition (lit : ℕ) (reason : Reason) (words refs : List ℕ) (w : Watching) (implied : List (List ℕ)) (s : State) (top : ℕ) : Type 0 where
   pub laid : HoldsClauses words refs
   pub clauses : AreClauses words (live_refs words refs) (length s.values)
   pub room : length w.lists ≡ 2 * length s.values
@@ -53,17 +53,17 @@ pub record AsksForReason (lit : ℕ) (reason : Reason) (words refs : List ℕ) (
   pub agrees : Agrees s
   pub queue : IsQueueCurrent s
   pub firsts : HaveFirsts words (live_refs words refs) s
-  pub settled : (o i : ℕ) → Contains (live_refs words refs) o → i < 2 → HasLeft s (negated (lit_of words o i)) → level s (negated (lit_of words o i)) < top →
+  pub settled : (o i : ℕ) → Contains (live_refs words refs) o → i < 2 → HasLeftQueue s (negated (lit_of words o i)) → level s (negated (lit_of words o i)) < top →
       IsSatisfied s (lits_at words o) (level s (negated (lit_of words o i)))
       ⊎ (IsOwnLong reason o × (current_level s ≤ level s (negated (lit_of words o i))))
   pub ranges : AreLists implied (length s.values)
-  pub binary : (l k : ℕ) → HasLeft s l → level s l < top → k < length (implied_by implied l) →
+  pub binary : (l k : ℕ) → HasLeftQueue s l → level s l < top → k < length (implied_by implied l) →
       (IsTrueLit s.values (get_or (implied_by implied l) k 0) × (level s (get_or (implied_by implied l) k 0) ≤ level s l))
       ⊎ (IsOwnBinary reason lit l (get_or (implied_by implied l) k 0) × (current_level s ≤ level s l))
 
 -- what propagation requires
-abbrev pub AsksAll : (words refs : List ℕ) (w : Watching) (implied : List (List ℕ)) (s : State) → Type 0
-AsksAll words refs w implied s = PropagationInvariant words refs w implied s (current_level s + 1)
+abbrev pub PropagationPrecondition : (words refs : List ℕ) (w : Watching) (implied : List (List ℕ)) (s : State) → Type 0
+PropagationPrecondition words refs w implied s = PropagationInvariant words refs w implied s (current_level s + 1)
 
 -- what propagation ensures: the literals that it assigned have reasons; and either the invariant, with an empty queue and no unit or
 -- falsified clause, or a falsified clause, and the invariant once the current level is undone
@@ -71,5 +71,5 @@ pub record PropagationResult (refs : List ℕ) (implied : List (List ℕ)) (word
   pub moves : PropagatesOn (live_refs words refs) implied words s words' s'
   pub live : live_refs words' refs ≡ live_refs words refs
   pub outcome : MatchResult r
-      (λ _. AsksAll words' refs w implied s' × (s'.trail.head ≡ length s'.trail.lits) × IsUnitFixpoint words' (live_refs words' refs) implied s'.values)
+      (λ _. PropagationPrecondition words' refs w implied s' × (s'.trail.head ≡ length s'.trail.lits) × IsUnitFixpoint words' (live_refs words' refs) implied s'.values)
       (λ e. PropagationInvariant words' refs w implied s' (current_level s') × IsConflict words' (live_refs words' refs) implied s'.values e)

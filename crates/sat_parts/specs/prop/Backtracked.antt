@@ -12,14 +12,14 @@ use Rattle.sat_parts.specs.prop.WatchLists.{Watching}
 use Rattle.sat_parts.specs.prop.State.{State, level, lit_at, IsRemoved, Agrees}
 use Rattle.sat_parts.specs.prop.Reasons.{AreInTurn}
 use Rattle.sat_parts.specs.prop.Ready.{state_of}
-use Rattle.sat_parts.specs.prop.Asks.{PropagationInvariant, AsksForReason, AsksAll}
+use Rattle.sat_parts.specs.prop.Asks.{PropagationInvariant, EnqueuePrecondition, PropagationPrecondition}
 
 -- undoing the levels above this one gives what propagation requires, if its invariant held for the literals of levels below a higher
 -- `top`: after complete propagation, and after a conflict once its level is undone
-abbrev pub KeepsAllAsked : (level : ℕ) (a : Values) (t : Trailed) (a' : Values) (t' : Trailed) → Type 0
-KeepsAllAsked level a t a' t' =
+abbrev pub BacktrackPreservesInvariant : (level : ℕ) (a : Values) (t : Trailed) (a' : Values) (t' : Trailed) → Type 0
+BacktrackPreservesInvariant level a t a' t' =
     (words refs : List ℕ) (w : Watching) (implied : List (List ℕ)) (nodes : List ImplNode) (top : ℕ) → level < top →
-    PropagationInvariant words refs w implied (state_of a nodes t) top → AsksAll words refs w implied (state_of a' nodes t')
+    PropagationInvariant words refs w implied (state_of a nodes t) top → PropagationPrecondition words refs w implied (state_of a' nodes t')
 
 -- the reasons of the trail stay unit in the order of the trail
 abbrev pub KeepsTurns : (a : Values) (t : Trailed) (a' : Values) (t' : Trailed) → Type 0
@@ -29,17 +29,17 @@ KeepsTurns a t a' t' =
 
 -- the invariant of propagation holds after an unassigned literal became true, if a long clause as its reason is live and has it first;
 -- before, that clause may not yet be propagated
-abbrev pub KeepsAskedBy : (lit : ℕ) (reason : Reason) (a : Values) (nodes : List ImplNode) (t : Trailed) (a' : Values) (nodes' : List ImplNode) (t' : Trailed) → Type 0
-KeepsAskedBy lit reason a nodes t a' nodes' t' =
+abbrev pub EnqueuePreservesInvariant : (lit : ℕ) (reason : Reason) (a : Values) (nodes : List ImplNode) (t : Trailed) (a' : Values) (nodes' : List ImplNode) (t' : Trailed) → Type 0
+EnqueuePreservesInvariant lit reason a nodes t a' nodes' t' =
     (words refs : List ℕ) (w : Watching) (implied : List (List ℕ)) (top : ℕ) →
     ((o : ℕ) → reason ≡ Long o → Contains (live_refs words refs) o × (lit_of words o 0 ≡ lit)) →
-    AsksForReason lit reason words refs w implied (state_of a nodes t) top → PropagationInvariant words refs w implied (state_of a' nodes' t') top
+    EnqueuePrecondition lit reason words refs w implied (state_of a nodes t) top → PropagationInvariant words refs w implied (state_of a' nodes' t') top
 
 -- a new level preserves the invariant of propagation if the queue is empty
-abbrev pub KeepsAskedAbove : (t t' : Trailed) → Type 0
-KeepsAskedAbove t t' =
+abbrev pub NewLevelPreservesInvariant : (t t' : Trailed) → Type 0
+NewLevelPreservesInvariant t t' =
     (a : Values) (words refs : List ℕ) (w : Watching) (implied : List (List ℕ)) (nodes : List ImplNode) → t.head ≡ length t.lits →
-    AsksAll words refs w implied (state_of a nodes t) → AsksAll words refs w implied (state_of a nodes t')
+    PropagationPrecondition words refs w implied (state_of a nodes t) → PropagationPrecondition words refs w implied (state_of a nodes t')
 
 -- what remains when the levels above `top` are undone: exactly the literals that were true at that level or lower, those of the trail
 -- at their positions; the others are unassigned

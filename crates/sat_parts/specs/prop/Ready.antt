@@ -12,7 +12,7 @@ use Rattle.sat_parts.specs.prop.Values.{Values, IsTrueLit, IsFalseLit, IsOpenLit
 use Rattle.sat_parts.specs.prop.Trails.{Trailed}
 use Rattle.sat_parts.specs.prop.Binaries.{implied_by}
 use Rattle.sat_parts.specs.prop.WatchLists.{no_watch, watches_of}
-use Rattle.sat_parts.specs.prop.State.{State, level, current_level, HasLeft, Agrees, IsQueueCurrent, IsSatisfied}
+use Rattle.sat_parts.specs.prop.State.{State, level, current_level, HasLeftQueue, Agrees, IsQueueCurrent, IsSatisfied}
 use Rattle.sat_parts.specs.prop.Reasons.{HaveFirsts, PropagatesOn}
 
 -- the state with these values, nodes and trail
@@ -41,13 +41,13 @@ pub record AreWatched (words live : List ℕ) (lists : List (List Watch)) (count
 -- of the same level or lower
 abbrev pub AreSettled : (words live : List ℕ) (s : State) (due : ℕ → Type 0) → Type 0
 AreSettled words live s due =
-    (o i : ℕ) → Contains live o → i < 2 → HasLeft s (negated (lit_of words o i)) → due (negated (lit_of words o i)) →
+    (o i : ℕ) → Contains live o → i < 2 → HasLeftQueue s (negated (lit_of words o i)) → due (negated (lit_of words o i)) →
     IsSatisfied s (lits_at words o) (level s (negated (lit_of words o i)))
 
 -- every literal that a due literal implies, if it has left the queue, is true at the same level or lower
 abbrev pub AreImplied : (implied : List (List ℕ)) (s : State) (due : ℕ → Type 0) → Type 0
 AreImplied implied s due =
-    (l k : ℕ) → HasLeft s l → due l → k < length (implied_by implied l) →
+    (l k : ℕ) → HasLeftQueue s l → due l → k < length (implied_by implied l) →
     IsTrueLit s.values (get_or (implied_by implied l) k 0) × (level s (get_or (implied_by implied l) k 0) ≤ level s l)
 
 -- the long clauses and their watch lists, with the due literals propagated

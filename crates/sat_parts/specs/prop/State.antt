@@ -43,8 +43,8 @@ pub record IsBefore (s : State) (bound l : ℕ) : Type 0 where
   pub there : lit_at s place ≡ l
 
 -- the literal has left the queue: it was propagated, or taken off the trail as a unit
-abbrev pub HasLeft : State → ℕ → Type 0
-HasLeft s l = IsBefore s s.trail.head l ⊎ IsRemoved s l
+abbrev pub HasLeftQueue : State → ℕ → Type 0
+HasLeftQueue s l = IsBefore s s.trail.head l ⊎ IsRemoved s l
 
 -- values, nodes and trail agree: the literals of the trail are true, their nodes have their positions and levels, and every other true
 -- literal was taken off the trail as a unit

@@ -12,7 +12,7 @@ use Rattle.sat_parts.specs.clause.Stored.{AreClauses, lit_of, size_of}
 use Rattle.sat_parts.specs.prop.Values.{Values, IsTrueLit, IsFalseLit, IsOpenLit}
 use Rattle.sat_parts.specs.prop.Binaries.{implied_by}
 use Rattle.sat_parts.specs.prop.WatchLists.{Watching, no_watch, watch_on, watches_of, more_at}
-use Rattle.sat_parts.specs.prop.State.{State, level, current_level, HasLeft, Agrees, IsQueueCurrent, IsSatisfied}
+use Rattle.sat_parts.specs.prop.State.{State, level, current_level, HasLeftQueue, Agrees, IsQueueCurrent, IsSatisfied}
 use Rattle.sat_parts.specs.prop.Reasons.{PropagatesOn}
 use Rattle.sat_parts.specs.prop.Ready.{IsGood, HasWatch, LongReady, IsFalsified, IsConflict}
 
@@ -41,10 +41,10 @@ pub record Half (words live : List ℕ) (s : State) (lists : List (List Watch)) 
   pub clauses : AreClauses words live (length s.values)
   pub agrees : Agrees s
   pub queue : IsQueueCurrent s
-  pub left : HasLeft s lit
+  pub left : HasLeftQueue s lit
   pub top : level s lit ≡ current_level s
   pub walked : AreWalked words live lists list lit kept at (length s.values)
-  pub settled : (o i : ℕ) → Contains live o → i < 2 → HasLeft s (negated (lit_of words o i)) →
+  pub settled : (o i : ℕ) → Contains live o → i < 2 → HasLeftQueue s (negated (lit_of words o i)) →
       IsSatisfied s (lits_at words o) (level s (negated (lit_of words o i)))
       ⊎ ((negated (lit_of words o i) ≡ lit) × HasWatchFrom list at o)
 
@@ -101,7 +101,7 @@ WalksLong live words s words' s' lists r =
 pub record BinaryWalk (implied : List (List ℕ)) (lit : ℕ) (s s' : State) (at : ℕ) : Type 0 where
   pub agrees : Agrees s'
   pub queue : IsQueueCurrent s'
-  pub left : HasLeft s' lit
+  pub left : HasLeftQueue s' lit
   pub top : level s' lit ≡ current_level s'
   pub moves : (words live : List ℕ) → PropagatesOn live implied words s words s'
   pub head : s'.trail.head ≡ s.trail.head

@@ -3,9 +3,9 @@ ghost use Rattle.std.specs.Prelude.{◌≡◌, ◌+◌, ◌-◌, ◌<◌, ◌≤
 ghost use Rattle.sat_base.specs.values.Literals.{variable};
 ghost use Rattle.sat_parts.specs.prop.Values.{IsOpenLit};
 ghost use Rattle.sat_parts.specs.prop.State.{State};
-ghost use Rattle.sat_parts.specs.parts.Whole.{state, PartsInvariant, IsDone};
+ghost use Rattle.sat_parts.specs.parts.Whole.{state, PartsInvariant, IsFullyPropagated};
 ghost use Rattle.sat_parts.specs.parts.Words.{TrailWordStays, TrailWordExtendsFor};
-ghost use Rattle.sat_parts.specs.parts.Assumed.{HaveVariablesIn, variables, ArePlaced, AssumedSays, AreCutTo};
+ghost use Rattle.sat_parts.specs.parts.Assumed.{HaveVariablesIn, variables, ArePlaced, EnqueueAssumptionEffect, AreCutTo};
 ghost use Rattle.sat_parts.specs.parts.Assumed.{AreTrueFromTo, IsUntrueAt};
 ghost use Rattle.sat_parts.specs.parts.Frame.{AddsNoUnit, SameClauses, AddsNothing, KeepsLevels, Deepens};
 
@@ -106,7 +106,7 @@ fn next_untrue(parts: &Parts, assumptions: &mut Assumptions) -> Option<Lit>
 /// Begins a level with the current assumption, which must be unassigned.
 fn begin_level(parts: &mut Parts, assumptions: &mut Assumptions, lit: Lit) -> Result<(), AllocError>
     requires holds { PartsInvariant parts.old }
-    requires done { IsDone parts.old }
+    requires done { IsFullyPropagated parts.old }
     requires there { variable lit < length parts.old.assignment.current }
     requires open { IsOpenLit parts.old.assignment.current lit }
     requires placed { ArePlaced assumptions.old (state parts.old) }
@@ -131,7 +131,7 @@ pub fn enqueue_assumption(
     assumptions: &mut Assumptions,
 ) -> Result<EnqueueAssumption, AllocError>
     requires holds { PartsInvariant parts.old }
-    requires done { IsDone parts.old }
+    requires done { IsFullyPropagated parts.old }
     requires there { HaveVariablesIn assumptions.old.lits.items parts.old }
     requires placed { ArePlaced assumptions.old (state parts.old) }
     ensures holds { OnOk result (PartsInvariant parts.new) }
@@ -140,7 +140,7 @@ pub fn enqueue_assumption(
     ensures word { OnOk result (TrailWordExtendsFor (variables assumptions.old.lits.items) parts.old parts.new) }
     ensures same { OnOk result (AddsNothing parts.old parts.new) }
     ensures keeps { OnOk result (KeepsLevels parts.old parts.new) }
-    ensures says { IfOk result (λ r. AssumedSays r assumptions.new parts.old parts.new) }
+    ensures says { IfOk result (λ r. EnqueueAssumptionEffect r assumptions.new parts.old parts.new) }
 {
     let next = next_untrue(parts, assumptions);
     match next {

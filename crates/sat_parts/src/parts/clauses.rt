@@ -8,7 +8,7 @@ ghost use Rattle.sat_parts.specs.clause.Activity.{PutsHeaders, DecaysAll, later_
 ghost use Rattle.sat_parts.specs.clause.Activity.{BumpsPast};
 ghost use Rattle.sat_parts.specs.clause.Reduced.{reduced};
 ghost use Rattle.sat_parts.specs.clause.Stored.{lit_of, size_of};
-ghost use Rattle.sat_parts.specs.prop.State.{HasLeft};
+ghost use Rattle.sat_parts.specs.prop.State.{HasLeftQueue};
 ghost use Rattle.sat_parts.specs.clause.Db.{PutsHeader, MovesClause, IsLockedClause};
 ghost use Rattle.sat_parts.specs.parts.Whole.{state, PartsInvariant, HasClause};
 ghost use Rattle.sat_parts.specs.parts.Words.{TrailWordExtends};
@@ -149,7 +149,7 @@ pub fn shorten(parts: &mut Parts, cref: ClauseRef, len: usize)
     requires live { HasClause parts.old cref }
     requires long { 3 ≤ len }
     requires no_longer { len ≤ size_of parts.old.clauses cref }
-    requires fresh { (i : ℕ) → i < 2 → HasLeft (state parts.old) (negated (lit_of parts.old.clauses cref i)) → ⊥ }
+    requires fresh { (i : ℕ) → i < 2 → HasLeftQueue (state parts.old) (negated (lit_of parts.old.clauses cref i)) → ⊥ }
     ensures holds { PartsInvariant parts.new }
     ensures shortened { Shortened parts.old parts.new cref len }
     ensures word { TrailWordExtends parts.old parts.new }

@@ -5,14 +5,14 @@ ghost use Rattle.sat_base.specs.values.Literals.{variable, negated};
 ghost use Rattle.sat_store.specs.heap.Vsids.{may_pick};
 ghost use Rattle.sat_parts.specs.clause.Orders.{AreDistinct};
 ghost use Rattle.sat_parts.specs.declared.prop.graph.Reason.TheVariants.{Unit as NoCause};
-ghost use Rattle.sat_parts.specs.prop.State.{HasLeft, enqueued};
+ghost use Rattle.sat_parts.specs.prop.State.{HasLeftQueue, enqueued};
 ghost use Rattle.sat_parts.specs.prop.Values.{IsOpenLit, IsFalseLit, value_of};
 ghost use Rattle.sat_parts.specs.parts.Loadable.{IsLoadable, false_last, IsSorted};
 ghost use Rattle.sat_parts.specs.parts.Whole.{state, PartsInvariant};
 ghost use Rattle.sat_parts.specs.parts.Frame.{AddsNoUnit, SameClauses, SameState, GainsUnit, AddsOriginalClause};
 ghost use Rattle.sat_parts.specs.parts.Frame.{SameQueues};
 ghost use Rattle.sat_parts.specs.parts.Full.{IsFull};
-ghost use Rattle.sat_parts.specs.parts.Loading.{LoadSays};
+ghost use Rattle.sat_parts.specs.parts.Loading.{LoadEffect};
 ghost use Rattle.sat_parts.specs.parts.Words.{TrailWordExtends};
 ghost use Rattle.sat_store.specs.clause.Full.{OnFull};
 
@@ -109,7 +109,7 @@ fn put_all_back(parts: &mut Parts, lits: &[Lit], kept: usize)
     ensures size { length parts.new.assignment.current ≡ length parts.old.assignment.current }
     ensures queue { parts.new.vsids ≡ parts.old.vsids }
     ensures fresh { (k : ℕ) → kept ≤ k → k < length lits.now
-        → HasLeft (state parts.new) (negated (slice_index_or lits.now k 0)) → ⊥ }
+        → HasLeftQueue (state parts.new) (negated (slice_index_or lits.now k 0)) → ⊥ }
     ensures same { SameClauses parts.old parts.new }
     ensures carries { AddsNoUnit (state parts.old) (state parts.new) }
 {
@@ -143,7 +143,7 @@ fn load_sorted(parts: &mut Parts, lits: &[Lit], kept: usize) -> Result<Loaded, S
     requires fits { length lits.now < 2 ^ 32 }
     requires sorted { IsSorted (state parts.old) parts.old.vsids lits.now kept }
     ensures holds { OnOk result (PartsInvariant parts.new) }
-    ensures says { IfOk result (λ r. LoadSays r parts.old parts.new lits.now) }
+    ensures says { IfOk result (λ r. LoadEffect r parts.old parts.new lits.now) }
     ensures kept { OnOk result ((parts.new.vsids ≡ parts.old.vsids) × (parts.new.trail.starts ≡ [])) }
     ensures full { OnFull result (IsFull parts.new) }
 {
@@ -174,7 +174,7 @@ pub fn load(parts: &mut Parts, given: &[Lit], sorting: &mut Sorting) -> Result<L
         → may_pick parts.old.vsids (variable (slice_index_or given.now k 0)) ≡ true }
     ensures holds { OnOk result (PartsInvariant parts.new) }
     ensures order { OnOk result (sorting.new.lits.items ≡ false_last parts.old.assignment.current given.now) }
-    ensures says { IfOk result (λ r. LoadSays r parts.old parts.new
+    ensures says { IfOk result (λ r. LoadEffect r parts.old parts.new
         (false_last parts.old.assignment.current given.now)) }
     ensures kept { OnOk result ((parts.new.vsids ≡ parts.old.vsids) × (parts.new.trail.starts ≡ [])) }
     ensures full { OnFull result (IsFull parts.new) }

@@ -7,7 +7,7 @@ ghost use Rattle.sat_parts.specs.prop.Values.{IsOpenLit, value_of};
 ghost use Rattle.sat_parts.specs.prop.State.{current_level};
 ghost use Rattle.sat_parts.specs.prop.Ready.{IsConflict};
 ghost use Rattle.sat_parts.specs.clause.Db.{live_refs};
-ghost use Rattle.sat_parts.specs.parts.Whole.{state, PartsInvariant, HoldsBelow, IsDone, IsPicked, AllAssigned};
+ghost use Rattle.sat_parts.specs.parts.Whole.{state, PartsInvariant, HoldsBelow, IsFullyPropagated, IsPicked, AllAssigned};
 ghost use Rattle.sat_parts.specs.parts.Round.{UnitsAreUncaused, IsBased};
 ghost use Rattle.sat_parts.specs.prop.Trails.{cut_to};
 ghost use Rattle.sat_parts.specs.prop.TrailWord.{decided_on};
@@ -32,7 +32,7 @@ pub fn propagate_all(alloc: Global, parts: &mut Parts) -> Result<Result<(), Conf
         (λ e. HoldsBelow (length parts.new.trail.starts) parts.new
         × IsConflict parts.new.clauses (live_refs parts.new.clauses parts.new.db.refs) parts.new.binary.implied
         parts.new.assignment.current e)) }
-    ensures done { IfOk result (λ r. OnOk r (IsDone parts.new)) }
+    ensures done { IfOk result (λ r. OnOk r (IsFullyPropagated parts.new)) }
     ensures units { 0 < length parts.old.trail.starts → UnitsAreUncaused (state parts.old)
         → OnOk result (UnitsAreUncaused (state parts.new)) }
     ensures base { 0 < length parts.old.trail.starts → IsBased parts.old.trail → OnOk result (IsBased parts.new.trail) }
@@ -77,7 +77,7 @@ pub fn pick(vsids: &mut Vsids, assignment: &Assignment) -> Option<Var>
 /// Decides an unassigned variable that was picked.
 fn decide_on(parts: &mut Parts, var: Var) -> Result<(), AllocError>
     requires picked { IsPicked parts.old var }
-    requires done { IsDone parts.old }
+    requires done { IsFullyPropagated parts.old }
     ensures holds { OnOk result (PartsInvariant parts.new) }
     ensures deeper { OnOk result (Deepens parts.old parts.new) }
     ensures same { OnOk result (AddsNothing parts.old parts.new) }
@@ -238,9 +238,9 @@ pub fn full_restart(parts: &mut Parts)
 /// Decides an unassigned variable, if there is one. Returns whether it did.
 pub fn make_decision(parts: &mut Parts) -> Result<bool, AllocError>
     requires holds { PartsInvariant parts.old }
-    requires done { IsDone parts.old }
+    requires done { IsFullyPropagated parts.old }
     ensures holds { OnOk result (PartsInvariant parts.new) }
-    ensures all { IfOk result (λ decided. decided ≡ false → IsDone parts.new × AllAssigned parts.new) }
+    ensures all { IfOk result (λ decided. decided ≡ false → IsFullyPropagated parts.new × AllAssigned parts.new) }
     ensures same { OnOk result (AddsNothing parts.old parts.new) }
     ensures keeps { OnOk result (KeepsLevels parts.old parts.new) }
     ensures word { OnOk result (TrailWordExtends parts.old parts.new) }
@@ -260,7 +260,7 @@ pub fn make_decision(parts: &mut Parts) -> Result<bool, AllocError>
 /// Makes an unassigned literal true as an assumption, on a level of its own.
 pub fn assume(parts: &mut Parts, lit: Lit) -> Result<(), AllocError>
     requires holds { PartsInvariant parts.old }
-    requires done { IsDone parts.old }
+    requires done { IsFullyPropagated parts.old }
     requires there { variable lit < length parts.old.assignment.current }
     requires open { IsOpenLit parts.old.assignment.current lit }
     ensures holds { OnOk result (PartsInvariant parts.new) }

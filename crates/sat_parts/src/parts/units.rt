@@ -1,8 +1,8 @@
 //! Units of level 0 that leave the trail and return to it.
 ghost use Rattle.std.specs.Prelude.{ℕ, ◌≡◌, ◌+◌, [], length};
 ghost use Rattle.sat_parts.specs.prop.Values.{IsTrueLit, value_of};
-ghost use Rattle.sat_parts.specs.prop.State.{HasLeft};
-ghost use Rattle.sat_parts.specs.parts.Whole.{state, PartsInvariant, HoldsBelow, IsDone};
+ghost use Rattle.sat_parts.specs.prop.State.{HasLeftQueue};
+ghost use Rattle.sat_parts.specs.parts.Whole.{state, PartsInvariant, HoldsBelow, IsFullyPropagated};
 ghost use Rattle.sat_parts.specs.parts.Words.{TrailWordExtends};
 ghost use Rattle.sat_parts.specs.parts.Units.{removed};
 ghost use Rattle.sat_parts.specs.parts.Frame.{AddsNoUnit, Clears, SameClauses};
@@ -26,9 +26,9 @@ fn mark_removed(graph: &mut ImplGraph, trail: &Trail)
 pub fn clear_units(parts: &mut Parts)
     requires holds { HoldsBelow (length parts.old.trail.starts + 1) parts.old }
     requires bottom { parts.old.trail.starts ≡ [] }
-    requires done { IsDone parts.old }
+    requires done { IsFullyPropagated parts.old }
     ensures holds { PartsInvariant parts.new }
-    ensures done { IsDone parts.new }
+    ensures done { IsFullyPropagated parts.new }
     ensures bottom { parts.new.trail.starts ≡ [] }
     ensures empty { parts.new.trail.lits ≡ [] }
     ensures same { SameClauses parts.old parts.new }
@@ -49,8 +49,8 @@ pub fn put_back(parts: &mut Parts, lit: Lit)
     ensures values { (v : ℕ) → value_of parts.new.assignment.current v ≡ value_of parts.old.assignment.current v }
     ensures size { length parts.new.assignment.current ≡ length parts.old.assignment.current }
     ensures queue { parts.new.vsids ≡ parts.old.vsids }
-    ensures fresh { HasLeft (state parts.new) lit → ⊥ }
-    ensures left { (l : ℕ) → HasLeft (state parts.new) l → HasLeft (state parts.old) l }
+    ensures fresh { HasLeftQueue (state parts.new) lit → ⊥ }
+    ensures left { (l : ℕ) → HasLeftQueue (state parts.new) l → HasLeftQueue (state parts.old) l }
     ensures same { SameClauses parts.old parts.new }
     ensures carries { AddsNoUnit (state parts.old) (state parts.new) }
 {

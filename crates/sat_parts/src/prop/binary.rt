@@ -1,6 +1,6 @@
 //! Propagation over binary clauses.
 ghost use Rattle.std.specs.Prelude.{◌≡◌, length, IfOk, IsOk};
-ghost use Rattle.sat_parts.specs.prop.State.{Agrees, IsQueueCurrent, HasLeft, level, current_level};
+ghost use Rattle.sat_parts.specs.prop.State.{Agrees, IsQueueCurrent, HasLeftQueue, level, current_level};
 ghost use Rattle.sat_parts.specs.prop.Ready.{state_of, AreLists};
 ghost use Rattle.sat_parts.specs.prop.Walk.{WalksBinary};
 
@@ -24,7 +24,7 @@ pub fn propagate_binary(
     requires lists { AreLists binary.now.implied (length assignment.old.current) }
     requires agrees { Agrees (state_of assignment.old graph.old trail.old) }
     requires queue { IsQueueCurrent (state_of assignment.old graph.old trail.old) }
-    requires left { HasLeft (state_of assignment.old graph.old trail.old) lit }
+    requires left { HasLeftQueue (state_of assignment.old graph.old trail.old) lit }
     requires top { level (state_of assignment.old graph.old trail.old) lit
         ≡ current_level (state_of assignment.old graph.old trail.old) }
     ensures memory { IsOk result }

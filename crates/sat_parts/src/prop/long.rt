@@ -4,7 +4,7 @@ ghost use Rattle.sat_store.specs.clause.Buffer.{IsClause};
 ghost use Rattle.sat_parts.specs.clause.Orders.{Shuffles};
 ghost use Rattle.sat_parts.specs.clause.Stored.{lit_of, size_of};
 ghost use Rattle.sat_parts.specs.prop.Values.{IsFalseLit};
-ghost use Rattle.sat_parts.specs.prop.State.{HasLeft, level, current_level};
+ghost use Rattle.sat_parts.specs.prop.State.{HasLeftQueue, level, current_level};
 ghost use Rattle.sat_parts.specs.prop.Ready.{state_of, LongReady};
 ghost use Rattle.sat_parts.specs.prop.Walk.{Half, Oriented, VisitedIn, Walks, WalksLong};
 
@@ -190,7 +190,7 @@ pub fn propagate_long(
     ghost live: { List ℕ }
     requires ready { LongReady clauses.old live watchlists.old.lists (state_of assignment.old graph.old trail.old)
         (λ l. l ≢ lit) }
-    requires left { HasLeft (state_of assignment.old graph.old trail.old) lit }
+    requires left { HasLeftQueue (state_of assignment.old graph.old trail.old) lit }
     requires top { level (state_of assignment.old graph.old trail.old) lit
         ≡ current_level (state_of assignment.old graph.old trail.old) }
     ensures walked { IfOk result (λ r. WalksLong live

@@ -11,7 +11,7 @@ ghost use Rattle.sat_parts.specs.prop.Trails.{cut_to};
 ghost use Rattle.sat_parts.specs.prop.Undone.{undone, undone_to, all_available, undone_lits};
 ghost use Rattle.sat_parts.specs.prop.State.{Agrees};
 ghost use Rattle.sat_parts.specs.prop.Ready.{state_of};
-ghost use Rattle.sat_parts.specs.prop.Backtracked.{KeepsBelow, KeepsAllAsked, KeepsAskedBy, KeepsAskedAbove};
+ghost use Rattle.sat_parts.specs.prop.Backtracked.{KeepsBelow, BacktrackPreservesInvariant, EnqueuePreservesInvariant, NewLevelPreservesInvariant};
 ghost use Rattle.sat_parts.specs.prop.Backtracked.{KeepsTurns};
 
 use crate::prop::assignment::Assignment;
@@ -127,7 +127,7 @@ impl Trail {
         requires { length self.old.starts + 1 < 2 ^ 32 }
         ensures done { OnOk result (self.new ≡ with_level self.old) }
         ensures same { OnErr result (self.new ≡ self.old) }
-        ensures asked { OnOk result (KeepsAskedAbove self.old self.new) }
+        ensures asked { OnOk result (NewLevelPreservesInvariant self.old self.new) }
     {
         self.push_level()
     }
@@ -189,7 +189,8 @@ pub fn enqueue_assignment(
     ensures trail { trail.new ≡ with_lit lit trail.old }
     ensures agrees { Agrees (state_of assignment.old graph.old trail.old)
         → Agrees (state_of assignment.new graph.new trail.new) }
-    ensures asked { KeepsAskedBy lit reason assignment.old graph.old trail.old assignment.new graph.new trail.new }
+    ensures asked { EnqueuePreservesInvariant lit reason
+        assignment.old graph.old trail.old assignment.new graph.new trail.new }
 {
     push_assignment(assignment, graph, trail, lit, reason);
 }
@@ -248,7 +249,7 @@ pub fn backtrack(assignment: &mut Assignment, trail: &mut Trail, vsids: &mut Vsi
         → vsids.new ≡ all_available (undone_lits level trail.old) vsids.old }
     ensures kept { KeepsBelow level assignment.old trail.old assignment.new trail.new }
     ensures asked { level < length trail.old.starts
-        → KeepsAllAsked level assignment.old trail.old assignment.new trail.new }
+        → BacktrackPreservesInvariant level assignment.old trail.old assignment.new trail.new }
     ensures turns { level < length trail.old.starts → KeepsTurns assignment.old trail.old assignment.new trail.new }
 {
     if level >= trail.current_level() {

@@ -8,7 +8,7 @@ use Rattle.sat_parts.specs.declared.parts.Parts.{Parts}
 use Rattle.sat_parts.specs.parts.Assumed.{AreDecided, ArePlaced, variables}
 use Rattle.sat_parts.specs.parts.Frame.{SameClauses, AddsNoUnit}
 use Rattle.sat_parts.specs.parts.Round.{UnitsAreUncaused, IsBased}
-use Rattle.sat_parts.specs.parts.Whole.{state, PartsInvariant, HoldsBelow, IsDone, AllAssigned, IsRefuted}
+use Rattle.sat_parts.specs.parts.Whole.{state, PartsInvariant, HoldsBelow, IsFullyPropagated, AllAssigned, IsRefuted}
 use Rattle.sat_parts.specs.parts.Words.{TrailWordExtendsFor}
 use Rattle.sat_solver.specs.session.Session.{Session}
 use Rattle.sat_solver.specs.session.Fits.{SessionMatchesParts}
@@ -23,7 +23,7 @@ AllTrue ls p = (k : ℕ) → k < length ls → IsTrueLit p.assignment.current (g
 
 -- no variable of a clause is open, and the assumptions are true
 pub record IsComplete (ls : List ℕ) (p : Parts) : Type 0 where
-  pub done : IsDone p
+  pub done : IsFullyPropagated p
   pub all : AllAssigned p
   pub assumed : AllTrue ls p
 
@@ -53,7 +53,7 @@ pub record GoesDeeper (found : Option FoundConflict) (a a' : Assumptions) (p p' 
 -- all was propagated, and no clause is false
 pub record IsPropagated (s : Session) (c : Search) : Type 0 where
   pub holds : HoldsBelow (length c.parts.trail.starts + 1) c.parts
-  pub done : IsDone c.parts
+  pub done : IsFullyPropagated c.parts
   pub units : 0 < length c.parts.trail.starts → UnitsAreUncaused (state c.parts) × IsBased c.parts.trail
   pub fits : SessionMatchesParts c.parts s (global_in c)
   pub ready : IsReadySearch s c

@@ -4,7 +4,7 @@ use Rattle.sat_parts.specs.clause.Db.{live_refs}
 use Rattle.sat_parts.specs.declared.parts.Parts.{Parts}
 use Rattle.sat_parts.specs.declared.parts.assumptions.Assumptions.{Assumptions}
 use Rattle.sat_parts.specs.parts.Assumed.{ArePlaced}
-use Rattle.sat_parts.specs.parts.Whole.{state, IsDone}
+use Rattle.sat_parts.specs.parts.Whole.{state, IsFullyPropagated}
 use Rattle.sat_parts.specs.parts.Words.{TrailWordExtends}
 use Rattle.sat_solver.specs.session.Session.{Session}
 use Rattle.sat_solver.specs.session.Fits.{PartsSessionInvariant}
@@ -21,7 +21,7 @@ SameSize p p' = length p'.assignment.current ≡ length p.assignment.current
 -- nothing is to be propagated, and at level 0 nothing is on the trail
 pub record TakesUnitsOff (p p' : Parts) (s : Session) (global : ℕ → ℕ) : Type 0 where
   pub stands : PartsSessionInvariant p' s global
-  pub done : IsDone p'
+  pub done : IsFullyPropagated p'
   pub starts : p'.trail.starts ≡ p.trail.starts
   pub empty : p.trail.starts ≡ [] → p'.trail.lits ≡ []
   pub word : TrailWordExtends p p'

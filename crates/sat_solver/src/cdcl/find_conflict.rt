@@ -2,7 +2,7 @@
 ghost use Rattle.std.specs.Prelude.{IfOk};
 ghost use Rattle.sat_solver.specs.proof.ProofView.{HasAllowedSteps, session_of};
 ghost use Rattle.sat_parts.specs.parts.Assumed.{HaveVariablesIn, ArePlaced};
-ghost use Rattle.sat_parts.specs.parts.Whole.{state, PartsInvariant, IsDone};
+ghost use Rattle.sat_parts.specs.parts.Whole.{state, PartsInvariant, IsFullyPropagated};
 ghost use Rattle.sat_solver.specs.cdcl.Going.{EmitsSteps};
 ghost use Rattle.sat_solver.specs.cdcl.Joint.{IsSearch};
 ghost use Rattle.sat_solver.specs.cdcl.Turns.{GoesDeeper, StopsSearch};
@@ -36,7 +36,7 @@ fn assume_or_decide(
     assumptions: &mut Assumptions,
 ) -> Result<Option<FoundConflict>, AllocError>
     requires holds { PartsInvariant parts.old }
-    requires done { IsDone parts.old }
+    requires done { IsFullyPropagated parts.old }
     requires there { HaveVariablesIn assumptions.old.lits.items parts.old }
     requires placed { ArePlaced assumptions.old (state parts.old) }
     ensures { IfOk result (λ found. GoesDeeper found assumptions.old assumptions.new parts.old parts.new) }

@@ -2,7 +2,7 @@
 ghost use Rattle.std.specs.Prelude.{◌≡◌, ◌+◌, ◌<◌, ◌≤◌, length};
 ghost use Rattle.sat_solver.specs.proof.ProofView.{HasAllowedSteps, session_of};
 ghost use Rattle.sat_parts.specs.parts.Round.{UnitsAreUncaused, IsBased};
-ghost use Rattle.sat_parts.specs.parts.Whole.{state, HoldsBelow, IsDone};
+ghost use Rattle.sat_parts.specs.parts.Whole.{state, HoldsBelow, IsFullyPropagated};
 ghost use Rattle.sat_solver.specs.session.Naming.{global_of};
 ghost use Rattle.sat_solver.specs.session.Fits.{SessionMatchesParts, TrueLitsHaveNames};
 ghost use Rattle.sat_solver.specs.session.Going.{IsOrderly};
@@ -50,7 +50,7 @@ pub fn settle<W: CountedWrite + Drop, P: ProofProcessor>(
 ) -> Result<(), Fault>
     requires keeps { HasAllowedSteps proof.old }
     requires holds { HoldsBelow (length parts.old.trail.starts + 1) parts.old }
-    requires done { IsDone parts.old }
+    requires done { IsFullyPropagated parts.old }
     requires units { 0 < length parts.old.trail.starts → UnitsAreUncaused (state parts.old) × IsBased parts.old.trail }
     requires fits { SessionMatchesParts parts.old (session_of proof.old) (global_of globals.now) }
     requires named { TrueLitsHaveNames parts.old.assignment.current (session_of proof.old) (global_of globals.now) }

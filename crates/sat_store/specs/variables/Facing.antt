@@ -4,5 +4,5 @@ use Rattle.sat_store.specs.declared.var_map.VarBiMapMut.{VarBiMapMut}
 use Rattle.sat_store.specs.variables.Maps.{MapAndInverse, turned}
 
 -- the maps as the view sees them: its own map forward, the other one backward
-abbrev pub facing : VarBiMapMut → MapAndInverse
-facing view = if view.is_turned then turned view.map.now else view.map.now
+abbrev pub maps_of_view : VarBiMapMut → MapAndInverse
+maps_of_view view = if view.is_turned then turned view.map.now else view.map.now

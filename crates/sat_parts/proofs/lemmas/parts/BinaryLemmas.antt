@@ -15,10 +15,10 @@ use Rattle.sat_parts.specs.prop.Values.{Values, value_of, made_true, IsTrueLit, 
 use Rattle.sat_parts.specs.prop.Trails.{Trailed, with_lit}
 use Rattle.sat_parts.specs.prop.Graphs.{with_node, node_at}
 use Rattle.sat_parts.specs.prop.WatchLists.{Watching}
-use Rattle.sat_parts.specs.prop.State.{State, level, current_level, lit_at, HasLeft, Agrees, Grows, enqueued}
+use Rattle.sat_parts.specs.prop.State.{State, level, current_level, lit_at, HasLeftQueue, Agrees, Grows, enqueued}
 use Rattle.sat_parts.specs.prop.Reasons.{Implies, AreInTurn}
 use Rattle.sat_parts.specs.prop.Ready.{state_of}
-use Rattle.sat_parts.specs.prop.Asks.{PropagationInvariant, AsksForReason, IsOwnBinary}
+use Rattle.sat_parts.specs.prop.Asks.{PropagationInvariant, EnqueuePrecondition, IsOwnBinary}
 use Rattle.sat_parts.proofs.lemmas.prop.StateLemmas.{grows_enqueued, lit_last, negated_variable}
 use Rattle.sat_parts.proofs.lemmas.prop.ReasonLemmas.{false_before_forth}
 use Rattle.sat_parts.proofs.lemmas.prop.RoomLemmas.{room_for}
@@ -91,9 +91,9 @@ binary_length x a b =
 
 -- after an addition of a clause of two literals, which may be the next literal's reason
 pub asks_binary_added : (words refs : List ℕ) (w : Watching) (x : Binaries) (s : State) (top lit a b : ℕ) (r : Reason) → PropagationInvariant words refs w x.implied s top → a < 2 * length s.values → b < 2 * length s.values →
-    (HasLeft s (negated a) → level s (negated a) < top → (IsTrueLit s.values b × (level s b ≤ level s (negated a))) ⊎ (IsOwnBinary r lit (negated a) b × (current_level s ≤ level s (negated a)))) →
-    (HasLeft s (negated b) → level s (negated b) < top → (IsTrueLit s.values a × (level s a ≤ level s (negated b))) ⊎ (IsOwnBinary r lit (negated b) a × (current_level s ≤ level s (negated b)))) →
-    AsksForReason lit r words refs w (with_binary a b x).implied s top
+    (HasLeftQueue s (negated a) → level s (negated a) < top → (IsTrueLit s.values b × (level s b ≤ level s (negated a))) ⊎ (IsOwnBinary r lit (negated a) b × (current_level s ≤ level s (negated a)))) →
+    (HasLeftQueue s (negated b) → level s (negated b) < top → (IsTrueLit s.values a × (level s a ≤ level s (negated b))) ⊎ (IsOwnBinary r lit (negated b) a × (current_level s ≤ level s (negated b)))) →
+    EnqueuePrecondition lit r words refs w (with_binary a b x).implied s top
 asks_binary_added words refs w x s top lit a b r h small_a small_b one two =
     let first : negated a < length x.implied = omega (arith, h.ranges.room) in
     let second : negated b < length x.implied = omega (arith, h.ranges.room) in
@@ -112,7 +112,7 @@ asks_binary_added words refs w x s top lit a b r h small_a small_b one two =
       };
       binary = λ l k left d lt.
           binary_all x a b
-          (λ l m. HasLeft s l → level s l < top → (IsTrueLit s.values m × (level s m ≤ level s l)) ⊎ (IsOwnBinary r lit l m × (current_level s ≤ level s l)))
+          (λ l m. HasLeftQueue s l → level s l < top → (IsTrueLit s.values m × (level s m ≤ level s l)) ⊎ (IsOwnBinary r lit l m × (current_level s ≤ level s l)))
           first second (λ l k b f d. inl (h.binary l k f d b)) one two l k lt left d;
     }
 

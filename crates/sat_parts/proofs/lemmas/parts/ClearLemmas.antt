@@ -15,7 +15,7 @@ use Rattle.sat_parts.specs.prop.Values.{Values, value_of, IsTrueLit, IsOpenLit}
 use Rattle.sat_parts.specs.prop.Trails.{Trailed, with_lit, with_cleared}
 use Rattle.sat_parts.specs.prop.Graphs.{with_node, node_at, node_of, removed_node, new_node}
 use Rattle.sat_parts.specs.prop.WatchLists.{Watching}
-use Rattle.sat_parts.specs.prop.State.{State, node, level, lit_at, IsRemoved, HasLeft, Agrees, IsSatisfied, enqueued}
+use Rattle.sat_parts.specs.prop.State.{State, node, level, lit_at, IsRemoved, HasLeftQueue, Agrees, IsSatisfied, enqueued}
 use Rattle.sat_parts.specs.prop.Reasons.{Implies, AreInTurn}
 use Rattle.sat_parts.specs.prop.Ready.{state_of, AreWatched, AreLists}
 use Rattle.sat_parts.proofs.lemmas.prop.StateLemmas.{level_low, left_true, true_back, true_new, node_new, lit_front, agrees_enqueued, lit_from_parts}
@@ -243,7 +243,7 @@ again_level s l m h x n = elim (cases_eq (variable m) (variable l)) [
 ]
 
 -- what has left the queue had left it before, and isn't the unit
-pub again_left : (s : State) (l m : ℕ) → Agrees s → IsRemoved s l → HasLeft (enqueued l NoCause (dropped l s)) m → HasLeft s m × (m ≢ l)
+pub again_left : (s : State) (l m : ℕ) → Agrees s → IsRemoved s l → HasLeftQueue (enqueued l NoCause (dropped l s)) m → HasLeftQueue s m × (m ≢ l)
 again_left s l m h x left =
     let t : State = enqueued l NoCause (dropped l s) in
     let below : variable l < length s.values = below_from_value s.values (variable l) _ x.holds in

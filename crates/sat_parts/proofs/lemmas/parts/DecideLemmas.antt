@@ -14,7 +14,7 @@ use Rattle.sat_parts.specs.prop.Graphs.{with_node, node_at}
 use Rattle.sat_parts.specs.prop.WatchLists.{Watching}
 use Rattle.sat_parts.specs.prop.State.{State, Agrees}
 use Rattle.sat_parts.specs.prop.Ready.{state_of}
-use Rattle.sat_parts.specs.prop.Asks.{AsksAll}
+use Rattle.sat_parts.specs.prop.Asks.{PropagationPrecondition}
 use Rattle.sat_parts.specs.prop.TrailWord.{IsLevelled}
 use Rattle.sat_parts.proofs.lemmas.prop.RoomLemmas.{room_for}
 use Rattle.sat_parts.proofs.lemmas.prop.StepLemmas.{raised, agrees_raised, asks_raised, asks_for_reason, asks_enqueued}
@@ -77,7 +77,7 @@ sound_decided words db w b a g t q q' l h done n below keeps size =
     let x : IsSoundBelow words db w b a g t q (length t.starts + 1) = h.below in
     let few : length t.starts + 1 < 2 ^ 32 = few_levels s l x.asks.agrees x.levelled n below in
     let r : State = raised (state_of a g t) in
-    let up : AsksAll words db.refs w b.implied (raised (state_of a g t)) = asks_raised words db.refs w b.implied s few done x.asks in
+    let up : PropagationPrecondition words db.refs w b.implied (raised (state_of a g t)) = asks_raised words db.refs w b.implied s few done x.asks in
     let agrees : Agrees (raised (state_of a g t)) = agrees_raised s x.asks.agrees few in
     let more : length (t.starts ++ length t.lits ∷ []) ≡ length t.starts + 1 = length_push t.starts (length t.lits) in
     record {

@@ -16,7 +16,7 @@ use Rattle.sat_parts.specs.prop.Graphs.{with_nodes, new_node, node_of, is_unit}
 use Rattle.sat_parts.specs.prop.Trails.{Trailed, LevelIs}
 use Rattle.sat_parts.specs.prop.Values.{Values, value_of, with_var_count, IsTrueLit}
 use Rattle.sat_parts.specs.prop.WatchLists.{Watching, watches_of, no_watch, with_lists}
-use Rattle.sat_parts.specs.prop.State.{State, node, level, lit_at, HasLeft, IsRemoved, Agrees, IsSatisfied}
+use Rattle.sat_parts.specs.prop.State.{State, node, level, lit_at, HasLeftQueue, IsRemoved, Agrees, IsSatisfied}
 use Rattle.sat_parts.specs.prop.Reasons.{Implies}
 use Rattle.sat_parts.specs.prop.Ready.{state_of, AreWatched, HasWatch, IsGood}
 use Rattle.sat_parts.specs.parts.Round.{IsSoundBelow, RoundInvariant}
@@ -69,7 +69,7 @@ removed_grown n a g t l le small x = record {
   bottom = ap (λ (z : ImplNode). z.level) (node_same n g (variable l) small) ∙ x.bottom;
 }
 
-left_shrunk : (n : ℕ) (a : Values) (g : List ImplNode) (t : Trailed) (l : ℕ) → length a.current ≤ n → length g ≤ n → HasLeft (grown n a g t) l → HasLeft (state_of a g t) l
+left_shrunk : (n : ℕ) (a : Values) (g : List ImplNode) (t : Trailed) (l : ℕ) → length a.current ≤ n → length g ≤ n → HasLeftQueue (grown n a g t) l → HasLeftQueue (state_of a g t) l
 left_shrunk n a g t l le small h = elim h [
   | inl x ↦ inl (record { place = x.place; before = x.before; within = x.within; there = x.there })
   | inr x ↦ inr (record {

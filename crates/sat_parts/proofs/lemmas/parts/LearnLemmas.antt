@@ -16,7 +16,7 @@ use Rattle.sat_parts.specs.prop.Values.{Values, value_of, made_true, IsFalseLit,
 use Rattle.sat_parts.specs.prop.Trails.{Trailed, with_lit}
 use Rattle.sat_parts.specs.prop.Graphs.{with_node, node_at, node_of}
 use Rattle.sat_parts.specs.prop.WatchLists.{Watching, with_firsts}
-use Rattle.sat_parts.specs.prop.State.{State, level, current_level, HasLeft, Agrees, Grows, IsSatisfied, enqueued}
+use Rattle.sat_parts.specs.prop.State.{State, level, current_level, HasLeftQueue, Agrees, Grows, IsSatisfied, enqueued}
 use Rattle.sat_parts.specs.prop.Reasons.{IsFalseBefore, Implies, AreInTurn}
 use Rattle.sat_parts.specs.prop.Ready.{state_of}
 use Rattle.sat_parts.specs.prop.Asks.{IsOwnLong}
@@ -45,7 +45,7 @@ pub level_same : (s : State) (m : ℕ) → level s (negated m) ≡ level s m
 level_same s m = ap (λ u. (node_of s.nodes u).level) (negated_variable m)
 
 -- an open literal's negation hasn't left the queue
-pub open_not_left : (s : State) (m : ℕ) → Agrees s → IsOpenLit s.values m → HasLeft s (negated m) → ⊥
+pub open_not_left : (s : State) (m : ℕ) → Agrees s → IsOpenLit s.values m → HasLeftQueue s (negated m) → ⊥
 open_not_left s m h n x = some_none (left_true s (negated m) h x) (ap (λ u. value_of s.values u) (negated_variable m) ∙ n)
 
 pub pending_below : (s : State) (q : Queue) (ls : List ℕ) → IsPending s q ls → (k : ℕ) → k < length ls → get_or ls k 0 < 2 * length s.values
@@ -111,9 +111,9 @@ sound_long words words' db db' w b a g t q ls o header h x three added =
     let s : State = state_of a g t in
     let y : IsSoundBelow words db w b a g t q (length t.starts + 1) = h.below in
     let agrees : Agrees (state_of a g t) = y.asks.agrees in
-    let own : (i : ℕ) → i < 2 → HasLeft s (negated (get_or ls i 0)) → level s (negated (get_or ls i 0)) < length t.starts + 1 →
+    let own : (i : ℕ) → i < 2 → HasLeftQueue s (negated (get_or ls i 0)) → level s (negated (get_or ls i 0)) < length t.starts + 1 →
     IsSatisfied s ls (level s (negated (get_or ls i 0))) ⊎ (IsOwnLong (Long o) o × (current_level s ≤ level s (negated (get_or ls i 0)))) =
-    at_two (λ i. HasLeft s (negated (get_or ls i 0)) → level s (negated (get_or ls i 0)) < length t.starts + 1 →
+    at_two (λ i. HasLeftQueue s (negated (get_or ls i 0)) → level s (negated (get_or ls i 0)) < length t.starts + 1 →
     IsSatisfied s ls (level s (negated (get_or ls i 0))) ⊎ (IsOwnLong (Long o) o × (current_level s ≤ level s (negated (get_or ls i 0)))))
     (λ left d. absurd (open_not_left s (get_or ls 0 0) agrees x.open_first left))
     (λ left d. inr (refl, omega (arith, x.second (omega arith), level_same s (get_or ls 1 0)))) in

@@ -18,7 +18,7 @@ use Rattle.sat_parts.specs.declared.parts.load.Loaded.{Loaded}
 use Rattle.sat_parts.specs.declared.parts.load.Loaded.TheVariants.{Stored, Unit as One, Satisfied, Falsified}
 use Rattle.sat_parts.specs.parts.Whole.{state}
 use Rattle.sat_parts.specs.parts.Frame.{AddsNoUnit, SameClauses, SameState, GainsUnit, Freed, AddsOriginalClause, stores_binary, stores_long, IsUnitLit}
-use Rattle.sat_parts.specs.parts.Loading.{LoadSays}
+use Rattle.sat_parts.specs.parts.Loading.{LoadEffect}
 use Rattle.sat_parts.proofs.lemmas.parts.FrameLemmas.{carries_trans, carries_refl}
 use Rattle.sat_parts.proofs.lemmas.parts.ValueLemmas.{some_none}
 use Rattle.sat_parts.proofs.lemmas.parts.ClearLemmas.{dropped, again_true, again_back, again_level, again_size}
@@ -86,7 +86,7 @@ same_trans : (p m p' : Parts) → SameClauses p m → SameClauses m p' → SameC
 same_trans p m p' a b = (b.0 ∙ a.0, b.1 ∙ a.1, b.2 ∙ a.2)
 
 -- what becomes of a clause once units were put back
-pub says_after : (r : Loaded) (p m p' : Parts) (ls : List ℕ) → SameClauses p m → AddsNoUnit (state p) (state m) → ((v : ℕ) → value_of m.assignment.current v ≡ value_of p.assignment.current v) → LoadSays r m p' ls → LoadSays r p p' ls
+pub says_after : (r : Loaded) (p m p' : Parts) (ls : List ℕ) → SameClauses p m → AddsNoUnit (state p) (state m) → ((v : ℕ) → value_of m.assignment.current v ≡ value_of p.assignment.current v) → LoadEffect r m p' ls → LoadEffect r p p' ls
 says_after Stored p m p' ls same carries values x = stores_after p m p' ls same carries x
 says_after One p m p' ls same carries values x =
     (x.0, sym (values (variable (get_or ls 0 0))) ∙ x.1, same_trans p m p' same x.2, gains_after (get_or ls 0 0) (state p) (state m) (state p') carries x.3)
@@ -100,7 +100,7 @@ stored_size : (p p' : Parts) (ls : List ℕ) → AddsOriginalClause p p' ls → 
 stored_size p p' ls (stores_binary two a b c carries) = carries.size
 stored_size p p' ls (stores_long three o adds b carries) = carries.size
 
-pub says_size : (r : Loaded) (p p' : Parts) (ls : List ℕ) → LoadSays r p p' ls → length p'.assignment.current ≡ length p.assignment.current
+pub says_size : (r : Loaded) (p p' : Parts) (ls : List ℕ) → LoadEffect r p p' ls → length p'.assignment.current ≡ length p.assignment.current
 says_size Stored p p' ls says = stored_size p p' ls says
 says_size One p p' ls says = says.3.size
 says_size Satisfied p p' ls says = says.1.size
@@ -111,7 +111,7 @@ stored_units : (p p' : Parts) (ls : List ℕ) → AddsOriginalClause p p' ls →
 stored_units p p' ls (stores_binary two a b c carries) l u = carries.units l u
 stored_units p p' ls (stores_long three o adds b carries) l u = carries.units l u
 
-pub says_units : (r : Loaded) (p p' : Parts) (ls : List ℕ) → LoadSays r p p' ls → (l : ℕ) → IsUnitLit (state p') l → IsUnitLit (state p) l ⊎ ((0 < length ls) × (l ≡ get_or ls 0 0))
+pub says_units : (r : Loaded) (p p' : Parts) (ls : List ℕ) → LoadEffect r p p' ls → (l : ℕ) → IsUnitLit (state p') l → IsUnitLit (state p) l ⊎ ((0 < length ls) × (l ≡ get_or ls 0 0))
 says_units Stored p p' ls says l u = inl (stored_units p p' ls says l u)
 says_units One p p' ls says l u = elim (says.3.units l u) [ inl o ↦ inl o | inr e ↦ inr (omega (arith, says.0), e) ]
 says_units Satisfied p p' ls says l u = inl (says.1.units l u)

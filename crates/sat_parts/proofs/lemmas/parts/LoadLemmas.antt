@@ -13,7 +13,7 @@ use Rattle.sat_parts.specs.prop.Binaries.{Binaries, implied_by, with_binary}
 use Rattle.sat_parts.specs.prop.Values.{Values, value_of, assigned, IsTrueLit}
 use Rattle.sat_parts.specs.prop.Trails.{Trailed}
 use Rattle.sat_parts.specs.prop.WatchLists.{Watching, with_firsts}
-use Rattle.sat_parts.specs.prop.State.{State, level, HasLeft, Agrees, IsSatisfied}
+use Rattle.sat_parts.specs.prop.State.{State, level, HasLeftQueue, Agrees, IsSatisfied}
 use Rattle.sat_parts.specs.prop.Ready.{state_of, AreWatched, AreLists}
 use Rattle.sat_parts.proofs.lemmas.prop.CallLemmas.{asks_added, asks_of_unit}
 use Rattle.sat_parts.proofs.lemmas.prop.WordLemmas.{levels_stay}
@@ -118,7 +118,7 @@ sound_freed words db w b a g t q v h bottom empty below unused =
         | inr x ↦ inr (record { holds = holds; depth = x.depth; bottom = x.bottom })
       ];
     } in
-    let left : (m : ℕ) → HasLeft (lost_value v (state_of a g t)) m → HasLeft s m = λ m x. elim x [
+    let left : (m : ℕ) → HasLeftQueue (lost_value v (state_of a g t)) m → HasLeftQueue s m = λ m x. elim x [
       | inl z ↦ absurd (omega (arith, z.within))
       | inr z ↦ inr (record { holds = (lost_true s v m below z.holds).1; depth = z.depth; bottom = z.bottom })
     ] in

@@ -14,7 +14,7 @@ use Rattle.sat_parts.specs.prop.Graphs.{removed_node, with_node, new_node}
 use Rattle.sat_parts.specs.prop.Values.{Values, made_true, IsTrueLit, IsOpenLit}
 use Rattle.sat_parts.specs.prop.Trails.{Trailed, LevelIs}
 use Rattle.sat_parts.specs.prop.WatchLists.{Watching}
-use Rattle.sat_parts.specs.prop.State.{State, node, level, lit_at, HasLeft, IsRemoved, Agrees, IsSatisfied}
+use Rattle.sat_parts.specs.prop.State.{State, node, level, lit_at, HasLeftQueue, IsRemoved, Agrees, IsSatisfied}
 use Rattle.sat_parts.specs.prop.Ready.{state_of, AreWatched, AreLists}
 use Rattle.sat_parts.specs.prop.Reasons.{Implies}
 use Rattle.sat_parts.proofs.lemmas.prop.StateLemmas.{left_true, negated_variable, open_other, true_kept, true_back, true_new}
@@ -55,7 +55,7 @@ removed_back s l m below x = elim (true_back s l m NoCause below x.holds) [
   | inr y ↦ inr (record { holds = y.1; depth = sym (ap (λ (z : ImplNode). z.depth) (other_node s l m y.0)) ∙ x.depth; bottom = sym (ap (λ (z : ImplNode). z.level) (other_node s l m y.0)) ∙ x.bottom })
 ]
 
-left_back : (s : State) (l m : ℕ) → variable l < length s.values → HasLeft (restored l s) m → (m ≡ l) ⊎ HasLeft s m
+left_back : (s : State) (l m : ℕ) → variable l < length s.values → HasLeftQueue (restored l s) m → (m ≡ l) ⊎ HasLeftQueue s m
 left_back s l m below h = elim h [
   | inl x ↦ inr (inl (record { place = x.place; before = x.before; within = x.within; there = x.there }))
   | inr x ↦ elim (removed_back s l m below x) [ inl e ↦ inl e | inr y ↦ inr (inr y) ]

@@ -18,7 +18,7 @@ use Rattle.sat_parts.specs.prop.Values.{Values, IsTrueLit}
 use Rattle.sat_parts.specs.declared.prop.watch.Watch.{Watch}
 use Rattle.sat_parts.specs.prop.Trails.{Trailed}
 use Rattle.sat_parts.specs.prop.WatchLists.{Watching, watches_of, no_watch}
-use Rattle.sat_parts.specs.prop.State.{State, node, level, lit_at, HasLeft, IsSatisfied}
+use Rattle.sat_parts.specs.prop.State.{State, node, level, lit_at, HasLeftQueue, IsSatisfied}
 use Rattle.sat_parts.specs.prop.Reasons.{IsFalseBefore, Implies, PropagatesOn}
 use Rattle.sat_parts.specs.prop.Ready.{state_of, AreWatched, HasWatch}
 use Rattle.sat_parts.specs.prop.Asks.{PropagationInvariant}
@@ -75,7 +75,7 @@ asks_shuffled words words' refs w implied s top o h c x first second =
           (subst (λ (xs : List ℕ). Contains xs p) (sym e) z.0, two p 0 z.0 (omega arith) ∙ z.1);
       settled = λ p i d b.
           let f : Contains (live_refs words refs) p = old_in p d in
-          subst (λ m. HasLeft s (negated m) → level s (negated m) < top → IsSatisfied s (lits_at words' p) (level s (negated m))) (sym (two p i f b))
+          subst (λ m. HasLeftQueue s (negated m) → level s (negated m) < top → IsSatisfied s (lits_at words' p) (level s (negated m))) (sym (two p i f b))
           (λ left due. satisfied p (level s (negated (lit_of words p i))) f (h.settled p i f b left due));
       ranges = h.ranges;
       binary = h.binary;
@@ -116,7 +116,7 @@ shorter_turn words words' live live' implied s i o len (Long p) e same first h =
 -- (e) a clause whose first two literals aren't false by a literal that has left the queue is shortened
 pub sound_shortened : (words words' : List ℕ) (db : Db) (w w' : Watching) (b : Binaries) (a : Values) (g : List ImplNode) (t : Trailed) (q : Queue) (o len : ℕ) →
     RoundInvariant words db w b a g t q → Contains (live_refs words db.refs) o → 3 ≤ len → len ≤ size_of words o → ShortensClause words db words' o len → w' ≡ record w { enabled = false } →
-    ((i : ℕ) → i < 2 → HasLeft (state_of a g t) (negated (lit_of words o i)) → ⊥) → RoundInvariant words' db w' b a g t q
+    ((i : ℕ) → i < 2 → HasLeftQueue (state_of a g t) (negated (lit_of words o i)) → ⊥) → RoundInvariant words' db w' b a g t q
 sound_shortened words words' db w w' b a g t q o len h c three le x to_w fresh =
     let s : State = state_of a g t in
     let y : IsSoundBelow words db w b a g t q (length t.starts + 1) = h.below in
@@ -153,9 +153,9 @@ sound_shortened words words' db w w' b a g t q o len h c three le x to_w fresh =
               let d : Contains (live_refs words' db.refs) p = subst (λ (xs : List ℕ). Contains xs p) (sym x.live) f.0 in
               (d, first_same p d ∙ f.1);
           settled = λ p i d b.
-              from (λ z ls. HasLeft s (negated (get_or ls i 0)) → level s (negated (get_or ls i 0)) < length t.starts + 1 → IsSatisfied s ls (level s (negated (get_or ls i 0))))
+              from (λ z ls. HasLeftQueue s (negated (get_or ls i 0)) → level s (negated (get_or ls i 0)) < length t.starts + 1 → IsSatisfied s ls (level s (negated (get_or ls i 0))))
               (λ z f left due. y.asks.settled z i f b left due)
-              (λ left due. absurd (fresh i b (subst (λ m. HasLeft s (negated m)) (at i (omega arith)) left))) p d;
+              (λ left due. absurd (fresh i b (subst (λ m. HasLeftQueue s (negated m)) (at i (omega arith)) left))) p d;
           ranges = y.asks.ranges;
           binary = y.asks.binary;
         };
@@ -179,7 +179,7 @@ sound_shortened words words' db w w' b a g t q o len h c three le x to_w fresh =
 
 -- a live clause without a true literal isn't false in its first two by literals that have left the queue
 pub fresh_unsatisfied : (words : List ℕ) (db : Db) (w : Watching) (b : Binaries) (a : Values) (g : List ImplNode) (t : Trailed) (q : Queue) (o : ℕ) → RoundInvariant words db w b a g t q → Contains (live_refs words db.refs) o →
-    ((k : ℕ) → k < size_of words o → IsTrueLit a.current (lit_of words o k) → ⊥) → (i : ℕ) → i < 2 → HasLeft (state_of a g t) (negated (lit_of words o i)) → ⊥
+    ((k : ℕ) → k < size_of words o → IsTrueLit a.current (lit_of words o k) → ⊥) → (i : ℕ) → i < 2 → HasLeftQueue (state_of a g t) (negated (lit_of words o i)) → ⊥
 fresh_unsatisfied words db w b a g t q o h c none i lt left =
     let s : State = state_of a g t in
     let m : ℕ = negated (lit_of words o i) in

@@ -17,10 +17,10 @@ use Rattle.sat_parts.specs.prop.Undone.{lost, undone, undone_to}
 use Rattle.sat_parts.specs.prop.Binaries.{implied_by}
 use Rattle.sat_parts.specs.prop.WatchLists.{Watching}
 use Rattle.sat_parts.specs.prop.Backtracked.{KeepsLow}
-use Rattle.sat_parts.specs.prop.State.{State, node, level, lit_at, IsRemoved, IsBefore, HasLeft, Agrees, IsQueueCurrent, IsSatisfied}
+use Rattle.sat_parts.specs.prop.State.{State, node, level, lit_at, IsRemoved, IsBefore, HasLeftQueue, Agrees, IsQueueCurrent, IsSatisfied}
 use Rattle.sat_parts.specs.prop.Reasons.{IsFalseBefore, Implies, AreInTurn}
 use Rattle.sat_parts.specs.prop.Ready.{AreWatched, AreLists}
-use Rattle.sat_parts.specs.prop.Asks.{PropagationInvariant, AsksAll}
+use Rattle.sat_parts.specs.prop.Asks.{PropagationInvariant, PropagationPrecondition}
 use Rattle.sat_parts.proofs.lemmas.prop.StateLemmas.{left_true}
 use Rattle.sat_parts.proofs.lemmas.prop.RoomLemmas.{places_apart}
 
@@ -285,7 +285,7 @@ head_behind v a nodes t h q lt = elim (cases_lt t.head (length t.lits)) [
 ]
 
 left_after : (v : ℕ) (a : Values) (nodes : List ImplNode) (t : Trailed) (m : ℕ) → Agrees (before a nodes t) → IsQueueCurrent (before a nodes t) → v < length t.starts →
-    HasLeft (after v a nodes t) m → HasLeft (before a nodes t) m × (level (before a nodes t) m ≤ v)
+    HasLeftQueue (after v a nodes t) m → HasLeftQueue (before a nodes t) m × (level (before a nodes t) m ≤ v)
 left_after v a nodes t m h q lt f =
     let x : IsTrueLit a.current m × IsKept v a nodes t m = true_kept v a nodes t m h lt (left_true (after v a nodes t) m (agrees_after v a nodes t h lt) f) in
     let le : cut_at v t ≤ t.head = head_behind v a nodes t h q lt in (
@@ -307,7 +307,7 @@ satisfied_after v a nodes t ls bound h lt le x = record {
 
 -- what propagation asks holds once the levels above this one are undone, where it held for those that are left
 pub asks_after : (words refs : List ℕ) (w : Watching) (implied : List (List ℕ)) (v : ℕ) (a : Values) (nodes : List ImplNode) (t : Trailed) (top : ℕ) →
-    PropagationInvariant words refs w implied (before a nodes t) top → v < length t.starts → v < top → AsksAll words refs w implied (after v a nodes t)
+    PropagationInvariant words refs w implied (before a nodes t) top → v < length t.starts → v < top → PropagationPrecondition words refs w implied (after v a nodes t)
 asks_after words refs w implied v a nodes t top h lt below =
     let s : State = before a nodes t in
     let n : length (take (cut_at v t) t.lits) ≡ cut_at v t = cut_length v a nodes t h.agrees lt in
@@ -326,11 +326,11 @@ asks_after words refs w implied v a nodes t top h lt below =
           h.firsts i o (omega (arith, cut_within v a nodes t h.agrees lt)) (ap (λ z. (node s z).reason) (sym l) ∙ e) in
           (x.0, x.1 ∙ sym l);
       settled = λ o i ho hi f d.
-          let x : HasLeft s (negated (lit_of words o i)) × (level s (negated (lit_of words o i)) ≤ v) = left_after v a nodes t (negated (lit_of words o i)) h.agrees h.queue lt f in
+          let x : HasLeftQueue s (negated (lit_of words o i)) × (level s (negated (lit_of words o i)) ≤ v) = left_after v a nodes t (negated (lit_of words o i)) h.agrees h.queue lt f in
           satisfied_after v a nodes t (lits_at words o) (level s (negated (lit_of words o i))) h.agrees lt x.1 (h.settled o i ho hi x.0 (omega (arith, x.1)));
       ranges = subst (λ (z : ℕ). AreLists implied z) (sym size) h.ranges;
       binary = λ l k f d b.
-          let x : HasLeft s l × (level s l ≤ v) = left_after v a nodes t l h.agrees h.queue lt f in
+          let x : HasLeftQueue s l × (level s l ≤ v) = left_after v a nodes t l h.agrees h.queue lt f in
           let y : IsTrueLit a.current (get_or (implied_by implied l) k 0) × (level s (get_or (implied_by implied l) k 0) ≤ level s l) = h.binary l k x.0 (omega (arith, x.1)) b in (
             kept_true v a nodes t (get_or (implied_by implied l) k 0) h.agrees lt
                 (low_kept v a nodes t (get_or (implied_by implied l) k 0) h.agrees lt y.0 (omega (arith, y.1, x.1))) y.0,

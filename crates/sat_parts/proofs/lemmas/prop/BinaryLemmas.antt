@@ -8,7 +8,7 @@ use Rattle.sat_parts.specs.declared.prop.graph.Reason.{Reason}
 use Rattle.sat_parts.specs.declared.prop.graph.Reason.TheVariants.{Binary}
 use Rattle.sat_parts.specs.prop.Values.{IsTrueLit, IsFalseLit, IsOpenLit, value_of}
 use Rattle.sat_parts.specs.prop.Binaries.{implied_by}
-use Rattle.sat_parts.specs.prop.State.{State, level, current_level, lit_at, IsRemoved, IsBefore, HasLeft, Agrees, IsQueueCurrent, enqueued, Grows}
+use Rattle.sat_parts.specs.prop.State.{State, level, current_level, lit_at, IsRemoved, IsBefore, HasLeftQueue, Agrees, IsQueueCurrent, enqueued, Grows}
 use Rattle.sat_parts.specs.prop.Reasons.{Implies}
 use Rattle.sat_parts.specs.prop.Ready.{AreLists}
 use Rattle.sat_parts.specs.prop.Walk.{BinaryWalk}
@@ -16,7 +16,7 @@ use Rattle.sat_parts.proofs.lemmas.prop.StateLemmas.{negated_twice, false_from_t
 use Rattle.sat_parts.proofs.lemmas.prop.RoomLemmas.{room_for}
 use Rattle.sat_parts.proofs.lemmas.prop.ReasonLemmas.{moves_refl, moves_enqueued, moves_trans}
 
-pub binary_open : (implied : List (List ℕ)) (lit : ℕ) (s : State) → Agrees s → IsQueueCurrent s → HasLeft s lit → level s lit ≡ current_level s → BinaryWalk implied lit s s 0
+pub binary_open : (implied : List (List ℕ)) (lit : ℕ) (s : State) → Agrees s → IsQueueCurrent s → HasLeftQueue s lit → level s lit ≡ current_level s → BinaryWalk implied lit s s 0
 binary_open implied lit s a q left top = record {
   agrees = a;
   queue = q;
@@ -46,7 +46,7 @@ binary_true implied lit s t at h holds = record {
 }
 
 -- what has left the queue is on the trail or was taken off
-so_far : (s : State) (l : ℕ) → HasLeft s l → IsBefore s (length s.trail.lits) l ⊎ IsRemoved s l
+so_far : (s : State) (l : ℕ) → HasLeftQueue s l → IsBefore s (length s.trail.lits) l ⊎ IsRemoved s l
 so_far s l h = elim h [
   | inl b ↦ inl (record { place = b.place; before = b.within; within = b.within; there = b.there })
   | inr r ↦ inr r

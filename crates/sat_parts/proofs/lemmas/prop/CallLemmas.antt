@@ -18,9 +18,9 @@ use Rattle.sat_parts.specs.clause.Stored.{lit_of}
 use Rattle.sat_parts.specs.prop.Values.{is_unset, IsTrueLit}
 use Rattle.sat_parts.specs.prop.Binaries.{Binaries, implied_by, open_among, RemovesAssigned}
 use Rattle.sat_parts.specs.prop.WatchLists.{Watching, no_watch, watch_on, watches_of, more_at, with_watch, with_clause_watches}
-use Rattle.sat_parts.specs.prop.State.{State, node, level, current_level, lit_at, HasLeft, IsSatisfied}
+use Rattle.sat_parts.specs.prop.State.{State, node, level, current_level, lit_at, HasLeftQueue, IsSatisfied}
 use Rattle.sat_parts.specs.prop.Ready.{IsGood, HasWatch, AreWatched}
-use Rattle.sat_parts.specs.prop.Asks.{PropagationInvariant, AsksForReason, IsOwnLong}
+use Rattle.sat_parts.specs.prop.Asks.{PropagationInvariant, EnqueuePrecondition, IsOwnLong}
 use Rattle.sat_parts.proofs.lemmas.clause.ListLemmas.{place_in, at_place}
 use Rattle.sat_parts.proofs.lemmas.clause.FilterLemmas.{filtered_in}
 use Rattle.sat_parts.proofs.lemmas.prop.BuildLemmas.{live_in}
@@ -48,14 +48,14 @@ asks_fewer words refs words' refs' w w' implied s top h laid same room watched r
       let c : Contains (live_refs words' refs') o = reasons i o lt e in
       (c, ap (λ (ls : List ℕ). get_or ls 0 0) (same o c).1 ∙ (h.firsts i o lt e).1);
   settled = λ o i c b.
-      subst (λ (ls : List ℕ). HasLeft s (negated (get_or ls i 0)) → level s (negated (get_or ls i 0)) < top → IsSatisfied s ls (level s (negated (get_or ls i 0)))) (sym (same o c).1)
+      subst (λ (ls : List ℕ). HasLeftQueue s (negated (get_or ls i 0)) → level s (negated (get_or ls i 0)) < top → IsSatisfied s ls (level s (negated (get_or ls i 0)))) (sym (same o c).1)
       (h.settled o i (same o c).0 b);
   ranges = h.ranges;
   binary = h.binary;
 }
 
 -- what is asked for a reason of no clause is what is asked
-pub asks_of_unit : (words refs : List ℕ) (w : Watching) (implied : List (List ℕ)) (s : State) (top lit : ℕ) → AsksForReason lit NoCause words refs w implied s top → PropagationInvariant words refs w implied s top
+pub asks_of_unit : (words refs : List ℕ) (w : Watching) (implied : List (List ℕ)) (s : State) (top lit : ℕ) → EnqueuePrecondition lit NoCause words refs w implied s top → PropagationInvariant words refs w implied s top
 asks_of_unit words refs w implied s top lit h = record {
   laid = h.laid;
   clauses = h.clauses;
@@ -134,9 +134,9 @@ watched_added words words' db db' o count header lits w x laid three below on h 
 -- literals that are watched and have left the queue are settled, or of the current level
 pub asks_added : (words words' : List ℕ) (db db' : Db) (o : ℕ) (header : Header) (lits : List ℕ) (w : Watching) (implied : List (List ℕ)) (s : State) (top lit : ℕ) (r : Reason) →
     PropagationInvariant words db.refs w implied s top → AddsLongClause words db words' db' o header lits → AreDistinct lits → 3 ≤ length lits → ((k : ℕ) → k < length lits → get_or lits k 0 < 2 * length s.values) →
-    ((i : ℕ) → i < 2 → HasLeft s (negated (get_or lits i 0)) → level s (negated (get_or lits i 0)) < top →
+    ((i : ℕ) → i < 2 → HasLeftQueue s (negated (get_or lits i 0)) → level s (negated (get_or lits i 0)) < top →
     IsSatisfied s lits (level s (negated (get_or lits i 0))) ⊎ (IsOwnLong r o × (current_level s ≤ level s (negated (get_or lits i 0))))) →
-    AsksForReason lit r words' db'.refs (with_clause_watches o (get_or lits 0 0) (get_or lits 1 0) w) implied s top
+    EnqueuePrecondition lit r words' db'.refs (with_clause_watches o (get_or lits 0 0) (get_or lits 1 0) w) implied s top
 asks_added words words' db db' o header lits w implied s top lit r h x apart three below own =
     let live : List ℕ = live_refs words db.refs in
     let keeps : (p : ℕ) → Contains (live_refs words db.refs) p → lits_at words' p ≡ lits_at words p = λ p c. (x.added.others p (h.laid.clauses p (live_in words db.refs p c))).lits in
@@ -165,7 +165,7 @@ asks_added words words' db db' o header lits w implied s top lit r h x apart thr
           let f : Contains (live_refs words db.refs) p × (lit_of words p 0 ≡ lit_at s i) = h.firsts i p lt e in
           (old_in p f.0, ap (λ (ls : List ℕ). get_or ls 0 0) (keeps p f.0) ∙ f.1);
       settled = λ p i c b.
-          from (λ q ls. HasLeft s (negated (get_or ls i 0)) → level s (negated (get_or ls i 0)) < top →
+          from (λ q ls. HasLeftQueue s (negated (get_or ls i 0)) → level s (negated (get_or ls i 0)) < top →
           IsSatisfied s ls (level s (negated (get_or ls i 0))) ⊎ (IsOwnLong r q × (current_level s ≤ level s (negated (get_or ls i 0)))))
           (λ q d f g. inl (h.settled q i d b f g)) (own i b) p c;
       ranges = h.ranges;

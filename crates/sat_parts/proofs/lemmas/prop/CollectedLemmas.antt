@@ -14,7 +14,7 @@ use Rattle.sat_parts.specs.clause.Collected.{FollowsClause, Collects}
 use Rattle.sat_parts.specs.clause.Stored.{lit_of}
 use Rattle.sat_parts.specs.prop.Trails.{LevelIs}
 use Rattle.sat_parts.specs.prop.WatchLists.{Watching}
-use Rattle.sat_parts.specs.prop.State.{State, node, level, lit_at, IsRemoved, HasLeft, Agrees, IsSatisfied}
+use Rattle.sat_parts.specs.prop.State.{State, node, level, lit_at, IsRemoved, HasLeftQueue, Agrees, IsSatisfied}
 use Rattle.sat_parts.specs.prop.Asks.{PropagationInvariant}
 use Rattle.sat_parts.proofs.lemmas.prop.BuildLemmas.{live_in}
 use Rattle.sat_parts.proofs.lemmas.clause.ListLemmas.{at_place, place_in}
@@ -33,7 +33,7 @@ removed_on : (words : List ℕ) (db : Db) (s : State) (words' : List ℕ) (db' :
 removed_on words db s words' db' nodes' l x r = record { holds = r.holds; depth = x.depths (variable l) ∙ r.depth; bottom = x.levels (variable l) ∙ r.bottom }
 
 left_back : (words : List ℕ) (db : Db) (s : State) (words' : List ℕ) (db' : Db) (nodes' : List ImplNode) (l : ℕ) → Collects words db s.nodes s.trail.lits words' db' nodes' →
-    HasLeft (with_graph s nodes') l → HasLeft s l
+    HasLeftQueue (with_graph s nodes') l → HasLeftQueue s l
 left_back words db s words' db' nodes' l x h = elim h [
   | inl b ↦ inl (record { place = b.place; before = b.before; within = b.within; there = b.there })
   | inr r ↦ inr (removed_back words db s words' db' nodes' l x r)
@@ -93,7 +93,7 @@ asks_collected words db s words' db' nodes' w w' implied top x off size h =
           followed_first words (live_refs words db.refs) words' db'.refs (lit_at s i) o (node s (lit_at s i)).reason (node t (lit_at s i)).reason x.copies.size x.copies.lits (λ p q. (h.firsts i p lt q).1) (x.reasons i lt) e in
           (subst (λ (xs : List ℕ). Contains xs o) (sym x.live) f.0, f.1);
       settled = λ p i c b.
-          from (λ ls. HasLeft t (negated (get_or ls i 0)) → level t (negated (get_or ls i 0)) < top → IsSatisfied t ls (level t (negated (get_or ls i 0))))
+          from (λ ls. HasLeftQueue t (negated (get_or ls i 0)) → level t (negated (get_or ls i 0)) < top → IsSatisfied t ls (level t (negated (get_or ls i 0))))
           (λ q d f g.
           let n : level t (negated (lit_of words q i)) ≡ level s (negated (lit_of words q i)) = x.levels (variable (negated (lit_of words q i))) in
           let y : IsSatisfied s (lits_at words q) (level s (negated (lit_of words q i))) = h.settled q i d b (left_back words db s words' db' nodes' (negated (lit_of words q i)) x f) (omega arith) in

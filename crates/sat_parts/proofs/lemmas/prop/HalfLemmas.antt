@@ -9,7 +9,7 @@ use Rattle.sat_parts.specs.clause.Orders.{Shuffled, Shuffles}
 use Rattle.sat_parts.specs.clause.Stored.{AreClauses, lit_of, size_of}
 use Rattle.sat_parts.specs.prop.Values.{IsTrueLit, IsFalseLit}
 use Rattle.sat_parts.specs.prop.WatchLists.{no_watch, watch_on, more_at}
-use Rattle.sat_parts.specs.prop.State.{State, level, HasLeft, Agrees, IsQueueCurrent, IsSatisfied, Grows}
+use Rattle.sat_parts.specs.prop.State.{State, level, HasLeftQueue, Agrees, IsQueueCurrent, IsSatisfied, Grows}
 use Rattle.sat_parts.specs.prop.Ready.{HasLit}
 use Rattle.sat_parts.specs.prop.Walk.{HasWatchFrom, AreWalked, Half, IsOther}
 use Rattle.sat_parts.proofs.lemmas.clause.OrderLemmas.{kept_clauses, reorders_one}
@@ -50,7 +50,7 @@ half_kept w v live s lists list lit kept at p l h lt at_p e two has sat =
       settled = λ o i ho hi f.
           let m : (j : ℕ) × ((j < 2) × (lit_of v o i ≡ lit_of w o j)) = first_two w v live (length s.values) p o h.clauses hp e ho two i hi in
           let n : negated (lit_of v o i) ≡ negated (lit_of w o m.0) = ap (λ z. negated z) m.1.1 in
-          elim (h.settled o m.0 ho m.1.0 (subst (λ (z : ℕ). HasLeft s z) n f)) [
+          elim (h.settled o m.0 ho m.1.0 (subst (λ (z : ℕ). HasLeftQueue s z) n f)) [
             | inl t ↦ inl (subst (λ (z : ℕ). IsSatisfied s (lits_at v o) (level s z)) (sym n)
                 (satisfied_order s (lits_at w o) (lits_at v o) (level s (negated (lit_of w o m.0))) (shuffled_all w v live (length s.values) p o h.clauses hp e ho) t))
             | inr t ↦ elim (cases_eq t.1.0 at) [
@@ -95,15 +95,15 @@ pub half_moved : (w v live : List ℕ) (s : State) (lists : List (List Watch)) (
 half_moved w v live s lists list lit kept at p h lt at_p e other opened =
     let hp : Contains live p = place_live w live s lists list lit kept at p h lt at_p in
     let c' : AreClauses v live (length s.values) = kept_clauses w v live (length s.values) h.clauses (reorders_one w v live p hp e) in
-    let not_left : HasLeft s (negated (lit_of v p 1)) → ⊥ = λ f.
+    let not_left : HasLeftQueue s (negated (lit_of v p 1)) → ⊥ = λ f.
     opened (subst (λ (z : ℕ). IsFalseLit s.values z) (negated_twice (lit_of v p 1)) (false_from_true s.values (negated (lit_of v p 1)) (left_true s (negated (lit_of v p 1)) h.agrees f))) in
-    let new : negated (lit_of v p 1) ≢ lit = λ r. not_left (subst (λ (z : ℕ). HasLeft s z) (sym r) h.left) in
+    let new : negated (lit_of v p 1) ≢ lit = λ r. not_left (subst (λ (z : ℕ). HasLeftQueue s z) (sym r) h.left) in
     let long : 3 ≤ size_of w p = h.clauses.long p hp in
     let first_ne : negated (lit_of v p 0) ≢ lit = first_other w v p lit (h.clauses.distinct p hp) (omega arith) other in
-    let S : ℕ → ℕ → Type 0 = λ o i. HasLeft s (negated (lit_of v o i)) → IsSatisfied s (lits_at v o) (level s (negated (lit_of v o i))) ⊎ ((negated (lit_of v o i) ≡ lit) × HasWatchFrom list (at + 1) o) in
+    let S : ℕ → ℕ → Type 0 = λ o i. HasLeftQueue s (negated (lit_of v o i)) → IsSatisfied s (lits_at v o) (level s (negated (lit_of v o i))) ⊎ ((negated (lit_of v o i) ≡ lit) × HasWatchFrom list (at + 1) o) in
     let from_old : (j : ℕ) → j < 2 → lit_of v p 0 ≡ lit_of w p j → S p 0 = λ j hj q f.
     let n : negated (lit_of v p 0) ≡ negated (lit_of w p j) = ap (λ z. negated z) q in
-    elim (h.settled p j hp hj (subst (λ (z : ℕ). HasLeft s z) n f)) [
+    elim (h.settled p j hp hj (subst (λ (z : ℕ). HasLeftQueue s z) n f)) [
       | inl t ↦ inl (subst (λ (z : ℕ). IsSatisfied s (lits_at v p) (level s z)) (sym n) (satisfied_order s (lits_at w p) (lits_at v p) (level s (negated (lit_of w p j))) e.lits t))
       | inr t ↦ absurd (first_ne (n ∙ t.0))
     ] in
@@ -121,7 +121,7 @@ half_moved w v live s lists list lit kept at p h lt at_p e other opened =
         | inr d ↦ λ f.
             let ls : lits_at v o ≡ lits_at w o = same_lits w v live (length s.values) p o h.clauses hp e ho d in
             let n : negated (lit_of v o i) ≡ negated (lit_of w o i) = ap (λ (xs : List ℕ). negated (get_or xs i 0)) ls in
-            elim (h.settled o i ho hi (subst (λ (z : ℕ). HasLeft s z) n f)) [
+            elim (h.settled o i ho hi (subst (λ (z : ℕ). HasLeftQueue s z) n f)) [
               | inl t ↦ inl (subst (λ (z : ℕ). IsSatisfied s (lits_at v o) (level s z)) (sym n) (subst (λ (xs : List ℕ). IsSatisfied s xs (level s (negated (lit_of w o i)))) (sym ls) t))
               | inr t ↦
                   let k : t.1.0 ≢ at = λ z. d (at_p ∙ ap (λ q. (get_or list q no_watch).cref) (sym z) ∙ t.1.1.2) in
@@ -143,7 +143,7 @@ half_grows w live s t lists list lit kept at h g e a q =
       top = level_kept s t lit g lt ∙ h.top ∙ ap (λ (xs : List ℕ). length xs) (sym g.starts);
       walked = subst (λ (n : ℕ). AreWalked w live lists list lit kept at n) (sym g.size) h.walked;
       settled = λ o i ho hi f.
-          let f' : HasLeft s (negated (lit_of w o i)) = left_back s t (negated (lit_of w o i)) g e h.agrees.trail f in
+          let f' : HasLeftQueue s (negated (lit_of w o i)) = left_back s t (negated (lit_of w o i)) g e h.agrees.trail f in
           let same : level t (negated (lit_of w o i)) ≡ level s (negated (lit_of w o i)) = level_kept s t (negated (lit_of w o i)) g (left_true s (negated (lit_of w o i)) h.agrees f') in
           elim (h.settled o i ho hi f') [
             | inl x ↦ inl (satisfied_forth s t (lits_at w o) (level t (negated (lit_of w o i))) g (subst (λ (n : ℕ). IsSatisfied s (lits_at w o) n) (sym same) x))

@@ -11,7 +11,7 @@ use Rattle.sat_parts.specs.declared.prop.watch.Watch.{Watch}
 use Rattle.sat_parts.specs.clause.Stored.{AreClauses, lit_of, size_of}
 use Rattle.sat_parts.specs.prop.Values.{IsTrueLit, IsFalseLit}
 use Rattle.sat_parts.specs.prop.Binaries.{implied_by}
-use Rattle.sat_parts.specs.prop.State.{State, node, level, current_level, lit_at, IsRemoved, IsBefore, HasLeft, Agrees, IsQueueCurrent, IsSatisfied, Grows}
+use Rattle.sat_parts.specs.prop.State.{State, node, level, current_level, lit_at, IsRemoved, IsBefore, HasLeftQueue, Agrees, IsQueueCurrent, IsSatisfied, Grows}
 use Rattle.sat_parts.specs.prop.Reasons.{HaveFirsts, PropagatesOn}
 use Rattle.sat_parts.specs.prop.Ready.{AreImplied, AreWatched, AreLists, LongReady, ReadyBelow, IsReadyToPropagate, IsUnitFixpoint, IsConflict}
 use Rattle.sat_parts.specs.prop.Walk.{BinaryWalk, Walks, due_after}
@@ -68,11 +68,11 @@ next_there s l e =
     let lt : s.trail.head < length s.trail.lits = slice_get_within s.trail.lits s.trail.head l e in
     (lt, (let x : Some (lit_at s s.trail.head) ≡ Some l = sym (slice_get-get_or s.trail.lits s.trail.head 0 lt) ∙ e in cc))
 
-pub popped_left : (s : State) (l : ℕ) → s.trail.head < length s.trail.lits → lit_at s s.trail.head ≡ l → HasLeft (popped s) l
+pub popped_left : (s : State) (l : ℕ) → s.trail.head < length s.trail.lits → lit_at s s.trail.head ≡ l → HasLeftQueue (popped s) l
 popped_left s l lt e = inl (record { place = s.trail.head; before = omega arith; within = lt; there = e })
 
 -- what has left the queue then is that literal, or had left it before
-pub popped_back : (s : State) (l m : ℕ) → lit_at s s.trail.head ≡ l → HasLeft (popped s) m → m ≢ l → HasLeft s m
+pub popped_back : (s : State) (l m : ℕ) → lit_at s s.trail.head ≡ l → HasLeftQueue (popped s) m → m ≢ l → HasLeftQueue s m
 popped_back s l m e h n = elim h [
   | inl b ↦ elim (cases_eq b.place s.trail.head) [
     | inl q ↦ absurd (n (sym b.there ∙ ap (λ i. lit_at s i) q ∙ e))
@@ -85,7 +85,7 @@ pub queue_popped : (s : State) → IsQueueCurrent s → IsQueueCurrent (popped s
 queue_popped s q i x y = q i (omega arith) y
 
 -- each literal that has left the queue is due below one more than the current level
-all_due : (s : State) (l : ℕ) → Agrees s → HasLeft s l → level s l < current_level s + 1
+all_due : (s : State) (l : ℕ) → Agrees s → HasLeftQueue s l → level s l < current_level s + 1
 all_due s l a h = omega (arith, level_low s l a (left_true s l a h))
 
 pub long_popped : (w live : List ℕ) (lists : List (List Watch)) (s : State) (l : ℕ) → LongReady w live lists s (λ m. level s m < current_level s + 1) →
@@ -96,14 +96,14 @@ long_popped w live lists s l h lt e = record {
   agrees = agrees_popped s h.agrees lt;
   queue = queue_popped s h.queue;
   settled = λ o i ho hi f n.
-      let x : HasLeft s (negated (lit_of w o i)) = popped_back s l (negated (lit_of w o i)) e f n in
+      let x : HasLeftQueue s (negated (lit_of w o i)) = popped_back s l (negated (lit_of w o i)) e f n in
       satisfied_forth s (popped s) (lits_at w o) (level s (negated (lit_of w o i))) (grows_popped s) (h.settled o i ho hi x (all_due s (negated (lit_of w o i)) h.agrees x));
 }
 
 pub implied_popped : (implied : List (List ℕ)) (s : State) (l : ℕ) → Agrees s → AreImplied implied s (λ m. level s m < current_level s + 1) →
     lit_at s s.trail.head ≡ l → AreImplied implied (popped s) (λ m. m ≢ l)
 implied_popped implied s l a h e m k f n b =
-    let x : HasLeft s m = popped_back s l m e f n in
+    let x : HasLeftQueue s m = popped_back s l m e f n in
     h m k x (all_due s m a x) b
 
 -- open literals become true: what was settled stays so
@@ -115,7 +115,7 @@ long_grows w live lists s t due h g e a q = record {
   agrees = a;
   queue = q;
   settled = λ o i ho hi f d.
-      let x : HasLeft s (negated (lit_of w o i)) = left_back s t (negated (lit_of w o i)) g e h.agrees.trail f in
+      let x : HasLeftQueue s (negated (lit_of w o i)) = left_back s t (negated (lit_of w o i)) g e h.agrees.trail f in
       let same : level t (negated (lit_of w o i)) ≡ level s (negated (lit_of w o i)) = level_kept s t (negated (lit_of w o i)) g (left_true s (negated (lit_of w o i)) h.agrees x) in
       satisfied_forth s t (lits_at w o) (level t (negated (lit_of w o i))) g
       (subst (λ (n : ℕ). IsSatisfied s (lits_at w o) n) (sym same) (h.settled o i ho hi x d));
@@ -124,7 +124,7 @@ long_grows w live lists s t due h g e a q = record {
 pub implied_grows : (implied : List (List ℕ)) (s t : State) (due : ℕ → Type 0) → Agrees s → AreImplied implied s due →
     Grows s t → t.trail.head ≡ s.trail.head → AreImplied implied t due
 implied_grows implied s t due a h g e m k f d b =
-    let x : HasLeft s m = left_back s t m g e a.trail f in
+    let x : HasLeftQueue s m = left_back s t m g e a.trail f in
     let y : IsTrueLit s.values (get_or (implied_by implied m) k 0) × (level s (get_or (implied_by implied m) k 0) ≤ level s m) = h m k x d b in (
       g.kept (get_or (implied_by implied m) k 0) y.0,
       omega (arith, y.1, level_kept s t (get_or (implied_by implied m) k 0) g y.0, level_kept s t m g (left_true s m a x)),
@@ -132,7 +132,7 @@ implied_grows implied s t due a h g e m k f d b =
 
 -- fewer literals are due
 pub long_due : (w live : List ℕ) (lists : List (List Watch)) (s : State) (due due' : ℕ → Type 0) → LongReady w live lists s due →
-    ((m : ℕ) → HasLeft s m → due' m → due m) → LongReady w live lists s due'
+    ((m : ℕ) → HasLeftQueue s m → due' m → due m) → LongReady w live lists s due'
 long_due w live lists s due due' h fewer = record {
   clauses = h.clauses;
   watches = h.watches;
@@ -207,7 +207,7 @@ stopped_long w v live lists implied s t o a ranges i firsts x =
     }
 
 -- with nothing in the queue, each true literal has left it
-all_left : (s : State) (l : ℕ) → Agrees s → s.trail.head ≡ length s.trail.lits → IsTrueLit s.values l → HasLeft s l
+all_left : (s : State) (l : ℕ) → Agrees s → s.trail.head ≡ length s.trail.lits → IsTrueLit s.values l → HasLeftQueue s l
 all_left s l a e t = elim (a.known l t) [
   | inl b ↦ inl (subst (λ (n : ℕ). IsBefore s n l) (sym e) b)
   | inr r ↦ inr r
@@ -217,7 +217,7 @@ all_left s l a e t = elim (a.known l t) [
 settled_by : (w live : List ℕ) (lists : List (List Watch)) (s : State) (o i : ℕ) → LongReady w live lists s (λ m. level s m < current_level s + 1) → s.trail.head ≡ length s.trail.lits →
     Contains live o → i < 2 → IsFalseLit s.values (lit_of w o i) → IsSatisfied s (lits_at w o) (level s (negated (lit_of w o i)))
 settled_by w live lists s o i h e ho hi f =
-    let x : HasLeft s (negated (lit_of w o i)) = all_left s (negated (lit_of w o i)) h.agrees e (true_from_false s.values (lit_of w o i) f) in
+    let x : HasLeftQueue s (negated (lit_of w o i)) = all_left s (negated (lit_of w o i)) h.agrees e (true_from_false s.values (lit_of w o i) f) in
     h.settled o i ho hi x (all_due s (negated (lit_of w o i)) h.agrees x)
 
 -- where nothing is in the queue, no clause is falsified or unit with its literal open
@@ -241,7 +241,7 @@ complete w live lists implied s h e = record {
         | inr q ↦ other 0 (omega arith) (λ z. q (sym z))
       ];
   binary = λ l k b t.
-      let x : HasLeft s l = all_left s l h.long.agrees e t in
+      let x : HasLeftQueue s l = all_left s l h.long.agrees e t in
       (h.binary l k x (all_due s l h.long.agrees x) b).0;
 }
 
@@ -253,7 +253,7 @@ IsNext s l = slice_get s.trail.lits s.trail.head ≡ Some l
 pub next_agrees : (s : State) (l : ℕ) → Agrees s → IsNext s l → Agrees (popped s)
 next_agrees s l a e = agrees_popped s a (next_there s l e).0
 
-pub next_left : (s : State) (l : ℕ) → IsNext s l → HasLeft (popped s) l
+pub next_left : (s : State) (l : ℕ) → IsNext s l → HasLeftQueue (popped s) l
 next_left s l e = popped_left s l (next_there s l e).0 (next_there s l e).1
 
 pub next_top : (s : State) (l : ℕ) → IsQueueCurrent s → IsNext s l → level (popped s) l ≡ current_level (popped s)

@@ -9,7 +9,7 @@ use Rattle.sat_parts.specs.declared.prop.graph.Reason.{Reason}
 use Rattle.sat_parts.specs.prop.Values.{IsTrueLit, IsFalseLit, IsOpenLit, value_of}
 use Rattle.sat_parts.specs.prop.Trails.{IsTrail, LevelIs}
 use Rattle.sat_parts.specs.prop.Graphs.{node_at, new_node}
-use Rattle.sat_parts.specs.prop.State.{State, node, level, current_level, lit_at, IsRemoved, IsBefore, HasLeft, Agrees, IsQueueCurrent, enqueued, Grows, IsSatisfied}
+use Rattle.sat_parts.specs.prop.State.{State, node, level, current_level, lit_at, IsRemoved, IsBefore, HasLeftQueue, Agrees, IsQueueCurrent, enqueued, Grows, IsSatisfied}
 
 pub negated_variable : (l : ℕ) → variable (negated l) ≡ variable l
 negated_variable l = omega arith
@@ -202,13 +202,13 @@ before_back a b bound l g m h =
     let p : h.place < length a.trail.lits = omega (arith, h.before) in
     record { place = h.place; before = h.before; within = p; there = sym (g.front h.place p) ∙ h.there }
 
-pub left_forth : (a b : State) (l : ℕ) → Grows a b → b.trail.head ≡ a.trail.head → HasLeft a l → HasLeft b l
+pub left_forth : (a b : State) (l : ℕ) → Grows a b → b.trail.head ≡ a.trail.head → HasLeftQueue a l → HasLeftQueue b l
 left_forth a b l g e h = elim h [
   | inl x ↦ inl (subst (λ (y : ℕ). IsBefore b y l) (sym e) (before_forth a b a.trail.head l g x))
   | inr x ↦ inr (removed_forth a b l g x)
 ]
 
-pub left_back : (a b : State) (l : ℕ) → Grows a b → b.trail.head ≡ a.trail.head → IsTrail a.trail → HasLeft b l → HasLeft a l
+pub left_back : (a b : State) (l : ℕ) → Grows a b → b.trail.head ≡ a.trail.head → IsTrail a.trail → HasLeftQueue b l → HasLeftQueue a l
 left_back a b l g e t h = elim h [
   | inl x ↦ inl (before_back a b a.trail.head l g t.queue (subst (λ (y : ℕ). IsBefore b y l) e x))
   | inr x ↦ inr (g.removed l x)
@@ -226,7 +226,7 @@ satisfied_forth a b ls bound g h = record {
 }
 
 -- what has left the queue is true
-pub left_true : (s : State) (l : ℕ) → Agrees s → HasLeft s l → IsTrueLit s.values l
+pub left_true : (s : State) (l : ℕ) → Agrees s → HasLeftQueue s l → IsTrueLit s.values l
 left_true s l h x = elim x [
   | inl b ↦ subst (λ (m : ℕ). IsTrueLit s.values m) b.there (h.holds b.place b.within)
   | inr r ↦ r.holds

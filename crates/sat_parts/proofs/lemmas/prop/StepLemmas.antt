@@ -14,10 +14,10 @@ use Rattle.sat_parts.specs.prop.Values.{IsTrueLit, IsOpenLit}
 use Rattle.sat_parts.specs.prop.Trails.{LevelIs, with_level}
 use Rattle.sat_parts.specs.prop.Binaries.{implied_by}
 use Rattle.sat_parts.specs.prop.WatchLists.{Watching}
-use Rattle.sat_parts.specs.prop.State.{State, node, level, lit_at, IsRemoved, HasLeft, Agrees, IsSatisfied, Grows, enqueued}
+use Rattle.sat_parts.specs.prop.State.{State, node, level, lit_at, IsRemoved, HasLeftQueue, Agrees, IsSatisfied, Grows, enqueued}
 use Rattle.sat_parts.specs.prop.Reasons.{HaveFirsts}
 use Rattle.sat_parts.specs.prop.Ready.{AreWatched, AreLists}
-use Rattle.sat_parts.specs.prop.Asks.{PropagationInvariant, AsksForReason, IsOwnLong, IsOwnBinary, AsksAll}
+use Rattle.sat_parts.specs.prop.Asks.{PropagationInvariant, EnqueuePrecondition, IsOwnLong, IsOwnBinary, PropagationPrecondition}
 use Rattle.sat_parts.proofs.lemmas.prop.StateLemmas.{left_true, left_back, level_kept, level_low, satisfied_forth, agrees_enqueued, grows_enqueued, queue_enqueued, lit_front, lit_last, node_kept, node_new, true_new}
 use Rattle.sat_parts.proofs.lemmas.prop.RoomLemmas.{room_for}
 
@@ -49,7 +49,7 @@ own_binary (Binary ls) lit l m h = h.0
 own_binary (Long o) lit l m h = absurd h
 
 -- where all clauses are settled, those but the reason's are
-pub asks_for_reason : (words refs : List ℕ) (w : Watching) (implied : List (List ℕ)) (s : State) (top l : ℕ) (r : Reason) → PropagationInvariant words refs w implied s top → AsksForReason l r words refs w implied s top
+pub asks_for_reason : (words refs : List ℕ) (w : Watching) (implied : List (List ℕ)) (s : State) (top l : ℕ) (r : Reason) → PropagationInvariant words refs w implied s top → EnqueuePrecondition l r words refs w implied s top
 asks_for_reason words refs w implied s top l r h = record {
   laid = h.laid;
   clauses = h.clauses;
@@ -65,7 +65,7 @@ asks_for_reason words refs w implied s top l r h = record {
 
 -- an open literal becomes true
 pub asks_enqueued : (words refs : List ℕ) (w : Watching) (implied : List (List ℕ)) (s : State) (top l : ℕ) (r : Reason) → IsOpenLit s.values l → variable l < length s.values →
-    ((o : ℕ) → r ≡ Long o → Contains (live_refs words refs) o × (lit_of words o 0 ≡ l)) → AsksForReason l r words refs w implied s top → PropagationInvariant words refs w implied (enqueued l r s) top
+    ((o : ℕ) → r ≡ Long o → Contains (live_refs words refs) o × (lit_of words o 0 ≡ l)) → EnqueuePrecondition l r words refs w implied s top → PropagationInvariant words refs w implied (enqueued l r s) top
 asks_enqueued words refs w implied s top l r n below cause h =
     let room : length s.trail.lits < s.trail.room = room_for s l r h.agrees n below in
     let t : State = enqueued l r s in
@@ -80,7 +80,7 @@ asks_enqueued words refs w implied s top l r n below cause h =
       queue = queue_enqueued s l r h.agrees h.queue n below;
       firsts = firsts_enqueued words (live_refs words refs) s l r h.agrees n below h.firsts cause;
       settled = λ o i ho hi x d.
-          let y : HasLeft s (negated (lit_of words o i)) = left_back s t (negated (lit_of words o i)) g refl h.agrees.trail x in
+          let y : HasLeftQueue s (negated (lit_of words o i)) = left_back s t (negated (lit_of words o i)) g refl h.agrees.trail x in
           let same : level t (negated (lit_of words o i)) ≡ level s (negated (lit_of words o i)) = level_kept s t (negated (lit_of words o i)) g (left_true s (negated (lit_of words o i)) h.agrees y) in
           elim (h.settled o i ho hi y (omega arith)) [
             | inl z ↦ satisfied_forth s t (lits_at words o) (level t (negated (lit_of words o i))) g (subst (λ (n : ℕ). IsSatisfied s (lits_at words o) n) (sym same) z)
@@ -95,7 +95,7 @@ asks_enqueued words refs w implied s top l r n below cause h =
           ];
       ranges = subst (λ (n : ℕ). AreLists implied n) (sym g.size) h.ranges;
       binary = λ m k x d b.
-          let y : HasLeft s m = left_back s t m g refl h.agrees.trail x in
+          let y : HasLeftQueue s m = left_back s t m g refl h.agrees.trail x in
           let same : level t m ≡ level s m = level_kept s t m g (left_true s m h.agrees y) in
           elim (h.binary m k y (omega arith) b) [
             | inl z ↦ (g.kept (get_or (implied_by implied m) k 0) z.0, omega (arith, z.1, same, level_kept s t (get_or (implied_by implied m) k 0) g z.0))
@@ -162,7 +162,7 @@ agrees_raised s h few =
       ];
     }
 
-left_raised : (s : State) (l : ℕ) → HasLeft (raised s) l → HasLeft s l
+left_raised : (s : State) (l : ℕ) → HasLeftQueue (raised s) l → HasLeftQueue s l
 left_raised s l h = elim h [
   | inl x ↦ inl (record { place = x.place; before = x.before; within = x.within; there = x.there })
   | inr x ↦ inr (grows_raised s l x)
@@ -170,7 +170,7 @@ left_raised s l h = elim h [
 
 -- a level begins while nothing is in the queue
 pub asks_raised : (words refs : List ℕ) (w : Watching) (implied : List (List ℕ)) (s : State) → length s.trail.starts + 1 < 2 ^ 32 → s.trail.head ≡ length s.trail.lits →
-    AsksAll words refs w implied s → AsksAll words refs w implied (raised s)
+    PropagationPrecondition words refs w implied s → PropagationPrecondition words refs w implied (raised s)
 asks_raised words refs w implied s few empty h = record {
   laid = h.laid;
   clauses = h.clauses;
@@ -180,12 +180,12 @@ asks_raised words refs w implied s few empty h = record {
   queue = λ i le b. absurd (omega arith);
   firsts = h.firsts;
   settled = λ o i ho hi x d.
-      let y : HasLeft s (negated (lit_of words o i)) = left_raised s (negated (lit_of words o i)) x in
+      let y : HasLeftQueue s (negated (lit_of words o i)) = left_raised s (negated (lit_of words o i)) x in
       let z : IsSatisfied s (lits_at words o) (level s (negated (lit_of words o i))) =
       h.settled o i ho hi y (omega (arith, level_low s (negated (lit_of words o i)) h.agrees (left_true s (negated (lit_of words o i)) h.agrees y))) in
       record { place = z.place; within = z.within; holds = z.holds; low = z.low };
   ranges = h.ranges;
   binary = λ l k x d b.
-      let y : HasLeft s l = left_raised s l x in
+      let y : HasLeftQueue s l = left_raised s l x in
       h.binary l k y (omega (arith, level_low s l h.agrees (left_true s l h.agrees y))) b;
 }

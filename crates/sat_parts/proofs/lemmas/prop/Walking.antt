@@ -11,7 +11,7 @@ use Rattle.sat_parts.specs.clause.Orders.{Shuffles}
 use Rattle.sat_parts.specs.clause.Stored.{AreClauses, lit_of, size_of}
 use Rattle.sat_parts.specs.prop.Values.{IsTrueLit, IsFalseLit, IsOpenLit}
 use Rattle.sat_parts.specs.prop.WatchLists.{no_watch, watch_on, watches_of, more_at}
-use Rattle.sat_parts.specs.prop.State.{State, level, current_level, HasLeft, Agrees, IsQueueCurrent, IsSatisfied, enqueued, Grows}
+use Rattle.sat_parts.specs.prop.State.{State, level, current_level, HasLeftQueue, Agrees, IsQueueCurrent, IsSatisfied, enqueued, Grows}
 use Rattle.sat_parts.specs.prop.Reasons.{IsFalseBefore, Implies, PropagatesOn}
 use Rattle.sat_parts.specs.prop.Ready.{HasLit, HasWatch, IsGood, LongReady}
 use Rattle.sat_parts.specs.prop.Walk.{Half, IsOther, Oriented, Walks}
@@ -179,7 +179,7 @@ walk_falsified live w0 s0 w v s lists list lit kept at p n h lt at_p e o n_is al
         settled = λ x i hx hi f due.
             let m : (j : ℕ) × ((j < 2) × (lit_of v x i ≡ lit_of w x j)) = first_two w v live (length s.values) p x half.clauses hp e hx two i hi in
             let q : negated (lit_of v x i) ≡ negated (lit_of w x m.0) = ap (λ z. negated z) m.1.1 in
-            elim (half.settled x m.0 hx m.1.0 (subst (λ (z : ℕ). HasLeft s z) q f)) [
+            elim (half.settled x m.0 hx m.1.0 (subst (λ (z : ℕ). HasLeftQueue s z) q f)) [
               | inl y ↦ subst (λ (z : ℕ). IsSatisfied s (lits_at v x) (level s z)) (sym q)
                   (satisfied_order s (lits_at w x) (lits_at v x) (level s (negated (lit_of w x m.0))) (shuffled_all w v live (length s.values) p x half.clauses hp e hx) y)
               | inr y ↦
@@ -214,7 +214,7 @@ walk_done live w0 s0 w s lists list lit kept at h end small =
 
 -- the watches of a literal are taken out, those clauses alone not being settled that it has made false
 pub walk_open : (live w : List ℕ) (s : State) (lists : List (List Watch)) (lit : ℕ) →
-    LongReady w live lists s (λ l. l ≢ lit) → HasLeft s lit → level s lit ≡ current_level s → lit < 2 * length s.values →
+    LongReady w live lists s (λ l. l ≢ lit) → HasLeftQueue s lit → level s lit ≡ current_level s → lit < 2 * length s.values →
     Walking live w s w s (set lists lit []) (watches_of lists lit) lit 0 0
 walk_open live w s lists lit h left top small = record {
   half = record {
@@ -244,7 +244,7 @@ blocking_below w live s lists list lit kept at b h lt at_b =
     omega (arith, g.1.1.1)
 
 -- a literal that has left the queue is in range
-pub left_below : (s : State) (l : ℕ) → Agrees s → HasLeft s l → l < 2 * length s.values
+pub left_below : (s : State) (l : ℕ) → Agrees s → HasLeftQueue s l → l < 2 * length s.values
 left_below s l a f =
     let v : variable l < length s.values = below_from_value s.values (variable l) (is_positive l) (left_true s l a f) in
     omega arith

@@ -12,7 +12,7 @@ use Rattle.sat_parts.specs.clause.Stored.{lit_of, size_of}
 use Rattle.sat_parts.specs.prop.WatchLists.{Watching}
 use Rattle.sat_parts.specs.prop.Binaries.{implied_by}
 use Rattle.sat_parts.specs.prop.Values.{IsTrueLit, IsFalseLit}
-use Rattle.sat_parts.specs.prop.State.{State, level, current_level, HasLeft, IsSatisfied}
+use Rattle.sat_parts.specs.prop.State.{State, level, current_level, HasLeftQueue, IsSatisfied}
 use Rattle.sat_parts.specs.prop.Asks.{PropagationInvariant}
 use Rattle.sat_parts.proofs.lemmas.clause.ListLemmas.{at_place}
 use Rattle.sat_parts.proofs.lemmas.prop.StateLemmas.{negated_variable, negated_twice, true_from_false, false_from_true, not_both}
@@ -57,14 +57,14 @@ long_low words refs watching implied s back o p a lt c h =
     watched : (i : ℕ) → i < 2 → IsLow s back (negated (lit_of words p i)) → IsLow s back o
     watched i two n =
         let below : level s (negated (lit_of words p i)) < current_level s = omega (arith, n.low) in
-        let left : HasLeft s (negated (lit_of words p i)) = low_left s (negated (lit_of words p i)) a.agrees a.queue n.holds below in
+        let left : HasLeftQueue s (negated (lit_of words p i)) = low_left s (negated (lit_of words p i)) a.agrees a.queue n.holds below in
         satisfied_low s back o (lits_at words p) (level s (negated (lit_of words p i))) h n.low (a.settled p i c two left below)
 
 pair_low : (words refs : List ℕ) (watching : Watching) (implied : List (List ℕ)) (s : State) (back a b : ℕ) → PropagationInvariant words refs watching implied s (current_level s) → back < current_level s → Contains (implied_by implied (negated b)) a →
     IsLow s back (negated b) → IsLow s back a
 pair_low words refs watching implied s back a b h lt c n =
     let below : level s (negated b) < current_level s = omega (arith, n.low) in
-    let left : HasLeft s (negated b) = low_left s (negated b) h.agrees h.queue n.holds below in
+    let left : HasLeftQueue s (negated b) = low_left s (negated b) h.agrees h.queue n.holds below in
     let x : IsTrueLit s.values (get_or (implied_by implied (negated b)) c.0 0) × (level s (get_or (implied_by implied (negated b)) c.0 0) ≤ level s (negated b)) = h.binary (negated b) c.0 left below c.1 in
     subst (λ z. IsLow s back z) (at_place (implied_by implied (negated b)) a c) (record { holds = x.0; low = omega (arith, x.1, n.low) })
 

@@ -14,7 +14,7 @@ use Rattle.sat_parts.specs.prop.Binaries.{implied_by}
 use Rattle.sat_parts.specs.prop.Values.{IsTrueLit, IsFalseLit}
 use Rattle.sat_parts.specs.prop.Causes.{causes, falsified}
 use Rattle.sat_parts.specs.prop.Graphs.{node_of}
-use Rattle.sat_parts.specs.prop.State.{State, node, level, current_level, lit_at, HasLeft, Agrees, IsQueueCurrent, IsSatisfied}
+use Rattle.sat_parts.specs.prop.State.{State, node, level, current_level, lit_at, HasLeftQueue, Agrees, IsQueueCurrent, IsSatisfied}
 use Rattle.sat_parts.specs.prop.Reasons.{IsFalseBefore, Implies, AreInTurn}
 use Rattle.sat_parts.specs.prop.TrailWord.{IsLevelled}
 use Rattle.sat_parts.specs.prop.Ready.{IsConflict, IsFalsified}
@@ -24,7 +24,7 @@ use Rattle.sat_parts.proofs.lemmas.prop.StateLemmas.{negated_variable, true_from
 use Rattle.sat_solver.specs.analyze_conflict.Marks.{CanAnalyze, HasTop}
 
 -- a true literal below the current level has left the queue
-pub low_left : (s : State) (l : ℕ) → Agrees s → IsQueueCurrent s → IsTrueLit s.values l → level s l < current_level s → HasLeft s l
+pub low_left : (s : State) (l : ℕ) → Agrees s → IsQueueCurrent s → IsTrueLit s.values l → level s l < current_level s → HasLeftQueue s l
 low_left s l a q t low = elim (a.known l t) [
   | inl b ↦ elim (cases_lt b.place s.trail.head) [
     | inl lt ↦ inl (record { place = b.place; before = lt; within = b.within; there = b.there })
@@ -46,7 +46,7 @@ conflict_top words refs w implied s (conflicts.Binary ls) asks c = elim (cases_e
   | inr n ↦
       let b : ℕ = negated (get_or ls 1 0) in
       let low : level s b < current_level s = false_level s (get_or ls 1 0) asks.agrees c.2 n in
-      let left : HasLeft s b = low_left s b asks.agrees asks.queue (true_from_false s.values (get_or ls 1 0) c.2) low in
+      let left : HasLeftQueue s b = low_left s b asks.agrees asks.queue (true_from_false s.values (get_or ls 1 0) c.2) low in
       let t : IsTrueLit s.values (get_or (implied_by implied b) c.0.0 0) = (asks.binary b c.0.0 left low c.0.1).0 in
       absurd (not_both s.values (get_or ls 0 0) (subst (λ z. IsTrueLit s.values z) (at_place (implied_by implied b) (get_or ls 0 0) c.0) t) c.1)
 ]
@@ -58,7 +58,7 @@ conflict_top words refs w implied s (conflicts.Long o) asks c =
       | inr n ↦
           let f : IsFalseLit s.values r = c.1 0 (omega arith) in
           let low : level s (negated r) < current_level s = false_level s r asks.agrees f n in
-          let left : HasLeft s (negated r) = low_left s (negated r) asks.agrees asks.queue (true_from_false s.values r f) low in
+          let left : HasLeftQueue s (negated r) = low_left s (negated r) asks.agrees asks.queue (true_from_false s.values r f) low in
           let x : IsSatisfied s (lits_at words o) (level s (negated r)) = asks.settled o 0 c.0 (omega arith) left low in
           absurd (not_both s.values (get_or (lits_at words o) x.place 0) x.holds (c.1 x.place x.within))
     ]

@@ -9,7 +9,7 @@ use Rattle.sat_parts.specs.declared.parts.Parts.{Parts}
 use Rattle.sat_parts.specs.parts.Assumed.{ArePlaced}
 use Rattle.sat_parts.specs.parts.Frame.{Reordered, AddsNoUnit, KeepsTo}
 use Rattle.sat_parts.specs.parts.Round.{UnitsAreUncaused, IsBased}
-use Rattle.sat_parts.specs.parts.Whole.{state, HoldsBelow, IsDone}
+use Rattle.sat_parts.specs.parts.Whole.{state, HoldsBelow, IsFullyPropagated}
 use Rattle.sat_parts.specs.parts.Words.{TrailWordExtends, TrailWordExtendsFor, GoneAndIdleStay}
 use Rattle.sat_parts.proofs.lemmas.parts.AssumeLemmas.{placed_kept}
 use Rattle.sat_parts.proofs.lemmas.parts.WordSteps.{extends_after}
@@ -101,7 +101,7 @@ module _ (s : Session) (c c' : Search) (search : IsSearch s c) (globals : c'.glo
   propagated_fits_all : HoldsBelow (length c'.parts.trail.starts + 1) c'.parts → SessionMatchesParts c'.parts s (global_in c')
   propagated_fits_all holds = rw globals (fits_propagated c.parts c'.parts s (global_in c) moved carries holds.asks.clauses search.stands.fits)
 
-  pub propagation : HoldsBelow (length c'.parts.trail.starts + 1) c'.parts → IsDone c'.parts → (0 < length c.parts.trail.starts → UnitsAreUncaused (state c.parts) → UnitsAreUncaused (state c'.parts)) →
+  pub propagation : HoldsBelow (length c'.parts.trail.starts + 1) c'.parts → IsFullyPropagated c'.parts → (0 < length c.parts.trail.starts → UnitsAreUncaused (state c.parts) → UnitsAreUncaused (state c'.parts)) →
       (0 < length c.parts.trail.starts → IsBased c.parts.trail → IsBased c'.parts.trail) → Propagation s c c'
   propagation holds done units base = record {
     whole = record {

@@ -24,7 +24,7 @@ use Rattle.sat_parts.specs.declared.parts.load.Loaded.{Loaded}
 use Rattle.sat_parts.specs.declared.parts.load.Loaded.TheVariants.{Stored, Unit as One, Satisfied, Falsified}
 use Rattle.sat_parts.specs.parts.Whole.{state, PartsInvariant}
 use Rattle.sat_parts.specs.parts.Frame.{GainsUnit, AddsOriginalClause, stores_binary, stores_long, IsUnitLit}
-use Rattle.sat_parts.specs.parts.Loading.{LoadSays}
+use Rattle.sat_parts.specs.parts.Loading.{LoadEffect}
 use Rattle.sat_solver.specs.session.Fits.{is_redundant, SessionMatches, SessionMatchesParts}
 use Rattle.sat_solver.specs.session.Listed.{FitsList}
 use Rattle.sat_solver.specs.session.Loads.{LoadFits}
@@ -113,7 +113,7 @@ module _ (p p' : Parts) (s : Session) (global : ℕ → ℕ) (holds : PartsInvar
   taut : is_tautology ls ≡ false
   taut = sym (same_tautology given ls (same_shuffled given ls order)) ∙ plain
 
-  pub fits_loaded : (r : Loaded) → LoadSays r p p' ls → LoadFits r p' s global given ls
+  pub fits_loaded : (r : Loaded) → LoadEffect r p p' ls → LoadFits r p' s global given ls
   fits_loaded Stored says = fits_stored says
   fits_loaded One says =
       let l : ℕ = get_or ls 0 0 in

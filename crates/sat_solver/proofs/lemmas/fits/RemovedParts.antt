@@ -5,7 +5,7 @@ use Rattle.sat_base.specs.steps.Steps.{DeleteClause, Satisfied}
 use Rattle.sat_parts.specs.clause.Db.{live_refs}
 use Rattle.sat_parts.specs.prop.Binaries.{implied_by, RemovesAssigned}
 use Rattle.sat_parts.specs.prop.Values.{IsTrueLit}
-use Rattle.sat_parts.specs.prop.State.{level, current_level, HasLeft, Agrees}
+use Rattle.sat_parts.specs.prop.State.{level, current_level, HasLeftQueue, Agrees}
 use Rattle.sat_parts.proofs.lemmas.prop.StateLemmas.{level_low}
 use Rattle.sat_solver.specs.session.Session.{Session, after, May}
 use Rattle.sat_solver.specs.session.LiveClauses.{with_var}
@@ -30,7 +30,7 @@ module _ (p : Parts) (global : ℕ → ℕ) (holds : PartsInvariant p) (paired :
   complete : (l k : ℕ) → k < length (implied_by p.binary.implied l) → IsTrueLit p.assignment.current l → IsTrueLit p.assignment.current (get_or (implied_by p.binary.implied l) k 0)
   complete l k lt t =
       let nothing : length p.trail.lits ≡ 0 = ap (λ (xs : List ℕ). length xs) empty in
-      let left : HasLeft (state p) l = elim (agrees.known l t) [ inl b ↦ absurd (omega (arith, b.within)) | inr r ↦ inr r ] in
+      let left : HasLeftQueue (state p) l = elim (agrees.known l t) [ inl b ↦ absurd (omega (arith, b.within)) | inr r ↦ inr r ] in
       let low : level (state p) l < length p.trail.starts + 1 = (let z : level (state p) l ≤ current_level (state p) = level_low (state p) l agrees t in omega arith) in
       (holds.below.asks.binary l k left low lt).0
 

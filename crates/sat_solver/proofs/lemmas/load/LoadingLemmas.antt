@@ -16,7 +16,7 @@ use Rattle.sat_parts.specs.declared.parts.load.Loaded.{Loaded}
 use Rattle.sat_parts.specs.declared.parts.load.Loaded.TheVariants.{Stored, Unit as One, Satisfied, Falsified}
 use Rattle.sat_parts.specs.parts.Frame.{SameClauses, SameState}
 use Rattle.sat_parts.specs.parts.Loadable.{false_last}
-use Rattle.sat_parts.specs.parts.Loading.{LoadSays}
+use Rattle.sat_parts.specs.parts.Loading.{LoadEffect}
 use Rattle.sat_parts.specs.parts.Whole.{state, PartsInvariant}
 use Rattle.sat_parts.proofs.lemmas.parts.LoadFrames.{carries_same, says_size, says_units}
 use Rattle.sat_parts.proofs.lemmas.parts.SortLemmas.{shuffled_last}
@@ -109,18 +109,18 @@ module _ (c : Search) (ls : List ℕ) (steps : List Step) (added : IsAdded steps
   fits1 : SessionMatchesParts p1 s (global_in c)
   fits1 = fits_undone c.parts p1 s (global_in c) ready.0 (carries_same c.parts p1 ready.1) added.search.stands.fits
 
-  fits2 : (r : Loaded) → LoadSays r p1 p2 ms → LoadFits r p2 s (global_in c) ls ms
+  fits2 : (r : Loaded) → LoadEffect r p1 p2 ms → LoadFits r p2 s (global_in c) ls ms
   fits2 r says =
       fits_loaded p1 p2 s (global_in c) holds1 fits1 (rw ready.1.2 may.bottom) ls ms (shuffled_last p1.assignment.current ls) may.differ (rw same_values may.below) may.plain added.named r says
 
-  moved2 : (r : Loaded) → LoadSays r p1 p2 ms → SameVarsAndAssumptions c c2
+  moved2 : (r : Loaded) → LoadEffect r p1 p2 ms → SameVarsAndAssumptions c c2
   moved2 r says = record { globals = refl; lits = refl; size = says_size r p1 p2 ms says ∙ ap (λ a. length a.current) same_values }
 
   none_some : {A : Type 0} (x : A) → None ≡ Some x → ⊥
   none_some x e = cc
 
   -- what was idle and isn't of the clause stays so
-  idle2 : (r : Loaded) → LoadSays r p1 p2 ms → (v : ℕ) → mentions ls v ≡ false → IsIdle (assumed_in c) (state c.parts) c.parts.vsids v → IsIdle (assumed_in c) (state p2) p2.vsids v
+  idle2 : (r : Loaded) → LoadEffect r p1 p2 ms → (v : ℕ) → mentions ls v ≡ false → IsIdle (assumed_in c) (state c.parts) c.parts.vsids v → IsIdle (assumed_in c) (state p2) p2.vsids v
   idle2 r says v out idle = (
     elim (open_or_true p2.assignment.current v) [
       | inl none ↦ none
@@ -138,7 +138,7 @@ module _ (c : Search) (ls : List ℕ) (steps : List Step) (added : IsAdded steps
     idle.2,
   )
 
-  used2 : (r : Loaded) → LoadSays r p1 p2 ms → (t : Session) → SameAssumedAndNames s t → AreNamedOrIdle t c'
+  used2 : (r : Loaded) → LoadEffect r p1 p2 ms → (t : Session) → SameAssumedAndNames s t → AreNamedOrIdle t c'
   used2 r says t leaves v lt =
       let m : SameVarsAndAssumptions c c' = moved_trans c c2 c' (moved2 r says) back.moved in
       elim (added.search.ready.used v (subst (λ n. v < n) m.size lt)) [
@@ -149,7 +149,7 @@ module _ (c : Search) (ls : List ℕ) (steps : List Step) (added : IsAdded steps
         ]
       ]
 
-  whole : (r : Loaded) → LoadSays r p1 p2 ms → (t : Session) → SameAssumedAndNames s t → SessionMatchesParts p2 t (global_in c) → IsSearch t c'
+  whole : (r : Loaded) → LoadEffect r p1 p2 ms → (t : Session) → SameAssumedAndNames s t → SessionMatchesParts p2 t (global_in c) → IsSearch t c'
   whole r says t leaves fits =
       let m : SameVarsAndAssumptions c c' = moved_trans c c2 c' (moved2 r says) back.moved in
       record {
@@ -169,33 +169,33 @@ module _ (c : Search) (ls : List ℕ) (steps : List Step) (added : IsAdded steps
   now : session_after steps ≡ after (AddClause (map (with_var (global_in c)) ls)) s
   now = ap (λ ss. session_after ss) added.added
 
-  goes_on : (r : Loaded) → LoadSays r p1 p2 ms → SessionMatchesParts p2 (after (AddClause (map (with_var (global_in c)) ls)) s) (global_in c) → IsLoaded true (session_after steps) c c'
+  goes_on : (r : Loaded) → LoadEffect r p1 p2 ms → SessionMatchesParts p2 (after (AddClause (map (with_var (global_in c)) ls)) s) (global_in c) → IsLoaded true (session_after steps) c c'
   goes_on r says fits = record {
     goes_on = whole r says (session_after steps) asked (rw now fits);
     moved = moved_trans c c2 c' (moved2 r says) back.moved;
     bottom = back.bottom;
   }
 
-  pub loaded_stored : LoadSays Stored p1 p2 ms → IsLoaded true (session_after steps) c c'
+  pub loaded_stored : LoadEffect Stored p1 p2 ms → IsLoaded true (session_after steps) c c'
   loaded_stored says = goes_on Stored says (fits2 Stored says)
 
-  pub loaded_unit : LoadSays One p1 p2 ms → IsLoaded true (session_after steps) c c'
+  pub loaded_unit : LoadEffect One p1 p2 ms → IsLoaded true (session_after steps) c c'
   loaded_unit says = goes_on One says (fits2 One says)
 
-  pub loaded_true : LoadSays Satisfied p1 p2 ms → length ms ≤ 1 → IsLoaded true (session_after steps) c c'
+  pub loaded_true : LoadEffect Satisfied p1 p2 ms → length ms ≤ 1 → IsLoaded true (session_after steps) c c'
   loaded_true says one = goes_on Satisfied says ((fits2 Satisfied says).0 (let k = says.2 in omega (arith, k.1.0)))
 
-  pub loaded_false : LoadSays Falsified p1 p2 ms → IsLoaded false (session_after steps) c c'
+  pub loaded_false : LoadEffect Falsified p1 p2 ms → IsLoaded false (session_after steps) c c'
   loaded_false says = record {
     goes_on = ap (λ (x : Session). x.unsat) now ∙ fits2 Falsified says;
     moved = moved_trans c c2 c' (moved2 Falsified says) back.moved;
     bottom = back.bottom;
   }
 
-  pub loaded_may : LoadSays Satisfied p1 p2 ms → 2 ≤ length ms → May (session_after steps) (DeleteClause (map (with_var (global_in c)) ms) True)
+  pub loaded_may : LoadEffect Satisfied p1 p2 ms → 2 ≤ length ms → May (session_after steps) (DeleteClause (map (with_var (global_in c)) ms) True)
   loaded_may says two = rw now ((fits2 Satisfied says).1 two).0
 
-  pub loaded_deleted : LoadSays Satisfied p1 p2 ms → 2 ≤ length ms → IsLoaded true (session_after (DeleteClause (map (with_var (global_in c)) ms) True ∷ steps)) c c'
+  pub loaded_deleted : LoadEffect Satisfied p1 p2 ms → 2 ≤ length ms → IsLoaded true (session_after (DeleteClause (map (with_var (global_in c)) ms) True ∷ steps)) c c'
   loaded_deleted says two = record {
     goes_on = whole Satisfied says (session_after (DeleteClause (map (with_var (global_in c)) ms) True ∷ steps)) (leaves_both s (session_after steps) (session_after (DeleteClause (map (with_var (global_in c)) ms) True ∷ steps)) asked (leaves_after (DeleteClause (map (with_var (global_in c)) ms) True ∷ []) steps (refl, tt))) (rw now ((fits2 Satisfied says).1 two).1);
     moved = moved_trans c c2 c' (moved2 Satisfied says) back.moved;
@@ -212,7 +212,7 @@ module _ (c : Search) (ls : List ℕ) (steps : List Step) (added : IsAdded steps
       let same : length c'.globals.items ≡ length c.globals.items = ap (λ v. length v.items) back.moved.globals in
       omega arith
 
-  pub loaded_behind : LoadSays Satisfied p1 p2 ms → 2 ≤ length ms → (ds : List ℕ) → ds ≡ ms → (later : List Step) → later ≡ DeleteClause (map (with_var (global_in c')) ds) True ∷ steps → (left : Bool) → left ≡ true → (c4 : Search) → c4 ≡ record c' { scratch = c4.scratch } →
+  pub loaded_behind : LoadEffect Satisfied p1 p2 ms → 2 ≤ length ms → (ds : List ℕ) → ds ≡ ms → (later : List Step) → later ≡ DeleteClause (map (with_var (global_in c')) ds) True ∷ steps → (left : Bool) → left ≡ true → (c4 : Search) → c4 ≡ record c' { scratch = c4.scratch } →
       IsLoaded left (session_after later) c c4
   loaded_behind says two ds same later made left good c4 rest =
       let e : later ≡ DeleteClause (map (with_var (global_in c)) ms) True ∷ steps = rw (same, back.moved.globals) at made in

@@ -7,7 +7,7 @@ use Rattle.sat_store.specs.clause.Buffer.{lits_at, swapped}
 use Rattle.sat_parts.specs.clause.Db.{live_refs}
 use Rattle.sat_parts.specs.clause.Stored.{lit_of, size_of}
 use Rattle.sat_parts.specs.prop.Values.{value_of, IsTrueLit, IsFalseLit, IsOpenLit}
-use Rattle.sat_parts.specs.prop.State.{HasLeft}
+use Rattle.sat_parts.specs.prop.State.{HasLeftQueue}
 use Rattle.sat_parts.proofs.lemmas.clause.OrderLemmas.{shuffled_refl, shuffled_trans}
 use Rattle.sat_parts.proofs.lemmas.prop.StateLemmas.{true_from_false}
 use Rattle.sat_parts.specs.declared.parts.Parts.{Parts}
@@ -157,7 +157,7 @@ module _ (p q : Parts) (o kept at : ℕ) (g : Gathers p q o kept at) (le : kept 
 -- THE FIRST TWO
 
 -- what is true at level 0 with an empty trail has left the queue
-pub flat_left : (p : Parts) (l : ℕ) → PartsInvariant p → IsFlat p → IsTrueLit p.assignment.current l → HasLeft (state p) l
+pub flat_left : (p : Parts) (l : ℕ) → PartsInvariant p → IsFlat p → IsTrueLit p.assignment.current l → HasLeftQueue (state p) l
 flat_left p l h flat t =
     let nothing : length p.trail.lits ≡ 0 = ap (λ (xs : List ℕ). length xs) flat.empty in
     elim (h.below.asks.agrees.known l t) [ inl b ↦ absurd (omega (arith, b.within)) | inr r ↦ inr r ]

@@ -4,7 +4,7 @@ use Rattle.std.proofs.lemmas.List.{get_or_read}
 use Rattle.sat_base.specs.values.Literals.{negated, variable}
 use Rattle.sat_parts.specs.prop.Values.{IsTrueLit}
 use Rattle.sat_parts.proofs.lemmas.prop.StateLemmas.{true_from_false}
-use Rattle.sat_parts.specs.prop.State.{HasLeft}
+use Rattle.sat_parts.specs.prop.State.{HasLeftQueue}
 use Rattle.sat_parts.specs.parts.Whole.{state}
 use Rattle.sat_parts.proofs.lemmas.parts.FrameLemmas.{carries_trans}
 use Rattle.sat_parts.proofs.parts.load.put_all_back.Goals as goal
@@ -24,7 +24,7 @@ loop-at-preserved c =
       same = (e.same.0 ∙ x.same.0, e.same.1 ∙ x.same.1, e.same.2 ∙ x.same.2);
       carries = carries_trans (state c.args.parts.now) (state c.loop-at.parts) (state c.put_back.new.parts) x.carries e.carries;
       fresh = λ k a b left. elim (cases_eq k c.loop-at.at) [
-        | inl q ↦ e.fresh (subst (λ l. HasLeft (state c.put_back.new.parts) l) (sym (at ∙ ap (λ i. negated (get_or c.args.lits.now i 0)) (sym q))) left)
+        | inl q ↦ e.fresh (subst (λ l. HasLeftQueue (state c.put_back.new.parts) l) (sym (at ∙ ap (λ i. negated (get_or c.args.lits.now i 0)) (sym q))) left)
         | inr n ↦ x.fresh k a (omega arith) (e.left (negated (get_or c.args.lits.now k 0)) left)
       ];
     }

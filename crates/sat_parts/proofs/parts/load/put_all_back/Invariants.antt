@@ -1,6 +1,6 @@
 use Rattle.std.proofs.Common.{ℕ, ◌≡◌, ◌≤◌, ◌<◌, length, slice_index_or, []}
 use Rattle.sat_base.specs.values.Literals.{negated}
-use Rattle.sat_parts.specs.prop.State.{HasLeft}
+use Rattle.sat_parts.specs.prop.State.{HasLeftQueue}
 use Rattle.sat_parts.specs.prop.Values.{value_of}
 use Rattle.sat_parts.specs.parts.Whole.{state, PartsInvariant}
 use Rattle.sat_parts.specs.parts.Frame.{AddsNoUnit, SameClauses}
@@ -15,5 +15,5 @@ invariant-loop-at l = record {
   queue : l.parts.vsids ≡ l.fn.parts.vsids;
   same : SameClauses l.fn.parts l.parts;
   carries : AddsNoUnit (state l.fn.parts) (state l.parts);
-  fresh : (k : ℕ) → l.kept ≤ k → k < l.at → HasLeft (state l.parts) (negated (slice_index_or l.lits k 0)) → ⊥;
+  fresh : (k : ℕ) → l.kept ≤ k → k < l.at → HasLeftQueue (state l.parts) (negated (slice_index_or l.lits k 0)) → ⊥;
 }

@@ -1,6 +1,6 @@
 use Rattle.std.proofs.Common.{◌+◌, ◌≡◌, ◌∙◌, length, ap, subst, arith}
 use Rattle.sat_parts.specs.declared.parts.assumptions.EnqueueAssumption.TheVariants.{Done}
-use Rattle.sat_parts.specs.parts.Assumed.{AssumedSays, variables}
+use Rattle.sat_parts.specs.parts.Assumed.{EnqueueAssumptionEffect, variables}
 use Rattle.sat_parts.specs.parts.Frame.{SameClauses, AddsNoUnit}
 use Rattle.sat_parts.specs.parts.Whole.{state}
 use Rattle.sat_parts.proofs.lemmas.parts.AssumeLemmas.{placed_kept}
@@ -14,7 +14,7 @@ returns-then-branch c =
     let m = c.enqueue_assumption.new.parts in
     let x = c.in_ok-lit.ensures in
     let d = c.in_ok-make_decision.ensures in
-    let said : AssumedSays Done c.enqueue_assumption.new.assumptions c.args.parts.now c.enqueue_assumption.new.parts = subst (λ r. AssumedSays r c.enqueue_assumption.new.assumptions c.args.parts.now c.enqueue_assumption.new.parts) c.in-Done.is x.says in
+    let said : EnqueueAssumptionEffect Done c.enqueue_assumption.new.assumptions c.args.parts.now c.enqueue_assumption.new.parts = subst (λ r. EnqueueAssumptionEffect r c.enqueue_assumption.new.assumptions c.args.parts.now c.enqueue_assumption.new.parts) c.in-Done.is x.says in
     let deep : length c.make_decision.new.parts.trail.starts ≡ length c.enqueue_assumption.new.parts.trail.starts + 1 = d.deeper c.if-branch.true in
     record {
       holds = d.holds;
@@ -32,7 +32,7 @@ returns c =
     let m = c.enqueue_assumption.new.parts in
     let x = c.in_ok-lit.ensures in
     let d = c.in_ok-make_decision.ensures in
-    let said : AssumedSays Done c.enqueue_assumption.new.assumptions c.args.parts.now c.enqueue_assumption.new.parts = subst (λ r. AssumedSays r c.enqueue_assumption.new.assumptions c.args.parts.now c.enqueue_assumption.new.parts) c.in-Done.is x.says in
+    let said : EnqueueAssumptionEffect Done c.enqueue_assumption.new.assumptions c.args.parts.now c.enqueue_assumption.new.parts = subst (λ r. EnqueueAssumptionEffect r c.enqueue_assumption.new.assumptions c.args.parts.now c.enqueue_assumption.new.parts) c.in-Done.is x.says in
     let flat : length c.make_decision.new.parts.trail.starts ≡ length c.enqueue_assumption.new.parts.trail.starts = ap (λ t. length t.starts) (d.flat c.if-branch.false) in
     let placed = placed_kept a.lits.items a.below.items a.place (length a.below.items) (state m) (state c.make_decision.new.parts) x.placed (d.keeps (length a.below.items)) (omega arith) (omega (arith, x.placed.levels, flat)) (λ lt. said.1) in
     let all = d.all c.if-branch.false in
