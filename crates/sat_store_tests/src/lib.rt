@@ -4,6 +4,8 @@
 #[cfg(test)]
 mod clauses;
 #[cfg(test)]
+mod example;
+#[cfg(test)]
 mod headers;
 #[cfg(test)]
 mod maps;
