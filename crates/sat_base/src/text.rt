@@ -2,7 +2,7 @@
 ghost use Rattle.std.specs.Prelude.{◌≡◌, ◌+◌, ◌*◌, ◌-◌, ◌<◌, ◌≤◌, ℕ, List, [], Bool, true, false, None, Some, IfSome};
 ghost use Rattle.std.specs.Prelude.{length, take};
 ghost use Rattle.sat_base.specs.text.Text.{is_blank, is_digit, is_letter, Scan, scan};
-ghost use Rattle.sat_base.specs.text.Chunks.{Follows};
+ghost use Rattle.sat_base.specs.text.Chunks.{Follows, IgnoresRest};
 ghost use Rattle.sat_base.specs.text.WrongWords.{RightAhead, WrongAhead};
 ghost use Rattle.sat_base.specs.text.Tokenizing.{grown, held, may_come, Began, MovesPlace, MovesBy, BeginsWord};
 ghost use Rattle.sat_base.specs.text.Tokenizing.{SaysInHand, SaysAtBlank, LeadsBehind, IsQuiet, StandsBefore};
@@ -489,6 +489,19 @@ impl Tokenizer {
             Place::Spoilt => true,
             _ => false,
         }
+    }
+
+    /// Whether the text has ended since a line began with `%`: exactly then no byte that follows is looked at, and none
+    /// need be read. No token is in hand.
+    #[inline(always)]
+    pub fn is_over(&self) -> bool
+        ensures over { result ≡ true → (before : List ℕ → Scan) → StandsBefore self.now before → IgnoresRest before }
+        ensures goes_on { result ≡ false → (before : List ℕ → Scan) → StandsBefore self.now before → IgnoresRest before
+            → ⊥ }
+        ensures none { result ≡ true → (before : List ℕ → Scan) → StandsBefore self.now before
+            → (before []).tokens ≡ [] }
+    {
+        matches!(self.place, Place::Over)
     }
 
     /// The token in hand where the text ends here, if there is one.

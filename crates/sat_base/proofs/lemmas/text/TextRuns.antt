@@ -1,5 +1,5 @@
 -- What a tokenizer makes of bytes.
-use Rattle.std.proofs.Common.{◌≡◌, ℕ, ◌+◌, ◌-◌, ◌^◌, ◌⊎◌, inl, inr, List, [], ◌∷◌, Bool, true, false, min, Option, Some, None, refl, sym, ap, ◌∙◌}
+use Rattle.std.proofs.Common.{◌≡◌, ℕ, ◌+◌, ◌-◌, ◌^◌, ◌⊎◌, inl, inr, List, [], ◌∷◌, Bool, true, false, min, Option, Some, None, refl, sym, ap, ◌∙◌, ◌≤◌, arith}
 use Rattle.std.specs.Prelude.{nat_eq}
 use Rattle.sat_base.specs.declared.text.Place.{Place}
 use Rattle.sat_base.specs.declared.text.Place.TheVariants as at
@@ -7,7 +7,8 @@ use Rattle.sat_base.specs.declared.text.header.HeaderPlace.TheVariants as header
 use Rattle.sat_base.specs.declared.text.Token.{Token as CodeToken}
 use Rattle.sat_base.specs.declared.text.Tokenizer.{Tokenizer}
 use Rattle.sat_base.specs.text.Text.{is_blank, Token, Scan, scan}
-use Rattle.sat_base.specs.text.Spot.{Stage, Begun, Named, Format, Vars, Both, stage_end, Spot, Fresh, Leading, Comment, Between, Within, HeaderBetween, HeaderWithin, Spoilt, Over, left, in_hand, behind_LF, lines_behind, behind_blank, ended_by_blank, line_at, onto}
+use Rattle.sat_base.specs.text.Spot.{Stage, Begun, Named, Format, Vars, Both, stage_end, Spot, Fresh, Leading, Comment, Between, Within, HeaderBetween, HeaderWithin, Spoilt, Over, IsSpot, left, in_hand, behind_LF, lines_behind, behind_blank, ended_by_blank, line_at, onto}
+use Rattle.sat_base.specs.text.Chunks.{IgnoresRest}
 use Rattle.sat_base.specs.text.Tokenizing.{held, IsAt, MovesPlace, may_come, IsHeldToken, SaysInHand, SaysAtBlank, LeadsBehind, StandsBefore, GivesToken, TakesByte, IsQuiet, IsOfHeader, HoldsNoWord, GivesLast}
 use Rattle.sat_base.proofs.lemmas.text.Spots.{start, LF_left, blank_left, end_left, last_left_end, over_more}
 use Rattle.sat_base.proofs.lemmas.text.Places.{IsSpot_of, line-Fresh, line-other, line-in_hand, line-behind_blank, below, held_next}
@@ -130,3 +131,38 @@ line_fresh machine may e before (spot, n, i, l, f) = l ∙ ap held (sym (line_is
 pub line_other : (machine : Tokenizer) (k : ℕ) → ((may : Bool) → machine.place ≡ at.Fresh may → ⊥) → k ≡ min (machine.lines + 1) (2 ^ 64 - 1) → (before : List ℕ → Scan) → StandsBefore machine before → k ≡ held (before []).last
 unfolding StandsBefore
 line_other machine k o e before (spot, n, i, l, f) = held_next machine.lines n k l e ∙ ap held (sym (line_is machine before spot n i f ∙ line-other machine.place spot n o i))
+
+-- AFTER A LINE THAT ENDS THE TEXT
+over_left : (n : ℕ) (rest : List ℕ) → left Over n rest ≡ left Over n []
+unfolding left
+over_left n rest = refl
+
+pub over_ignores : (machine : Tokenizer) → machine.place ≡ at.Over → (before : List ℕ → Scan) → StandsBefore machine before → IgnoresRest before
+unfolding StandsBefore
+over_ignores machine e before (spot, n, i, l, f) rest =
+    let j : spot ≡ Over = rw e at i in
+    f rest ∙ ap (λ (s : Spot). left s n rest) j ∙ over_left n rest ∙ ap (λ (s : Spot). left s n []) (sym j) ∙ sym (f [])
+
+-- elsewhere two more lines are looked at
+line_most : (spot : Spot) (n : ℕ) → line_at spot n ≤ n + 1
+line_most (Fresh may) n = omega arith
+line_most x n = omega arith
+
+below_once : (spot next : Spot) (n m : ℕ) (rest : List ℕ) → IsSpot spot → behind_LF spot ≡ next → lines_behind spot n ≡ m → (left spot n (10 ∷ rest)).last ≡ (left next m rest).last
+below_once spot next n m rest s e f = ap (λ (r : Scan). r.last) (LF_left spot n rest s) ∙ ap (λ (k : Spot). (left k (lines_behind spot n) rest).last) e ∙ ap (λ (k : ℕ). (left next k rest).last) f
+
+below_twice : (p : Place) (spot : Spot) (n : ℕ) → (p ≡ at.Over → ⊥) → IsAt p spot → (left spot n (10 ∷ 10 ∷ [])).last ≡ n + 1 + 1
+below_twice p spot n o i =
+    let may = may_come p in
+    let fresh = fresh_below p spot o i in
+    below_once spot (Fresh may) n (n + 1) (10 ∷ []) (IsSpot_of p spot i) fresh (lines_below spot n may fresh)
+    ∙ below_once (Fresh may) (Fresh may) (n + 1) (n + 1 + 1) [] tt refl refl
+    ∙ last_left_end (Fresh may) (n + 1 + 1) tt
+
+pub open_looks : (machine : Tokenizer) → (machine.place ≡ at.Over → ⊥) → (before : List ℕ → Scan) → StandsBefore machine before → IgnoresRest before → ⊥
+unfolding StandsBefore
+open_looks machine o before (spot, n, i, l, f) same =
+    let lines = 10 ∷ 10 ∷ [] in
+    let e : n + 1 + 1 ≡ line_at spot n =
+    sym (below_twice machine.place spot n o i) ∙ ap (λ (r : Scan). r.last) (sym (f lines) ∙ same lines ∙ f []) ∙ last_left_end spot n (IsSpot_of machine.place spot i) in
+    omega (arith, line_most spot n)
