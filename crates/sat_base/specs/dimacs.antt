@@ -6,3 +6,4 @@ pub mod Collecting
 pub mod ParserPlaces
 pub mod DimacsRows
 pub mod DimacsSpelling
+pub mod Faults

@@ -1,5 +1,6 @@
 //! Formulas' texts, read in any pieces.
 ghost use Rattle.std.specs.Prelude.{◌≡◌, ◌≤◌, ◌+◌, ◌++◌, ◌⊎◌, length, Ok, Err, IfOk, IfErr, OnOk, IsErrOf};
+ghost use Rattle.std.specs.Io.{ReadsAtMost};
 ghost use Rattle.sat_base.specs.device.Device.{most_reads, ReadFails, GaveEnough};
 ghost use Rattle.sat_base.specs.values.Literals.{var_limit};
 ghost use Rattle.sat_base.specs.text.Text.{dimacs_header};
@@ -8,10 +9,12 @@ ghost use Rattle.sat_base.specs.values.Formulas.{vars_of};
 ghost use Rattle.sat_base.specs.dimacs.ParserPlaces.{with_parser};
 ghost use Rattle.sat_base.specs.dimacs.Parsing.{no_progress, clauses_read, lines_read, held_numbers, all_taken};
 ghost use Rattle.sat_base.specs.dimacs.Parsing.{FeedsPiece, IsSoundSoFar, GaveSound, Finishes, Parses, KeepsText};
-ghost use Rattle.sat_base.specs.dimacs.Parsing.{ParsesInParts, VisitsAll};
+ghost use Rattle.sat_base.specs.dimacs.Parsing.{ParsesInParts, RefusesPiece, SaysEnded, VisitsAll};
+ghost use Rattle.sat_base.specs.dimacs.Faults.{ReadsNext};
 
 mod clauses;
 pub mod error;
+mod faults;
 mod history;
 mod parser;
 
@@ -21,6 +24,7 @@ use crate::device::ahead::PIECE;
 use crate::device::whole::MAX_READS;
 use crate::{CnfFormula, CountedRead};
 use std::alloc::Global;
+use std::io;
 use std::marker::Model;
 
 /// A parser of DIMACS CNF, which is fed a formula's text in any pieces. It looks at each byte once, and keeps of the
@@ -125,20 +129,50 @@ impl DimacsParser {
         self.parser.clauses.header
     }
 
-    /// Reads a formula to the end of its text.
+    /// Whether a line that begins with `%` has ended the text: no byte after it is looked at, and only `finish` is due.
+    pub fn has_ended(&self) -> bool
+        ensures { SaysEnded result self.now }
+    {
+        self.parser.has_ended()
+    }
+
+    /// Reads a formula to the end of its text, which is that of the reader or a line that begins with `%`. Returns
+    /// `OutOfMemory` only if the bytes that the reader gave have no fault.
     pub fn parse<R: CountedRead>(alloc: Global, reader: &mut R) -> Result<CnfFormula, DimacsError>
         // The formula and the faults are those of the text that was given, whatever would follow.
         ensures given { GaveEnough (R.seen reader.old) (R.seen reader.new) (Parses result) }
         // A read has failed only where the answer is that, and none is tried again.
         ensures kept { IsErrOf result DimacsError.Read ⊎ ((R.seen reader.new).failures ≡ (R.seen reader.old).failures) }
         ensures read { IsErrOf result DimacsError.Read → ReadFails (R.seen reader.old) (R.seen reader.new) }
-        // No fault of a line that was given is passed over, nor a word that is wrong whatever follows.
-        ensures sound { IsErrOf result DimacsError.Read → GaveSound (R.seen reader.old) (R.seen reader.new) }
+        // No fault of a line that was given is passed over, nor a word that is wrong whatever follows, by a failed read
+        // or for want of memory.
+        ensures sound { IsErrOf result DimacsError.Read ⊎ IsErrOf result DimacsError.OutOfMemory
+            → GaveSound (R.seen reader.old) (R.seen reader.new) }
         ensures reads { (R.seen reader.new).calls ≤ (R.seen reader.old).calls + most_reads }
         ensures fresh { IsErrOf result DimacsError.HasFailed → ⊥ }
     {
         let mut parser = DimacsParser::new(alloc);
         parser.read_formula(reader)
+    }
+
+    /// Reads the next bytes of the text, or none if it has ended.
+    fn read_next<R: CountedRead>(&self, reader: &mut R, room: &mut [u8]) -> io::Result<usize>
+        ensures bound { ReadsAtMost result room.new }
+        ensures reads { ReadsNext result room.new self.now.fed (R.seen reader.old) (R.seen reader.new) }
+    {
+        if self.has_ended() {
+            return Ok(0);
+        }
+        reader.read_counted(room)
+    }
+
+    /// Feeds the next bytes of a text of which all clauses are wanted or none.
+    fn feed_or_find_fault(&mut self, piece: &[u8]) -> Result<(), DimacsError>
+        ensures fed { OnOk result (FeedsPiece (Ok tt) piece.now self.old self.new) }
+        ensures sound { OnOk result (IsSoundSoFar self.new) }
+        ensures refused { IfErr result (λ e. RefusesPiece e piece.now self.old) }
+    {
+        self.parser.feed_or_find_fault(piece)
     }
 
     /// Takes a reader's text to its end, and hands over all of it.
@@ -147,25 +181,26 @@ impl DimacsParser {
         ensures given { GaveEnough (R.seen reader.old) (R.seen reader.new) (Parses result) }
         ensures kept { IsErrOf result DimacsError.Read ⊎ ((R.seen reader.new).failures ≡ (R.seen reader.old).failures) }
         ensures read { IsErrOf result DimacsError.Read → ReadFails (R.seen reader.old) (R.seen reader.new) }
-        ensures sound { IsErrOf result DimacsError.Read → GaveSound (R.seen reader.old) (R.seen reader.new) }
+        ensures sound { IsErrOf result DimacsError.Read ⊎ IsErrOf result DimacsError.OutOfMemory
+            → GaveSound (R.seen reader.old) (R.seen reader.new) }
         ensures reads { (R.seen reader.new).calls ≤ (R.seen reader.old).calls + most_reads }
         ensures fresh { IsErrOf result DimacsError.HasFailed → ⊥ }
     {
         let mut piece = [0; PIECE];
         for _ in 0..MAX_READS {
-            match reader.read_counted(&mut piece) {
+            match self.read_next(reader, &mut piece) {
                 Ok(0) => {
                     self.finish()?;
                     return Ok(self.take_formula());
                 }
-                Ok(count) => self.feed(&piece[..count])?,
+                Ok(count) => self.feed_or_find_fault(&piece[..count])?,
                 Err(_) => return Err(DimacsError::Read),
             }
         }
         Err(DimacsError::Read)
     }
 
-    /// Reads a formula to the end of its text, and lends the parser to the closure after each piece, also where that
+    /// Reads a formula to the end of its text, as `parse` does, and lends the parser to the closure after each piece, also where that
     /// was at fault or there was no memory for it, and after the end, but not after a failed read. The closure's
     /// refusal is answered at once, also in place of a fault. What a closure that only takes clauses has left waits in
     /// the parser.
@@ -216,7 +251,7 @@ impl DimacsParser {
     {
         let mut piece = [0; PIECE];
         for _ in 0..MAX_READS {
-            match reader.read_counted(&mut piece) {
+            match self.read_next(reader, &mut piece) {
                 Ok(0) => {
                     let answer = self.finish();
                     return refusal_or(closure(self), answer);

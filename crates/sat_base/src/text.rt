@@ -356,6 +356,16 @@ impl Tokenizer {
         }
     }
 
+    /// Returns a copy, which takes other bytes than this one.
+    pub(crate) fn copied(&self) -> Tokenizer
+        ensures { result ≡ self.now }
+    {
+        Tokenizer {
+            place: self.place,
+            lines: self.lines,
+        }
+    }
+
     /// LF.
     #[inline(always)]
     fn end_line(&mut self) -> Option<Token>

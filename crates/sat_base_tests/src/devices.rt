@@ -33,6 +33,29 @@ impl Read for ByOne<'_> {
     }
 }
 
+/// A text that is given in one piece, and then zeros without end.
+#[derive(Drop)]
+pub(crate) struct Endless<'a> {
+    text: &'a [u8],
+    pub(crate) calls: u64,
+}
+
+impl Read for Endless<'_> {
+    fn read(&mut self, buf: &mut [u8]) -> io::Result<usize> {
+        self.calls = self.calls.saturating_add(1);
+        let count = self.text.read(buf)?;
+        if count > 0 {
+            return Ok(count);
+        }
+        buf.fill(b'0');
+        Ok(buf.len())
+    }
+}
+
+pub(crate) fn endless(text: &[u8]) -> Counted<Endless<'_>> {
+    Counted::new(Endless { text, calls: 0 })
+}
+
 /// A writer that takes at most this many bytes of a piece; one call fails, counted from 1.
 #[derive(Drop)]
 pub(crate) struct ByFew {

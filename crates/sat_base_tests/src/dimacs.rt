@@ -8,7 +8,7 @@ ghost use Rattle.sat_base.specs.dimacs.Parsing.{IsWholeText};
 ghost use Rattle.sat_base.specs.text.Tokenizing.{held};
 ghost use Rattle.sat_base.specs.dimacs.Dimacs.{dimacs};
 
-use crate::devices::by_one;
+use crate::devices::{by_one, endless};
 use crate::formula::is_printed;
 use sat_base::{
     CnfFormula, Counted, CountedRead, DimacsError, DimacsParser, ExtendFormula, FormulaError,
@@ -410,13 +410,13 @@ fn looks_and_reads(
     (numbers, calls, reader.into_inner().calls, answer.err())
 }
 
-/// Behind the byte `%` the text is decided, and nothing need be read. The closure has the parser behind each read,
-/// either way.
+/// After the byte `%` the text has ended, and nothing is read. The closure has the parser after each piece, and once
+/// more after the end.
 #[test]
 fn a_caller_sees_each_piece_up_to_a_percent_line(rt: HostRuntime) {
     let (numbers, calls, reads, fault) = looks_and_reads(rt.alloc(), b"1\n%\n");
     assert!(rt; numbers.is_empty() && fault == Some(IncrementalError::Dimacs(MALFORMED)));
-    assert!(rt; calls == reads && 2 < reads && reads < 6);
+    assert!(rt; (calls, reads) == (4, 3));
 }
 
 /// How often a reader of a text is called that gives it byte by byte, and the fault.
@@ -484,6 +484,31 @@ fn count_in_parts<R: CountedRead>(
 fn clauses_are_counted_in_parts(rt: HostRuntime) {
     let answer = count_in_parts(rt.alloc(), &mut by_one(b"p cnf 2 2\n1 0 2 0\n", 0));
     assert!(rt; answer == Ok(2));
+}
+
+/// How many clauses a text has that goes on with zeros without end, and how often it is read.
+fn parse_endless(alloc: Global, text: &[u8]) -> (Option<usize>, u64) {
+    let mut reader = endless(text);
+    let count = match DimacsParser::parse(alloc, &mut reader) {
+        Ok(formula) => Some(formula.len()),
+        Err(_) => None,
+    };
+    (count, reader.into_inner().calls)
+}
+
+/// The same, for a caller that sees the clauses of every piece.
+fn count_endless(alloc: Global, text: &[u8]) -> (Option<u64>, u64) {
+    let mut reader = endless(text);
+    let count = count_in_parts(alloc, &mut reader).ok();
+    (count, reader.into_inner().calls)
+}
+
+#[test]
+fn no_piece_is_read_after_a_percent_line(rt: HostRuntime) {
+    for text in [&b"1 0\n%"[..], b"1 0\n \t% 2 0\n3 0\n"] {
+        assert!(rt; parse_endless(rt.alloc(), text) == (Some(1), 1));
+        assert!(rt; count_endless(rt.alloc(), text) == (Some(1), 1));
+    }
 }
 
 /// Errors, and how they are printed.

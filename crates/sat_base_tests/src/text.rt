@@ -384,3 +384,34 @@ fn wrong_words_are_told_at_their_first_wrong_byte(rt: HostRuntime) {
         assert!(rt; found == count, "{text:?} {found:?}");
     }
 }
+
+/// Texts, and whether a line that begins with `%` has ended each.
+static ENDED: [(&[u8], bool); 7] = [
+    (b"", false),
+    (b"%", true),
+    (b"1 0\n \t%x\n1", true),
+    (b"1 %", false),
+    (b"c %\n", false),
+    (b"p cnf 1 1\n%\n", true),
+    (b"1 0\nc\n", false),
+];
+
+fn ended() -> &'static [(&'static [u8], bool)] {
+    &ENDED
+}
+
+/// Whether a text has ended after these bytes.
+fn is_over_after(text: &[u8]) -> bool {
+    let mut tokenizer = Tokenizer::new();
+    for byte in text {
+        tokenizer.push(*byte);
+    }
+    tokenizer.is_over()
+}
+
+#[test]
+fn a_percent_line_ends_the_text(rt: HostRuntime) {
+    for &(text, is_over) in ended() {
+        assert!(rt; is_over_after(text) == is_over, "{text:?}");
+    }
+}

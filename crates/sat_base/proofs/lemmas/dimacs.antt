@@ -7,3 +7,5 @@ pub mod Parsed
 pub mod DimacsRowsComputed
 pub mod DimacsSpellings
 pub mod Parts
+pub mod FaultsFound
+pub mod ReadToEnd

@@ -4,7 +4,7 @@ use Rattle.std.specs.Io.KnownBytes.{IsAtEnd}
 use Rattle.std.specs.List.{FoldsTo, concat}
 use Rattle.std.specs.Prelude.{◌≡◌, ◌<◌, ◌≤◌, ◌+◌, ◌⊎◌, ◌-◌, ℕ, length, get_or, nat_eq, List, [], ◌∷◌, ◌++◌, Bool, true, false, ◌||◌, Option, None, Some, Result, Ok, Err, if◌then◌else◌}
 use Rattle.sat_base.specs.device.Device.{Reader, CanFollow, GaveFront, GaveEnough}
-use Rattle.sat_base.specs.text.Text.{is_blank, Token, Number, scan, tokens, dimacs_header}
+use Rattle.sat_base.specs.text.Text.{is_blank, Token, Number, scan, tokens, HasEnded, dimacs_header}
 use Rattle.sat_base.specs.text.WrongWords.{RightAhead}
 use Rattle.sat_base.specs.text.Tokenizing.{held}
 use Rattle.sat_base.specs.values.Formulas.{Formula, vars_of}
@@ -92,9 +92,10 @@ pub record IsSoundText (text : List ℕ) : Type 0 where
 abbrev pub IsSoundSoFar : Progress → Type 0
 IsSoundSoFar p = IsSoundText p.fed
 
--- none of what was given
+-- none of what was given, nor at its end, if that was found
 abbrev pub GaveSound : Reader → Reader → Type 0
 GaveSound old new = (text : List ℕ) × GaveFront old new text × IsSoundText text
+    × (old.calls < new.calls → new.ended ≡ true → (dimacs text).ending ≡ Clean)
 
 -- a front of the piece was taken, up to and with a fault
 pub record EndsAtFault (ending : Ending) (piece : List ℕ) (old new : Progress) : Type 0 where
@@ -122,10 +123,11 @@ pub record GoesWell (text : List ℕ) (byte : ℕ) : Type 0 where
   pub number : EndsNumber text (text ++ byte ∷ [])
   pub sound : NoFault None (tokens (text ++ byte ∷ []))
 
--- the text ends cleanly, with a number, which is then a zero
+-- the text ends cleanly, with a number, which is then a zero, and no line that begins with `%` has ended it before
 pub record EndsWell (text : List ℕ) : Type 0 where
   pub number : EndsNumber text text
   pub clean : (dimacs text).ending ≡ Clean
+  pub goes_on : HasEnded text → ⊥
 
 -- a front of the piece was taken, and there was no memory at the next byte
 pub record FallsShort (piece : List ℕ) (old new : Progress) : Type 0 where
@@ -135,6 +137,15 @@ pub record FallsShort (piece : List ℕ) (old new : Progress) : Type 0 where
   pub whole : piece ≡ front ++ byte ∷ behind
   pub progress : new ≡ cut_short (with_fed front old)
   pub well : GoesWell (old.fed ++ front) byte
+
+-- a text has a fault on this line, however it goes on
+abbrev pub HasFaultOn : ℕ → (ℕ → Ending) → List ℕ → Type 0
+HasFaultOn line ending text = (n : ℕ) × (line ≡ held n) × ((rest : List ℕ) → (dimacs (text ++ rest)).ending ≡ ending n)
+
+-- whether a line that begins with `%` has ended the text of a parser that goes on
+abbrev pub SaysEnded : Bool → Progress → Type 0
+SaysEnded true p = (p.stopped ≡ false) × HasEnded p.fed
+SaysEnded false p = (p.stopped ≡ true) ⊎ (HasEnded p.fed → ⊥)
 
 -- what a piece is answered by
 abbrev pub FeedsPiece : Result (Unit {0}) DimacsError → List ℕ → Progress → Progress → Type 0
@@ -156,6 +167,14 @@ Finishes (Err (errors.Limit line)) old new = (old.stopped ≡ false) × (new ≡
 Finishes (Err errors.OutOfMemory) old new = (old.stopped ≡ false) × (new ≡ cut_short old) × EndsWell old.fed
 Finishes (Err errors.HasFailed) old new = (old.stopped ≡ true) × (new ≡ old)
 Finishes (Err errors.Read) old new = ⊥
+
+-- The piece is refused: it has a fault, however the text goes on; or there was no memory within it, and it has no fault.
+abbrev pub RefusesPiece : DimacsError → List ℕ → Progress → Type 0
+RefusesPiece (errors.Malformed line) piece old = HasFaultOn line Malformed (old.fed ++ piece)
+RefusesPiece (errors.Limit line) piece old = HasFaultOn line Limit (old.fed ++ piece)
+RefusesPiece errors.OutOfMemory piece old = ((new : Progress) × FallsShort piece old new) × IsSoundText (old.fed ++ piece)
+RefusesPiece errors.HasFailed piece old = old.stopped ≡ true
+RefusesPiece errors.Read piece old = ⊥
 
 -- there was no memory where a number of the text ends and no word up to there is at fault
 abbrev pub ParsesShort : List ℕ → Type 0

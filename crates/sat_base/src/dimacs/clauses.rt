@@ -12,7 +12,7 @@ use std::alloc::{AllocFailed, Global};
 use std::mem;
 
 /// The largest number of a variable.
-const LARGEST: u64 = MAX_COUNT as u64;
+pub(crate) const LARGEST: u64 = MAX_COUNT as u64;
 
 /// Why a token wasn't taken.
 #[derive(Clone, Copy, Drop)]

@@ -1,14 +1,15 @@
 //! A parser that says whether it stopped.
-ghost use Rattle.std.specs.Prelude.{◌≡◌, ◌++◌, ◌∷◌, [], ℕ, List, true, false, OnOk};
+ghost use Rattle.std.specs.Prelude.{◌≡◌, ◌++◌, ◌∷◌, [], ℕ, List, true, false, Ok, OnOk, IfErr};
 ghost use Rattle.sat_base.specs.text.Text.{Scan};
 ghost use Rattle.sat_base.specs.text.Tokenizing.{held, StandsBefore};
 ghost use Rattle.sat_base.specs.values.Formulas.{vars_of};
 ghost use Rattle.sat_base.specs.dimacs.Parsing.{FeedsPiece, Finishes, IsSoundSoFar, no_progress, all_taken};
-ghost use Rattle.sat_base.specs.dimacs.Parsing.{clauses_read};
+ghost use Rattle.sat_base.specs.dimacs.Parsing.{clauses_read, RefusesPiece, SaysEnded};
 ghost use Rattle.sat_base.specs.dimacs.ParserPlaces.{IsParser, progress_of, EndsClean};
 
 use super::clauses::{Clauses, Refusal, is_literal};
 use super::error::DimacsError;
+use super::faults::error_within;
 use super::history::History;
 use crate::{CnfFormula, Tokenizer};
 use std::alloc::Global;
@@ -101,6 +102,33 @@ impl Parser {
             self.push(*byte)?;
         }
         Ok(())
+    }
+
+    /// Feeds the next bytes of a text of which all clauses are wanted or none. So if memory runs out within them, their
+    /// later faults are reported instead.
+    pub(crate) fn feed_or_find_fault(&mut self, piece: &[u8]) -> Result<(), DimacsError>
+        requires { IsParser self.old }
+        ensures parser { IsParser self.new }
+        ensures fed { OnOk result (FeedsPiece (Ok tt) piece.now (progress_of self.old) (progress_of self.new)) }
+        ensures sound { OnOk result (IsSoundSoFar (progress_of self.new)) }
+        ensures refused { IfErr result (λ e. RefusesPiece e piece.now (progress_of self.old)) }
+    {
+        let tokenizer = self.tokenizer.copied();
+        match self.feed(piece) {
+            Ok(()) => Ok(()),
+            Err(error) => Err(error_within(tokenizer, piece, error)),
+        }
+    }
+
+    /// Whether a line that begins with `%` has ended the text, so that it is to be finished.
+    pub(crate) fn has_ended(&self) -> bool
+        requires { IsParser self.now }
+        ensures { SaysEnded result (progress_of self.now) }
+    {
+        if self.stopped {
+            return false;
+        }
+        self.tokenizer.is_over()
     }
 
     /// The text is over, with no word in hand.

@@ -1,7 +1,7 @@
 -- What a parser of formulas' texts makes of bytes.
 use Rattle.std.proofs.Common.{◌≡◌, ℕ, ◌+◌, ◌<◌, max, length, List, [], ◌∷◌, ◌++◌, Bool, true, false, Option, Some, None, Result, Ok, Err, refl, sym, ap, subst, inl, inr, ◌∙◌, append_assoc, length-append, take, drop, get_or, arith}
 use Rattle.std.proofs.lemmas.Grind.{common_steps}
-use Rattle.std.proofs.lemmas.List.{append-nil, length_push, get_or_push}
+use Rattle.std.proofs.lemmas.List.{append-nil, append_cancel_left, length_push, get_or_push}
 use Rattle.std.proofs.lemmas.Bool.Decides.{nat_tests}
 use Rattle.std.specs.Prelude.{nat_eq, nat_lt, not, ◌&&◌, ◌-◌, ◌⊎◌}
 use Rattle.sat_base.specs.values.Literals.{coded, var_limit}
@@ -13,15 +13,18 @@ use Rattle.sat_base.specs.declared.dimacs.history.History.{History}
 use Rattle.sat_base.specs.declared.text.Token.{Token as CodeToken}
 use Rattle.sat_base.specs.declared.text.Token.TheVariants as code
 use Rattle.sat_base.specs.declared.text.Tokenizer.{Tokenizer}
-use Rattle.sat_base.specs.text.Text.{is_blank, Token, Number, Letter, Header, Wrong, Scan, lines, tokens_of, last_line, scan, header_from, header_first, dimacs_header}
+use Rattle.sat_base.specs.text.Text.{is_blank, Token, Number, Letter, Header, Wrong, Scan, lines, tokens_of, last_line, scan, HasEnded, header_from, header_first, dimacs_header}
+use Rattle.sat_base.specs.text.Chunks.{IgnoresRest}
 use Rattle.sat_base.specs.text.Spot.{onto}
 use Rattle.sat_base.specs.text.WrongWords.{HaveNoWrongWord, RightAhead, WrongAhead}
 use Rattle.sat_base.specs.text.Tokenizing.{held, held_token, StandsBefore, TakesByte, GivesLast, IsOfHeader, HoldsNoWord}
 use Rattle.sat_base.specs.values.Formulas.{Formula, no_formula, vars_in, vars_of}
 use Rattle.sat_base.specs.dimacs.Dimacs.{Hand, Turn, GoesOn, Ends, Fails, Ending, Clean, Malformed, Limit, Dimacs, literals_in, turn, at_end, clauses_of, dimacs, settled}
 use Rattle.sat_base.specs.dimacs.Collecting.{token_of, hand_in, header_behind, is_literal, NeedsRoom, Stay, AllStay, TakesTokenTurn}
-use Rattle.sat_base.specs.dimacs.Parsing.{Progress, NoFault, unless_fault, IsSoundText, GoesWell, EndsWell, EndsAtFault, FeedsPiece, Finishes, with_fed, cut_short, at_its_end, clauses_read, lines_read, whole_lines, held_numbers, last_byte}
+use Rattle.sat_base.specs.dimacs.Parsing.{Progress, SaysEnded, NoFault, unless_fault, IsSoundText, GoesWell, EndsWell, EndsAtFault, FeedsPiece, Finishes, with_fed, cut_short, at_its_end, clauses_read, lines_read, whole_lines, held_numbers, last_byte}
 use Rattle.sat_base.specs.dimacs.ParserPlaces.{progress_of, all_in, onto_clauses, HaveTakenTokens, IsGoingParser, IsParser, EndsClean}
+use Rattle.sat_base.specs.dimacs.Faults.{HasTakenSoundly}
+use Rattle.sat_base.proofs.lemmas.text.TextRuns.{given_goes_on}
 use Rattle.sat_base.proofs.lemmas.values.FlatLemmas.{vars_of_more}
 use Rattle.sat_base.specs.script.Language.{spoken}
 use Rattle.sat_base.proofs.lemmas.text.HeaderFirst.{AreWords, AreScript, text_is}
@@ -229,7 +232,7 @@ first_in (y ∷ ys) us x (inr h) =
 first_stands : (text : List ℕ) (before us : List (ℕ × Token)) (n : ℕ) (t : Token) → (scan text).tokens ≡ before ++ (n, t) ∷ us → First before t
 first_stands text before us n t e = first_in before us (n, t) (subst (λ (ts : List (ℕ × Token)). AreScript (spoken ts)) e (text_is text))
 
-not_false : (b : Bool) → (b ≡ false → ⊥) → b ≡ true
+pub not_false : (b : Bool) → (b ≡ false → ⊥) → b ≡ true
 not_false true h = refl
 not_false false h = absurd (h refl)
 
@@ -420,13 +423,48 @@ right_append : (xs ys : List (ℕ × Token)) → HaveNoWrongWord xs → HaveNoWr
 right_append [] ys f g = g
 right_append (x ∷ xs) ys f g = (f.0, right_append xs ys f.1 g)
 
-pub sound_text : (p : Parser) → IsGoingParser p → IsSoundText p.history.fed
-sound_text p g =
+pub taken_soundly : (p : Parser) → IsGoingParser p → HasTakenSoundly p.history.fed p.tokenizer
+taken_soundly p g = record {
+  before = g.before;
+  all = all_in p;
+  hand = hand_in p.clauses;
+  left_of = g.left_of;
+  stands = g.stands;
+  scans = g.scans;
+  turned = g.turned;
+  sound = g.sound;
+  right = g.right;
+}
+
+pub sound_taken : (text : List ℕ) (machine : Tokenizer) → HasTakenSoundly text machine → IsSoundText text
+sound_taken text machine g =
     let before : HaveNoWrongWord g.before = sound_right None g.before (subst (NoFault None) (append-nil g.before) (g.turned.sound [] tt)) in
     record {
       lines = g.sound;
       words = (g.right.0, subst (λ (s : Scan). HaveNoWrongWord s.tokens) (sym (g.scans g.right.0)) (right_append g.before (g.left_of g.right.0).tokens before g.right.1));
     }
+
+pub sound_text : (p : Parser) → IsGoingParser p → IsSoundText p.history.fed
+sound_text p g = sound_taken p.history.fed p.tokenizer (taken_soundly p g)
+
+-- A LINE THAT ENDS THE TEXT
+onto_cancel : (before : List (ℕ × Token)) (s t : Scan) → onto before s ≡ onto before t → s ≡ t
+onto_cancel before s t e =
+    let tokens : s.tokens ≡ t.tokens = append_cancel_left before s.tokens t.tokens (ap (λ (k : Scan). k.tokens) e) in
+    let last : s.last ≡ t.last = ap (λ (k : Scan). k.last) e in
+    let same : (a b : List (ℕ × Token)) (m n : ℕ) → a ≡ b → m ≡ n → ◌≡◌ {A = Scan} (record { tokens = a; last = m }) (record { tokens = b; last = n }) = λ a b m n f g. rw (f, g) refl in
+    same s.tokens t.tokens s.last t.last tokens last
+
+-- whatever follows is ignored exactly if the tokenizer ignores it
+pub ends_here : (p : Parser) (g : IsGoingParser p) → IgnoresRest g.left_of → HasEnded p.history.fed
+ends_here p g i rest = g.scans rest ∙ ap (onto g.before) (i rest) ∙ sym (g.scans []) ∙ ap scan (append-nil p.history.fed)
+
+pub goes_here : (p : Parser) (g : IsGoingParser p) → HasEnded p.history.fed → IgnoresRest g.left_of
+goes_here p g h rest = onto_cancel g.before (g.left_of rest) (g.left_of []) (sym (g.scans rest) ∙ h rest ∙ ap scan (sym (append-nil p.history.fed)) ∙ g.scans [])
+
+pub says_ended : (p : Parser) (g : IsGoingParser p) → p.stopped ≡ false → (b : Bool) → (b ≡ true → IgnoresRest g.left_of) → (b ≡ false → IgnoresRest g.left_of → ⊥) → SaysEnded b (progress_of p)
+says_ended p g o true over goes = (o, ends_here p g (over refl))
+says_ended p g o false over goes = inr (λ h. goes refl (goes_here p g h))
 
 -- PIECES
 with_none : (p : Progress) → with_fed [] p ≡ p
@@ -680,6 +718,7 @@ finish_short old i o t gives lit (inr ends) =
             ∙ ap (λ (m : ℕ). g.before ++ (m, Number k.0 k.1) ∷ []) (sym (ap (λ (z : Scan). z.last) (scan_whole old g)));
       };
       clean = clean;
+      goes_on = λ h. given_goes_on old.tokenizer g.left_of g.stands (λ e. let z : ◌≡◌ {A = List (ℕ × Token)} [] (x ∷ []) = sym e ∙ q.2 in cc) (goes_here old g h);
     }
 
 -- there was no memory for the word that a byte ends

@@ -14,7 +14,7 @@ use Rattle.sat_base.specs.device.Device.{Reader, GaveAll, GaveFront}
 use Rattle.sat_base.specs.text.Text.{dimacs_header, scan, tokens_of, lines}
 
 -- the text has the ending of its fault
-fault_ends : (ending : Ending) (fed piece : List ℕ) (p q : Progress) → p.fed ≡ fed → EndsAtFault ending piece p q → (rest : List ℕ) → (dimacs ((fed ++ piece) ++ rest)).ending ≡ ending
+pub fault_ends : (ending : Ending) (fed piece : List ℕ) (p q : Progress) → p.fed ≡ fed → EndsAtFault ending piece p q → (rest : List ℕ) → (dimacs ((fed ++ piece) ++ rest)).ending ≡ ending
 fault_ends ending fed piece p q e f rest =
     let is : q.fed ≡ fed ++ f.front = ap (λ (k : Progress). k.fed) f.progress ∙ ap (λ (k : List ℕ). k ++ f.front) e in
     let text : (fed ++ piece) ++ rest ≡ q.fed ++ (f.behind ++ rest) =
@@ -23,7 +23,7 @@ fault_ends ending fed piece p q e f rest =
     ap (λ (k : List ℕ). (dimacs k).ending) text ∙ ap (λ (d : Dimacs). d.ending) (f.ends (f.behind ++ rest))
 
 -- there was no memory within it
-short_on : (fed piece : List ℕ) (p q : Progress) → p.fed ≡ fed → FallsShort piece p q → (rest : List ℕ)
+pub short_on : (fed piece : List ℕ) (p q : Progress) → p.fed ≡ fed → FallsShort piece p q → (rest : List ℕ)
     → (front : List ℕ) × (byte : ℕ) × (behind : List ℕ) × ((fed ++ piece) ++ rest ≡ front ++ byte ∷ behind) × GoesWell front byte
 short_on fed piece p q e f rest = (
   fed ++ f.front,

@@ -1,15 +1,16 @@
 -- A text that is read in parts, and seen after each: what is answered by.
-use Rattle.std.proofs.Common.{◌≡◌, ℕ, List, [], ◌++◌, false, Result, Ok, Err, inl, inr, refl, ap, length, ◌+◌, ◌<◌, ◌≤◌}
+use Rattle.std.proofs.Common.{◌≡◌, ℕ, List, [], ◌++◌, false, Result, Ok, Err, inl, inr, refl, ap, subst, length, ◌+◌, ◌<◌, ◌≤◌}
 use Rattle.std.specs.Result.{IfOk, IfErr, OnOk}
 use Rattle.sat_base.specs.declared.dimacs.error.DimacsError.{DimacsError}
 use Rattle.sat_base.specs.declared.dimacs.error.DimacsError.TheVariants as errors
 use Rattle.sat_base.specs.declared.dimacs.error.IncrementalError.{IncrementalError}
 use Rattle.sat_base.specs.declared.dimacs.error.IncrementalError.TheVariants as parts
-use Rattle.sat_base.specs.device.Device.{Reader, GaveAll, GaveFront}
+use Rattle.sat_base.specs.device.Device.{Reader, GaveFront}
 use Rattle.sat_base.specs.dimacs.Parsing.{Calls, FeedsPiece, Finishes, IsSoundSoFar, IsWholeText, LastVisit, Parses, ParsesInParts, Progress, Visits}
 use Rattle.sat_base.specs.dimacs.ParserPlaces.{with_parser}
-use Rattle.sat_base.proofs.lemmas.device.Given.{enough_all, enough_front}
-use Rattle.sat_base.proofs.lemmas.dimacs.Parsed.{HasAccepted, ends_by, stops_on, parts_clean, whole_at_end, no_read, no_read_called, no_read_ended, no_read_fed}
+use Rattle.sat_base.proofs.lemmas.device.Given.{enough_front}
+use Rattle.sat_base.proofs.lemmas.dimacs.Parsed.{HasAccepted, ends_by, stops_on, parts_clean, no_read, no_read_called, no_read_ended, no_read_fed}
+use Rattle.sat_base.proofs.lemmas.dimacs.ReadToEnd.{ReadToEnd, enough_read, read_front, read_whole}
 
 -- the closure's refusal, or else the parser's answer
 abbrev pub refusal_or : {E : Type 0} → Result (Unit {0}) E → Result (Unit {0}) DimacsError → Result (Unit {0}) (IncrementalError E)
@@ -32,11 +33,13 @@ last_at_end calls (Ok u) (Err e) r reader f h p q s is whole ends seen = rw is (
 last_at_end calls (Ok u) (Ok v) r reader f h p q s is whole ends seen = rw is (refl, whole, q, h, ends, seen)
 
 pub parsed_at_end : {E : Type 0} (seen : Result (Unit {0}) E) (answer : Result (Unit {0}) DimacsError) (r : Result (Unit {0}) (IncrementalError E)) (a c : Reader) (fed : List ℕ) (p q s : Progress)
-    → r ≡ refusal_or seen answer → GaveAll a c fed → HasAccepted fed p → s ≡ record q { taken = s.taken } → Finishes answer p q → ParsesInParts a c (with_parser s r)
+    → r ≡ refusal_or seen answer → ReadToEnd a c fed p.fed → HasAccepted fed p → s ≡ record q { taken = s.taken } → Finishes answer p q → ParsesInParts a c (with_parser s r)
 parsed_at_end (Err e) answer r a c fed p q s is all stands kept ends = rw is tt
-parsed_at_end (Ok u) (Err e) r a c fed p q s is all stands kept ends = rw is (enough_all a c (Parses (Err e)) fed all (ends_by e fed p q stands ends))
+parsed_at_end (Ok u) (Err e) r a c fed p q s is all stands kept ends =
+    rw is (enough_read (Err e) a c fed (subst (ReadToEnd a c fed) (ap (λ (z : Progress). z.fed) stands) all) (ends_by e fed p q stands ends))
 parsed_at_end (Ok u) (Ok v) r a c fed p q s is all stands kept ends =
-    rw is (fed, record { gave = all.gave; told = all.told; loans = all.loans }, parts_clean fed p q s stands kept (ends.1, ends.2), whole_at_end a c fed all.called all.ends)
+    let whole = subst (ReadToEnd a c fed) (ap (λ (z : Progress). z.fed) stands) all in
+    rw is (fed, read_front a c fed fed whole, parts_clean fed p q s stands kept (ends.1, ends.2), read_whole a c fed fed whole)
 
 pub no_read_at_end : {E X : Type 0} (seen : Result (Unit {0}) E) (answer : Result (Unit {0}) DimacsError) (r : Result (Unit {0}) (IncrementalError E)) (p q s : Progress)
     → r ≡ refusal_or seen answer → Finishes answer p q → with_parser s r ≡ Err (parts.Dimacs errors.Read) → X

@@ -13,7 +13,7 @@ use Rattle.sat_base.specs.text.Tokenizing.{held, IsAt, MovesPlace, may_come, IsH
 use Rattle.sat_base.proofs.lemmas.text.Spots.{start, LF_left, blank_left, end_left, last_left_end, over_more}
 use Rattle.sat_base.proofs.lemmas.text.Places.{IsSpot_of, line-Fresh, line-other, line-in_hand, line-behind_blank, below, held_next}
 
-abbrev standing : Place → ℕ → Tokenizer
+abbrev pub standing : Place → ℕ → Tokenizer
 standing place lines = record { place = place; lines = lines }
 
 pub stands_first : StandsBefore (standing (at.Fresh true) 0) scan
@@ -159,10 +159,18 @@ below_twice p spot n o i =
     ∙ below_once (Fresh may) (Fresh may) (n + 1) (n + 1 + 1) [] tt refl refl
     ∙ last_left_end (Fresh may) (n + 1 + 1) tt
 
+below_line : (n k : ℕ) → n + 1 + 1 ≡ k → k ≤ n + 1 → ⊥
+below_line n k e h = absurd (omega arith)
+
 pub open_looks : (machine : Tokenizer) → (machine.place ≡ at.Over → ⊥) → (before : List ℕ → Scan) → StandsBefore machine before → IgnoresRest before → ⊥
 unfolding StandsBefore
 open_looks machine o before (spot, n, i, l, f) same =
     let lines = 10 ∷ 10 ∷ [] in
     let e : n + 1 + 1 ≡ line_at spot n =
     sym (below_twice machine.place spot n o i) ∙ ap (λ (r : Scan). r.last) (sym (f lines) ∙ same lines ∙ f []) ∙ last_left_end spot n (IsSpot_of machine.place spot i) in
-    omega (arith, line_most spot n)
+    let most : line_at spot n ≤ n + 1 = line_most spot n in
+    below_line n (line_at spot n) e most
+
+-- so where a token is in hand
+pub given_goes_on : (machine : Tokenizer) (before : List ℕ → Scan) → StandsBefore machine before → ((before []).tokens ≡ [] → ⊥) → IgnoresRest before → ⊥
+given_goes_on machine before s some = open_looks machine (λ e. some (none_over machine e before s)) before s

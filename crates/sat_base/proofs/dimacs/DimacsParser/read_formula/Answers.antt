@@ -1,85 +1,139 @@
-use Rattle.std.proofs.Common.{◌≡◌, ◌+◌, ℕ, List, [], ◌++◌, inl, inr, Ok, Err, refl, ap, sym, subst, ◌∙◌, take, length-append, rules, arith}
+use Rattle.std.proofs.Common.{◌≡◌, ◌+◌, ◌<◌, ◌⊎◌, Bool, false, ℕ, zero, suc, List, [], ◌++◌, inl, inr, Ok, Err, refl, ap, sym, subst, ◌∙◌, take, length, length-append, rules, arith}
 use Rattle.std.proofs.lemmas.Result.{err_from_is_err_and}
+use Rattle.sat_base.specs.text.Text.{HasEnded}
 use Rattle.sat_base.specs.dimacs.Parsing.{Progress, Parses, no_progress, with_fed, IsSoundSoFar, IsSoundText}
-use Rattle.sat_base.proofs.lemmas.device.Given.{gave_none, gave_more, gave_still, gave_to_end, not_ended, enough_all, enough_front, few_front, calls_within, calls_upto}
-use Rattle.sat_base.proofs.lemmas.dimacs.Parsed.{stops_on, ends_by, stands_of, piece_given, sound_none}
-use Rattle.sat_base.proofs.lemmas.dimacs.ParseAnswers.{finish_no_read, finish_no_stop, feed_no_read, feed_no_stop, read_is_no_stop}
+use Rattle.sat_base.proofs.lemmas.device.Given.{gave_none, gave_more, gave_still, not_ended, enough_front, few_front, calls_within, calls_upto, still_open}
+use Rattle.sat_base.proofs.lemmas.dimacs.Parsed.{ends_by, stands_of, piece_given, sound_none}
+use Rattle.sat_base.proofs.lemmas.dimacs.ParseAnswers.{finish_no_read, finish_no_stop, refused_no_read, refused_no_stop, read_is_no_stop, read_is_no_want}
+use Rattle.sat_base.proofs.lemmas.dimacs.ReadToEnd.{ReadToEnd, some_read, next_kept, next_within, read_to_end, none_has_ended, read_front, enough_read, refused_on, sound_end, sound_piece}
 use Rattle.sat_base.proofs.lemmas.device.WholeAnswers.{ok_is_no_err}
 use Rattle.sat_base.proofs.dimacs.DimacsParser.read_formula.Goals as goal
 
+fed_of : (p : Progress) (text : List ℕ) → p ≡ with_fed text no_progress → p.fed ≡ text
+fed_of p text e = ap (λ (k : Progress). k.fed) e
+
+sound_of : (p : Progress) (text : List ℕ) → p ≡ with_fed text no_progress → IsSoundSoFar p → IsSoundText text
+sound_of p text e s = subst IsSoundText (ap (λ (k : Progress). k.fed) e) s
+
+-- where the text has ended, it was read
+read_before : (p : Progress) (text : List ℕ) (n : ℕ) (T : Type 0) → p ≡ with_fed text no_progress → (n ≡ 0 → text ≡ []) → (0 < n → T) → HasEnded p.fed → T
+read_before p text zero T e none then h = absurd (none_has_ended (subst HasEnded (fed_of p text e ∙ none refl) h))
+read_before p text (suc n) T e none then h = then (omega arith)
+
 pub loop-init : goal.loop-init
-loop-init g c = record { bytes = ([], c.requires, gave_none _, omega arith); sound = subst IsSoundSoFar (sym c.requires) sound_none; open_yet = λ h. absurd (omega arith); failures = refl; calls = omega arith }
+loop-init g c = record { bytes = ([], c.requires, gave_none _, omega arith, λ e. refl); sound = subst IsSoundSoFar (sym c.requires) sound_none; open_yet = λ h. absurd (omega arith); failures = refl; calls = omega arith }
 
 pub loop-preserved : goal.loop-preserved
 loop-preserved g c =
     let S = g.R.CountedRead.seen in
     let b = c.loop.invariant.bytes in
-    let piece = take c.in-Ok.count c.read_counted.new.buf in
-    let once = c.in-Ok.ensures.once in
+    let buf = c.read_next.new.room in
+    let piece = take c.in-Ok.count buf in
+    let once = some_read c.in-Ok.count buf c.loop.self.fed (S c.loop.reader) (S c.read_next.new.reader) (search rules) c.in-Ok.ensures.reads in
     record {
-      bytes = (b.0 ++ piece, c.in_ok-feed-in-Ok.ensures.answer.1 ∙ ap (λ (k : Progress). with_fed piece k) b.1, gave_more (S c.args.reader.now) (S c.loop.reader) (S c.read_counted.new.self) b.0 c.in-Ok.count c.read_counted.new.buf b.2 once, omega (arith, b.3, length-append b.0 piece, piece_given c.in-Ok.count c.read_counted.new.buf (search rules) (search rules)));
-      sound = c.in_ok-feed-in-Ok.ensures.sound;
-      open_yet = λ h. not_ended (S c.loop.reader) (S c.read_counted.new.self) c.in-Ok.count c.read_counted.new.buf once (search rules);
+      bytes = (b.0 ++ piece, c.in_ok-feed_or_find_fault-in-Ok.ensures.fed.1 ∙ ap (λ (k : Progress). with_fed piece k) b.1, gave_more (S c.args.reader.now) (S c.loop.reader) (S c.read_next.new.reader) b.0 c.in-Ok.count buf b.2 once, omega (arith, b.3, length-append b.0 piece, piece_given c.in-Ok.count buf (search rules) (search rules)), λ e. absurd (omega arith));
+      sound = c.in_ok-feed_or_find_fault-in-Ok.ensures.sound;
+      open_yet = λ h. not_ended (S c.loop.reader) (S c.read_next.new.reader) c.in-Ok.count buf once (search rules);
       failures = once.failures.0 ∙ c.loop.invariant.failures;
       calls = omega (arith, once.calls, c.loop.invariant.calls);
     }
+
+-- AT THE END
 
 pub returns-in-Ok-eq0-clause-given : goal.returns-in-Ok-eq0-clause-given
 returns-in-Ok-eq0-clause-given g c =
     let S = g.R.CountedRead.seen in
     let b = c.loop.invariant.bytes in
-    let all = gave_to_end (S c.args.reader.now) (S c.loop.reader) (S c.read_counted.new.self) b.0 c.in-Ok-eq0.field-0 c.read_counted.new.buf b.2 c.in-Ok-eq0.ensures.once (search rules) (search rules) (omega (arith, c.loop.invariant.calls)) (omega (arith, c.loop.invariant.calls, b.3)) in
-    enough_all _ _ (Parses (Ok c.take_formula.result)) b.0 all (search rules)
+    let fed = fed_of c.loop.self b.0 b.1 in
+    let all = read_to_end (S c.args.reader.now) (S c.loop.reader) (S c.read_next.new.reader) b.0 c.loop.self.fed c.in-Ok-eq0.field-0 c.loop.counter c.read_next.new.room b.2 c.in-Ok-eq0.ensures.reads (search rules) (search rules) c.loop.invariant.calls b.3 (read_before c.loop.self b.0 c.loop.counter _ b.1 b.4 c.loop.invariant.open_yet) in
+    enough_read (Ok c.take_formula.result) _ _ b.0 (subst (ReadToEnd (S c.args.reader.now) (S c.read_next.new.reader) b.0) fed all) (search rules)
 
 pub returns-in_err-finish-in-Ok-eq0-clause-given : goal.returns-in_err-finish-in-Ok-eq0-clause-given
 returns-in_err-finish-in-Ok-eq0-clause-given g c =
     let S = g.R.CountedRead.seen in
     let p = err_from_is_err_and c.from_residual.result c.from_residual.ensures.1 in
     let b = c.loop.invariant.bytes in
-    let all = gave_to_end (S c.args.reader.now) (S c.loop.reader) (S c.read_counted.new.self) b.0 c.in-Ok-eq0.field-0 c.read_counted.new.buf b.2 c.in-Ok-eq0.ensures.once (search rules) (search rules) (omega (arith, c.loop.invariant.calls)) (omega (arith, c.loop.invariant.calls, b.3)) in
-    rw (p.1, p.2) (enough_all _ _ (Parses (Err c.in_err-finish-in-Ok-eq0.field-0.0)) b.0 all (ends_by c.in_err-finish-in-Ok-eq0.field-0.0 b.0 c.loop.self c.finish.new.self (stands_of b.0 c.loop.self b.1) c.in_err-finish-in-Ok-eq0.ensures))
+    let fed = fed_of c.loop.self b.0 b.1 in
+    let all = read_to_end (S c.args.reader.now) (S c.loop.reader) (S c.read_next.new.reader) b.0 c.loop.self.fed c.in-Ok-eq0.field-0 c.loop.counter c.read_next.new.room b.2 c.in-Ok-eq0.ensures.reads (search rules) (search rules) c.loop.invariant.calls b.3 (read_before c.loop.self b.0 c.loop.counter _ b.1 b.4 c.loop.invariant.open_yet) in
+    rw (p.1, p.2) (enough_read (Err c.in_err-finish-in-Ok-eq0.field-0.0) _ _ b.0 (subst (ReadToEnd (S c.args.reader.now) (S c.read_next.new.reader) b.0) fed all)
+    (ends_by c.in_err-finish-in-Ok-eq0.field-0.0 b.0 c.loop.self c.finish.new.self (stands_of b.0 c.loop.self b.1) c.in_err-finish-in-Ok-eq0.ensures))
 
-pub returns-in_err-feed-in-Ok-clause-given : goal.returns-in_err-feed-in-Ok-clause-given
-returns-in_err-feed-in-Ok-clause-given g c =
+pub returns-in_err-finish-in-Ok-eq0-clause-sound : goal.returns-in_err-finish-in-Ok-eq0-clause-sound
+returns-in_err-finish-in-Ok-eq0-clause-sound g c =
     let S = g.R.CountedRead.seen in
-    let p = err_from_is_err_and c.from_residual-in_err-feed-in-Ok.result c.from_residual-in_err-feed-in-Ok.ensures.1 in
+    let p = err_from_is_err_and c.from_residual.result c.from_residual.ensures.1 in
     let b = c.loop.invariant.bytes in
-    let piece = take c.in-Ok.count c.read_counted.new.buf in
-    let once = c.in-Ok.ensures.once in
-    rw (p.1, p.2) (enough_front _ _ (Parses (Err c.in_err-feed-in-Ok.field-0.0)) (b.0 ++ piece) (gave_more (S c.args.reader.now) (S c.loop.reader) (S c.read_counted.new.self) b.0 c.in-Ok.count c.read_counted.new.buf b.2 once)
-    (not_ended (S c.loop.reader) (S c.read_counted.new.self) c.in-Ok.count c.read_counted.new.buf once (search rules))
+    let all = read_to_end (S c.args.reader.now) (S c.loop.reader) (S c.read_next.new.reader) b.0 c.loop.self.fed c.in-Ok-eq0.field-0 c.loop.counter c.read_next.new.room b.2 c.in-Ok-eq0.ensures.reads (search rules) (search rules) c.loop.invariant.calls b.3 (read_before c.loop.self b.0 c.loop.counter _ b.1 b.4 c.loop.invariant.open_yet) in
+    λ h. elim h [
+      | inl read ↦ finish_no_read _ _ _ _ _ p.1 p.2 c.in_err-finish-in-Ok-eq0.ensures read
+      | inr want ↦ sound_end _ c.in_err-finish-in-Ok-eq0.field-0.0 _ _ b.0 c.loop.self c.finish.new.self (p.1 ∙ ap Err p.2) (fed_of c.loop.self b.0 b.1) c.in_err-finish-in-Ok-eq0.ensures (read_front _ _ b.0 c.loop.self.fed all)
+          (sound_of c.loop.self b.0 b.1 c.loop.invariant.sound) want
+    ]
+
+-- WHERE A PIECE IS REFUSED
+
+pub returns-in_err-feed_or_find_fault-in-Ok-clause-given : goal.returns-in_err-feed_or_find_fault-in-Ok-clause-given
+returns-in_err-feed_or_find_fault-in-Ok-clause-given g c =
+    let S = g.R.CountedRead.seen in
+    let p = err_from_is_err_and c.from_residual-in_err-feed_or_find_fault-in-Ok.result c.from_residual-in_err-feed_or_find_fault-in-Ok.ensures.1 in
+    let b = c.loop.invariant.bytes in
+    let buf = c.read_next.new.room in
+    let piece = take c.in-Ok.count buf in
+    let once = some_read c.in-Ok.count buf c.loop.self.fed (S c.loop.reader) (S c.read_next.new.reader) (search rules) c.in-Ok.ensures.reads in
+    rw (p.1, p.2) (enough_front _ _ (Parses (Err c.in_err-feed_or_find_fault-in-Ok.field-0.0)) (b.0 ++ piece) (gave_more (S c.args.reader.now) (S c.loop.reader) (S c.read_next.new.reader) b.0 c.in-Ok.count buf b.2 once)
+    (not_ended (S c.loop.reader) (S c.read_next.new.reader) c.in-Ok.count buf once (search rules))
     (omega (arith, once.calls, c.loop.invariant.calls, b.3, length-append b.0 piece))
-    (λ rest. stops_on c.in_err-feed-in-Ok.field-0.0 b.0 piece c.loop.self c.feed.new.self (ap (λ (k : Progress). k.fed) b.1) (ap (λ (k : Progress). k.stopped) b.1) c.in_err-feed-in-Ok.ensures.answer rest))
+    (λ rest. refused_on c.in_err-feed_or_find_fault-in-Ok.field-0.0 b.0 piece c.loop.self (fed_of c.loop.self b.0 b.1) (ap (λ (k : Progress). k.stopped) b.1) c.in_err-feed_or_find_fault-in-Ok.ensures.refused rest))
+
+pub returns-in_err-feed_or_find_fault-in-Ok-clause-sound : goal.returns-in_err-feed_or_find_fault-in-Ok-clause-sound
+returns-in_err-feed_or_find_fault-in-Ok-clause-sound g c =
+    let S = g.R.CountedRead.seen in
+    let p = err_from_is_err_and c.from_residual-in_err-feed_or_find_fault-in-Ok.result c.from_residual-in_err-feed_or_find_fault-in-Ok.ensures.1 in
+    let b = c.loop.invariant.bytes in
+    let buf = c.read_next.new.room in
+    let piece = take c.in-Ok.count buf in
+    let once = some_read c.in-Ok.count buf c.loop.self.fed (S c.loop.reader) (S c.read_next.new.reader) (search rules) c.in-Ok.ensures.reads in
+    let refused = c.in_err-feed_or_find_fault-in-Ok.ensures.refused in
+    λ h. elim h [
+      | inl read ↦ refused_no_read _ _ _ piece c.loop.self p.1 p.2 refused read
+      | inr want ↦ sound_piece _ c.in_err-feed_or_find_fault-in-Ok.field-0.0 _ _ b.0 piece c.loop.self (p.1 ∙ ap Err p.2) (fed_of c.loop.self b.0 b.1) refused
+          (gave_more (S c.args.reader.now) (S c.loop.reader) (S c.read_next.new.reader) b.0 c.in-Ok.count buf b.2 once)
+          (not_ended (S c.loop.reader) (S c.read_next.new.reader) c.in-Ok.count buf once (search rules)) want
+    ]
+
+-- WHERE READING FAILS
 
 pub returns-in-Err-clause-given : goal.returns-in-Err-clause-given
 returns-in-Err-clause-given g c =
     let S = g.R.CountedRead.seen in
     let b = c.loop.invariant.bytes in
-    enough_front _ _ _ b.0 (gave_still _ (S c.args.reader.now) (S c.loop.reader) (S c.read_counted.new.self) b.0 c.read_counted.new.buf b.2 c.in-Err.ensures.once) c.in-Err.ensures.once.ended (omega (arith, c.in-Err.ensures.once.calls, c.loop.invariant.calls, b.3)) (λ rest. tt)
+    let once = c.in-Err.ensures.reads in
+    enough_front _ _ _ b.0 (gave_still _ (S c.args.reader.now) (S c.loop.reader) (S c.read_next.new.reader) b.0 c.read_next.new.room b.2 once) once.ended (omega (arith, once.calls, c.loop.invariant.calls, b.3)) (λ rest. tt)
 
 pub returns-clause-given : goal.returns-clause-given
 returns-clause-given g c = let b = c.loop.invariant.bytes in enough_front _ _ _ b.0 b.2 (c.loop.invariant.open_yet (omega arith)) (omega (arith, c.loop.invariant.calls, b.3)) (λ rest. tt)
 
 -- WHAT WAS GIVEN BEFORE A READ FAILED
 
-sound_of : (p : Progress) (text : List ℕ) → p ≡ with_fed text no_progress → IsSoundSoFar p → IsSoundText text
-sound_of p text e s = subst IsSoundText (ap (λ (k : Progress). k.fed) e) s
-
 pub returns-in-Err-clause-sound : goal.returns-in-Err-clause-sound
 returns-in-Err-clause-sound g c =
     let S = g.R.CountedRead.seen in
     let b = c.loop.invariant.bytes in
-    λ _. (b.0, gave_still _ (S c.args.reader.now) (S c.loop.reader) (S c.read_counted.new.self) b.0 c.read_counted.new.buf b.2 c.in-Err.ensures.once, sound_of c.loop.self b.0 b.1 c.loop.invariant.sound)
+    let once = c.in-Err.ensures.reads in
+    λ _. (b.0, gave_still _ (S c.args.reader.now) (S c.loop.reader) (S c.read_next.new.reader) b.0 c.read_next.new.room b.2 once, sound_of c.loop.self b.0 b.1 c.loop.invariant.sound, λ called ends. still_open (S c.read_next.new.reader) _ once.ended ends)
 
 pub returns-clause-sound : goal.returns-clause-sound
-returns-clause-sound g c = let b = c.loop.invariant.bytes in λ _. (b.0, b.2, sound_of c.loop.self b.0 b.1 c.loop.invariant.sound)
+returns-clause-sound g c =
+    let S = g.R.CountedRead.seen in
+    let b = c.loop.invariant.bytes in
+    λ _. (b.0, b.2, sound_of c.loop.self b.0 b.1 c.loop.invariant.sound, λ called ends. still_open (S c.loop.reader) _ (c.loop.invariant.open_yet (omega arith)) ends)
 
 pub returns-in-Err-clause-read : goal.returns-in-Err-clause-read
 returns-in-Err-clause-read g c =
     let S = g.R.CountedRead.seen in
     let b = c.loop.invariant.bytes in
-    let once = c.in-Err.ensures.once in
-    let front = gave_still _ (S c.args.reader.now) (S c.loop.reader) (S c.read_counted.new.self) b.0 c.read_counted.new.buf b.2 once in
+    let once = c.in-Err.ensures.reads in
+    let front = gave_still _ (S c.args.reader.now) (S c.loop.reader) (S c.read_next.new.reader) b.0 c.read_next.new.room b.2 once in
     λ _. (inl (once.failures.0 ∙ ap (λ (n : ℕ). n + 1) c.loop.invariant.failures, once.failures.1), few_front _ _ b.0 front (omega (arith, once.calls, c.loop.invariant.calls, b.3)))
 
 pub returns-clause-read : goal.returns-clause-read
@@ -90,13 +144,13 @@ returns-clause-read g c =
 -- WHERE THE ANSWER IS NO FAILED READ
 
 pub returns-in-Ok-eq0-clause-kept : goal.returns-in-Ok-eq0-clause-kept
-returns-in-Ok-eq0-clause-kept g c = inr (c.in-Ok-eq0.ensures.once.failures.0 ∙ c.loop.invariant.failures)
+returns-in-Ok-eq0-clause-kept g c = let S = g.R.CountedRead.seen in inr (next_kept c.in-Ok-eq0.field-0 c.read_next.new.room c.loop.self.fed (S c.loop.reader) (S c.read_next.new.reader) c.in-Ok-eq0.ensures.reads ∙ c.loop.invariant.failures)
 
 pub returns-in_err-finish-in-Ok-eq0-clause-kept : goal.returns-in_err-finish-in-Ok-eq0-clause-kept
-returns-in_err-finish-in-Ok-eq0-clause-kept g c = inr (c.in-Ok-eq0.ensures.once.failures.0 ∙ c.loop.invariant.failures)
+returns-in_err-finish-in-Ok-eq0-clause-kept g c = let S = g.R.CountedRead.seen in inr (next_kept c.in-Ok-eq0.field-0 c.read_next.new.room c.loop.self.fed (S c.loop.reader) (S c.read_next.new.reader) c.in-Ok-eq0.ensures.reads ∙ c.loop.invariant.failures)
 
-pub returns-in_err-feed-in-Ok-clause-kept : goal.returns-in_err-feed-in-Ok-clause-kept
-returns-in_err-feed-in-Ok-clause-kept g c = inr (c.in-Ok.ensures.once.failures.0 ∙ c.loop.invariant.failures)
+pub returns-in_err-feed_or_find_fault-in-Ok-clause-kept : goal.returns-in_err-feed_or_find_fault-in-Ok-clause-kept
+returns-in_err-feed_or_find_fault-in-Ok-clause-kept g c = let S = g.R.CountedRead.seen in inr (next_kept c.in-Ok.count c.read_next.new.room c.loop.self.fed (S c.loop.reader) (S c.read_next.new.reader) c.in-Ok.ensures.reads ∙ c.loop.invariant.failures)
 
 pub returns-in-Err-clause-kept : goal.returns-in-Err-clause-kept
 returns-in-Err-clause-kept g c = inl refl
@@ -108,27 +162,17 @@ pub returns-in-Ok-eq0-clause-read : goal.returns-in-Ok-eq0-clause-read
 returns-in-Ok-eq0-clause-read g c = λ h. ok_is_no_err _ _ h
 
 pub returns-in-Ok-eq0-clause-sound : goal.returns-in-Ok-eq0-clause-sound
-returns-in-Ok-eq0-clause-sound g c = λ h. ok_is_no_err _ _ h
+returns-in-Ok-eq0-clause-sound g c = λ h. elim h [ inl read ↦ ok_is_no_err _ _ read | inr want ↦ ok_is_no_err _ _ want ]
 
 pub returns-in_err-finish-in-Ok-eq0-clause-read : goal.returns-in_err-finish-in-Ok-eq0-clause-read
 returns-in_err-finish-in-Ok-eq0-clause-read g c =
     let p = err_from_is_err_and c.from_residual.result c.from_residual.ensures.1 in
     λ h. finish_no_read _ _ _ _ _ p.1 p.2 c.in_err-finish-in-Ok-eq0.ensures h
 
-pub returns-in_err-finish-in-Ok-eq0-clause-sound : goal.returns-in_err-finish-in-Ok-eq0-clause-sound
-returns-in_err-finish-in-Ok-eq0-clause-sound g c =
-    let p = err_from_is_err_and c.from_residual.result c.from_residual.ensures.1 in
-    λ h. finish_no_read _ _ _ _ _ p.1 p.2 c.in_err-finish-in-Ok-eq0.ensures h
-
-pub returns-in_err-feed-in-Ok-clause-read : goal.returns-in_err-feed-in-Ok-clause-read
-returns-in_err-feed-in-Ok-clause-read g c =
-    let p = err_from_is_err_and c.from_residual-in_err-feed-in-Ok.result c.from_residual-in_err-feed-in-Ok.ensures.1 in
-    λ h. feed_no_read _ _ _ _ _ _ p.1 p.2 c.in_err-feed-in-Ok.ensures.answer h
-
-pub returns-in_err-feed-in-Ok-clause-sound : goal.returns-in_err-feed-in-Ok-clause-sound
-returns-in_err-feed-in-Ok-clause-sound g c =
-    let p = err_from_is_err_and c.from_residual-in_err-feed-in-Ok.result c.from_residual-in_err-feed-in-Ok.ensures.1 in
-    λ h. feed_no_read _ _ _ _ _ _ p.1 p.2 c.in_err-feed-in-Ok.ensures.answer h
+pub returns-in_err-feed_or_find_fault-in-Ok-clause-read : goal.returns-in_err-feed_or_find_fault-in-Ok-clause-read
+returns-in_err-feed_or_find_fault-in-Ok-clause-read g c =
+    let p = err_from_is_err_and c.from_residual-in_err-feed_or_find_fault-in-Ok.result c.from_residual-in_err-feed_or_find_fault-in-Ok.ensures.1 in
+    λ h. refused_no_read _ _ _ _ c.loop.self p.1 p.2 c.in_err-feed_or_find_fault-in-Ok.ensures.refused h
 
 -- WHERE THE PARSER HAD NOT STOPPED
 
@@ -140,10 +184,10 @@ returns-in_err-finish-in-Ok-eq0-clause-fresh g c =
     let p = err_from_is_err_and c.from_residual.result c.from_residual.ensures.1 in
     λ h. finish_no_stop _ _ _ _ _ p.1 p.2 (ap (λ (k : Progress). k.stopped) c.loop.invariant.bytes.1) c.in_err-finish-in-Ok-eq0.ensures h
 
-pub returns-in_err-feed-in-Ok-clause-fresh : goal.returns-in_err-feed-in-Ok-clause-fresh
-returns-in_err-feed-in-Ok-clause-fresh g c =
-    let p = err_from_is_err_and c.from_residual-in_err-feed-in-Ok.result c.from_residual-in_err-feed-in-Ok.ensures.1 in
-    λ h. feed_no_stop _ _ _ _ _ _ p.1 p.2 (ap (λ (k : Progress). k.stopped) c.loop.invariant.bytes.1) c.in_err-feed-in-Ok.ensures.answer h
+pub returns-in_err-feed_or_find_fault-in-Ok-clause-fresh : goal.returns-in_err-feed_or_find_fault-in-Ok-clause-fresh
+returns-in_err-feed_or_find_fault-in-Ok-clause-fresh g c =
+    let p = err_from_is_err_and c.from_residual-in_err-feed_or_find_fault-in-Ok.result c.from_residual-in_err-feed_or_find_fault-in-Ok.ensures.1 in
+    λ h. refused_no_stop _ _ _ _ c.loop.self p.1 p.2 (ap (λ (k : Progress). k.stopped) c.loop.invariant.bytes.1) c.in_err-feed_or_find_fault-in-Ok.ensures.refused h
 
 pub returns-in-Err-clause-fresh : goal.returns-in-Err-clause-fresh
 returns-in-Err-clause-fresh g c = λ h. read_is_no_stop h
@@ -154,16 +198,16 @@ returns-clause-fresh g c = λ h. read_is_no_stop h
 -- HOW OFTEN IT WAS READ
 
 pub returns-in-Ok-eq0-clause-reads : goal.returns-in-Ok-eq0-clause-reads
-returns-in-Ok-eq0-clause-reads g c = calls_within _ _ _ c.loop.counter c.in-Ok-eq0.ensures.once.calls c.loop.invariant.calls c.loop-test.true
+returns-in-Ok-eq0-clause-reads g c = let S = g.R.CountedRead.seen in next_within c.in-Ok-eq0.field-0 c.read_next.new.room c.loop.self.fed (S c.args.reader.now) (S c.loop.reader) (S c.read_next.new.reader) c.loop.counter c.in-Ok-eq0.ensures.reads c.loop.invariant.calls c.loop-test.true
 
 pub returns-in_err-finish-in-Ok-eq0-clause-reads : goal.returns-in_err-finish-in-Ok-eq0-clause-reads
-returns-in_err-finish-in-Ok-eq0-clause-reads g c = calls_within _ _ _ c.loop.counter c.in-Ok-eq0.ensures.once.calls c.loop.invariant.calls c.loop-test.true
+returns-in_err-finish-in-Ok-eq0-clause-reads g c = let S = g.R.CountedRead.seen in next_within c.in-Ok-eq0.field-0 c.read_next.new.room c.loop.self.fed (S c.args.reader.now) (S c.loop.reader) (S c.read_next.new.reader) c.loop.counter c.in-Ok-eq0.ensures.reads c.loop.invariant.calls c.loop-test.true
 
-pub returns-in_err-feed-in-Ok-clause-reads : goal.returns-in_err-feed-in-Ok-clause-reads
-returns-in_err-feed-in-Ok-clause-reads g c = calls_within _ _ _ c.loop.counter c.in-Ok.ensures.once.calls c.loop.invariant.calls c.loop-test.true
+pub returns-in_err-feed_or_find_fault-in-Ok-clause-reads : goal.returns-in_err-feed_or_find_fault-in-Ok-clause-reads
+returns-in_err-feed_or_find_fault-in-Ok-clause-reads g c = let S = g.R.CountedRead.seen in next_within c.in-Ok.count c.read_next.new.room c.loop.self.fed (S c.args.reader.now) (S c.loop.reader) (S c.read_next.new.reader) c.loop.counter c.in-Ok.ensures.reads c.loop.invariant.calls c.loop-test.true
 
 pub returns-in-Err-clause-reads : goal.returns-in-Err-clause-reads
-returns-in-Err-clause-reads g c = calls_within _ _ _ c.loop.counter c.in-Err.ensures.once.calls c.loop.invariant.calls c.loop-test.true
+returns-in-Err-clause-reads g c = calls_within _ _ _ c.loop.counter c.in-Err.ensures.reads.calls c.loop.invariant.calls c.loop-test.true
 
 pub returns-clause-reads : goal.returns-clause-reads
 returns-clause-reads g c = calls_upto _ _ c.loop.counter c.loop.invariant.calls c.loop.auto.counter-end

@@ -1,0 +1,11 @@
+use Rattle.std.proofs.Common.{Bool, refl, inl, inr, sym, subst}
+use Rattle.sat_base.specs.dimacs.Parsing.{SaysEnded}
+use Rattle.sat_base.specs.dimacs.ParserPlaces.{progress_of}
+use Rattle.sat_base.proofs.lemmas.dimacs.Feeding.{says_ended}
+use Rattle.sat_base.proofs.dimacs.parser.Parser.has_ended.Goals as goal
+
+pub returns : goal.returns
+returns c =
+    let p = c.args.self.now in
+    let g = c.requires.goes c.if-self.false in
+    says_ended p g c.if-self.false c.is_over.result (λ e. c.is_over.ensures.over e g.left_of g.stands) (λ e. c.is_over.ensures.goes_on e g.left_of g.stands)

@@ -1,0 +1,51 @@
+-- Faults of formulas' texts, sought without memory.
+use Rattle.std.specs.Prelude.{◌≡◌, ◌⊎◌, ℕ, List, ◌∷◌, [], ◌++◌, None, Result, Ok, Err}
+use Rattle.sat_base.specs.declared.text.Tokenizer.{Tokenizer}
+use Rattle.sat_base.specs.declared.dimacs.error.DimacsError.{DimacsError}
+use Rattle.sat_base.specs.declared.dimacs.error.DimacsError.TheVariants as errors
+use Rattle.sat_base.specs.device.Device.{Reader, ReadsOnce}
+use Rattle.sat_base.specs.text.Text.{Token, Scan, scan, tokens, HasEnded}
+use Rattle.sat_base.specs.text.Spot.{onto}
+use Rattle.sat_base.specs.text.WrongWords.{RightAhead}
+use Rattle.sat_base.specs.text.Tokenizing.{StandsBefore}
+use Rattle.sat_base.specs.dimacs.Dimacs.{Hand, Malformed, Limit, Fails, turn}
+use Rattle.sat_base.specs.dimacs.Parsing.{NoFault, unless_fault, whole_lines, IsSoundText, HasFaultOn}
+use Rattle.sat_base.specs.dimacs.ParserPlaces.{HaveTakenTokens}
+
+-- a tokenizer that has taken this text, which has no fault so far
+pub record HasTakenSoundly (text : List ℕ) (machine : Tokenizer) : Type 0 where
+  pub before : List (ℕ × Token)  -- the tokens taken
+  pub all : List (List ℕ)  -- their clauses
+  pub hand : Hand
+  pub left_of : List ℕ → Scan  -- what is still to be read, whatever bytes come
+  pub stands : StandsBefore machine left_of
+  pub scans : (rest : List ℕ) → scan (text ++ rest) ≡ onto before (left_of rest)
+  pub turned : HaveTakenTokens before all hand
+  pub sound : NoFault None (tokens (whole_lines text))
+  pub right : RightAhead left_of
+
+-- a token is no fault, or is one on this line, whatever is in hand
+abbrev pub JudgesToken : Result (Unit {0}) DimacsError → ℕ → Token → Type 0
+JudgesToken (Ok u) line t = (hand : Hand) (n : ℕ) → unless_fault (turn hand n t) (λ h. Unit {0})
+JudgesToken (Err (errors.Malformed l)) line t = (l ≡ line) × ((hand : Hand) (n : ℕ) → turn hand n t ≡ Fails (Malformed n))
+JudgesToken (Err (errors.Limit l)) line t = (l ≡ line) × ((hand : Hand) (n : ℕ) → turn hand n t ≡ Fails (Limit n))
+JudgesToken (Err e) line t = ⊥
+
+-- a text has no fault so far, or is at fault however it goes on
+abbrev pub FindsFault : Result (Unit {0}) DimacsError → List ℕ → Tokenizer → Type 0
+FindsFault (Ok u) text machine = HasTakenSoundly text machine
+FindsFault (Err (errors.Malformed line)) text machine = HasFaultOn line Malformed text
+FindsFault (Err (errors.Limit line)) text machine = HasFaultOn line Limit text
+FindsFault (Err e) text machine = ⊥
+
+-- what a lack of memory is reported as, at the end of this text
+abbrev pub OutOfMemoryOrFault : DimacsError → List ℕ → Type 0
+OutOfMemoryOrFault errors.OutOfMemory text = IsSoundText text
+OutOfMemoryOrFault (errors.Malformed line) text = HasFaultOn line Malformed text
+OutOfMemoryOrFault (errors.Limit line) text = HasFaultOn line Limit text
+OutOfMemoryOrFault e text = ⊥
+
+-- the next bytes of a text were read, or none since it has ended
+abbrev pub ReadsNext : {E : Type 0} → Result ℕ E → List ℕ → List ℕ → Reader → Reader → Type 0
+ReadsNext {E} (Ok n) room text old new = ReadsOnce {E = E} (Ok n) room old new ⊎ ((n ≡ 0) × (new ≡ old) × HasEnded text)
+ReadsNext {E} (Err e) room text old new = ReadsOnce {E = E} (Err e) room old new
