@@ -4,6 +4,7 @@ ghost use Rattle.sat_base.specs.dimacs.DimacsText.{clause_line, clause_lines, di
 ghost use Rattle.sat_base.specs.device.Device.{Puts};
 ghost use Rattle.sat_base.specs.device.Sink.{Sends, sink_of};
 
+use crate::decimal::{MOST_DIGITS, write_decimal};
 use crate::device::ahead::PIECE;
 use crate::device::kept_error::WriteFailed;
 use crate::device::output::Output;
@@ -13,17 +14,17 @@ use crate::{CnfFormula, CountedWrite, Lit};
 use std::io;
 
 impl<W: CountedWrite, P: Room> Output<W, P> {
+    /// Puts a number in decimal.
     fn put_decimal(&mut self, number: u64) -> Result<(), WriteFailed>
         ensures { Sends (decimal number) result (sink_of W.seen P.waiting self.old)
             (sink_of W.seen P.waiting self.new) }
     {
-        if number < 10 {
-            return self.put(b'0' + number as u8);
-        }
-        self.put_decimal(number / 10)?;
-        self.put(b'0' + (number % 10) as u8)
+        let mut digits = [0; MOST_DIGITS];
+        let end = write_decimal(&mut digits, 0, number);
+        self.put_all(&digits[..end])
     }
 
+    /// Puts the number of a literal, after `-` if it is negative.
     fn put_literal(&mut self, lit: Lit) -> Result<(), WriteFailed>
         ensures { Sends (number_text lit) result (sink_of W.seen P.waiting self.old)
             (sink_of W.seen P.waiting self.new) }
@@ -36,6 +37,7 @@ impl<W: CountedWrite, P: Room> Output<W, P> {
         self.put_decimal(number)
     }
 
+    /// Puts the line of a clause.
     fn put_clause(&mut self, lits: &[Lit]) -> Result<(), WriteFailed>
         ensures { Sends (clause_line lits.now) result (sink_of W.seen P.waiting self.old)
             (sink_of W.seen P.waiting self.new) }
@@ -47,6 +49,7 @@ impl<W: CountedWrite, P: Room> Output<W, P> {
         self.put_all(b"0\n")
     }
 
+    /// Puts the lines of all clauses.
     fn put_clauses(&mut self, formula: &CnfFormula) -> Result<(), WriteFailed>
         ensures { Sends (clause_lines formula.now.clauses) result (sink_of W.seen P.waiting self.old)
             (sink_of W.seen P.waiting self.new) }
@@ -57,6 +60,7 @@ impl<W: CountedWrite, P: Room> Output<W, P> {
         Ok(())
     }
 
+    /// Puts the line `p cnf V C`.
     fn put_header(&mut self, vars: u64, clauses: u64) -> Result<(), WriteFailed>
         ensures { Sends (header_line vars clauses) result (sink_of W.seen P.waiting self.old)
             (sink_of W.seen P.waiting self.new) }
@@ -68,6 +72,7 @@ impl<W: CountedWrite, P: Room> Output<W, P> {
         self.put(b'\n')
     }
 
+    /// Writes out the text of a formula.
     fn write_formula(&mut self, formula: &CnfFormula) -> Result<(), WriteFailed>
         ensures sends { Sends (dimacs_text formula.now) result (sink_of W.seen P.waiting self.old)
             (sink_of W.seen P.waiting self.new) }

@@ -1,6 +1,7 @@
 //! Literals, hashes, texts of clauses and scripts, proof steps and their bytes.
 #![tactic(auto)]
 
+mod decimal;
 mod device;
 mod dimacs;
 mod dimacs_writer;
@@ -20,6 +21,7 @@ mod table;
 mod text;
 mod var;
 
+pub use decimal::{MOST_DIGITS, push_decimal, write_decimal};
 pub use device::{Counted, CountedRead, CountedWrite, Feed, ReadError, read_into, read_whole};
 pub use dimacs::DimacsParser;
 pub use dimacs::error::{DimacsError, IncrementalError};
@@ -42,7 +44,8 @@ pub use law_step::{
 pub use law_text::script_laws;
 pub use lit::Lit;
 pub use steps::{
-    DeleteClauseProof, HashBits, ProofStep, StepError, StepReader, StepWriter, write_step,
+    DeleteClauseProof, HashBits, ProofStep, StepError, StepReader, StepWriter, push_leb128,
+    write_step,
 };
 pub use table::Table;
 pub use text::{Token, Tokenizer};

@@ -14,6 +14,7 @@ mod values;
 mod writer;
 
 pub use self::error::StepError;
+pub use self::numbers::push_leb128;
 pub use self::reader::StepReader;
 pub use self::step::{DeleteClauseProof, HashBits, ProofStep};
 pub use self::writer::{StepWriter, write_step};

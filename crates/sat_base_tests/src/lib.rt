@@ -15,6 +15,8 @@ mod formula;
 #[cfg(test)]
 mod lit;
 #[cfg(test)]
+mod numbers;
+#[cfg(test)]
 mod steps;
 #[cfg(test)]
 mod text;

@@ -1,3 +1,4 @@
 pub mod HashLemmas
 pub mod FlatLemmas
 pub mod TableLemmas
+pub mod Decimals

@@ -1,5 +1,5 @@
 //! A number's bytes.
-ghost use Rattle.std.specs.Prelude.{◌≡◌, ◌+◌, ◌++◌, ◌-◌, ◌*◌, ◌^◌, ◌<◌, ◌≤◌, ℕ, Some, None, length};
+ghost use Rattle.std.specs.Prelude.{◌≡◌, ◌+◌, ◌++◌, ◌-◌, ◌*◌, ◌^◌, ◌<◌, ◌≤◌, ℕ, Some, None, OnOk, length};
 ghost use Rattle.sat_base.specs.device.Reading.{ReadsFromInput};
 ghost use Rattle.sat_base.specs.device.TakenAhead.{TakesNumber, StandsBetween};
 ghost use Rattle.sat_base.specs.device.Sink.{Sends, sink_of};
@@ -10,8 +10,10 @@ use crate::device::ahead::Ahead;
 use crate::device::input::Input;
 use crate::device::kept_error::WriteFailed;
 use crate::device::output::Output;
+use crate::device::pending::Pending;
 use crate::device::room::Room;
 use crate::{CountedRead, CountedWrite, StepError};
+use std::alloc::AllocError;
 
 /// The most bytes that a number of 64 bits has.
 pub(super) const LONGEST: usize = 10;
@@ -204,6 +206,16 @@ pub(super) fn push_number<P: Room>(pending: &mut P, number: u64)
         rest /= 128;
     }
     pending.push(rest as u8);
+}
+
+/// Appends a number in unsigned LEB128: in groups of seven bits, the low one first, all but the last with the top bit
+/// set.
+pub fn push_leb128(out: &mut Vec<u8>, number: u64) -> Result<(), AllocError>
+    ensures { OnOk result (out.new.items ≡ out.old.items ++ number_bytes number) }
+{
+    let mut bytes: Pending<LONGEST> = Pending::new();
+    push_number(&mut bytes, number);
+    out.extend_from_slice(bytes.as_slice())
 }
 
 impl<W: CountedWrite, P: Room> Output<W, P> {

@@ -1,0 +1,6 @@
+use Rattle.std.proofs.Common.{◌≡◌, ◌++◌, List, ℕ, arith, sym, ap, ◌∙◌}
+use Rattle.sat_base.proofs.lemmas.values.Decimals.{few_digits}
+use Rattle.sat_base.proofs.decimal.push_decimal.Goals as goal
+
+pub write_decimal-end-requires : goal.write_decimal-end-requires
+write_decimal-end-requires c = omega (arith, few_digits c.args.number c.ranges.number.fits)
