@@ -1,4 +1,4 @@
-//! Readers and writers whose contracts see what was read and written, and how often that failed.
+//! Readers and writers whose contracts see what was read and written, and how many calls failed.
 ghost use Rattle.std.specs.Prelude.{◌≡◌};
 ghost use Rattle.std.specs.Io.{ReadsAtMost, WritesAtMost};
 ghost use Rattle.sat_base.specs.device.Device.{Reader, Writer, ReadsOnce, WritesOnce, FlushesOnce, Puts, lent_reader};
@@ -20,34 +20,35 @@ pub use self::whole::{Feed, ReadError, read_into, read_whole};
 use std::io;
 use std::io::{ErrorKind, Read, Write};
 
-/// A reader that says how often it was read, how often that failed, which bytes it gave, and whether the last read
-/// found it at its end.
+/// A reader whose contracts see the number of reads, the number of those that failed, the bytes given, and whether the
+/// last read found the end.
 pub trait CountedRead: Read {
     ghost seen: { Self → Reader };
 
-    /// One read. An `Err` is a failed call, an interrupted one too, and isn't tried again.
+    /// Reads once. Every `Err` is a failed call, also if it was interrupted, and is not repeated.
     fn read_counted(&mut self, buf: &mut [u8]) -> io::Result<usize>
         ensures bound { ReadsAtMost result buf.new }
         ensures once { ReadsOnce result buf.new (seen self.old) (seen self.new) };
 
-    // What it tells is what std's reader tells.
+    // What it says is still to come is what std's reader says.
     ghost tells: { (r : Self) → (seen r).to_come ≡ Self.remaining r };
 }
 
-/// A writer that says how often it was called, how often that failed, and which bytes it took.
+/// A writer whose contracts see the number of calls, the number of those that failed, and the bytes received.
 pub trait CountedWrite: Write {
     ghost seen: { Self → Writer };
 
-    /// One write. An `Err` is a failed call, and so is a write that takes nothing of a piece that isn't empty.
+    /// Writes once. Every `Err` is a failed call, and so is a write that accepts no byte of a piece that is not empty.
     fn write_counted(&mut self, piece: &[u8]) -> io::Result<usize>
         ensures bound { WritesAtMost result piece.now }
         ensures once { WritesOnce result piece.now (seen self.old) (seen self.new) };
 
+    /// Flushes once.
     fn flush_counted(&mut self) -> io::Result<()>
         ensures { FlushesOnce result (seen self.old) (seen self.new) };
 
-    /// Writes the whole piece, in as many writes as that takes. The first failed one ends it; a front of the piece may
-    /// then have been written.
+    /// Writes the complete piece, in as many writes as are needed, up to the first that fails. Then a prefix of the
+    /// piece may have been written.
     fn write_all_counted(&mut self, piece: &[u8]) -> io::Result<()>
         ensures { Puts piece.now result (seen self.old) (seen self.new) }
     {
@@ -62,7 +63,7 @@ pub trait CountedWrite: Write {
         Ok(())
     }
 
-    // What it tells is what std's writer tells.
+    // What it says it holds is what std's writer says.
     ghost tells: { (w : Self) → (seen w).contents ≡ Self.contents w };
 }
 

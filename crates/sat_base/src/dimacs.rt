@@ -1,4 +1,4 @@
-//! Formulas' texts, read in any pieces.
+//! Formulas in DIMACS CNF, read in any chunking.
 ghost use Rattle.std.specs.Prelude.{◌≡◌, ◌≤◌, ◌+◌, ◌++◌, ◌⊎◌, length, Ok, Err, IfOk, IfErr, OnOk, IsErrOf};
 ghost use Rattle.std.specs.Io.{ReadsAtMost};
 ghost use Rattle.sat_base.specs.device.Device.{most_reads, ReadFails, GaveEnough};
@@ -27,12 +27,11 @@ use std::alloc::Global;
 use std::io;
 use std::marker::Model;
 
-/// A parser of DIMACS CNF, which is fed a formula's text in any pieces. It looks at each byte once, and keeps of the
-/// text the clauses that wait to be taken, the one in hand, and the header.
+/// A parser of DIMACS CNF, which is fed a formula's text in chunks. It looks at every byte once. Of the text it holds
+/// the clauses that were not taken yet, the clause in hand, and the header.
 ///
-/// Contracts see the bytes that were taken, the clauses that were handed over, and whether it stopped. It stops at a
-/// fault of the text, for want of memory, and where the text is said to be over; what it has read can be taken then,
-/// too.
+/// Contracts see the bytes that were fed, the clauses that were taken, and whether it has stopped. It stops at a fault
+/// of the text, if memory runs out, and when the text is finished. The clauses read so far can be taken then, too.
 #[derive(Drop)]
 pub struct DimacsParser {
     parser: Parser,
@@ -50,7 +49,7 @@ impl Model for DimacsParser {
     ghost invariant = { λ d. IsParser d.parser };
 }
 
-/// The closure's refusal, or else the parser's answer.
+/// Returns the closure's refusal, or else the parser's answer.
 fn refusal_or<E: Drop>(
     seen: Result<(), E>,
     answer: Result<(), DimacsError>,
@@ -69,7 +68,7 @@ fn refusal_or<E: Drop>(
 }
 
 impl DimacsParser {
-    /// Nothing is fed. Takes no memory.
+    /// Returns a parser before the first byte of a text. Does not allocate.
     pub fn new(alloc: Global) -> DimacsParser
         ensures { result ≡ no_progress }
     {
@@ -78,26 +77,26 @@ impl DimacsParser {
         }
     }
 
-    /// Takes the next bytes of the text. An `Err` says that it stopped: at a fault, whose line is then that of the
-    /// wrong word or of the number past 2^28, or for want of memory. A wrong word is told at the first byte behind
-    /// which no right one goes on.
+    /// Feeds the next bytes of the text. After an `Err` the parser has stopped: at a fault, on the line of the wrong
+    /// word or of the number above 2^28, or because memory ran out. A wrong word is reported at the first byte after
+    /// which no right one continues.
     pub fn feed(&mut self, piece: &[u8]) -> Result<(), DimacsError>
         ensures answer { FeedsPiece result piece.now self.old self.new }
-        // No fault is held back at the end of its line, nor a word that is wrong whatever follows.
+        // No fault of a line that has ended is held back, nor a word that is wrong whatever follows.
         ensures sound { OnOk result (IsSoundSoFar self.new) }
     {
         self.parser.feed(piece)
     }
 
-    /// The text is over. Where it ends inside a clause, that is malformed on the last line, whatever memory there is:
-    /// it is asked for only by a last clause that ends there.
+    /// Finishes the text. A text that ends inside a clause is malformed on its last line, whatever memory there is:
+    /// memory is needed only for a last clause that ends there.
     pub fn finish(&mut self) -> Result<(), DimacsError>
         ensures { Finishes result self.old self.new }
     {
         self.parser.finish()
     }
 
-    /// The clauses read since they were last taken, with `var_count` variables. Takes no memory.
+    /// Returns the clauses read since they were last taken, with `var_count` variables. Does not allocate.
     pub fn take_formula(&mut self) -> CnfFormula
         ensures progress { self.new ≡ all_taken self.old }
         ensures clauses { clauses_read self.old ≡ self.old.taken ++ result.clauses }
@@ -106,7 +105,7 @@ impl DimacsParser {
         self.parser.take_formula()
     }
 
-    /// The highest number of a variable in a clause that was read to its end, over the whole text, or 0.
+    /// Returns the highest number of a variable in a complete clause of the text so far, or 0.
     pub fn var_count(&self) -> usize
         ensures count { result ≡ vars_of (clauses_read self.now) }
         ensures bound { result ≤ var_limit }
@@ -114,15 +113,15 @@ impl DimacsParser {
         self.parser.clauses.formula.var_count()
     }
 
-    /// How many clauses were read to their end, over the whole text, held at 2^64-1.
+    /// Returns the number of complete clauses of the text so far, held at 2^64-1.
     pub fn clause_count(&self) -> u64
         ensures { result ≡ held (length (clauses_read self.now)) }
     {
         self.parser.clauses.count
     }
 
-    /// The numbers of the header, if there is one: of variables and of clauses, each held at 2^64-1. Nothing is
-    /// compared with them.
+    /// Returns the numbers of the header, if there is one: of variables and of clauses, both held at 2^64-1. They are
+    /// compared with nothing.
     pub fn header(&self) -> Option<(u64, u64)>
         ensures { result ≡ held_numbers (dimacs_header (lines_read self.now)) }
     {
@@ -139,13 +138,13 @@ impl DimacsParser {
     /// Reads a formula to the end of its text, which is that of the reader or a line that begins with `%`. Returns
     /// `OutOfMemory` only if the bytes that the reader gave have no fault.
     pub fn parse<R: CountedRead>(alloc: Global, reader: &mut R) -> Result<CnfFormula, DimacsError>
-        // The formula and the faults are those of the text that was given, whatever would follow.
+        // The formula and the faults are those of the text that was given, whatever follows.
         ensures given { GaveEnough (R.seen reader.old) (R.seen reader.new) (Parses result) }
-        // A read has failed only where the answer is that, and none is tried again.
+        // A read has failed only if this is returned, and none is repeated.
         ensures kept { IsErrOf result DimacsError.Read ⊎ ((R.seen reader.new).failures ≡ (R.seen reader.old).failures) }
         ensures read { IsErrOf result DimacsError.Read → ReadFails (R.seen reader.old) (R.seen reader.new) }
-        // No fault of a line that was given is passed over, nor a word that is wrong whatever follows, by a failed read
-        // or for want of memory.
+        // If a read fails or memory runs out, no line that was given has a fault, and no word is wrong whatever
+        // follows.
         ensures sound { IsErrOf result DimacsError.Read ⊎ IsErrOf result DimacsError.OutOfMemory
             → GaveSound (R.seen reader.old) (R.seen reader.new) }
         ensures reads { (R.seen reader.new).calls ≤ (R.seen reader.old).calls + most_reads }
@@ -175,7 +174,7 @@ impl DimacsParser {
         self.parser.feed_or_find_fault(piece)
     }
 
-    /// Takes a reader's text to its end, and hands over all of it.
+    /// Reads a text to its end, and returns all of its clauses.
     fn read_formula<R: CountedRead>(&mut self, reader: &mut R) -> Result<CnfFormula, DimacsError>
         requires { self.old ≡ no_progress }
         ensures given { GaveEnough (R.seen reader.old) (R.seen reader.new) (Parses result) }
@@ -200,24 +199,24 @@ impl DimacsParser {
         Err(DimacsError::Read)
     }
 
-    /// Reads a formula to the end of its text, as `parse` does, and lends the parser to the closure after each piece, also where that
-    /// was at fault or there was no memory for it, and after the end, but not after a failed read. The closure's
-    /// refusal is answered at once, also in place of a fault. What a closure that only takes clauses has left waits in
-    /// the parser.
+    /// Reads a formula to the end of its text, as `parse` does, and calls the closure with the parser after every chunk
+    /// and after the end. It is also called after a chunk that has a fault or needs too much memory, but not after a
+    /// failed read. The closure's refusal is returned at once, even instead of a fault. Clauses that a closure does not
+    /// take remain in the parser.
     pub fn parse_incremental<R: CountedRead, E: Drop, F: FnMut(&mut DimacsParser) -> Result<(), E>>(
         alloc: Global,
         reader: &mut R,
         closure: F,
     ) -> Result<DimacsParser, IncrementalError<E>>
         requires { F.IsAlwaysCallable closure }
-        // Where no call does more than take clauses, the answer is that of the text that was given, whatever would
-        // follow. The clauses taken and those that wait are then the text's, too, by what `take_formula` ensures.
+        // If no call does more than take clauses, the answer is that of the text that was given, whatever follows. The
+        // clauses taken and those that remain are the text's, too, by what `take_formula` ensures.
         ensures given { KeepsText (λ f p r q g. F.step f p r q g) closure
             → ParsesInParts (R.seen reader.old) (R.seen reader.new) result }
-        // Whatever the closure does, it had the parser after each piece that the reader gave.
+        // Whatever the closure does, it was called with the parser after every chunk that the reader gave.
         ensures visited { VisitsAll (λ f p r q g. F.step f p r q g) closure (R.seen reader.old) (R.seen reader.new)
             result }
-        // A read has failed only where the answer is that, and none is tried again.
+        // A read has failed only if this is returned, and none is repeated.
         ensures kept { IsErrOf result (IncrementalError.Dimacs DimacsError.Read)
             ⊎ ((R.seen reader.new).failures ≡ (R.seen reader.old).failures) }
         ensures read { IsErrOf result (IncrementalError.Dimacs DimacsError.Read)
@@ -231,7 +230,7 @@ impl DimacsParser {
         }
     }
 
-    /// Takes a reader's text to its end, and lends itself to the closure after each piece and after the end.
+    /// Reads a text to its end, and calls the closure after every chunk and after the end.
     fn read_parts<R: CountedRead, E: Drop, F: FnMut(&mut DimacsParser) -> Result<(), E>>(
         &mut self,
         reader: &mut R,

@@ -1,16 +1,16 @@
-//! What takes clauses and gives variables.
+//! A trait for everything that clauses and variables can be added to.
 ghost use Rattle.std.specs.Prelude.{◌≡◌, ℕ, List, true, MatchResult};
 ghost use Rattle.sat_base.specs.values.Literals.{coded};
 
 use crate::{Lit, Var};
 
-/// A formula that can be added to, or what holds one, as a solver does. What its calls mean is said by relations that
-/// each implementation defines; clauses are lists of codes of literals, and variables are indices.
+/// A formula that grows, or an owner of one, such as a solver. Every implementation defines relations that say what its
+/// calls mean. In them, clauses are lists of codes of literals, and variables are indices.
 pub trait ExtendFormula {
-    /// Why a clause wasn't added, or no variable was given.
+    /// Why a clause was not added, or no variable was returned.
     type Error;
 
-    /// What has to hold between calls. Each call keeps it, whatever it answers.
+    /// What has to hold between calls. Every call preserves it, whatever it returns.
     ghost ready: { Self → Type 0 };
 
     /// From the state before, this clause was added, to the state after.
@@ -19,25 +19,26 @@ pub trait ExtendFormula {
     /// From the state before, this clause was refused for this reason, to the state after.
     ghost refuses_clause: { Self → List ℕ → Self.Error → Self → Type 0 };
 
-    /// From the state before, this variable was given, to the state after.
+    /// From the state before, this variable was returned, to the state after.
     ghost makes: { Self → ℕ → Self → Type 0 };
 
-    /// From the state before, no variable was given for this reason, to the state after.
+    /// From the state before, no variable was returned for this reason, to the state after.
     ghost refuses_variable: { Self → Self.Error → Self → Type 0 };
 
+    /// Adds a clause.
     fn add_clause(&mut self, lits: &[Lit]) -> Result<(), Self::Error>
         requires { ready self.old }
         ensures ready { ready self.new }
         ensures adds { MatchResult result (λ _. adds self.old lits.now self.new)
             (λ e. refuses_clause self.old lits.now e self.new) };
 
-    /// A variable that is used nowhere else.
+    /// Returns a variable that is used nowhere else.
     fn new_var(&mut self) -> Result<Var, Self::Error>
         requires { ready self.old }
         ensures ready { ready self.new }
         ensures makes { MatchResult result (λ v. makes self.old v self.new) (λ e. refuses_variable self.old e self.new) };
 
-    /// The positive literal of a new variable.
+    /// Returns the positive literal of a new variable.
     fn new_lit(&mut self) -> Result<Lit, Self::Error>
         requires { ready self.old }
         ensures ready { ready self.new }

@@ -1,4 +1,4 @@
-//! Lists of lists in one piece of memory: their items one after another, and where each list ends.
+//! Lists of lists in one piece of memory: their items one after another, and the end of every list.
 #![tactic(auto, using(crate::proofs::lemmas::values::FlatLemmas::flat))]
 
 ghost use Rattle.std.specs.Prelude.{◌≡◌, ◌≤◌, ◌<◌, ◌↔◌, ◌++◌, ◌∷◌, [], List, IsTrue, length, slice_index};
@@ -28,7 +28,7 @@ impl<T> Model for FlatLists<T> {
     ghost invariant = { λ f. AreEnds 0 f.ends.items f.items.items };
 }
 
-/// Where the list at this place begins.
+/// Returns where the list at this place begins.
 fn start_at(ends: &[usize], place: usize) -> usize
     requires { place ≤ length ends.now }
     ensures { result ≡ slice_index (0 ∷ ends.now) place }
@@ -37,7 +37,7 @@ fn start_at(ends: &[usize], place: usize) -> usize
 }
 
 impl<T: Copy> FlatLists<T> {
-    /// No lists. Takes no memory.
+    /// Returns no lists. Does not allocate.
     pub fn new(alloc: Global) -> FlatLists<T>
         ensures { result ≡ [] }
     {
@@ -47,20 +47,21 @@ impl<T: Copy> FlatLists<T> {
         }
     }
 
-    /// How many lists there are.
+    /// Returns the number of lists.
     pub fn len(&self) -> usize
         ensures { result ≡ length self.now }
     {
         self.ends.len()
     }
 
+    /// Whether there is no list.
     pub fn is_empty(&self) -> bool
         ensures { IsTrue result ↔ self.now ≡ [] }
     {
         self.len() == 0
     }
 
-    /// The list at this place.
+    /// Returns the list at this place.
     pub fn get(&self, place: usize) -> &[T]
         requires { place < length self.now }
         ensures { result.now ≡ slice_index_or self.now place [] }
@@ -69,7 +70,7 @@ impl<T: Copy> FlatLists<T> {
         &self.items[start..self.ends[place]]
     }
 
-    /// Adds a list behind the others.
+    /// Adds a list after the others.
     pub fn push(&mut self, list: &[T]) -> Result<(), AllocError>
         ensures ok { OnOk result (self.new ≡ self.old ++ list.now ∷ []) }
         ensures err { OnErr result (self.new ≡ self.old) }
@@ -80,7 +81,7 @@ impl<T: Copy> FlatLists<T> {
         Ok(())
     }
 
-    /// Takes all lists away, and keeps the room.
+    /// Removes all lists. Their memory is kept.
     pub fn clear(&mut self)
         ensures { self.new ≡ [] }
     {
@@ -88,7 +89,7 @@ impl<T: Copy> FlatLists<T> {
         self.ends.clear();
     }
 
-    /// The lists, in order.
+    /// Returns an iterator over the lists, in order.
     pub fn iter(&self) -> FlatListsIter<'_, T>
         ensures { result ≡ self.now }
     {

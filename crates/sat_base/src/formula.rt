@@ -15,10 +15,11 @@ use crate::{Lit, Var};
 use std::alloc::Global;
 use std::marker::Model;
 
-/// Lends each clause of a formula, in order.
+/// An iterator that lends the clauses of a formula, in order.
 pub type CnfFormulaIter<'a> = FlatListsIter<'a, Lit>;
 
-/// Clauses in the order in which they were added, and a number of variables, which is at most 2^28.
+/// A formula in conjunctive normal form: its clauses, in the order in which they were added, and its number of
+/// variables, at most 2^28.
 #[derive(Debug, Drop)]
 pub struct CnfFormula {
     var_count: usize,
@@ -38,7 +39,7 @@ impl Model for CnfFormula {
 }
 
 impl CnfFormula {
-    /// No clauses and no variables. Takes no memory.
+    /// Returns a formula without clauses and variables. Does not allocate.
     pub fn new(alloc: Global) -> CnfFormula
         ensures { result ≡ no_formula }
     {
@@ -48,7 +49,7 @@ impl CnfFormula {
         }
     }
 
-    /// The variables of the formula are those whose index is below this.
+    /// Returns the number of variables. Their indices are those below it.
     pub fn var_count(&self) -> usize
         ensures count { result ≡ self.now.var_count }
         ensures covers { vars_of self.now.clauses ≤ self.now.var_count }
@@ -65,21 +66,21 @@ impl CnfFormula {
         self.var_count = self.var_count.max(count);
     }
 
-    /// The number of clauses.
+    /// Returns the number of clauses.
     pub fn len(&self) -> usize
         ensures { result ≡ length self.now.clauses }
     {
         self.clauses.len()
     }
 
-    /// Whether there is no clause.
+    /// Whether the formula has no clause.
     pub fn is_empty(&self) -> bool
         ensures { IsTrue result ↔ self.now.clauses ≡ [] }
     {
         self.len() == 0
     }
 
-    /// The clauses, in order.
+    /// Returns an iterator over the clauses, in order.
     pub fn iter(&self) -> CnfFormulaIter<'_>
         ensures rest { result ≡ self.now.clauses }
         ensures runs { ShowsInOrder (deref {X = List ℕ}) }
@@ -88,7 +89,7 @@ impl CnfFormula {
     }
 }
 
-/// One more than the index of the highest variable of these literals, or 0.
+/// Returns one more than the highest index of a variable of these literals, or 0 if there are none.
 #[tactic(auto, using(crate::proofs::lemmas::values::FlatLemmas::vars_next))]
 fn vars_in(lits: &[Lit]) -> usize
     ensures count { result ≡ vars_in lits.now }

@@ -4,12 +4,12 @@ ghost use Rattle.sat_base.specs.values.Hashes.{literal_hash, hash_of};
 
 use crate::Lit;
 
-/// The exclusive or of the hashes of a clause's literals, whatever their order.
+/// The hash of a clause: the exclusive or of the hashes of its literals, in any order.
 pub type ClauseHash = u64;
 
 const MULTIPLIER: u64 = 0x9e37_79b9_7f4a_7c15;
 
-/// The hash of a literal: its code plus one, times a constant, modulo 2^64.
+/// Returns the hash of a literal: its code plus one, times a constant, modulo 2^64.
 pub fn lit_hash(lit: Lit) -> ClauseHash
     ensures { result ≡ literal_hash lit }
 {
@@ -17,7 +17,7 @@ pub fn lit_hash(lit: Lit) -> ClauseHash
 }
 
 #[tactic(auto, using(crate::proofs::lemmas::values::HashLemmas::hash_next))]
-/// The hash of a clause: the exclusive or of its literals' hashes, 0 for none.
+/// Returns the hash of a clause: the exclusive or of its literals' hashes, or 0 if it has none.
 pub fn clause_hash(lits: &[Lit]) -> ClauseHash
     ensures { result ≡ hash_of lits.now }
 {

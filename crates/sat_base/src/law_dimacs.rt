@@ -3,20 +3,20 @@ ghost use Rattle.sat_base.specs.dimacs.DimacsRows.{CleanRows, FaultRows, HeaderR
 ghost use Rattle.sat_base.specs.dimacs.DimacsSpelling.{OneFormula, CleanIfSpelled};
 ghost use Rattle.sat_base.specs.dimacs.WrittenDimacs.{WrittenIsRead};
 
-/// Each text has one list of clauses and one end, and it reads cleanly as clauses exactly if its words outside comments
-/// and before a `%` line spell them, one clause after another, behind a header or none. It does nothing.
+/// Every text has one list of clauses and one end. It reads cleanly as clauses exactly if its words outside comments
+/// and before a `%` line spell them, one clause after another, after a header or none. The call does nothing.
 pub fn dimacs_laws()
     ensures one { OneFormula }
     ensures spelled { CleanIfSpelled }
 {}
 
 /// The text that is written of a formula is read as that formula: its clauses in order, a clean end, and a header with
-/// the number of variables and that of clauses. It does nothing.
+/// the number of variables and that of clauses. The call does nothing.
 pub fn written_dimacs_is_read()
     ensures { WrittenIsRead }
 {}
 
-/// Texts, and what they say. It does nothing.
+/// Texts, and what they say. The call does nothing.
 pub fn dimacs_rows()
     ensures clean { CleanRows }
     ensures faults { FaultRows }

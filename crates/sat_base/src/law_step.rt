@@ -5,7 +5,7 @@ ghost use Rattle.sat_base.specs.steps.Steps.{Step};
 ghost use Rattle.sat_base.specs.steps.StepBytes.{step_bytes};
 ghost use Rattle.sat_base.specs.steps.StepText.{SpellsStep, SpellsSteps};
 
-/// No step's text begins another's, and no text has two steps.
+/// No step's text is a prefix of another's, and no text spells two steps.
 pub fn steps_have_one_form()
     ensures { OneForm SpellsStep }
 {}

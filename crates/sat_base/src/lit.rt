@@ -7,7 +7,7 @@ use crate::Var;
 use std::marker::Model;
 use std::ops::{BitXor, Not};
 
-/// A variable or its negation, which contracts see as its code: twice the variable's index, plus one if negative.
+/// A literal: a variable or its negation. Contracts see its code: twice the variable's index, plus one if negative.
 /// Literals are ordered by their codes.
 #[derive(Clone, Copy, Debug, PartialEq, Eq, PartialOrd, Ord, Hash)]
 pub struct Lit {
@@ -28,26 +28,28 @@ impl Model for Lit {
 }
 
 impl Lit {
-    /// The literal of a variable that is positive where asked.
+    /// Returns the literal of a variable, positive or negative.
     pub fn from_var(var: Var, positive: bool) -> Lit
         ensures { result ≡ coded var positive }
     {
         Lit::from_index(var.index(), positive)
     }
 
+    /// Returns the positive literal of a variable.
     pub fn positive(var: Var) -> Lit
         ensures { result ≡ coded var true }
     {
         Lit::from_var(var, true)
     }
 
+    /// Returns the negative literal of a variable.
     pub fn negative(var: Var) -> Lit
         ensures { result ≡ coded var false }
     {
         Lit::from_var(var, false)
     }
 
-    /// The literal of the variable with this index that is positive where asked.
+    /// Returns the literal of the variable with this index, positive or negative.
     pub fn from_index(index: usize, positive: bool) -> Lit
         requires { index < var_limit }
         ensures { result ≡ coded index positive }
@@ -58,7 +60,7 @@ impl Lit {
         }
     }
 
-    /// The literal with this code.
+    /// Returns the literal with this code.
     pub fn from_code(code: usize) -> Lit
         requires { code < 2 * var_limit }
         ensures { result ≡ code }
@@ -66,8 +68,8 @@ impl Lit {
         Lit { code: code as u32 }
     }
 
-    /// The literal that DIMACS writes as this number: that of the variable with its absolute value, negative where the
-    /// number is. `None` for 0, and for numbers whose absolute value is above 2^28.
+    /// Returns the literal that DIMACS writes as this number: that of the variable with its absolute value, with the
+    /// sign of the number. Returns `None` for 0, and if the absolute value is above 2^28.
     pub fn from_dimacs(number: i64) -> Option<Lit>
         ensures { MatchOption result (IsNoNumeral number) (λ l. number ≡ numeral l) }
     {
@@ -75,7 +77,7 @@ impl Lit {
         Some(var.lit(number > 0))
     }
 
-    /// The number that DIMACS writes for the literal.
+    /// Returns the number that DIMACS writes for the literal.
     pub fn to_dimacs(self) -> i64
         ensures { result ≡ numeral self }
     {
@@ -83,13 +85,14 @@ impl Lit {
         if self.is_positive() { number } else { -number }
     }
 
+    /// Returns the variable.
     pub fn var(self) -> Var
         ensures { result ≡ variable self }
     {
         Var::from_index(self.index())
     }
 
-    /// The index of the variable.
+    /// Returns the index of the variable.
     pub fn index(self) -> usize
         ensures value { result ≡ variable self }
         ensures bound { result < var_limit }
@@ -97,7 +100,7 @@ impl Lit {
         (self.code / 2) as usize
     }
 
-    /// Twice the variable's index, plus one if the literal is negative.
+    /// Returns the code: twice the variable's index, plus one if the literal is negative.
     pub fn code(self) -> usize
         ensures value { result ≡ self }
         ensures bound { result < 2 * var_limit }
@@ -105,19 +108,21 @@ impl Lit {
         self.code as usize
     }
 
+    /// Whether the literal is positive.
     pub fn is_positive(self) -> bool
         ensures { result ≡ is_positive self }
     {
         self.code % 2 == 0
     }
 
+    /// Whether the literal is negative.
     pub fn is_negative(self) -> bool
         ensures { result ≡ not (is_positive self) }
     {
         !self.is_positive()
     }
 
-    /// The literal of the same sign of the variable that `f` gives.
+    /// Returns the literal with the same sign whose variable is what `f` returns.
     pub fn map_var<F: FnOnce(Var) -> Var>(self, f: F) -> Lit
         requires { F.pre f (variable self) }
         ensures { (v : ℕ) × F.post f (variable self) v × (result ≡ coded v (is_positive self)) }

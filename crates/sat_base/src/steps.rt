@@ -1,4 +1,4 @@
-//! Proof steps, and their bytes, read and written.
+//! Proof steps, and reading and writing their bytes.
 
 mod error;
 mod fields;

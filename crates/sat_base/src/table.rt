@@ -1,30 +1,31 @@
-//! A value for each place.
+//! Tables from places to values.
 ghost use Rattle.std.specs.Prelude.{ℕ, ◌≡◌, ◌≤◌, ◌<◌, ◌+◌, length, slice_index_or, OnOk, OnErr};
 ghost use Rattle.sat_base.specs.values.Tables.{near_count, value_at, HasPlaceFor, KeepsRoom, KeepsValues, SetsValue};
 
 use std::alloc::{AllocError, Global};
 use std::collections::BTreeMap;
 
-/// So many places may be near at any rate.
+/// The number of places that may always be near.
 const FEW: usize = 1 << 18;
 
-/// So many more may be for each place that room was made for.
+/// The number of places more that may be near for every place that room was made for.
 const MORE: usize = 8;
 
-/// A value for each place, where most may be missing. Near places stand in one list, others in a tree. The list is no
-/// longer than some times the number of places that room was made for, or than its owner allows, who may count what it
-/// has read; so a table takes memory by how much was read, whatever numbers stand there. A place that is in the list
-/// costs what it does in a `Vec`.
+/// A table from places to values, most of which may be missing.
+///
+/// Near places are in a list, others in a tree. The length of the list is limited by a multiple of the number of places
+/// that room was made for, or by the owner. So memory follows how much was read, whatever numbers were read. A place in
+/// the list costs as much as in a `Vec`.
 #[derive(Drop)]
 pub struct Table<T> {
     near: Vec<T>,
     far: BTreeMap<usize, T>,
-    /// Places below this one may be near.
+    /// The limit of near places.
     limit: usize,
 }
 
 impl<T: Copy> Table<T> {
-    /// No place has a value. Takes no memory.
+    /// Returns a table without values. Does not allocate.
     pub fn new(alloc: Global) -> Table<T>
         ensures { (missing : T) (v : ℕ) → value_at missing result v ≡ missing }
     {
@@ -35,7 +36,7 @@ impl<T: Copy> Table<T> {
         }
     }
 
-    /// The list may be as long as this from here on, or as it might before. Takes no memory, and changes no value.
+    /// Allows the list to be this long from now on, if it was not before. Does not allocate, and changes no value.
     #[inline(always)]
     pub fn allow(&mut self, limit: usize)
         ensures same { (missing : T) → KeepsValues missing self.old self.new }
@@ -44,14 +45,14 @@ impl<T: Copy> Table<T> {
         self.limit = self.limit.max(limit);
     }
 
-    /// How many places are near.
+    /// Returns the number of near places.
     pub fn near_count(&self) -> usize
         ensures { result ≡ near_count self.now }
     {
         self.near.len()
     }
 
-    /// The values at the near places.
+    /// Returns the values at the near places.
     #[inline(always)]
     pub fn near(&self) -> &[T]
         ensures count { length result.now ≡ near_count self.now }
@@ -61,7 +62,7 @@ impl<T: Copy> Table<T> {
         self.near.as_slice()
     }
 
-    /// The value at a place, or this one where it is missing.
+    /// Returns the value at a place, or `missing` if there is none.
     #[inline(always)]
     pub fn get(&self, place: usize, missing: T) -> T
         ensures { result ≡ value_at missing self.now place }
@@ -72,7 +73,7 @@ impl<T: Copy> Table<T> {
         self.get_behind(place, missing)
     }
 
-    /// The value at a place that isn't near.
+    /// Returns the value at a place that is not near.
     #[inline(always)]
     fn get_behind(&self, place: usize, missing: T) -> T
         requires { length self.now.near.items ≤ place }
@@ -84,6 +85,7 @@ impl<T: Copy> Table<T> {
         self.get_far(place, missing)
     }
 
+    /// Returns the value at a place in the tree.
     #[inline(never)]
     fn get_far(&self, place: usize, missing: T) -> T
         requires { length self.now.near.items ≤ place }
@@ -95,8 +97,8 @@ impl<T: Copy> Table<T> {
         }
     }
 
-    /// Makes room for the value at a place, which is this one where it was missing. So no value changes, whether there
-    /// was memory or not.
+    /// Makes room for the value at a place, which is `missing` if there was none. No value changes, even if memory runs
+    /// out.
     #[inline(always)]
     pub fn make_room(&mut self, place: usize, missing: T) -> Result<(), AllocError>
         ensures room { OnOk result (HasPlaceFor self.new place) }
@@ -109,6 +111,7 @@ impl<T: Copy> Table<T> {
         self.make_room_behind(place, missing)
     }
 
+    /// Makes room for a place in the tree.
     #[inline(never)]
     fn make_room_behind(&mut self, place: usize, missing: T) -> Result<(), AllocError>
         requires { length self.old.near.items ≤ place }
@@ -122,7 +125,7 @@ impl<T: Copy> Table<T> {
         self.make_far(place, missing)
     }
 
-    /// Puts all up to a place among the near ones.
+    /// Makes all places up to this one near.
     fn draw_near(&mut self, place: usize, missing: T) -> Result<(), AllocError>
         requires { length self.old.near.items ≤ place }
         ensures room { OnOk result (HasPlaceFor self.new place) }
@@ -137,7 +140,7 @@ impl<T: Copy> Table<T> {
         Ok(())
     }
 
-    /// Puts the next place among the near ones.
+    /// Makes the next place near.
     fn draw_next(&mut self, next: usize, missing: T) -> Result<(), AllocError>
         requires { length self.old.near.items ≡ next }
         ensures longer { OnOk result (length self.new.near.items ≡ next + 1) }
@@ -149,7 +152,7 @@ impl<T: Copy> Table<T> {
         Ok(())
     }
 
-    /// Makes room for a place that isn't near.
+    /// Makes room for a place that is not near.
     fn make_far(&mut self, place: usize, missing: T) -> Result<(), AllocError>
         requires { length self.old.near.items ≤ place }
         ensures room { OnOk result (HasPlaceFor self.new place) }
@@ -164,7 +167,7 @@ impl<T: Copy> Table<T> {
         Ok(())
     }
 
-    /// Sets the value at a place that there is room for. Takes no memory.
+    /// Sets the value at a place that has room. Does not allocate.
     #[inline(always)]
     pub fn put(&mut self, place: usize, value: T)
         requires { HasPlaceFor self.old place }
@@ -178,6 +181,7 @@ impl<T: Copy> Table<T> {
         self.put_far(place, value);
     }
 
+    /// Sets the value at a place in the tree.
     #[inline(never)]
     fn put_far(&mut self, place: usize, value: T)
         requires room { HasPlaceFor self.old place }
@@ -190,7 +194,7 @@ impl<T: Copy> Table<T> {
         }
     }
 
-    /// Sets the value at a place, where others are missing with this one. Without memory none changes.
+    /// Sets the value at a place. If memory runs out, no value changes.
     pub fn set(&mut self, place: usize, value: T, missing: T) -> Result<(), AllocError>
         ensures ok { OnOk result (SetsValue missing self.old self.new place value) }
         ensures err { OnErr result (KeepsValues missing self.old self.new) }
@@ -200,8 +204,7 @@ impl<T: Copy> Table<T> {
         Ok(())
     }
 
-    /// The value at a place is this one from here on, which it has where it is missing. Takes no memory, and needs no
-    /// room.
+    /// Resets the value at a place to `missing`. Does not allocate, and needs no room.
     #[inline(always)]
     pub fn reset(&mut self, place: usize, missing: T)
         ensures set { SetsValue missing self.old self.new place missing }
@@ -214,6 +217,7 @@ impl<T: Copy> Table<T> {
         self.reset_far(place, missing);
     }
 
+    /// Resets the value at a place in the tree.
     #[inline(never)]
     fn reset_far(&mut self, place: usize, missing: T)
         requires { length self.old.near.items ≤ place }

@@ -1,4 +1,4 @@
-//! The words of a text, from its bytes. Formulas and scripts are both made of them.
+//! Tokens of formulas and scripts, from their bytes.
 ghost use Rattle.std.specs.Prelude.{◌≡◌, ◌+◌, ◌*◌, ◌-◌, ◌<◌, ◌≤◌, ℕ, List, [], Bool, true, false, None, Some, IfSome};
 ghost use Rattle.std.specs.Prelude.{length, take};
 ghost use Rattle.sat_base.specs.text.Text.{is_blank, is_digit, is_letter, Scan, scan};
@@ -12,50 +12,51 @@ mod header;
 
 use header::{HeaderPlace, Stage, ended_in, next_in_header};
 
-/// What a word says, or a header line.
+/// A token: what a word says, or a header line.
 #[derive(Clone, Copy, Debug, Drop, PartialEq, Eq)]
 pub enum Token {
-    /// An optional `-` and digits. The value is held at 2^64-1. A number of value 0 is not negative.
+    /// A number: an optional `-` and digits. Larger values are held at 2^64-1. A number of value 0 is not negative.
     Number { negative: bool, value: u64 },
     /// A word of one ASCII letter.
     Letter(u8),
-    /// A line `p cnf VARS CLAUSES`, where one may stand. Both numbers are held at 2^64-1, and compared with nothing.
+    /// A line `p cnf VARS CLAUSES` at a place where it is allowed. Both numbers are held at 2^64-1, and compared with
+    /// nothing.
     Header { vars: u64, clauses: u64 },
-    /// Every other word, as `-0`, `+1` and `x1`, and every other line that begins with `p`.
+    /// Any other word, such as `-0`, `+1` and `x1`, and any other line that begins with `p`.
     Wrong,
 }
 
-/// Where a tokenizer is in the text. A flag says whether a header may still come; where there is none, none may.
+/// A place in a text. The flag says whether a header may still come; without a flag, none may.
 #[derive(Clone, Copy, Drop)]
 enum Place {
     /// At the start of a line.
     Fresh(bool),
-    /// Behind blanks at the start of a line.
+    /// After blanks at the start of a line.
     Leading(bool),
-    /// In a comment, or behind the wrong word of a header line.
+    /// In a comment, or after the wrong word of a header line.
     Comment(bool),
     Between,
-    /// Behind a minus sign.
+    /// After a minus sign.
     Minus,
     /// In a number, whose value is held at 2^64-1.
     Digits { negative: bool, value: u64 },
-    /// Behind a letter that begins a word.
+    /// After a letter that begins a word.
     Letter(u8),
     /// In a word that is wrong.
     Bad,
     /// In a header line.
     Header(HeaderPlace),
-    /// In a word of a header line that may not stand there.
+    /// In a word of a header line that is not allowed there.
     Spoilt,
-    /// Behind the `%` that ends the text.
+    /// After the `%` that ends the text.
     Over,
 }
 
-/// Takes the bytes of a text one by one, and gives its tokens. It holds no bytes.
+/// A tokenizer: it receives the bytes of a text one by one, and returns its tokens. It holds no bytes.
 ///
-/// Blanks are space, tab, CR and LF, and a word is a longest run of other bytes. A line ends at LF. A line whose first
-/// byte that is no blank is `c` is a comment, one whose first is `%` ends the text, and one whose first is `p` is a
-/// header line, which gives one token. A header may stand once, before the first word of other lines.
+/// Blanks are space, tab, CR and LF, and a word is a longest run of other bytes. A line ends at LF. The first byte of a
+/// line that is no blank decides what the line is: with `c` it is a comment, with `%` it ends the text, and with `p` it
+/// is a header line, which is one token. A header is allowed once, before the first word of other lines.
 #[derive(Drop)]
 pub struct Tokenizer {
     place: Place,
@@ -63,41 +64,44 @@ pub struct Tokenizer {
     lines: u64,
 }
 
-// Each byte goes through several of the functions below, which pass places by value: unasked none is inlined into the
-// others, and a place is then written to memory and read again for each. With all of them inlined, a tokenizer that its
-// owner lends to nobody else stays in registers.
+// Every byte passes several of the functions below, which pass places by value. Unless they are inlined, every place is
+// written to memory and read again. With all of them inlined, a tokenizer that is lent to no other function stays in
+// registers.
 
+/// Whether a byte is a space, a tab, a CR or an LF.
 fn is_blank(byte: u8) -> bool
     ensures { result ≡ is_blank byte }
 {
     byte == b' ' || byte == b'\t' || byte == b'\r' || byte == b'\n'
 }
 
+/// Whether a byte is an ASCII digit.
 fn is_digit(byte: u8) -> bool
     ensures { result ≡ is_digit byte }
 {
     byte > 47 && byte < 58
 }
 
+/// Whether a byte is an ASCII letter.
 fn is_letter(byte: u8) -> bool
     ensures { result ≡ is_letter byte }
 {
     (byte > 64 && byte < 91) || (byte > 96 && byte < 123)
 }
 
-/// The value with one digit more.
+/// Returns the value with one more digit, held at 2^64-1.
 fn grown(value: u64, digit: u8) -> u64
     requires { is_digit digit ≡ true }
     ensures { result ≡ grown value digit }
 {
-    // Most numbers are far from the bound, and times without one takes half as long.
+    // Most numbers are far from the limit, and a multiplication that does not test it takes half as long.
     if value < 1 << 60 {
         return value * 10 + (digit - 48) as u64;
     }
     value.saturating_mul(10).saturating_add((digit - 48) as u64)
 }
 
-/// The place in a word that begins with this byte.
+/// Returns the place in a word that begins with this byte.
 #[inline(always)]
 fn word_begun(byte: u8) -> Place
     requires { is_blank byte ≡ false }
@@ -117,7 +121,7 @@ fn word_begun(byte: u8) -> Place
     }
 }
 
-/// The place behind the first byte of a line that is no blank.
+/// Returns the place after the first byte of a line that is no blank.
 #[inline(always)]
 fn line_begun(may: bool, byte: u8) -> Place
     requires { is_blank byte ≡ false }
@@ -139,7 +143,7 @@ fn line_begun(may: bool, byte: u8) -> Place
     }
 }
 
-/// The place behind digits and this byte.
+/// Returns the place after digits and this byte.
 #[inline(always)]
 fn number_goes_on(negative: bool, value: u64, byte: u8) -> Place
     requires { is_blank byte ≡ false }
@@ -155,7 +159,7 @@ fn number_goes_on(negative: bool, value: u64, byte: u8) -> Place
     }
 }
 
-/// The value behind the digits at the front of these bytes, and how many digits there are.
+/// Returns the value with the digits with which these bytes begin, and the number of these digits.
 #[inline(always)]
 fn digits_in(value: u64, bytes: &[u8]) -> (u64, usize)
     ensures within { result.1 ≤ length bytes.now }
@@ -172,7 +176,7 @@ fn digits_in(value: u64, bytes: &[u8]) -> (u64, usize)
     (value, bytes.len())
 }
 
-/// The value of the digits at the front of these bytes, and how many there are, if there are some.
+/// Returns the value of the digits with which these bytes begin, and their number, or `None` if there are none.
 #[inline(always)]
 fn some_digits_in(bytes: &[u8]) -> Option<(u64, usize)>
     ensures within { IfSome result (λ r. (0 < r.1) × (r.1 ≤ length bytes.now)) }
@@ -191,7 +195,8 @@ fn some_digits_in(bytes: &[u8]) -> Option<(u64, usize)>
     Some((value, count + 1))
 }
 
-/// What a sign and digits at the front of these bytes say, and how many bytes they are, if there are some.
+/// Returns the sign and the value of the number with which these bytes begin, and its length, or `None` if there is
+/// none.
 #[inline(always)]
 fn number_in(bytes: &[u8]) -> Option<(bool, u64, usize)>
     ensures within { IfSome result (λ r. (0 < r.2) × (r.2 ≤ length bytes.now)) }
@@ -211,7 +216,7 @@ fn number_in(bytes: &[u8]) -> Option<(bool, u64, usize)>
     Some((negative, value, count + 1))
 }
 
-/// Whether a word begins with the next byte, unless that begins a comment or a header, or ends the text.
+/// Whether the next byte begins a word, unless it begins a comment or a header, or ends the text.
 #[inline(always)]
 fn begins_word(place: Place) -> bool
     ensures { result ≡ true → BeginsWord place }
@@ -219,7 +224,7 @@ fn begins_word(place: Place) -> bool
     matches!(place, Place::Between | Place::Fresh(_) | Place::Leading(_))
 }
 
-/// The place behind a minus sign and this byte.
+/// Returns the place after a minus sign and this byte.
 #[inline(always)]
 fn number_begun(byte: u8) -> Place
     requires { is_blank byte ≡ false }
@@ -235,7 +240,7 @@ fn number_begun(byte: u8) -> Place
     }
 }
 
-/// The place behind a byte that is no blank.
+/// Returns the place after a byte that is no blank.
 #[inline(always)]
 fn next(place: Place, byte: u8) -> Place
     requires { is_blank byte ≡ false }
@@ -259,7 +264,7 @@ fn next(place: Place, byte: u8) -> Place
     }
 }
 
-/// What a header line says that ends here.
+/// Returns the token of a header line that ends here.
 fn header_token(place: HeaderPlace) -> Token
     ensures { SaysInHand (Some result) (Place.Header place) }
 {
@@ -269,7 +274,7 @@ fn header_token(place: HeaderPlace) -> Token
     }
 }
 
-/// What the word or the header line in hand says where the line ends, if there is one.
+/// Returns the token in hand at the end of the line, if there is one.
 #[inline(always)]
 fn token_in(place: Place) -> Option<Token>
     ensures { SaysInHand result place }
@@ -295,7 +300,7 @@ fn token_in(place: Place) -> Option<Token>
     }
 }
 
-/// What a blank ends that ends no line, if it ends something.
+/// Returns the token that is ended by a blank within a line, if there is one.
 #[inline(always)]
 fn token_at_blank(place: Place) -> Option<Token>
     ensures { SaysAtBlank result place }
@@ -309,7 +314,7 @@ fn token_at_blank(place: Place) -> Option<Token>
     }
 }
 
-/// The place behind a blank that ends no line.
+/// Returns the place after a blank within a line.
 #[inline(always)]
 fn after_blank(place: Place) -> Place
     ensures leads { LeadsBehind place result }
@@ -333,7 +338,7 @@ fn after_blank(place: Place) -> Place
     }
 }
 
-/// Whether a header may come on the lines below.
+/// Whether a header may come on later lines.
 fn may_come(place: Place) -> bool
     ensures { result ≡ may_come place }
 {
@@ -346,7 +351,7 @@ fn may_come(place: Place) -> bool
 }
 
 impl Tokenizer {
-    /// A tokenizer before the first byte of a text.
+    /// Returns a tokenizer before the first byte of a text.
     pub fn new() -> Tokenizer
         ensures { StandsBefore result scan }
     {
@@ -366,7 +371,7 @@ impl Tokenizer {
         }
     }
 
-    /// LF.
+    /// Receives LF.
     #[inline(always)]
     fn end_line(&mut self) -> Option<Token>
         ensures takes { TakesByte self.old 10 result self.new }
@@ -382,22 +387,22 @@ impl Tokenizer {
         token
     }
 
-    /// Takes the next byte, and gives the token that it ended, if it ended one. A header is ended by its LF, a wrong
-    /// word in a header line by the blank behind it. Behind the `%` that ends the text no byte gives a token.
+    /// Receives the next byte, and returns the token that it ends, if there is one. A header ends at its LF, a wrong
+    /// word in a header line at the blank after it. After the `%` that ends the text, no byte ends a token.
     #[inline(always)]
     pub fn push(&mut self, byte: u8) -> Option<Token>
         ensures takes { TakesByte self.old byte result self.new }
         // Only a blank ends a word,
         ensures inside { is_blank byte ≡ false → result ≡ None }
-        // and behind it none is in hand, nor a header line behind LF,
+        // and after it none is in hand, nor a header line after LF,
         ensures quiet { is_blank byte ≡ true → (after : List ℕ → Scan) → StandsBefore self.new after
             → HoldsNoWord (after []) }
         ensures ended { byte ≡ 10 → (after : List ℕ → Scan) → StandsBefore self.new after → (after []).tokens ≡ [] }
-        // and what comes may be right.
+        // and what follows may be right.
         ensures right { is_blank byte ≡ true → (after : List ℕ → Scan) → StandsBefore self.new after
             → RightAhead after }
     {
-        // Most bytes are a further digit, for which no other place is looked at.
+        // Most bytes are a further digit, so this place is tested first.
         if let Place::Digits { negative, value } = self.place {
             if is_digit(byte) {
                 self.place = number_goes_on(negative, value, byte);
@@ -416,7 +421,7 @@ impl Tokenizer {
         token
     }
 
-    /// Takes a sign and digits at the front of the bytes, where a word begins with them. Says how many bytes they are.
+    /// Receives the number with which the bytes begin, if a word begins here. Returns its length.
     #[inline(always)]
     fn push_number(&mut self, bytes: &[u8]) -> Option<usize>
         ensures none { result ≡ None → self.new ≡ self.old }
@@ -431,14 +436,14 @@ impl Tokenizer {
         Some(count)
     }
 
-    /// Takes a number at the front of the bytes and the space or LF that ends it, where a word begins with them. Returns
-    /// how many bytes they are, whether the number is negative, and its value, held at 2^64-1. Otherwise it takes
-    /// nothing: what is no such number is for `push_some`.
+    /// Receives a number with which the bytes begin, and the space or LF after it, if a word begins here. Returns the
+    /// number of these bytes, whether the number is negative, and its value, held at 2^64-1. Otherwise it receives
+    /// nothing, and `push_some` has to be called.
     #[inline(always)]
     pub fn push_whole(&mut self, bytes: &[u8]) -> Option<(usize, bool, u64)>
         ensures none { result ≡ None → self.new ≡ self.old }
         ensures within { IfSome result (λ r. (0 < r.0) × (r.0 ≤ length bytes.now)) }
-        // As if these bytes were pushed one by one: the last ends this number.
+        // As if these bytes were pushed one by one: the last one ends this number.
         ensures takes { IfSome result (λ r.
             TakesFront self.old (take r.0 bytes.now) (Some (Token.Number r.1 r.2)) self.new) }
         ensures right { (result ≡ None → ⊥) → (after : List ℕ → Scan) → StandsBefore self.new after
@@ -465,8 +470,8 @@ impl Tokenizer {
         None
     }
 
-    /// Takes one byte or more, of which only the last may end a token. Says how many, and gives the token. It takes all
-    /// digits of a number at once; how many bytes it takes matters for nothing else.
+    /// Receives one byte or more, of which only the last may end a token. Returns their number, and the token. All
+    /// digits of a number are received at once; the number of bytes matters for nothing else.
     #[inline(always)]
     pub fn push_some(&mut self, bytes: &[u8]) -> (usize, Option<Token>)
         requires { 0 < length bytes.now }
@@ -479,16 +484,16 @@ impl Tokenizer {
         let Some(count) = self.push_number(bytes) else {
             return (1, self.push(bytes[0]));
         };
-        // A number is mostly followed by the blank that ends it.
+        // Most numbers are followed by the blank that ends them.
         if count == bytes.len() {
             return (count, None);
         }
         (count + 1, self.push(bytes[count]))
     }
 
-    /// Whether the word or header line in hand is wrong whatever follows: from its first byte on behind which no right
-    /// one goes on. So `1x` is wrong at `x` and `--` at the second `-`, but `-0`, which may go on as `-01`, only where
-    /// it ends.
+    /// Whether the word or header line in hand is wrong, whatever follows. It is from the first byte on after which no
+    /// right one continues. So `1x` is wrong at `x`, and `--` at the second `-`; but `-0`, which may continue as `-01`,
+    /// only at its end.
     #[inline(always)]
     pub fn is_wrong(&self) -> bool
         ensures wrong { result ≡ true → (before : List ℕ → Scan) → StandsBefore self.now before → WrongAhead before }
@@ -501,8 +506,8 @@ impl Tokenizer {
         }
     }
 
-    /// Whether the text has ended since a line began with `%`: exactly then no byte that follows is looked at, and none
-    /// need be read. No token is in hand.
+    /// Whether the text has ended, at a line that begins with `%`: exactly then whatever follows is ignored, and need
+    /// not be read. No token is in hand then.
     #[inline(always)]
     pub fn is_over(&self) -> bool
         ensures over { result ≡ true → (before : List ℕ → Scan) → StandsBefore self.now before → IgnoresRest before }
@@ -514,16 +519,16 @@ impl Tokenizer {
         matches!(self.place, Place::Over)
     }
 
-    /// The token in hand where the text ends here, if there is one.
+    /// Returns the token in hand if the text ends here, if there is one.
     pub fn finish(&self) -> Option<Token>
         ensures { (before : List ℕ → Scan) → StandsBefore self.now before → GivesLast result (before []) }
     {
         token_in(self.place)
     }
 
-    /// The line of the last byte, from 1, held at 2^64-1; 0 before the first byte. Where a `%` has ended the text it is
-    /// the line of that. It is the line of the token that this byte ended, and where the text ends here, of the one in
-    /// hand.
+    /// Returns the line of the last byte, from 1, held at 2^64-1, or 0 before the first byte. After the `%` that ends
+    /// the text it is the line of the `%`. The token that the last byte ended is on this line, and so is the one in
+    /// hand, if the text ends here.
     pub fn line(&self) -> u64
         ensures { (before : List ℕ → Scan) → StandsBefore self.now before → result ≡ held (before []).last }
     {

@@ -6,10 +6,10 @@ ghost use Rattle.sat_base.specs.values.Numerals.{IsNoVariable};
 use crate::Lit;
 use std::marker::Model;
 
-/// How many variables there are at most.
+/// The largest number of variables.
 pub(crate) const MAX_COUNT: usize = 1 << 28;
 
-/// A variable, which contracts see as its index. Indices go from 0 to 2^28 - 1.
+/// A variable. Contracts see its index, which is from 0 to 2^28 - 1.
 #[derive(Clone, Copy, Debug, PartialEq, Eq, PartialOrd, Ord, Hash)]
 pub struct Var {
     index: u32,
@@ -29,7 +29,7 @@ impl Model for Var {
 }
 
 impl Var {
-    /// The variable with this index.
+    /// Returns the variable with this index.
     pub fn from_index(index: usize) -> Var
         requires { index < var_limit }
         ensures { result ≡ index }
@@ -39,7 +39,7 @@ impl Var {
         }
     }
 
-    /// The index, from 0.
+    /// Returns the index, from 0.
     pub fn index(self) -> usize
         ensures value { result ≡ self }
         ensures bound { result < var_limit }
@@ -47,7 +47,8 @@ impl Var {
         self.index as usize
     }
 
-    /// The variable with this number, as DIMACS counts them, from 1. `None` for numbers below 1 and above 2^28.
+    /// Returns the variable with this number of DIMACS, which counts from 1, or `None` for numbers below 1 and above
+    /// 2^28.
     pub fn from_dimacs(number: i64) -> Option<Var>
         ensures { MatchOption result (IsNoVariable number) (λ v. number ≡ pos (v + 1)) }
     {
@@ -59,7 +60,7 @@ impl Var {
         })
     }
 
-    /// The number of the variable, as DIMACS counts them, from 1.
+    /// Returns the number of the variable in DIMACS, which counts from 1.
     pub fn to_dimacs(self) -> i64
         ensures value { result ≡ pos (self + 1) }
         ensures bound { self < var_limit }
@@ -67,26 +68,28 @@ impl Var {
         self.index as i64 + 1
     }
 
-    /// The literal of the variable that is positive where asked.
+    /// Returns the literal of the variable, positive or negative.
     pub fn lit(self, positive: bool) -> Lit
         ensures { result ≡ coded self positive }
     {
         Lit::from_var(self, positive)
     }
 
+    /// Returns the positive literal of the variable.
     pub fn positive(self) -> Lit
         ensures { result ≡ coded self true }
     {
         self.lit(true)
     }
 
+    /// Returns the negative literal of the variable.
     pub fn negative(self) -> Lit
         ensures { result ≡ coded self false }
     {
         self.lit(false)
     }
 
-    /// How many variables there are at most, which is the largest number of one in DIMACS too.
+    /// Returns the largest number of variables, which is also the largest number of a variable in DIMACS.
     pub const fn max_count() -> usize
         ensures { result ≡ var_limit }
     {

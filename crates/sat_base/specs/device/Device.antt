@@ -4,7 +4,7 @@ use Rattle.std.specs.Io.KnownBytes.{Consumes, IsAtEnd, ReadConsumes, Appends, Wr
 
 -- what contracts see of a reader
 pub record Reader : Type 0 where
-  pub to_come : Option (List ℕ)  -- the bytes still to come, where it tells them
+  pub to_come : Option (List ℕ)  -- the bytes still to come, if they are known
   pub given : List ℕ  -- all bytes that it gave, to whomever
   pub ended : Bool  -- the last read gave nothing though there was room
   pub failed : Bool  -- the last call failed
@@ -14,13 +14,13 @@ pub record Reader : Type 0 where
 
 -- and of a writer
 pub record Writer : Type 0 where
-  pub contents : Option (List ℕ)  -- what it holds, where it tells
+  pub contents : Option (List ℕ)  -- what it holds, if that is known
   pub taken : List ℕ  -- all bytes that it took, whoever wrote them
-  pub flushed : Bool  -- the last call was a flush that didn't fail
+  pub flushed : Bool  -- the last call was a flush that did not fail
   pub failed : Bool  -- the last call failed
   pub failures : ℕ
   pub calls : ℕ  -- a flush is one, too
-  pub flushes : ℕ  -- how many of them were flushes that didn't fail
+  pub flushes : ℕ  -- how many of them were flushes that did not fail
   pub loans : List ℕ  -- by which borrows it is lent, the last one first
 
 -- lent once more
@@ -37,7 +37,7 @@ lent_writer name w = record w { loans = name ∷ w.loans }
 abbrev pub CountsErr : {T E : Type 0} → Result T E → ℕ → ℕ → Bool → Type 0
 CountsErr r old new failed = MatchResult r (λ _. (new ≡ old) × (failed ≡ false)) (λ _. (new ≡ old + 1) × (failed ≡ true))
 
--- a write that takes nothing of a piece that isn't empty
+-- a write that takes nothing of a piece that is not empty
 abbrev pub takes_none : ℕ → List ℕ → Bool
 takes_none n piece = nat_eq n 0 && nat_lt 0 (length piece)
 
@@ -51,7 +51,7 @@ CountsWrite r piece old new failed = MatchResult r
 abbrev pub AppendsFront : {E : Type 0} → Result ℕ E → List ℕ → List ℕ → List ℕ → Type 0
 AppendsFront r piece old new = MatchResult r (λ n. new ≡ old ++ take n piece) (λ _. new ≡ old)
 
--- a reader is at its end where the last read gave nothing though there was room
+-- a reader is at its end if the last read gave nothing though there was room
 abbrev pub EndsIfNone : {E : Type 0} → Result ℕ E → List ℕ → Bool → Type 0
 EndsIfNone r piece ended = MatchResult r (λ n. ended ≡ (nat_eq n 0 && nat_lt 0 (length piece))) (λ _. ended ≡ false)
 
@@ -74,7 +74,7 @@ pub record WritesOnce {E : Type 0} (r : Result ℕ E) (piece : List ℕ) (old ne
   pub calls : new.calls ≡ old.calls + 1
   pub loans : new.loans ≡ old.loans
 
--- a flush counts where it didn't fail
+-- a flush counts if it did not fail
 abbrev pub CountsFlush : {T E : Type 0} → Result T E → ℕ → ℕ → Type 0
 CountsFlush r old new = MatchResult r (λ _. new ≡ old + 1) (λ _. new ≡ old)
 
@@ -90,7 +90,7 @@ pub record FlushesOnce {E : Type 0} (r : Result (Unit {0}) E) (old new : Writer)
 
 -- WHAT A READER GAVE
 
--- Between two moments a reader gave this text, and where it tells its bytes they were the next ones.
+-- Between two moments a reader gave this text, and if its bytes are known they were the next ones.
 pub record GaveFront (old new : Reader) (text : List ℕ) : Type 0 where
   pub gave : new.given ≡ old.given ++ text
   pub told : Consumes old.to_come new.to_come text
@@ -136,7 +136,7 @@ Grew old new = (text : List ℕ) × GaveFront old new text × FewReads old new
 abbrev pub most_reads : ℕ
 most_reads = 2 ^ 48
 
--- in pieces of at most so many bytes
+-- in pieces of at most this number of bytes
 abbrev pub piece_size : ℕ
 piece_size = 4096
 
@@ -144,11 +144,11 @@ piece_size = 4096
 abbrev pub FailsLast : Reader → Reader → Type 0
 FailsLast old new = (new.failures ≡ old.failures + 1) × (new.failed ≡ true)
 
--- so many reads were made, and none failed
+-- 2^48 reads were made, and none failed
 abbrev pub ReadsOut : Reader → Reader → Type 0
 ReadsOut old new = (new.failures ≡ old.failures) × (new.calls ≡ old.calls + most_reads)
 
--- why a text couldn't be read: one read failed, which was the last, or so many were made and none did; none for nothing
+-- why a text could not be read: one read failed, which was the last, or 2^48 were made and none did; none was made for nothing
 abbrev pub ReadFails : Reader → Reader → Type 0
 ReadFails old new = (FailsLast old new ⊎ ReadsOut old new) × FewReads old new
 
@@ -163,7 +163,7 @@ pub record WriterTakes (old new : Writer) (text : List ℕ) : Type 0 where
   pub few : new.calls + old.flushes ≤ old.calls + new.flushes + length text
   pub loans : new.loans ≡ old.loans
 
--- it took a front of this text, and then one call failed, the last; each but this one and the flushes took some of it
+-- it took a prefix of this text, and then one call failed, the last; each but this one and the flushes took some of it
 pub record WriterBreaks (old new : Writer) (text : List ℕ) : Type 0 where
   pub front : List ℕ
   pub behind : List ℕ
@@ -176,6 +176,6 @@ pub record WriterBreaks (old new : Writer) (text : List ℕ) : Type 0 where
   pub few : new.calls + old.flushes ≤ old.calls + new.flushes + length front + 1
   pub loans : new.loans ≡ old.loans
 
--- a text was written, or a front of it
+-- a text was written, or a prefix of it
 abbrev pub Puts : {E : Type 0} → List ℕ → Result (Unit {0}) E → Writer → Writer → Type 0
 Puts text r old new = MatchResult r (λ _. WriterTakes old new text) (λ _. WriterBreaks old new text)

@@ -18,7 +18,7 @@ pub record Source : Type 0 where
   pub reads : ℕ  -- the reads by this reader of steps
   pub names : List ℕ  -- by which borrows it is held
 
--- the bytes still to come, where the reader tells them
+-- the bytes still to come, if they are known
 abbrev pub to_come : Source → Option (List ℕ)
 to_come s = prepend_known s.waiting s.reader.to_come
 
@@ -42,7 +42,7 @@ source_of seen i = named (i.reader.ghost_name ∷ i.ahead.ghost_name ∷ []) (so
 abbrev pub AtEnd : Source → Type 0
 AtEnd s = (0 < s.reads) × (s.reader.ended ≡ true)
 
--- These bytes were taken, and no call failed. What waited and what was given since is what was taken and what waits now. A read gave at
+-- These bytes were taken, and no call failed. The pending bytes and those given since are those taken and those pending now. A read gave at
 -- most 4,096 bytes, and there were at most as many reads as bytes given, but for so many. Where there were no more, none found the end.
 pub record PassesBut (more : ℕ) (old new : Source) (text : List ℕ) : Type 0 where
   pub fresh : List ℕ
@@ -61,7 +61,7 @@ pub record PassesBut (more : ℕ) (old new : Source) (text : List ℕ) : Type 0 
 abbrev pub Passes : Source → Source → List ℕ → Type 0
 Passes old new text = PassesBut 0 old new text
 
--- all bytes are taken: the last read found the reader at its end, and none waits
+-- all bytes are taken: the last read found the reader at its end, and none is pending
 pub record AllTaken (s : Source) : Type 0 where
   pub read : 0 < s.reads
   pub ended : s.reader.ended ≡ true
@@ -72,7 +72,7 @@ pub record AllTaken (s : Source) : Type 0 where
 abbrev pub PassesToEnd : Source → Source → List ℕ → Type 0
 PassesToEnd old new text = PassesBut 1 old new text × AllTaken new
 
--- one call failed, the last; or none did, and so many were made
+-- one call failed, the last; or none did, and 2^48 were made
 abbrev pub FailsLast : Source → Source → Type 0
 FailsLast old new = (new.reader.failures ≡ old.reader.failures + 1) × (new.reader.failed ≡ true)
 
@@ -94,11 +94,11 @@ pub record Faults (old new : Source) (text : List ℕ) : Type 0 where
   pub loans : new.reader.loans ≡ old.reader.loans
   pub names : new.names ≡ old.names
 
--- one, where a read gave nothing
+-- one, if a read gave nothing
 abbrev pub none_given : ℕ → ℕ
 none_given n = if nat_eq n 0 then 1 else 0
 
--- another piece was read, of so many bytes: none only at the end
+-- another piece was read, of this number of bytes: none only at the end
 abbrev pub Refills : Result (Unit {0}) StepError → ℕ → Source → Source → Type 0
 Refills (Ok u) n old new = PassesBut (none_given n) old new [] × (n ≡ 0 → AllTaken new)
 Refills (Err errors.Read) n old new = Faults old new []
@@ -116,15 +116,15 @@ NextByte (Ok None) old new = PassesToEnd old new []
 NextByte (Err errors.Read) old new = Faults old new []
 NextByte (Err e) old new = ⊥
 
--- the next byte of a text that isn't whole
+-- the next byte of a text that is not whole
 abbrev pub ByteWithin : Result ℕ StepError → Source → Source → Type 0
 ByteWithin (Ok byte) old new = Passes old new (byte ∷ [])
 ByteWithin (Err errors.Cut) old new = PassesToEnd old new []
 ByteWithin (Err errors.Read) old new = Faults old new []
 ByteWithin (Err e) old new = ⊥
 
--- A value's text was taken; or the front of one, and the bytes are over or can't be read; or such a front and a byte after which no text
--- can follow. Want of memory comes where the bytes so far are the front of a text, or all of it.
+-- A value's text was taken; or a prefix of one, and the bytes have ended or cannot be read; or such a prefix and a byte after which no text
+-- can follow. Memory runs out where the bytes so far are a prefix of a text, or all of it.
 abbrev pub ReadsValue : {A : Type 0} → Format A → Result A StepError → Source → Source → Type 0
 ReadsValue F (Ok x) old new = (text : List ℕ) × Passes old new text × F x text
 ReadsValue F (Err errors.Cut) old new = (text : List ℕ) × PassesToEnd old new text × IsProperFront F text
@@ -139,7 +139,7 @@ ReadsValue F (Err errors.HasFailed) old new = ⊥
 abbrev pub ReadsFromInput : {A R : Type 0} → Format A → Result A StepError → (R → Reader) → Input R → Input R → Type 0
 ReadsFromInput F r seen old new = ReadsValue F r (source_of seen old) (source_of seen new)
 
--- what was read, where the value was put elsewhere
+-- what was read, if the value was put elsewhere
 abbrev pub giving : {A : Type 0} → A → Result (Unit {0}) StepError → Result A StepError
 giving x (Ok u) = Ok x
 giving x (Err e) = Err e
@@ -149,12 +149,12 @@ abbrev pub valued : {A B : Type 0} → (A → B) → Result A StepError → Resu
 valued f (Ok x) = Ok (f x)
 valued f (Err e) = Err e
 
--- what stands behind a tag
+-- the fields after a tag
 abbrev pub Behind : ℕ → Format Step
 Behind tag step bytes = (tag_of step ≡ tag) × SpellsFields step bytes
 
--- The answers of a reader of steps: as for any format, and `Ends` where the bytes are over between steps, so that `Cut` is one within a
--- step. Want of memory comes within a step or at its end: the bytes so far are the front of its text, or all of it.
+-- The answers of a reader of steps: as for any format, and `Ends` if the bytes end between steps, so that `Cut` is one within a
+-- step. Memory runs out within a step or at its end: the bytes so far are a prefix of its text, or all of it.
 abbrev pub AnswersStepRead : Result Step StepError → Source → Source → Type 0
 AnswersStepRead (Ok step) old new = (text : List ℕ) × Passes old new text × SpellsStep step text
 AnswersStepRead (Err errors.Ends) old new = PassesToEnd old new []

@@ -1,10 +1,10 @@
--- Bytes that wait for a writer.
+-- Pending bytes of a writer.
 use Rattle.std.specs.Prelude.{◌≡◌, ℕ, true, List, [], ◌++◌, Result, MatchResult}
 use Rattle.sat_base.specs.device.Device.{Writer, WriterTakes, WriterBreaks}
 use Rattle.sat_base.specs.steps.Formats.{Format}
 use Rattle.sat_base.specs.declared.device.output.Output.{Output}
 
--- a writer, and the bytes that wait for it
+-- a writer, and the pending bytes
 pub record Sink : Type 0 where
   pub writer : Writer
   pub waiting : List ℕ
@@ -17,13 +17,13 @@ empty_sink w = record { writer = w; waiting = [] }
 abbrev pub sink_of : {W P : Type 0} → (W → Writer) → (P → List ℕ) → Output W P → Sink
 sink_of seen waiting o = record { writer = seen o.writer; waiting = waiting o.pending }
 
--- A text was put behind the bytes that waited. The writer took a front of both, and the rest waits.
+-- A text was put after the pending bytes. The writer took a prefix of both, and the rest is pending.
 pub record Sent (old new : Sink) (text : List ℕ) : Type 0 where
   pub fresh : List ℕ
   pub flows : old.waiting ++ text ≡ fresh ++ new.waiting
   pub takes : WriterTakes old.writer new.writer fresh
 
--- Or one call failed, the last. The writer took a front of both, and the rest is lost.
+-- Or one call failed, the last. The writer took a prefix of both, and the rest is lost.
 pub record Broken (old new : Sink) (text : List ℕ) : Type 0 where
   pub breaks : WriterBreaks old.writer new.writer (old.waiting ++ text)
   pub none : new.waiting ≡ []
@@ -36,12 +36,12 @@ Sends text r old new = MatchResult r (λ _. Sent old new text) (λ _. Broken old
 abbrev pub Writes : {A E : Type 0} → Format A → A → List ℕ → Result (Unit {0}) E → Sink → Sink → Type 0
 Writes F x text r old new = MatchResult r (λ _. Sent old new text × F x text) (λ _. Broken old new text)
 
--- nothing waits any more, and the last call was a flush
+-- nothing is pending any more, and the last call was a flush
 pub record Emptied (old new : Sink) : Type 0 where
   pub sent : Sent old new []
   pub none : new.waiting ≡ []
   pub flushed : new.writer.flushed ≡ true
 
--- what waited was written and flushed, or one call failed
+-- the pending bytes were written and flushed, or one call failed
 abbrev pub Flushes : {E : Type 0} → Result (Unit {0}) E → Sink → Sink → Type 0
 Flushes r old new = MatchResult r (λ _. Emptied old new) (λ _. Broken old new [])

@@ -1,4 +1,4 @@
--- Values taken of the bytes that wait.
+-- Values consumed from the pending bytes.
 use Rattle.std.specs.Prelude.{◌≡◌, ◌≤◌, ℕ, List, ◌++◌, length, drop, take, Result, Ok, Err}
 use Rattle.sat_base.specs.declared.device.ahead.Ahead.{Ahead}
 use Rattle.sat_base.specs.declared.steps.error.StepError.{StepError}

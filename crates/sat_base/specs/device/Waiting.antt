@@ -1,4 +1,4 @@
--- Bytes that wait: to be written, or to be taken.
+-- Pending bytes: to be written, or to be consumed.
 use Rattle.std.specs.Prelude.{List, ℕ, ◌≡◌, ◌+◌, ◌≤◌, length, take, drop}
 use Rattle.sat_base.specs.declared.device.ahead.Ahead.{Ahead}
 use Rattle.sat_base.specs.declared.device.pending.Pending.{Pending}
@@ -15,6 +15,6 @@ waiting a = drop a.at (take a.end a.piece)
 abbrev pub HasRoomFor : {P : Type 0} → ℕ → (P → List ℕ) → (P → ℕ) → P → Type 0
 HasRoomFor count waiting size p = length (waiting p) + count ≤ size p
 
--- at most this many bytes more wait, in what is as large as it was
+-- at most this many more bytes are pending, in room of the same size
 abbrev pub Takes : {P : Type 0} → ℕ → (P → List ℕ) → (P → ℕ) → P → P → Type 0
 Takes count waiting size old new = (length (waiting new) ≤ length (waiting old) + count) × (size new ≡ size old)

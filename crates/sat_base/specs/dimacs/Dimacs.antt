@@ -14,7 +14,7 @@ pub record Dimacs : Type 0 where
   pub clauses : List (List ℕ)  -- in order, over codes of literals
   pub ending : Ending
 
--- the literals of the clause in hand, where one has begun
+-- the literals of the clause in hand, if one has begun
 abbrev pub Hand : Type 0
 Hand = Option (List ℕ)
 
@@ -24,12 +24,12 @@ pub data Turn : Type 0 where
   Ends : List ℕ → Turn
   Fails : Ending → Turn
 
--- a zero alone is the clause of no literals
+-- a single zero is the clause of no literals
 abbrev pub literals_in : Hand → List ℕ
 literals_in None = []
 literals_in (Some ls) = ls
 
--- a number that isn't 0 is a literal, unless it is past the limit
+-- a number that is not 0 is a literal, unless it is past the limit
 abbrev pub with_number : Hand → ℕ → Bool → ℕ → Turn
 with_number hand line negative value =
     if nat_lt var_limit value then Fails (Limit line) else GoesOn (Some (literals_in hand ++ coded (value - 1) (not negative) ∷ []))
@@ -52,12 +52,12 @@ behind_turn (GoesOn hand) more = more hand
 behind_turn (Ends clause) more = record { clauses = clause ∷ (more None).clauses; ending = (more None).ending }
 behind_turn (Fails ending) more = record { clauses = []; ending = ending }
 
--- what tokens say, behind what is in hand, the last line being this one
+-- what tokens say, after what is in hand, the last line being this one
 unfoldable pub clauses_of : Hand → ℕ → List (ℕ × Token) → Dimacs
 clauses_of hand last [] = record { clauses = []; ending = at_end hand last }
 clauses_of hand last (t ∷ ts) = behind_turn (turn hand t.0 t.1) (λ h. clauses_of h last ts)
 
--- what a scan says, behind what is in hand
+-- what a scan says, after what is in hand
 abbrev pub dimacs_of : Hand → Scan → Dimacs
 dimacs_of hand s = clauses_of hand s.last s.tokens
 

@@ -13,7 +13,7 @@ plus n = coded (n - 1) true
 abbrev pub minus : ℕ → ℕ
 minus n = coded (n - 1) false
 
--- the text's header says so many variables and clauses
+-- the text's header says these numbers of variables and clauses
 abbrev pub HasHeader : List ℕ → ℕ → ℕ → Type 0
 HasHeader text v c = dimacs_header text ≡ Some (v, c)
 
@@ -28,7 +28,7 @@ pub record CleanRows : Type 0 where
   pub percent : IsDimacs (codes "1 0\n%\n0\n") ((plus 1 ∷ []) ∷ []) Clean
   pub largest : IsDimacs (codes "-268435456 0") ((minus 268435456 ∷ []) ∷ []) Clean
 
--- texts with a fault, with the clauses in front of it and its line
+-- texts with a fault, with the clauses before it and its line
 pub record FaultRows : Type 0 where
   pub minus_zero : IsDimacs (codes "1 2\n-0 0\n") [] (Malformed 2)
   pub past_the_limit : IsDimacs (codes "1 0\n268435457 0\n") ((plus 1 ∷ []) ∷ []) (Limit 2)
@@ -41,7 +41,7 @@ pub record FaultRows : Type 0 where
   pub late_header : IsDimacs (codes "1 0\np cnf 1 1\n") ((plus 1 ∷ []) ∷ []) (Malformed 2)
   pub first_fault : IsDimacs (codes "268435457 x\n") [] (Limit 1)
 
--- the headers of texts, where they have one
+-- the headers of texts, if they have one
 pub record HeaderRows : Type 0 where
   pub numbers : HasHeader (codes "c x\np cnf 2 1\n1 -2 0\n") 2 1
   pub no_LF : HasHeader (codes "p cnf 07 99999999999999999999") 7 99999999999999999999

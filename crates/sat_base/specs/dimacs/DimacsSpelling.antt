@@ -25,7 +25,7 @@ SpellsClauses [] ts = ts ≡ []
 SpellsClauses (ls ∷ cs) ts = (front : List Token) × (rest : List Token) × SpellsClause ls front × SpellsClauses cs rest
     × (ts ≡ front ++ rest)
 
--- a formula is clauses, and a header may stand before them
+-- a formula is clauses, and a header may precede them
 abbrev pub SpellsFormula : List (List ℕ) → List Token → Type 0
 SpellsFormula cs ts = SpellsClauses cs ts
     ⊎ ((vars : ℕ) × (clauses : ℕ) × (rest : List Token) × (ts ≡ Header vars clauses ∷ rest) × SpellsClauses cs rest)

@@ -3,7 +3,7 @@ use Rattle.std.specs.Prelude.{ℕ, ◌+◌, List, [], ◌∷◌, ◌++◌, lengt
 use Rattle.sat_base.specs.values.Literals.{variable, is_positive}
 use Rattle.sat_base.specs.values.Formulas.{Formula}
 
--- the number of a literal: that of its variable, counted from 1, behind `-` if the literal is negative
+-- the number of a literal: that of its variable, counted from 1, after `-` if the literal is negative
 abbrev pub number_text : ℕ → List ℕ
 number_text l = (if is_positive l then [] else codes "-") ++ decimal (variable l + 1)
 

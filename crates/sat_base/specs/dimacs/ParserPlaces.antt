@@ -1,4 +1,4 @@
--- How a parser stands in a formula's text.
+-- Where a parser is in a formula's text.
 use Rattle.std.specs.Prelude.{◌≡◌, ℕ, length, List, [], ◌++◌, true, false, None, Some, Result, Ok, Err}
 use Rattle.sat_base.specs.declared.dimacs.parser.Parser.{Parser}
 use Rattle.sat_base.specs.declared.dimacs.error.DimacsError.{DimacsError}
@@ -21,7 +21,7 @@ abbrev pub with_parser : {E : Type 0} → Progress → Result (Unit {0}) E → R
 with_parser p (Ok u) = Ok p
 with_parser p (Err e) = Err e
 
--- the clauses handed over and those that wait
+-- the clauses taken and those that were not yet
 abbrev pub all_in : Parser → List (List ℕ)
 all_in p = p.history.taken ++ p.clauses.formula.clauses
 
@@ -29,7 +29,7 @@ all_in p = p.history.taken ++ p.clauses.formula.clauses
 abbrev pub onto_clauses : List (List ℕ) → Dimacs → Dimacs
 onto_clauses cs d = record { clauses = cs ++ d.clauses; ending = d.ending }
 
--- Tokens have been taken: what they and any others say is these clauses, and then what the others say behind what is in hand.
+-- Tokens have been taken: what they and any others say is these clauses, and then what the others say after what is in hand.
 pub record HaveTakenTokens (before : List (ℕ × Token)) (all : List (List ℕ)) (hand : Hand) : Type 0 where
   pub says : (last : ℕ) (ts : List (ℕ × Token)) → clauses_of None last (before ++ ts) ≡ onto_clauses all (clauses_of hand last ts)
   pub sound : (ts : List (ℕ × Token)) → NoFault hand ts → NoFault None (before ++ ts)
@@ -55,7 +55,7 @@ pub record IsParser (p : Parser) : Type 0 where
   pub header : p.clauses.header ≡ held_numbers (dimacs_header (lines_read (progress_of p)))
   pub goes : p.stopped ≡ false → IsGoingParser p
 
--- the end of the text behind its last word: within a clause it is malformed
+-- the end of the text after its last word: within a clause it is malformed
 abbrev pub EndsClean : Result (Unit {0}) DimacsError → Parser → Type 0
 EndsClean (Ok u) p = hand_in p.clauses ≡ None
 EndsClean (Err (errors.Malformed line)) p =

@@ -17,9 +17,9 @@ use Rattle.sat_base.specs.declared.dimacs.error.DimacsError.TheVariants as error
 -- what a caller knows of a parser
 pub record Progress : Type 0 where
   pub fed : List ℕ  -- the bytes that were taken
-  pub taken : List (List ℕ)  -- the clauses that were handed over
+  pub taken : List (List ℕ)  -- the clauses that were taken
   pub stopped : Bool  -- nothing more is taken
-  pub ended : Bool  -- the text is over: it was said to be, or has a fault
+  pub ended : Bool  -- the text has ended: it was finished, or has a fault
 
 -- of a new parser: no byte was taken
 abbrev pub no_progress : Progress
@@ -29,15 +29,15 @@ no_progress = record { fed = []; taken = []; stopped = false; ended = false }
 abbrev pub with_fed : List ℕ → Progress → Progress
 with_fed bytes p = record p { fed = p.fed ++ bytes }
 
--- stopped for want of memory
+-- stopped since memory ran out
 abbrev pub cut_short : Progress → Progress
 cut_short p = record p { stopped = true }
 
--- stopped since the text is over
+-- stopped since the text has ended
 abbrev pub at_its_end : Progress → Progress
 at_its_end p = record p { stopped = true; ended = true }
 
--- the bytes whose words have ended: up to the last blank, or all where the text is over
+-- the bytes whose words have ended: up to the last blank, or all if the text has ended
 abbrev pub words_read : Progress → List ℕ
 words_read p = if p.ended then p.fed else settled p.fed
 
@@ -45,7 +45,7 @@ words_read p = if p.ended then p.fed else settled p.fed
 abbrev pub clauses_read : Progress → List (List ℕ)
 clauses_read p = (dimacs (words_read p)).clauses
 
--- with all clauses read handed over
+-- with all clauses read taken
 abbrev pub all_taken : Progress → Progress
 all_taken p = record p { taken = clauses_read p }
 
@@ -59,7 +59,7 @@ abbrev pub whole_lines : List ℕ → List ℕ
 whole_lines [] = []
 whole_lines (b ∷ bs) = if has_LF (b ∷ bs) then b ∷ whole_lines bs else []
 
--- the bytes whose lines have ended, or all where the text is over
+-- the bytes whose lines have ended, or all if the text has ended
 abbrev pub lines_read : Progress → List ℕ
 lines_read p = if p.ended then p.fed else whole_lines p.fed
 
@@ -78,7 +78,7 @@ unless_fault (GoesOn hand) more = more hand
 unless_fault (Ends clause) more = more None
 unless_fault (Fails ending) more = ⊥
 
--- no token is at fault, behind what is in hand
+-- no token is at fault, after what is in hand
 abbrev pub NoFault : Hand → List (ℕ × Token) → Type 0
 NoFault hand [] = Unit {0}
 NoFault hand (t ∷ ts) = unless_fault (turn hand t.0 t.1) (λ h. NoFault h ts)
@@ -97,7 +97,7 @@ abbrev pub GaveSound : Reader → Reader → Type 0
 GaveSound old new = (text : List ℕ) × GaveFront old new text × IsSoundText text
     × (old.calls < new.calls → new.ended ≡ true → (dimacs text).ending ≡ Clean)
 
--- a front of the piece was taken, up to and with a fault
+-- a prefix of the piece was taken, up to and with a fault
 pub record EndsAtFault (ending : Ending) (piece : List ℕ) (old new : Progress) : Type 0 where
   pub front : List ℕ
   pub behind : List ℕ
@@ -105,7 +105,7 @@ pub record EndsAtFault (ending : Ending) (piece : List ℕ) (old new : Progress)
   pub progress : new ≡ at_its_end (with_fed front old)
   pub ends : EndsAt ending new
 
--- the last byte of a text, LF where there is none
+-- the last byte of a text, LF if there is none
 abbrev pub last_byte : List ℕ → ℕ
 last_byte text = get_or text (length text - 1) 10
 
@@ -117,7 +117,7 @@ pub record EndsNumber (text whole : List ℕ) : Type 0 where
   pub value : ℕ
   pub number : tokens whole ≡ before ++ ((scan whole).last, Number negative value) ∷ []
 
--- behind this text the byte is a blank that ends a number, and up to there no word is at fault
+-- after this text the byte is a blank that ends a number, and up to there no word is at fault
 pub record GoesWell (text : List ℕ) (byte : ℕ) : Type 0 where
   pub blank : is_blank byte ≡ true
   pub number : EndsNumber text (text ++ byte ∷ [])
@@ -129,7 +129,7 @@ pub record EndsWell (text : List ℕ) : Type 0 where
   pub clean : (dimacs text).ending ≡ Clean
   pub goes_on : HasEnded text → ⊥
 
--- a front of the piece was taken, and there was no memory at the next byte
+-- a prefix of the piece was taken, and there was no memory at the next byte
 pub record FallsShort (piece : List ℕ) (old new : Progress) : Type 0 where
   pub front : List ℕ
   pub byte : ℕ
@@ -209,7 +209,7 @@ KeepsText calls f = (ps : List (MutBor Progress)) → KeepsEach calls f ps
 abbrev pub HasReadCleanly : Progress → List ℕ → Type 0
 HasReadCleanly p text = (p.fed ≡ text) × (p.stopped ≡ true) × (p.ended ≡ true) × ((dimacs text).ending ≡ Clean)
 
--- A text is all that is looked at, whatever would follow: it ends where its reader does, or at a line that ends formulas.
+-- A text is all that is looked at, whatever follows: it ends where its reader does, or at a line that ends formulas.
 abbrev pub IsWholeText : Reader → Reader → List ℕ → Type 0
 IsWholeText old new text = (rest : List ℕ) → CanFollow old new rest
     → (dimacs (text ++ rest) ≡ dimacs text) × (dimacs_header (text ++ rest) ≡ dimacs_header text)
@@ -234,7 +234,7 @@ abbrev pub AnswersLastPiece : Result (Unit {0}) DimacsError → List ℕ → Rea
 AnswersLastPiece answer piece reader old new =
     ((0 < length piece) × FeedsPiece answer piece old new) ⊎ ((piece ≡ []) × IsWholeText reader.0 reader.1 old.fed × Finishes answer old new)
 
--- what comes behind the pieces that were taken and seen: the closure has the parser once more, unless a read has failed
+-- what comes after the pieces that were taken and seen: the closure has the parser once more, unless a read has failed
 abbrev pub LastVisit : {F E : Type 0} → Calls F E → List ℕ → Reader × Reader → Result Progress (IncrementalError E) → F × Progress
     → Type 0
 LastVisit {F} calls piece reader (Ok p) s = (piece ≡ []) × IsWholeText reader.0 reader.1 s.1.fed × (mid : Progress) × (f : F)

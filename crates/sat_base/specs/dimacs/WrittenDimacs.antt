@@ -7,7 +7,7 @@ use Rattle.sat_base.specs.dimacs.Dimacs.{IsDimacs, Clean}
 use Rattle.sat_base.specs.dimacs.DimacsText.{dimacs_text}
 
 -- The text of a formula has its clauses, ends cleanly, and has a header with its two counts; if its variables are within the limit,
--- and its clauses are no more than a count can tell.
+-- and its clauses are no more than a count can hold.
 abbrev pub WrittenIsRead : Type 0
 WrittenIsRead = (f : Formula) → vars_of f.clauses ≤ var_limit → f.var_count ≤ var_limit → length f.clauses < 2 ^ 64
     → IsDimacs (dimacs_text f) f.clauses Clean × (dimacs_header (dimacs_text f) ≡ Some (f.var_count, length f.clauses))

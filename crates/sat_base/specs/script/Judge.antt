@@ -1,4 +1,4 @@
--- What a script's commands leave: names, their variables, modes and clauses. No result of a search stands in it.
+-- What a script's commands leave: names, their variables, modes and clauses. It has no result of a search.
 use Rattle.std.specs.Prelude.{ℕ, zero, suc, ◌+◌, ◌-◌, ◌==◌, ◌≡◌, max, Bool, true, false, not, Option, Some, None, List, [], ◌∷◌, ◌++◌, map, set, get_or, nat_lt, is_some, if◌then◌else◌}
 use Rattle.std.specs.List.{filter, AllByRecursion}
 use Rattle.sat_base.specs.values.Literals.{coded, var_limit}
@@ -34,7 +34,7 @@ abbrev pub identity_in : List Named → ℕ → Option ℕ
 identity_in [] name = None
 identity_in (n ∷ ns) name = if n.name == name then Some n.identity else identity_in ns name
 
--- the identity of the variable that has this name now, none for a name that isn't in use
+-- the identity of the variable that has this name now, none for a name that is not in use
 abbrev pub identity_of : Judge → ℕ → Option ℕ
 identity_of j name = identity_in j.in_use name
 

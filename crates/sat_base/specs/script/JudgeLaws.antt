@@ -37,7 +37,7 @@ GivenIdentitiesSuffice =
     (EachHolds a j.clauses ↔ EachHolds (only_below j.identity_count a) j.clauses)
     × ((l : Literal) (i : ℕ) → identity_of j l.name ≡ Some i → literal_true (only_below j.identity_count a) (over j l) ≡ literal_true a (over j l))
 
--- each number is below those behind it
+-- each number is below those after it
 abbrev pub Increase : List ℕ → Type 0
 Increase [] = Unit {0}
 Increase (x ∷ xs) = AllByRecursion (λ y. x < y) xs × Increase xs

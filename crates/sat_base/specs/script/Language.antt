@@ -30,12 +30,12 @@ pub data CommandTurn : Type 0 where
   Ends : Command → CommandTurn
   Fails : CommandTurn
 
--- the command that a zero ends; a zero alone is the clause of no literals
+-- the command that a zero ends; a single zero is the clause of no literals
 abbrev pub command_in : CommandHand → Command
 command_in Nothing = Clause []
 command_in (Within kind ls) = command_of kind ls
 
--- a literal of this sign may stand there: a name has no minus sign
+-- a literal of this sign is allowed there: a name has no minus sign
 abbrev pub may_stand : Kind → Bool → Bool
 may_stand OfClause positive = true
 may_stand OfAsk positive = true
@@ -43,7 +43,7 @@ may_stand OfHide positive = positive
 may_stand OfWitness positive = positive
 may_stand OfSample positive = positive
 
--- a literal begins a clause or stands in a command
+-- a literal begins a clause or is in a command
 abbrev pub turn_with_literal : CommandHand → Literal → CommandTurn
 turn_with_literal Nothing l = GoesOn (Within OfClause (l ∷ []))
 turn_with_literal (Within kind ls) l = if may_stand kind l.positive then GoesOn (Within kind (ls ++ l ∷ [])) else Fails
@@ -93,7 +93,7 @@ behind_turn (GoesOn hand) more = more hand
 behind_turn (Ends command) more = onto_commands (command ∷ []) (more Nothing)
 behind_turn Fails more = ([], Malformed)
 
--- the commands that the tokens spell, behind what is in hand
+-- the commands that the tokens spell, after what is in hand
 unfoldable pub commands_of : CommandHand → List Token → Reading
 commands_of hand [] = ([], at_end hand)
 commands_of hand (t ∷ ts) = behind_turn (command_turn hand t) (λ h. commands_of h ts)
@@ -102,7 +102,7 @@ commands_of hand (t ∷ ts) = behind_turn (command_turn hand t) (λ h. commands_
 abbrev pub spoken : List (ℕ × Token) → List Token
 spoken ts = map (λ t. t.1) ts
 
--- the commands that stand in a text, which are counted, and its end
+-- the commands of a text, which are counted, and its end
 unfoldable pub written : List ℕ → Reading
 written text = commands_of Nothing (spoken (tokens text))
 
@@ -110,7 +110,7 @@ written text = commands_of Nothing (spoken (tokens text))
 abbrev pub with_ask : Bool → Reading → Reading
 with_ask due r = if due && (is_clean r.1 && not (has_ask r.0)) then (r.0 ++ Ask [] ∷ [], Clean) else r
 
--- what a text means: its commands, and behind a header that ask
+-- what a text means: its commands, and after a header that ask
 unfoldable pub reading : List ℕ → Reading
 reading text = with_ask (is_some (dimacs_header text)) (written text)
 

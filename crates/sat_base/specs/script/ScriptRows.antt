@@ -40,7 +40,7 @@ pub record ReadRows : Type 0 where
   pub hidden_past_the_limit : IsScript (codes "h 99999999999999999999 0") (Hide (99999999999999999999 ∷ []) ∷ []) Clean
   pub header_asks : IsScript (codes "p cnf 2 1\nw 1 0\n%\n0\n") (Witness (1 ∷ []) ∷ Ask [] ∷ []) Clean
 
--- malformed texts, with the commands in front of the fault
+-- malformed texts, with the commands before the fault
 pub record MalformedRows : Type 0 where
   pub comment_behind_word : IsScript (codes "c x\n1 c\n") [] Malformed
   pub minus_zero : IsScript (codes "-0 0") [] Malformed

@@ -44,7 +44,7 @@ SpellsCommands [] ts = ts ≡ []
 SpellsCommands (c ∷ cs) ts = (front : List Token) × (rest : List Token) × SpellsCommand c front × SpellsCommands cs rest
     × (ts ≡ front ++ rest)
 
--- something stands there, and no command
+-- there is something, and no command
 pub record BeginsNone (ts : List Token) : Type 0 where
   pub some : ts ≡ [] → ⊥
   pub none : (c : Command) (front rest : List Token) → SpellsCommand c front → ts ≡ front ++ rest → ⊥
@@ -59,7 +59,7 @@ abbrev pub asked : List Command → ScriptEnding → List Command
 asked cs Clean = if has_ask cs then cs else cs ++ Ask [] ∷ []
 asked cs Malformed = cs
 
--- A script is commands and an end. A header may stand before them, and is asked then where they don't ask.
+-- A script is commands and an end. A header may precede them, and is asked then where they do not ask.
 abbrev pub SpellsScript : List Command → ScriptEnding → List Token → Type 0
 SpellsScript cs end ts = (((vars : ℕ) (clauses : ℕ) (rest : List Token) → ts ≡ Header vars clauses ∷ rest → ⊥) × SpellsTo cs end ts)
     ⊎ ((vars : ℕ) × (clauses : ℕ) × (rest : List Token) × (spelled : List Command)

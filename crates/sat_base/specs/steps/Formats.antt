@@ -35,11 +35,11 @@ abbrev pub Items : {A : Type 0} → Format A → Format (List A)
 Items {A} F [] bytes = bytes ≡ []
 Items {A} F (x ∷ xs) bytes = (a : List ℕ) × (b : List ℕ) × F x a × Items F xs b × (bytes ≡ a ++ b)
 
--- so many items, one after another, without a count
+-- this number of items, one after another, without a count
 abbrev pub Times : {A : Type 0} → Format A → ℕ → Format (List A)
 Times {A} F n xs bytes = (length xs ≡ n) × Items F xs bytes
 
--- a count, and then so many items
+-- a count, and then this number of items
 abbrev pub ListOf : {A : Type 0} → Format ℕ → Format A → Format (List A)
 ListOf {A} C F xs bytes = (a : List ℕ) × (b : List ℕ) × C (length xs) a × Items F xs b × (bytes ≡ a ++ b)
 

@@ -77,7 +77,7 @@ a_derived = both a_flag both_lists
 abbrev pub a_deleted : Spelling (List ℕ × Deletion)
 a_deleted = both literals a_deletion
 
--- what stands behind a step's tag
+-- the fields after a step's tag
 abbrev pub fields : Spelling Step
 fields = record { format = SpellsFields; bytes = fields_bytes }
 
@@ -90,6 +90,6 @@ abbrev pub SendsSpelling : {A E W P : Type 0} → Spelling A → A → Result (U
     → Output W P → Output W P → Type 0
 SendsSpelling s x r seen waiting old new = Writes s.format x (s.bytes x) r (sink_of seen waiting old) (sink_of seen waiting new)
 
--- a value's spelling waits behind what waited
+-- a value's spelling is pending after the bytes that were
 abbrev pub Pushes : {A W P : Type 0} → Spelling A → A → (W → Writer) → (P → List ℕ) → Output W P → Output W P → Type 0
 Pushes s x seen waiting old new = Sent (sink_of seen waiting old) (sink_of seen waiting new) (s.bytes x) × s.format x (s.bytes x)

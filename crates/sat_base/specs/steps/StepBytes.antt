@@ -3,7 +3,7 @@ use Rattle.std.specs.Prelude.{ℕ, suc, zero, ◌+◌, ◌/◌, ◌%◌, Bool, t
 use Rattle.sat_base.specs.steps.Steps.{Deletion, Redundant, Simplified, Satisfied, Step, SolverVarName, UserVarName, DeleteVar, ChangeSamplingMode, AddClause, AtClause, UnitClauses, DeleteClause, ChangeHashBits, Model, Assumptions, FailedAssumptions, End}
 use Rattle.sat_base.specs.steps.StepText.{tag_of}
 
--- a number in groups of seven bits, low group first, of which at most so many go on
+-- a number in groups of seven bits, low group first, of which at most this number go on
 unfoldable pub groups : ℕ → ℕ → List ℕ
 groups zero n = n ∷ []
 groups (suc k) n = if nat_lt n 128 then n ∷ [] else (n % 128 + 128) ∷ groups k (n / 128)
@@ -38,15 +38,15 @@ abbrev pub pairs_bytes : List (ℕ × ℕ) → List ℕ
 pairs_bytes [] = []
 pairs_bytes (p ∷ ps) = (number_bytes p.0 ++ number_bytes p.1) ++ pairs_bytes ps
 
--- a count, and then so many
+-- a count, and then this number of
 abbrev pub list_bytes : List ℕ → List ℕ
 list_bytes ns = number_bytes (length ns) ++ numbers_bytes ns
 
--- a count, and then so many literals, each with a hash
+-- a count, and then this number of literals, each with a hash
 abbrev pub units_bytes : List (ℕ × ℕ) → List ℕ
 units_bytes ps = number_bytes (length ps) ++ pairs_bytes ps
 
--- what stands behind the tag
+-- the fields after the tag
 abbrev pub fields_bytes : Step → List ℕ
 fields_bytes (SolverVarName global solver) = number_bytes global ++ optional_bytes solver
 fields_bytes (UserVarName global user) = number_bytes global ++ optional_bytes user
@@ -62,7 +62,7 @@ fields_bytes (Assumptions assumptions) = list_bytes assumptions
 fields_bytes (FailedAssumptions core hashes) = list_bytes core ++ list_bytes hashes
 fields_bytes End = []
 
--- a step's tag, and what stands behind it
+-- a step's tag, and the fields after it
 abbrev pub step_bytes : Step → List ℕ
 step_bytes step = tag_of step ∷ fields_bytes step
 

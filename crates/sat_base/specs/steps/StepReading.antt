@@ -63,7 +63,7 @@ AnswersUnlessFailed (Err errors.Read) old new = AnswersStepRead (Err errors.Read
 AnswersUnlessFailed (Err errors.OutOfMemory) old new = AnswersStepRead (Err errors.OutOfMemory) old new
 AnswersUnlessFailed (Err errors.HasFailed) old new = new ≡ old
 
--- A call of `advance`. `HasFailed` comes exactly where an earlier answer stopped it.
+-- A call of `advance`. `HasFailed` comes exactly if an earlier answer stopped it.
 pub record Next {R : Type 0} (seen : R → Reader) (old new : StepReader R Buffers) (result : Result Step StepError) : Type 0 where
   pub same : reader_name new ≡ reader_name old
   pub answer : AnswersUnlessFailed result (reader_source seen old) (reader_source seen new)

@@ -49,7 +49,7 @@ AreHashes = ListOf (IsBelow (2 ^ 64)) IsHash
 abbrev pub AreHashedLiterals : Format (List (ℕ × ℕ))
 AreHashedLiterals = ListOf (IsBelow (2 ^ 64)) (Both IsLiteral IsHash)
 
--- the byte with which a step begins, which tells its kind
+-- the byte with which a step begins, which shows its kind
 abbrev pub tag_of : Step → ℕ
 tag_of (SolverVarName global solver) = 1
 tag_of (UserVarName global user) = 2
@@ -65,7 +65,7 @@ tag_of (Assumptions assumptions) = 11
 tag_of (FailedAssumptions core hashes) = 12
 tag_of End = 13
 
--- the bytes behind the tag
+-- the bytes after the tag
 abbrev pub SpellsFields : Format Step
 SpellsFields (SolverVarName global solver) bytes = Both IsVariable IsOptionalVariable (global, solver) bytes
 SpellsFields (UserVarName global user) bytes = Both IsVariable IsOptionalVariable (global, user) bytes

@@ -11,7 +11,7 @@ deletion_of proofs.Redundant = Redundant
 deletion_of proofs.Simplified = Simplified
 deletion_of proofs.Satisfied = Satisfied
 
--- the step without where it lies in memory
+-- the step without its place in memory
 abbrev pub step_of : ProofStep → Step
 step_of (code.SolverVarName global solver) = SolverVarName global solver
 step_of (code.UserVarName global user) = UserVarName global user

@@ -2,12 +2,12 @@
 use Rattle.std.specs.Prelude.{◌≡◌, ℕ, ◌+◌, List, [], ◌∷◌, ◌++◌, Bool, false, Option, None, Some, if◌then◌else◌, codes}
 use Rattle.sat_base.specs.text.Text.{is_blank, lines, words, on_line, last_line, digits, same_bytes, Token, Header, Wrong, token, tokens_of, Scan}
 
--- the first of these lines, empty where there is none
+-- the first of these lines, empty if there is none
 abbrev pub first_line : List (List ℕ) → List ℕ
 first_line [] = []
 first_line (l ∷ ls) = l
 
--- the lines behind the first
+-- the lines after the first
 abbrev pub later_lines : List (List ℕ) → List (List ℕ)
 later_lines [] = []
 later_lines (l ∷ ls) = ls
@@ -25,7 +25,7 @@ abbrev pub with_value : (ℕ → Stage) → Option ℕ → Option Stage
 with_value stage None = None
 with_value stage (Some n) = Some (stage n)
 
--- the stage behind one word more, if that may stand there
+-- the stage after one word more, if that is allowed there
 abbrev pub stage_behind : Stage → List ℕ → Option Stage
 stage_behind Begun w = if same_bytes w (codes "p") then Some Named else None
 stage_behind Named w = if same_bytes w (codes "cnf") then Some Format else None
@@ -38,7 +38,7 @@ abbrev pub stage_end : Stage → Token
 stage_end (Both v c) = Header v c
 stage_end stage = Wrong
 
--- a word that may not stand there spoils the line
+-- a word that is not allowed there spoils the line
 abbrev pub behind_word : Option Stage → (Stage → Token) → Token
 behind_word None more = Wrong
 behind_word (Some stage) more = more stage
@@ -48,8 +48,8 @@ unfoldable pub stage_token : Stage → List (List ℕ) → Token
 stage_token stage [] = stage_end stage
 stage_token stage (w ∷ ws) = behind_word (stage_behind stage w) (λ s. stage_token s ws)
 
--- At the start of a line, behind blanks at its start, or in a comment, where a header may still come or not; between words, or in
--- a word of these bytes; between words of a header line, in such a word, or in one that may not stand there; behind `%`.
+-- At the start of a line, after blanks at its start, or in a comment, where a header may still come or not; between words, or in
+-- a word of these bytes; between words of a header line, in such a word, or in one that is not allowed there; after `%`.
 pub data Spot : Type 0 where
   Fresh : Bool → Spot
   Leading : Bool → Spot
@@ -72,7 +72,7 @@ IsSpot (Within x w) = Solid (x ∷ w)
 IsSpot (HeaderWithin stage x w) = Solid (x ∷ w)
 IsSpot spot = Unit {0}
 
--- the tokens that are still to come, from a spot behind n ended lines
+-- the tokens that are still to come, from a spot after n ended lines
 abbrev pub tokens_left : Spot → ℕ → List (List ℕ) → List (ℕ × Token)
 tokens_left (Fresh may) n ls = tokens_of may n ls
 tokens_left (Leading may) n ls = tokens_of may n (first_line ls ∷ later_lines ls)
@@ -85,7 +85,7 @@ tokens_left (HeaderWithin stage x w) n ls =
 tokens_left Spoilt n ls = (n + 1, Wrong) ∷ tokens_of false (n + 1) (later_lines ls)
 tokens_left Over n ls = []
 
--- the last line, from a spot behind n ended lines
+-- the last line, from a spot after n ended lines
 abbrev pub last_left : Spot → ℕ → List (List ℕ) → ℕ
 last_left (Fresh may) n ls = last_line n ls
 last_left (Leading may) n ls = last_line n (first_line ls ∷ later_lines ls)
@@ -96,7 +96,7 @@ last_left spot n ls = last_line (n + 1) (later_lines ls)
 unfoldable pub left : Spot → ℕ → List ℕ → Scan
 left spot n bytes = record { tokens = tokens_left spot n (lines bytes); last = last_left spot n (lines bytes) }
 
--- the word or header line in hand, where the line ends
+-- the word or header line in hand, when the line ends
 abbrev pub in_hand : Spot → ℕ → List (ℕ × Token)
 in_hand (Within x w) n = (n + 1, token (x ∷ w)) ∷ []
 in_hand (HeaderBetween stage) n = (n + 1, stage_end stage) ∷ []
@@ -111,22 +111,22 @@ may_behind (Leading may) = may
 may_behind (Comment may) = may
 may_behind spot = false
 
--- the spot behind LF; nothing goes on behind `%`
+-- the spot after LF; nothing goes on after `%`
 abbrev pub behind_LF : Spot → Spot
 behind_LF Over = Over
 behind_LF spot = Fresh (may_behind spot)
 
--- how many lines have ended behind LF, where n had ended before it; behind `%` LF ends none
+-- how many lines have ended after LF, where n had ended before it; after `%` LF ends none
 abbrev pub lines_behind : Spot → ℕ → ℕ
 lines_behind Over n = n
 lines_behind spot n = n + 1
 
--- behind a word of a header line that a blank ends
+-- after a word of a header line that a blank ends
 abbrev pub behind_header_word : Option Stage → Spot
 behind_header_word None = Comment false
 behind_header_word (Some stage) = HeaderBetween stage
 
--- the spot behind a blank that ends no line
+-- the spot after a blank that ends no line
 abbrev pub behind_blank : Spot → Spot
 behind_blank (Fresh may) = Leading may
 behind_blank (Leading may) = Leading may
@@ -138,7 +138,7 @@ behind_blank (HeaderWithin stage x w) = behind_header_word (stage_behind stage (
 behind_blank Spoilt = Comment false
 behind_blank Over = Over
 
--- a word of a header line that may not stand there
+-- a word of a header line that is not allowed there
 abbrev pub spoils : Option Stage → ℕ → List (ℕ × Token)
 spoils None n = (n + 1, Wrong) ∷ []
 spoils (Some stage) n = []

@@ -1,4 +1,4 @@
--- How a tokenizer stands in a text, and what a byte makes of it.
+-- Where a tokenizer is in a text, and what a byte makes of it.
 use Rattle.std.specs.Prelude.{◌≡◌, ℕ, ◌+◌, ◌*◌, ◌-◌, ◌^◌, ◌⊎◌, min, List, [], ◌∷◌, ◌++◌, Bool, true, false, Option, Some, None}
 use Rattle.sat_base.specs.declared.text.Place.{Place}
 use Rattle.sat_base.specs.declared.text.Place.TheVariants as at
@@ -23,7 +23,7 @@ held_token (Letter b) = code.Letter b
 held_token (Header v c) = code.Header (held v) (held c)
 held_token Wrong = code.Wrong
 
--- the value with the digit of this byte behind it, held
+-- the value with the digit of this byte after it, held
 abbrev pub grown : ℕ → ℕ → ℕ
 grown value digit = held (10 * value + (digit - 48))
 
@@ -35,7 +35,7 @@ SpellsHeld ds value = (m : ℕ) × (digits 0 ds ≡ Some m) × (value ≡ held m
 abbrev pub BeginsWrong : List ℕ → Type 0
 BeginsWrong w = (more : List ℕ) → token (w ++ more) ≡ Wrong
 
--- a word that begins so may not stand there in a header line
+-- a word that begins so is not allowed there in a header line
 abbrev pub BeginsSpoilt : Stage → List ℕ → Type 0
 BeginsSpoilt s w = (more : List ℕ) → stage_behind s (w ++ more) ≡ None
 
@@ -46,7 +46,7 @@ IsStage stage.Format s = s ≡ Format
 IsStage (stage.Vars vars) s = (v : ℕ) × (vars ≡ held v) × (s ≡ Vars v)
 IsStage (stage.Both vars clauses) s = (v : ℕ) × (c : ℕ) × (vars ≡ held v) × (clauses ≡ held c) × (s ≡ Both v c)
 
--- the spots that a place in a header line stands for
+-- the spots that a place in a header line can be
 abbrev pub IsAtHeader : HeaderPlace → Spot → Type 0
 IsAtHeader (header.Between ended) spot = (s : Stage) × IsStage ended s × (spot ≡ HeaderBetween s)
 IsAtHeader header.P spot = spot ≡ HeaderWithin Begun 112 []
@@ -59,7 +59,7 @@ IsAtHeader (header.Clauses vars value) spot =
     (v : ℕ) × (x : ℕ) × (w : List ℕ) × (vars ≡ held v)
     × Solid (x ∷ w) × SpellsHeld (x ∷ w) value × (spot ≡ HeaderWithin (Vars v) x w)
 
--- the spots that a place stands for, with the bytes of the word in hand and the numbers of the header, of any size
+-- the spots that a place can be, with the bytes of the word in hand and the numbers of the header, of any size
 abbrev pub IsAt : Place → Spot → Type 0
 IsAt (at.Fresh may) spot = spot ≡ Fresh may
 IsAt (at.Leading may) spot = spot ≡ Leading may
@@ -96,26 +96,26 @@ BeginsWord (at.Leading may) = Unit {0}
 BeginsWord at.Between = Unit {0}
 BeginsWord place = ⊥
 
--- so in a header line, unless the word in hand may then not stand there
+-- so in a header line, unless the word in hand is then not allowed there
 abbrev pub MovesHeader : HeaderPlace → ℕ → Option HeaderPlace → Type 0
 MovesHeader old byte None = (spot : Spot) → IsAtHeader old spot → MovesSpot spot byte Spoilt
 MovesHeader old byte (Some new) = (spot : Spot) → IsAtHeader old spot → (next : Spot) × IsAtHeader new next × MovesSpot spot byte next
 
--- a place in a word of this byte alone
+-- a place in a word of only this byte
 abbrev pub Began : ℕ → Place → Type 0
 Began byte place = IsAt place (Within byte [])
 
--- so in a header line behind the words of a stage
+-- so in a header line after the words of a stage
 abbrev pub BeganHeader : CodeStage → ℕ → Option HeaderPlace → Type 0
 BeganHeader ended byte None = (s : Stage) → IsStage ended s → BeginsSpoilt s (byte ∷ [])
 BeganHeader ended byte (Some place) = (s : Stage) → IsStage ended s → IsAtHeader place (HeaderWithin s byte [])
 
--- what is in hand where the line ends, or where a blank ends the word
+-- what is in hand when the line ends, or where a blank ends the word
 abbrev pub IsHeldToken : Option CodeToken → (ℕ → List (ℕ × Token)) → Type 0
 IsHeldToken None tokens = (n : ℕ) → tokens n ≡ []
 IsHeldToken (Some t) tokens = (given : Token) × (t ≡ held_token given) × ((n : ℕ) → tokens n ≡ (n + 1, given) ∷ [])
 
--- where the line ends at this place, the token in hand is this one, or there is none
+-- when the line ends at this place, the token in hand is this one, or there is none
 abbrev pub SaysInHand : Option CodeToken → Place → Type 0
 SaysInHand given place = (spot : Spot) → IsAt place spot → IsHeldToken given (in_hand spot)
 
@@ -134,7 +134,7 @@ abbrev pub IsStageIf : Option CodeStage → Option Stage → Type 0
 IsStageIf None given = given ≡ None
 IsStageIf (Some ended) given = (s : Stage) × IsStage ended s × (given ≡ Some s)
 
--- the place behind a blank that ends no line
+-- the place after a blank that ends no line
 abbrev pub LeadsBehind : Place → Place → Type 0
 LeadsBehind old new = (spot : Spot) → IsAt old spot → IsAt new (behind_blank spot)
 
@@ -154,11 +154,11 @@ may_come (at.Leading may) = may
 may_come (at.Comment may) = may
 may_come place = false
 
--- the place behind LF
+-- the place after LF
 abbrev pub LeadsBelow : Place → Place → Type 0
 LeadsBelow old new = (spot : Spot) → IsAt old spot → IsAt new (behind_LF spot)
 
--- the machine stands at a place of a text: `left_of` says what is still to be read, whatever bytes come
+-- the machine is at a place of a text: `left_of` says what is still to be read, whatever bytes come
 unfoldable pub StandsBefore : Tokenizer → (List ℕ → Scan) → Type 0
 StandsBefore machine left_of = (spot : Spot) × (n : ℕ) × IsAt machine.place spot × (machine.lines ≡ held n)
     × ((rest : List ℕ) → left_of rest ≡ left spot n rest)
@@ -169,7 +169,7 @@ GivesToken None byte old new = (rest : List ℕ) → old (byte ∷ rest) ≡ new
 GivesToken (Some t) byte old new = (given : Token) × (t ≡ held_token given)
     × ((rest : List ℕ) → old (byte ∷ rest) ≡ onto (((new []).last, given) ∷ []) (new rest))
 
--- what is still to be read behind this byte is what the machine then stands before, behind the token that the byte gives
+-- what is still to be read after this byte is what is before the machine then, after the token that the byte gives
 abbrev pub TakesByte : Tokenizer → ℕ → Option CodeToken → Tokenizer → Type 0
 TakesByte old byte given new = (before : List ℕ → Scan) → StandsBefore old before
     → (after : List ℕ → Scan) × StandsBefore new after × GivesToken given byte before after
@@ -180,7 +180,7 @@ GivesBehind None bytes old new = (rest : List ℕ) → old (bytes ++ rest) ≡ n
 GivesBehind (Some t) bytes old new = (given : Token) × (t ≡ held_token given)
     × ((rest : List ℕ) → old (bytes ++ rest) ≡ onto (((new []).last, given) ∷ []) (new rest))
 
--- what is still to be read behind these bytes is what the machine then stands before, as with one byte
+-- what is still to be read after these bytes is what is before the machine then, as with one byte
 abbrev pub TakesFront : Tokenizer → List ℕ → Option CodeToken → Tokenizer → Type 0
 TakesFront old bytes given new = (before : List ℕ → Scan) → StandsBefore old before
     → (after : List ℕ → Scan) × StandsBefore new after × GivesBehind given bytes before after
@@ -196,7 +196,7 @@ IsOfHeader Wrong = Unit {0}
 abbrev pub HoldsNoWord : Scan → Type 0
 HoldsNoWord s = (s.tokens ≡ []) ⊎ ((line : ℕ) × (t : Token) × IsOfHeader t × (s.tokens ≡ (line, t) ∷ []))
 
--- what is left where the text ends: the token in hand, on the last line, or none
+-- what is left when the text ends: the token in hand, on the last line, or none
 abbrev pub GivesLast : Option CodeToken → Scan → Type 0
 GivesLast None rest = rest.tokens ≡ []
 GivesLast (Some t) rest = (given : Token) × (t ≡ held_token given) × (rest.tokens ≡ (rest.last, given) ∷ [])

@@ -1,4 +1,4 @@
--- Where a text can't go on without a wrong word.
+-- Where a text cannot go on without a wrong word.
 use Rattle.std.specs.Prelude.{◌≡◌, ℕ, List, [], ◌∷◌}
 use Rattle.std.specs.List.{AllByRecursion}
 use Rattle.sat_base.specs.text.Text.{Token, Wrong, Scan}

@@ -1,4 +1,4 @@
--- Lists in one piece of memory: their items one after another, and where each list ends.
+-- Lists in one piece of memory: their items one after another, and the end of every list.
 use Rattle.std.specs.Prelude.{ℕ, ◌≡◌, ◌≤◌, List, [], ◌∷◌, length, slice_range}
 
 -- the pieces that end at these places, the first of which begins here

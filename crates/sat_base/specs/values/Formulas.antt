@@ -25,7 +25,7 @@ vars_of (c ∷ cs) = max (vars_in c) (vars_of cs)
 abbrev pub with_clause : List ℕ → Formula → Formula
 with_clause clause f = record { var_count = max f.var_count (vars_in clause); clauses = f.clauses ++ clause ∷ [] }
 
--- with at least so many variables
+-- with at least this number of variables
 abbrev pub with_count : ℕ → Formula → Formula
 with_count count f = record f { var_count = max f.var_count count }
 

@@ -11,7 +11,7 @@ use std::io;
 use std::io::{Read, Write};
 
 /// Any reader or writer, with a count of its calls and of those that failed, and with the bytes read and written, which
-/// contracts alone see.
+/// only contracts see.
 #[derive(Drop)]
 pub struct Counted<D> {
     device: D,
@@ -19,6 +19,7 @@ pub struct Counted<D> {
 }
 
 impl<D> Counted<D> {
+    /// Returns a device that was not called yet.
     pub fn new(device: D) -> Counted<D>
         ensures device { device_of result ≡ device }
         ensures reader { (remaining : D → Option (List ℕ))
@@ -31,6 +32,7 @@ impl<D> Counted<D> {
         }
     }
 
+    /// Returns the device.
     pub fn into_inner(self) -> D
         ensures { result ≡ device_of self }
     {

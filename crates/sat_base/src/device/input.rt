@@ -1,18 +1,18 @@
-//! Bytes from a reader, read ahead of need.
+//! Bytes from a reader, which are read before they are needed.
 ghost use Rattle.std.specs.Prelude.{◌≡◌, ◌≤◌};
 ghost use Rattle.sat_base.specs.device.Reading.{source_of, NextByte, ByteWithin};
 
 use crate::device::ahead::Ahead;
 use crate::{CountedRead, StepError};
 
-/// A reader, which is asked for at most 4,096 bytes at a time, and the last piece that it gave; both are lent.
+/// A reader, which is asked for at most 4,096 bytes at a time, and the last chunk that it gave. Both are borrowed.
 pub(crate) struct Input<'r, R> {
     pub(crate) reader: &'r mut R,
     pub(crate) ahead: &'r mut Ahead,
 }
 
 impl<R> Drop for Input<'_, R> {
-    /// Both are left as the last read left them.
+    /// Leaves both as the last read left them.
     fn drop(self)
         ensures reader { self.exit.0.now ≡ self.entry.reader.now }
         ensures ahead { self.exit.1.0.now ≡ self.entry.ahead.now }
@@ -24,8 +24,10 @@ impl<R> Drop for Input<'_, R> {
     }
 }
 
-// Each byte goes through `next_byte` and `byte_within`, and nothing is inlined through a `Result` unasked.
+// Every byte passes `next_byte` and `byte_within`, and no call that returns a `Result` is inlined without the
+// attribute.
 impl<'r, R: CountedRead> Input<'r, R> {
+    /// Borrows a reader, and what was read of it ahead.
     pub(crate) fn new(reader: &'r mut R, ahead: &'r mut Ahead) -> Input<'r, R>
         ensures reader { result.reader.ghost_name ≡ reader.entry.ghost_name }
         ensures ahead { result.ahead.ghost_name ≡ ahead.entry.ghost_name }
@@ -35,6 +37,7 @@ impl<'r, R: CountedRead> Input<'r, R> {
         Input { reader, ahead }
     }
 
+    /// Consumes the next byte. Returns `None` at the end of the text.
     #[inline(always)]
     pub(crate) fn next_byte(&mut self) -> Result<Option<u8>, StepError>
         ensures { NextByte result (source_of R.seen self.old) (source_of R.seen self.new) }
@@ -45,7 +48,7 @@ impl<'r, R: CountedRead> Input<'r, R> {
         self.first_byte()
     }
 
-    /// Takes the first byte of the next piece.
+    /// Consumes the first byte of the next chunk.
     fn first_byte(&mut self) -> Result<Option<u8>, StepError>
         requires { self.old.ahead.now.end ≤ self.old.ahead.now.at }
         ensures { NextByte result (source_of R.seen self.old) (source_of R.seen self.new) }
@@ -57,7 +60,7 @@ impl<'r, R: CountedRead> Input<'r, R> {
         Ok(Some(self.ahead.take()))
     }
 
-    /// Takes the next byte of a text that isn't whole.
+    /// Consumes the next byte of a text that is not complete.
     #[inline(always)]
     pub(crate) fn byte_within(&mut self) -> Result<u8, StepError>
         ensures { ByteWithin result (source_of R.seen self.old) (source_of R.seen self.new) }

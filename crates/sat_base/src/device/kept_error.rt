@@ -1,4 +1,4 @@
-//! A writer's error, kept aside on its way to the caller.
+//! A writer's error, which is kept aside until it is returned.
 ghost use Rattle.std.specs.Prelude.{◌≡◌, is_ok};
 
 use std::io;

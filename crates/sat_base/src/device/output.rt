@@ -1,4 +1,4 @@
-//! Bytes on their way to a writer, in pieces.
+//! Bytes on their way to a writer, through a buffer.
 ghost use Rattle.std.specs.Prelude.{◌≡◌, ◌<◌, ◌∷◌, [], is_ok};
 ghost use Rattle.sat_base.specs.device.Sink.{Sends, Flushes, sink_of, empty_sink};
 
@@ -7,7 +7,7 @@ use crate::device::kept_error::{WriteFailed, keep_error};
 use crate::device::room::Room;
 use std::io;
 
-/// A writer, and bytes that wait until there is no room for more, or nothing more comes.
+/// A writer, and bytes that are pending until there is no room for more, or no more bytes come.
 #[derive(Drop)]
 pub(crate) struct Output<W, P> {
     pub(crate) writer: W,
@@ -16,8 +16,9 @@ pub(crate) struct Output<W, P> {
     pub(crate) error: Option<io::Error>,
 }
 
-// Each byte goes through `put`, and nothing is inlined through a `Result` unasked.
+// Every byte passes `put`, and no call that returns a `Result` is inlined without the attribute.
 impl<W: CountedWrite, P: Room> Output<W, P> {
+    /// Returns an output without pending bytes.
     pub(crate) fn new(writer: W, pending: P) -> Output<W, P>
         requires { P.waiting pending ≡ [] }
         ensures { sink_of W.seen P.waiting result ≡ empty_sink (W.seen writer) }
@@ -29,7 +30,7 @@ impl<W: CountedWrite, P: Room> Output<W, P> {
         }
     }
 
-    /// Writes out what waits.
+    /// Writes out the pending bytes.
     fn write_out(&mut self) -> Result<(), WriteFailed>
         ensures sends { Sends [] result (sink_of W.seen P.waiting self.old) (sink_of W.seen P.waiting self.new) }
         ensures none { P.waiting self.new.pending ≡ [] }
@@ -40,7 +41,7 @@ impl<W: CountedWrite, P: Room> Output<W, P> {
         keep_error(&mut self.error, result)
     }
 
-    /// Lets a byte wait. What waits is written out first where there is no room.
+    /// Puts a byte. If there is no room, the pending bytes are written out first.
     #[inline(always)]
     pub(crate) fn put(&mut self, byte: u8) -> Result<(), WriteFailed>
         ensures { Sends (byte ∷ []) result (sink_of W.seen P.waiting self.old) (sink_of W.seen P.waiting self.new) }
@@ -52,7 +53,7 @@ impl<W: CountedWrite, P: Room> Output<W, P> {
         Ok(())
     }
 
-    /// Writes out what waits, and lets a byte wait.
+    /// Writes out the pending bytes, and puts a byte.
     fn put_behind(&mut self, byte: u8) -> Result<(), WriteFailed>
         requires { 0 < P.size self.old.pending }
         ensures { Sends (byte ∷ []) result (sink_of W.seen P.waiting self.old) (sink_of W.seen P.waiting self.new) }
@@ -62,7 +63,7 @@ impl<W: CountedWrite, P: Room> Output<W, P> {
         Ok(())
     }
 
-    /// Lets bytes wait, or writes them at once where there is no room for them.
+    /// Puts bytes, or writes them at once if there is no room for them.
     pub(crate) fn put_all(&mut self, bytes: &[u8]) -> Result<(), WriteFailed>
         ensures { Sends bytes.now result (sink_of W.seen P.waiting self.old) (sink_of W.seen P.waiting self.new) }
     {
@@ -74,7 +75,7 @@ impl<W: CountedWrite, P: Room> Output<W, P> {
         self.put_first(bytes)
     }
 
-    /// Lets bytes wait where none does, or writes them at once.
+    /// Puts bytes if none are pending, or writes them at once.
     fn put_first(&mut self, bytes: &[u8]) -> Result<(), WriteFailed>
         requires { P.waiting self.old.pending ≡ [] }
         ensures { Sends bytes.now result (sink_of W.seen P.waiting self.old) (sink_of W.seen P.waiting self.new) }
@@ -87,7 +88,7 @@ impl<W: CountedWrite, P: Room> Output<W, P> {
         keep_error(&mut self.error, result)
     }
 
-    /// Writes out what waits, if anything does.
+    /// Writes out the pending bytes, if there are any.
     pub(crate) fn write_rest(&mut self) -> Result<(), WriteFailed>
         ensures sends { Sends [] result (sink_of W.seen P.waiting self.old) (sink_of W.seen P.waiting self.new) }
         ensures none { P.waiting self.new.pending ≡ [] }
@@ -99,7 +100,7 @@ impl<W: CountedWrite, P: Room> Output<W, P> {
         self.write_out()
     }
 
-    /// Writes out what waits, and flushes the writer.
+    /// Writes out the pending bytes, and flushes the writer.
     pub(crate) fn flush(&mut self) -> Result<(), WriteFailed>
         ensures { Flushes result (sink_of W.seen P.waiting self.old) (sink_of W.seen P.waiting self.new) }
     {
@@ -125,7 +126,7 @@ impl<W: CountedWrite, P: Room> Output<W, P> {
         }
     }
 
-    /// The writer. What waits is lost.
+    /// Returns the writer. Pending bytes are lost.
     pub(crate) fn into_writer(self) -> W
         ensures { result ≡ self.writer }
     {

@@ -1,7 +1,7 @@
-//! Bytes that wait to be written out together.
+//! Bytes that are pending until they are written out together.
 ghost use Rattle.std.specs.Prelude.{◌≡◌, ◌≤◌, ◌<◌};
 
-/// Bytes that wait: the first `len` of `N`.
+/// Pending bytes: the first `len` of `N`.
 #[derive(Drop)]
 pub(crate) struct Pending<const N: usize> {
     pub(crate) bytes: [u8; N],
@@ -11,6 +11,7 @@ pub(crate) struct Pending<const N: usize> {
 }
 
 impl<const N: usize> Pending<N> {
+    /// Returns no pending bytes.
     pub(crate) fn new() -> Pending<N>
         requires { 0 < N }
         ensures { result.len ≡ 0 }

@@ -1,43 +1,42 @@
-//! Room for bytes that wait.
+//! Room for pending bytes.
 ghost use Rattle.std.specs.Prelude.{◌≡◌, ◌+◌, ◌++◌, ◌∷◌, [], ◌≤◌, ◌<◌, ℕ, List, length, take};
 
 use crate::device::pending::Pending;
 
-/// Room for some bytes, of which those that wait are the first. What is taken for a piece depends on how long it is
-/// kept.
+/// Room for some bytes, of which the first are pending. Its size depends on how long it is used.
 pub(crate) trait Room: Drop {
     ghost waiting: { Self → List ℕ };
 
     ghost size: { Self → ℕ };
 
-    /// How many bytes more there is room for.
+    /// Returns the number of further bytes for which there is room.
     fn free(&self) -> usize
         ensures room { result + length (waiting self.now) ≡ size self.now }
         ensures some { 0 < size self.now };
 
-    /// Lets a byte wait, for which there is room.
+    /// Adds a byte, for which there is room.
     fn push(&mut self, byte: u8)
         requires { length (waiting self.old) < size self.old }
         ensures waiting { waiting self.new ≡ waiting self.old ++ (byte ∷ []) }
         ensures size { size self.new ≡ size self.old };
 
-    /// Lets these bytes wait behind the others. There is room for them.
+    /// Adds bytes, for which there is room.
     fn push_all(&mut self, piece: &[u8])
         requires { length (waiting self.old) + length piece.now ≤ size self.old }
         ensures waiting { waiting self.new ≡ waiting self.old ++ piece.now }
         ensures size { size self.new ≡ size self.old };
 
-    /// Nothing waits any more.
+    /// Removes all bytes.
     fn clear(&mut self)
         ensures waiting { waiting self.new ≡ [] }
         ensures size { size self.new ≡ size self.old };
 
-    /// What waits, the oldest first.
+    /// Returns the pending bytes, the oldest first.
     fn as_slice(&self) -> &[u8]
         ensures { result.now ≡ waiting self.now };
 }
 
-// Each byte goes through `free` and `push`.
+// Every byte passes `free` and `push`.
 impl<const N: usize> Room for Pending<N> {
     ghost waiting = { λ p. take p.len p.bytes };
 

@@ -1,4 +1,4 @@
-//! Reading bytes ahead, and taking them. It stands apart from `Ahead`, since its contracts speak of readers.
+//! Reading bytes ahead, and consuming them. `Ahead` is in another module, since these contracts speak of readers.
 ghost use Rattle.std.specs.Prelude.{◌≡◌, ◌+◌, ◌<◌, ◌≤◌, ◌∷◌, take, drop, OnOk};
 ghost use Rattle.sat_base.specs.device.Reading.{RefillsAlone};
 ghost use Rattle.sat_base.specs.device.Waiting.{waiting};
@@ -8,6 +8,7 @@ use crate::device::whole::MAX_READS;
 use crate::{CountedRead, StepError};
 
 impl Ahead {
+    /// Returns no bytes, before the first read.
     pub(crate) fn new() -> Ahead
         ensures end { result.end ≡ 0 }
         ensures reads { result.reads ≡ 0 }
@@ -20,7 +21,7 @@ impl Ahead {
         }
     }
 
-    /// Takes a byte that was read.
+    /// Consumes a byte that was read.
     #[inline(always)]
     pub(crate) fn take(&mut self) -> u8
         requires { self.old.at < self.old.end }
@@ -32,7 +33,7 @@ impl Ahead {
         byte
     }
 
-    /// The byte at a place of those that wait, which stays.
+    /// Returns the byte at a position, without consuming it.
     #[inline(always)]
     pub(crate) fn byte_at(&self, at: usize) -> u8
         requires { at < self.now.end }
@@ -42,7 +43,7 @@ impl Ahead {
         self.piece[at]
     }
 
-    /// Reads the next piece, where all of the last one was taken.
+    /// Reads the next chunk, after all of the last one was consumed.
     pub(crate) fn refill<R: CountedRead>(&mut self, reader: &mut R) -> Result<(), StepError>
         requires { self.old.end ≤ self.old.at }
         ensures bytes { RefillsAlone R.seen result reader.old self.old reader.new self.new }

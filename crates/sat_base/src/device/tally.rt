@@ -1,11 +1,11 @@
-//! What contracts alone see of a device's calls. It takes no memory, and its functions do nothing at run time.
+//! What only contracts see of a device's calls. It takes no memory, and its functions do nothing at run time.
 ghost use Rattle.std.specs.Prelude.{ℕ, Bool, List};
 ghost use Rattle.std.specs.Borrow.{ftrue};
 
 use std::marker::Model;
 
-/// How many calls there were and how many of them failed, the bytes that reads gave and that writes took, and what the
-/// last call was. The counts have no largest value.
+/// The number of calls and of those that failed, the bytes that reads gave and that writes received, and what the last
+/// call was. The counts have no largest value.
 #[derive(Drop)]
 pub(crate) struct Tally {
     pub ghost calls: { ℕ },
@@ -30,36 +30,42 @@ impl Tally {
     ghost use Rattle.sat_base.specs.device.Counting.{no_calls, after_read, after_end, after_write, after_flush};
     ghost use Rattle.sat_base.specs.device.Counting.{after_failure};
 
+    /// Returns a tally before the first call.
     pub(crate) fn new() -> Tally
         ensures { result ≡ no_calls }
     {
         Tally {}
     }
 
+    /// Returns the tally after a read that gave these bytes.
     pub(crate) fn and_read(&self, bytes: &[u8]) -> Tally
         ensures { result ≡ after_read bytes.now self.now }
     {
         Tally {}
     }
 
+    /// Returns the tally after a read that found the end.
     pub(crate) fn and_end(&self) -> Tally
         ensures { result ≡ after_end self.now }
     {
         Tally {}
     }
 
+    /// Returns the tally after a write that received these bytes.
     pub(crate) fn and_write(&self, bytes: &[u8]) -> Tally
         ensures { result ≡ after_write bytes.now self.now }
     {
         Tally {}
     }
 
+    /// Returns the tally after a flush that did not fail.
     pub(crate) fn and_flush(&self) -> Tally
         ensures { result ≡ after_flush self.now }
     {
         Tally {}
     }
 
+    /// Returns the tally after a failed call.
     pub(crate) fn and_failure(&self) -> Tally
         ensures { result ≡ after_failure self.now }
     {

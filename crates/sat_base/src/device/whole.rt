@@ -1,4 +1,4 @@
-//! Reading a reader to its end.
+//! Reading to the end of a reader.
 ghost use Rattle.std.specs.Prelude.{◌≡◌, ◌+◌, ◌<◌, ◌≤◌, ◌++◌, ℕ, List, [], length, IfOk, IfErr, OnOk, IsErrOf};
 ghost use Rattle.std.specs.Io.{ReadsAtMost};
 ghost use Rattle.sat_base.specs.device.Device.{most_reads, ReadFails, ReadsOnce, GaveAll, Grew};
@@ -8,10 +8,10 @@ use crate::device::ahead::PIECE;
 use std::alloc::{AllocError, Global};
 use thiserror::Error;
 
-/// A reader is read at most so often.
+/// The largest number of reads of one reader.
 pub(crate) const MAX_READS: u64 = 1 << 48;
 
-/// Why a reader wasn't read to its end.
+/// Why a reader was not read to its end.
 #[derive(Clone, Copy, Debug, Drop, PartialEq, Eq, Error)]
 pub enum ReadError {
     /// A read failed, or there were 2^48 of them.
@@ -32,7 +32,7 @@ impl From<AllocError> for ReadError {
     }
 }
 
-/// One read.
+/// Reads once.
 fn read_piece<R: CountedRead>(reader: &mut R, room: &mut [u8]) -> Result<usize, ReadError>
     ensures bound { ReadsAtMost result room.new }
     ensures once { ReadsOnce result room.new (R.seen reader.old) (R.seen reader.new) }
@@ -44,18 +44,18 @@ fn read_piece<R: CountedRead>(reader: &mut R, room: &mut [u8]) -> Result<usize, 
     }
 }
 
-/// What takes the bytes of a text, in any pieces.
+/// A receiver of the bytes of a text, in chunks.
 pub trait Feed {
     /// It was fed this text, and nothing more.
     ghost was_fed: { Self → List ℕ → Type 0 };
 
-    /// Takes the next bytes.
+    /// Receives the next bytes.
     fn feed(&mut self, piece: &[u8]) -> Result<(), AllocError>
         requires { (text : List ℕ) × was_fed self.old text }
         ensures { (text : List ℕ) → was_fed self.old text → OnOk result (was_fed self.new (text ++ piece.now)) };
 }
 
-/// The bytes are held.
+/// Holds all bytes.
 impl Feed for Vec<u8> {
     ghost was_fed = { λ v text. v.items ≡ text };
 
@@ -64,19 +64,19 @@ impl Feed for Vec<u8> {
     }
 }
 
-/// Reads to the end, in pieces of at most 4,096 bytes, and feeds each as it comes. The first failed read ends it, and
-/// so does the first piece for which there is no memory.
+/// Reads to the end, in chunks of at most 4,096 bytes, and feeds every chunk as it comes. Stops at the first read that
+/// fails, and at the first chunk for which memory runs out.
 pub fn read_into<R: CountedRead, F: Feed>(reader: &mut R, taker: &mut F) -> Result<(), ReadError>
     requires { F.was_fed taker.old [] }
     ensures gave { OnOk result ((text : List ℕ) × GaveAll (R.seen reader.old) (R.seen reader.new) text
         × F.was_fed taker.new text) }
     ensures front { Grew (R.seen reader.old) (R.seen reader.new) }
     ensures kept { OnOk result ((R.seen reader.new).failures ≡ (R.seen reader.old).failures) }
-    // None is tried again.
+    // No failed read is repeated.
     ensures failed { IsErrOf result ReadError.Failed → ReadFails (R.seen reader.old) (R.seen reader.new) }
     ensures memory { IsErrOf result ReadError.OutOfMemory
         → (R.seen reader.new).failures ≡ (R.seen reader.old).failures }
-    // Memory is asked for by bytes alone.
+    // Memory is needed only for bytes.
     ensures some { IsErrOf result ReadError.OutOfMemory
         → length (R.seen reader.old).given < length (R.seen reader.new).given }
     ensures reads { (R.seen reader.new).calls ≤ (R.seen reader.old).calls + most_reads }
@@ -92,17 +92,17 @@ pub fn read_into<R: CountedRead, F: Feed>(reader: &mut R, taker: &mut F) -> Resu
     Err(ReadError::Failed)
 }
 
-/// Reads to the end, in pieces of at most 4,096 bytes, and gives all bytes. The first failed read ends it. After an
-/// error what was read is gone.
+/// Reads to the end, in chunks of at most 4,096 bytes, and returns all bytes. Stops at the first read that fails. After
+/// an error, what was read is lost.
 pub fn read_whole<R: CountedRead>(alloc: Global, reader: &mut R) -> Result<Vec<u8>, ReadError>
     ensures gave { IfOk result (λ v. GaveAll (R.seen reader.old) (R.seen reader.new) v.items) }
     ensures front { Grew (R.seen reader.old) (R.seen reader.new) }
     ensures kept { OnOk result ((R.seen reader.new).failures ≡ (R.seen reader.old).failures) }
-    // None is tried again.
+    // No failed read is repeated.
     ensures failed { IsErrOf result ReadError.Failed → ReadFails (R.seen reader.old) (R.seen reader.new) }
     ensures memory { IsErrOf result ReadError.OutOfMemory
         → (R.seen reader.new).failures ≡ (R.seen reader.old).failures }
-    // Memory is asked for by bytes alone.
+    // Memory is needed only for bytes.
     ensures some { IsErrOf result ReadError.OutOfMemory
         → length (R.seen reader.old).given < length (R.seen reader.new).given }
     ensures reads { (R.seen reader.new).calls ≤ (R.seen reader.old).calls + most_reads }

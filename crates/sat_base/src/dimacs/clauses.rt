@@ -14,7 +14,7 @@ use std::mem;
 /// The largest number of a variable.
 pub(crate) const LARGEST: u64 = MAX_COUNT as u64;
 
-/// Why a token wasn't taken.
+/// Why a token was refused.
 #[derive(Clone, Copy, Drop)]
 pub(crate) enum Refusal {
     Malformed,
@@ -44,13 +44,13 @@ impl<T: Drop> From<AllocFailed<T>> for Refusal {
     }
 }
 
-/// The header and the clauses that were read, and the literals of the one in hand.
+/// The header and the clauses that were read, and the literals of the clause in hand.
 #[derive(Drop)]
 pub(crate) struct Clauses {
-    /// The clauses that wait to be handed over, with the number of variables of all that were read.
+    /// The clauses that were not taken yet, with the number of variables of all that were read.
     pub(crate) formula: CnfFormula,
     pub(crate) hand: Vec<Lit>,
-    /// How many clauses were read, held at 2^64-1.
+    /// The number of clauses read, held at 2^64-1.
     pub(crate) count: u64,
     /// The header's numbers, held at 2^64-1.
     pub(crate) header: Option<(u64, u64)>,
@@ -67,6 +67,7 @@ pub(crate) fn is_literal(token: Token) -> bool
 }
 
 impl Clauses {
+    /// Returns no clauses. Does not allocate.
     pub(crate) fn new(alloc: Global) -> Clauses
         ensures formula { result.formula ≡ no_formula }
         ensures hand { hand_in result ≡ None }
@@ -81,7 +82,7 @@ impl Clauses {
         }
     }
 
-    /// A zero.
+    /// Ends the clause in hand, at a zero.
     fn end_clause(&mut self) -> Result<(), Refusal>
         ensures { MatchResult result (λ _. TakesTokenTurn (Ends (literals_in (hand_in self.old))) self.old self.new
             × (self.new.header ≡ self.old.header)) (λ e. (e ≡ OutOfMemory) × AllStay self.old self.new) }
@@ -92,8 +93,8 @@ impl Clauses {
         Ok(())
     }
 
-    // Each word goes through this, and nothing is inlined through a `Result` unasked.
-    /// The next token.
+    // Every word passes this, and no call that returns a `Result` is inlined without the attribute.
+    /// Adds the next token.
     #[inline(always)]
     pub(crate) fn take(&mut self, token: Token) -> Result<(), Refusal>
         ensures { CollectsToken result self.old (token_of token) self.new }
@@ -126,7 +127,7 @@ impl Clauses {
         !self.hand.is_empty()
     }
 
-    /// The clauses that wait. The next ones wait in a formula that has as many variables already.
+    /// Takes the clauses. The next ones are collected in a formula that has as many variables already.
     pub(crate) fn take_formula(&mut self, alloc: Global) -> CnfFormula
         ensures formula { result ≡ self.old.formula }
         ensures rest { self.new ≡ record self.old { formula = with_count self.old.formula.var_count no_formula } }

@@ -1,10 +1,10 @@
-//! What can go wrong with a formula's text.
+//! Errors of formulas' texts.
 
 use std::alloc::AllocError;
 use std::fmt::Display;
 use thiserror::Error;
 
-/// Why a formula's text wasn't read. Lines count from 1, and are held at 2^64-1.
+/// Why no formula was read. Lines are counted from 1, and held at 2^64-1.
 #[derive(Clone, Copy, Debug, Drop, PartialEq, Eq, Error)]
 pub enum DimacsError {
     /// A word on this line is wrong, or the text ends inside a clause, and this is its last line.
@@ -18,7 +18,7 @@ pub enum DimacsError {
     Read,
     #[error("out of memory")]
     OutOfMemory,
-    /// The parser was at its end before.
+    /// The parser has failed or finished before.
     #[error("the parser has failed or finished before")]
     HasFailed,
 }
@@ -34,7 +34,7 @@ impl From<AllocError> for DimacsError {
     }
 }
 
-/// Why reading in parts stopped.
+/// Why reading in chunks stopped.
 #[derive(Clone, Copy, Debug, Drop, PartialEq, Eq, Error)]
 #[error_bound(E: Display)]
 pub enum IncrementalError<E> {

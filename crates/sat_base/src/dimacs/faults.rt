@@ -51,8 +51,8 @@ fn take_bytes(tokenizer: &mut Tokenizer, bytes: &[u8]) -> Result<(), DimacsError
     Ok(())
 }
 
-/// Returns what is reported where a parser has stopped within these bytes for this reason: if memory ran out, the first
-/// fault of the bytes instead, if they have one.
+/// Returns the error to report if a parser has stopped within these bytes with this error. If memory ran out, that is
+/// their first fault instead, if they have one.
 pub(crate) fn error_within(tokenizer: Tokenizer, bytes: &[u8], error: DimacsError) -> DimacsError
     ensures same { (error ≡ DimacsError.OutOfMemory → ⊥) → result ≡ error }
     ensures found { error ≡ DimacsError.OutOfMemory → (text : List ℕ) → HasTakenSoundly text tokenizer

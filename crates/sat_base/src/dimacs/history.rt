@@ -1,11 +1,11 @@
-//! What contracts alone see of a parser's calls. It takes no memory, and its functions do nothing at run time.
+//! What only contracts see of a parser's calls. It takes no memory, and its functions do nothing at run time.
 ghost use Rattle.std.specs.Prelude.{◌≡◌, ◌++◌, ◌∷◌, [], ℕ, List};
 ghost use Rattle.std.specs.Borrow.{ftrue};
 
 use crate::CnfFormula;
 use std::marker::Model;
 
-/// The bytes that were taken, and the clauses that were handed over.
+/// The bytes that were fed, and the clauses that were taken.
 #[derive(Drop)]
 pub(crate) struct History {
     pub ghost fed: { List ℕ },
@@ -17,18 +17,21 @@ impl Model for History {
 }
 
 impl History {
+    /// Returns a history before the first byte.
     pub(crate) fn new() -> History
         ensures { (result.fed ≡ []) × (result.taken ≡ []) }
     {
         History {}
     }
 
+    /// Returns the history after one more byte.
     pub(crate) fn and_byte(&self, byte: u8) -> History
         ensures { (result.fed ≡ self.now.fed ++ byte ∷ []) × (result.taken ≡ self.now.taken) }
     {
         History {}
     }
 
+    /// Returns the history after the clauses of a formula were taken.
     pub(crate) fn and_clauses(&self, formula: &CnfFormula) -> History
         ensures { (result.fed ≡ self.now.fed) × (result.taken ≡ self.now.taken ++ formula.now.clauses) }
     {

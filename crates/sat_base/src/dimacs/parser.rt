@@ -1,4 +1,4 @@
-//! A parser that says whether it stopped.
+//! The parser of formulas behind `DimacsParser`.
 ghost use Rattle.std.specs.Prelude.{◌≡◌, ◌++◌, ◌∷◌, [], ℕ, List, true, false, Ok, OnOk, IfErr};
 ghost use Rattle.sat_base.specs.text.Text.{Scan};
 ghost use Rattle.sat_base.specs.text.Tokenizing.{held, StandsBefore};
@@ -20,13 +20,14 @@ pub(crate) struct Parser {
     pub(crate) tokenizer: Tokenizer,
     pub(crate) clauses: Clauses,
     pub(crate) history: History,
-    /// Nothing more is taken.
+    /// Whether no more bytes are accepted.
     pub(crate) stopped: bool,
-    /// The text is over.
+    /// Whether the text has ended, or has a fault.
     pub(crate) ended: bool,
 }
 
 impl Parser {
+    /// Returns a parser before the first byte of a text. Does not allocate.
     pub(crate) fn new(alloc: Global) -> Parser
         ensures parser { IsParser result }
         ensures progress { progress_of result ≡ no_progress }
@@ -41,14 +42,14 @@ impl Parser {
         }
     }
 
-    /// The line of the last byte.
+    /// Returns the line of the last byte.
     fn line(&self) -> u64
         ensures { (before : List ℕ → Scan) → StandsBefore self.now.tokenizer before → result ≡ held (before []).last }
     {
         self.tokenizer.line()
     }
 
-    /// The next byte.
+    /// Feeds the next byte.
     fn push(&mut self, byte: u8) -> Result<(), DimacsError>
         requires parser { IsParser self.old }
         requires open { self.old.stopped ≡ false }
@@ -88,7 +89,7 @@ impl Parser {
         }
     }
 
-    /// The next bytes.
+    /// Feeds the next bytes.
     pub(crate) fn feed(&mut self, piece: &[u8]) -> Result<(), DimacsError>
         requires { IsParser self.old }
         ensures parser { IsParser self.new }
@@ -131,7 +132,7 @@ impl Parser {
         self.tokenizer.is_over()
     }
 
-    /// The text is over, with no word in hand.
+    /// Ends the text, with no word in hand.
     fn end(&mut self) -> Result<(), DimacsError>
         ensures parser { self.new ≡ record self.old { stopped = true; ended = true } }
         ensures answer { EndsClean result self.old }
@@ -144,7 +145,7 @@ impl Parser {
         Ok(())
     }
 
-    /// The text is over.
+    /// Finishes the text.
     pub(crate) fn finish(&mut self) -> Result<(), DimacsError>
         requires { IsParser self.old }
         ensures parser { IsParser self.new }
@@ -181,7 +182,7 @@ impl Parser {
         }
     }
 
-    /// The clauses read and not yet handed over.
+    /// Takes the clauses that were read.
     pub(crate) fn take_formula(&mut self) -> CnfFormula
         requires { IsParser self.old }
         ensures parser { IsParser self.new }

@@ -1,4 +1,4 @@
-//! Lists that lie in one piece of memory, one after another.
+//! An iterator over lists that are in one piece of memory.
 #![tactic(auto, using(crate::proofs::lemmas::values::FlatLemmas::flat))]
 
 ghost use Rattle.std.specs.Prelude.{◌≡◌, length};
@@ -9,7 +9,7 @@ ghost use Rattle.sat_base.specs.values.Flat.{pieces, AreEnds};
 use std::iter::FusedIterator;
 use std::marker::Model;
 
-/// Lends each list, in order. Contracts see the lists that are still to come.
+/// An iterator that lends every list, in order. Contracts see the lists that are still to come.
 #[derive(Debug, Drop)]
 pub struct FlatListsIter<'a, T> {
     start: usize,
@@ -29,6 +29,7 @@ impl<'a, T> Model for FlatListsIter<'a, T> {
 }
 
 impl<'a, T> FlatListsIter<'a, T> {
+    /// Returns an iterator over lists with these items and ends.
     pub(crate) fn new(items: &'a [T], ends: &'a [usize]) -> FlatListsIter<'a, T>
         requires { AreEnds 0 ends.now items.now }
         ensures { result ≡ pieces 0 ends.now items.now }

@@ -1,9 +1,9 @@
-//! What can go wrong as a formula grows.
+//! Errors of growing formulas.
 
 use std::alloc::AllocError;
 use thiserror::Error;
 
-/// Why a formula took no clause, or gave no variable.
+/// Why no clause or variable was added to a formula.
 #[derive(Clone, Copy, Debug, Drop, PartialEq, Eq, Error)]
 pub enum FormulaError {
     /// All 2^28 variables are in use.

@@ -1,4 +1,4 @@
-//! What can go wrong with a proof's bytes.
+//! Errors of proofs' bytes.
 
 use std::alloc::{AllocError, AllocFailed};
 use thiserror::Error;
@@ -6,10 +6,10 @@ use thiserror::Error;
 /// Why no step was read.
 #[derive(Clone, Copy, Debug, Drop, PartialEq, Eq, Error)]
 pub enum StepError {
-    /// The text is over, between steps.
+    /// The text has ended, between steps.
     #[error("the proof's text is over")]
     Ends,
-    /// The text is over inside a step.
+    /// The text has ended within a step.
     #[error("the proof's text is over inside a step")]
     Cut,
     /// No step can follow this byte.

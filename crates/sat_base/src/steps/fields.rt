@@ -1,4 +1,4 @@
-//! A step's tag, and what stands behind it.
+//! A step's tag, and the fields after it.
 #![tactic(auto, using(crate::proofs::lemmas::device::Sending::sending))]
 
 ghost use Rattle.std.specs.Prelude.{◌≡◌, OnOk, [], ℕ, List, IsTrue, false};
@@ -16,6 +16,7 @@ use crate::steps::kind::Kind;
 use crate::steps::step_lists::Lists;
 use crate::{CountedRead, CountedWrite, ProofStep, StepError};
 
+/// Returns the tag of a step.
 #[inline(always)] // most callers know the step
 pub(super) fn tag(step: &ProofStep<'_>) -> u8
     ensures { result ≡ tag_of (step_of step.now) }
@@ -37,14 +38,14 @@ pub(super) fn tag(step: &ProofStep<'_>) -> u8
     }
 }
 
-/// Tests whether a step has this tag.
+/// Whether a step has this tag.
 fn is_tag(tag: u8) -> bool
     ensures { result ≡ is_tag tag }
 {
     0 < tag && tag < 14
 }
 
-/// Tests whether steps with this tag have lists.
+/// Whether steps with this tag have lists.
 fn has_lists(tag: u8) -> bool
     ensures { result ≡ has_lists tag }
 {
@@ -52,7 +53,7 @@ fn has_lists(tag: u8) -> bool
 }
 
 impl<R: CountedRead> Input<'_, R> {
-    /// Reads what stands behind the tag of a step without lists.
+    /// Reads the fields of a step without lists.
     fn plain_fields(&mut self, tag: u8) -> Result<Kind, StepError>
         requires known { IsTrue (is_tag tag) }
         requires plain { has_lists tag ≡ false }
@@ -89,7 +90,7 @@ impl<R: CountedRead> Input<'_, R> {
         }
     }
 
-    /// Reads what stands behind the tag of a step with lists.
+    /// Reads the fields of a step with lists.
     fn list_fields(&mut self, lists: &mut Lists, tag: u8) -> Result<Kind, StepError>
         requires { IsTrue (has_lists tag) }
         ensures { ReadsFromInput (Behind tag) (valued (step_held lists.new) result) R.seen self.old self.new }
@@ -118,7 +119,7 @@ impl<R: CountedRead> Input<'_, R> {
         }
     }
 
-    /// Reads what stands behind a tag.
+    /// Reads the fields of a step with this tag.
     fn fields(&mut self, lists: &mut Lists, tag: u8) -> Result<Kind, StepError>
         requires { IsTrue (is_tag tag) }
         ensures { ReadsFromInput (Behind tag) (valued (step_held lists.new) result) R.seen self.old self.new }
@@ -130,7 +131,7 @@ impl<R: CountedRead> Input<'_, R> {
         }
     }
 
-    /// Reads the next step, and its lists into those that are there.
+    /// Reads the next step, with its lists into `lists`.
     pub(super) fn read_step(&mut self, lists: &mut Lists) -> Result<Kind, StepError>
         ensures { AnswersStepRead (valued (step_held lists.new) result) (source_of R.seen self.old)
             (source_of R.seen self.new) }
@@ -148,7 +149,7 @@ impl<R: CountedRead> Input<'_, R> {
 }
 
 impl<W: CountedWrite, P: Room> Output<W, P> {
-    /// Lets what stands behind the tag wait.
+    /// Puts the fields of a step.
     fn put_fields(&mut self, step: &ProofStep<'_>) -> Result<(), WriteFailed>
         ensures { SendsSpelling fields (step_of step.now) result W.seen P.waiting self.old self.new }
     {
@@ -176,7 +177,7 @@ impl<W: CountedWrite, P: Room> Output<W, P> {
         }
     }
 
-    /// Lets a step's bytes wait.
+    /// Puts the bytes of a step.
     pub(super) fn put_step(&mut self, step: &ProofStep<'_>) -> Result<(), WriteFailed>
         ensures { SendsSpelling a_step (step_of step.now) result W.seen P.waiting self.old self.new }
     {
@@ -184,7 +185,7 @@ impl<W: CountedWrite, P: Room> Output<W, P> {
         self.put_fields(step)
     }
 
-    /// Writes a step's bytes out, behind those that wait.
+    /// Writes out the bytes of a step, after those that are pending.
     pub(super) fn write_step(&mut self, step: &ProofStep<'_>) -> Result<(), WriteFailed>
         ensures writes { SendsSpelling a_step (step_of step.now) result W.seen P.waiting self.old self.new }
         ensures none { OnOk result (P.waiting self.new.pending ≡ []) }

@@ -16,6 +16,7 @@ use crate::steps::step_lists::Lists;
 use crate::{ClauseHash, CountedRead, CountedWrite, DeleteClauseProof, Lit, StepError, Var};
 
 impl<R: CountedRead> Input<'_, R> {
+    /// Reads a flag, and both lists.
     pub(super) fn flag_and_lists(&mut self, lists: &mut Lists) -> Result<bool, StepError>
         ensures { ReadsFromInput (Both IsFlag (Both AreLiterals AreHashes))
             (valued (λ f. (f, both_held lists.new)) result) R.seen self.old self.new }
@@ -25,6 +26,7 @@ impl<R: CountedRead> Input<'_, R> {
         Ok(flag)
     }
 
+    /// Reads a clause, and why it is deleted.
     pub(super) fn clause_and_deletion(
         &mut self,
         lists: &mut Lists,
@@ -38,7 +40,7 @@ impl<R: CountedRead> Input<'_, R> {
 }
 
 impl<W: CountedWrite, P: Room> Output<W, P> {
-    /// Lets a variable wait, and one that may be none.
+    /// Puts a variable, and another or none.
     pub(super) fn put_variables(
         &mut self,
         first: Var,
@@ -50,6 +52,7 @@ impl<W: CountedWrite, P: Room> Output<W, P> {
         self.put_optional(second)
     }
 
+    /// Puts a variable, and whether it is sampled.
     pub(super) fn put_mode(&mut self, var: Var, sample: bool) -> Result<(), WriteFailed>
         ensures { spelling.SendsSpelling spelling.a_mode (var, sample) result W.seen P.waiting self.old self.new }
     {
@@ -57,6 +60,7 @@ impl<W: CountedWrite, P: Room> Output<W, P> {
         self.put_flag(sample)
     }
 
+    /// Puts a derived clause.
     pub(super) fn put_derived(
         &mut self,
         redundant: bool,
@@ -70,6 +74,7 @@ impl<W: CountedWrite, P: Room> Output<W, P> {
         self.put_both_lists(clause, hashes)
     }
 
+    /// Puts a clause, and why it is deleted.
     pub(super) fn put_deleted(
         &mut self,
         clause: &[Lit],

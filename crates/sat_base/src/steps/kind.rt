@@ -2,7 +2,7 @@
 
 use crate::{DeleteClauseProof, HashBits, Var};
 
-/// Which step it is, and what it has beside its lists.
+/// Which step it is, and its fields other than lists.
 #[derive(Clone, Copy)]
 pub(crate) enum Kind {
     SolverVarName { global: Var, solver: Option<Var> },

@@ -68,6 +68,7 @@ impl Ahead {
 }
 
 impl<R: CountedRead> Input<'_, R> {
+    /// Reads a literal.
     #[inline(always)] // called for each literal of a list
     fn literal(&mut self) -> Result<Lit, StepError>
         ensures { ReadsFromInput IsLiteral result R.seen self.old self.new }
@@ -76,6 +77,7 @@ impl<R: CountedRead> Input<'_, R> {
         Ok(Lit::from_code(code as usize))
     }
 
+    /// Reads this number of literals.
     fn literal_items(&mut self, count: u64, lits: &mut Vec<Lit>) -> Result<(), StepError>
         requires { lits.old.items ≡ [] }
         ensures { ReadsFromInput (Times IsLiteral count) (giving lits.new.items result) R.seen self.old self.new }
@@ -94,6 +96,7 @@ impl<R: CountedRead> Input<'_, R> {
         Ok(())
     }
 
+    /// Reads this number of hashes.
     fn hash_items(&mut self, count: u64, hashes: &mut Vec<ClauseHash>) -> Result<(), StepError>
         requires { hashes.old.items ≡ [] }
         ensures { ReadsFromInput (Times IsHash count) (giving hashes.new.items result) R.seen self.old self.new }
@@ -112,6 +115,7 @@ impl<R: CountedRead> Input<'_, R> {
         Ok(())
     }
 
+    /// Reads a literal and its hash.
     fn unit(&mut self) -> Result<(Lit, ClauseHash), StepError>
         ensures { ReadsFromInput (Both IsLiteral IsHash) result R.seen self.old self.new }
     {
@@ -120,6 +124,7 @@ impl<R: CountedRead> Input<'_, R> {
         Ok((lit, hash))
     }
 
+    /// Reads this number of units.
     fn unit_items(
         &mut self,
         count: u64,
@@ -136,7 +141,7 @@ impl<R: CountedRead> Input<'_, R> {
         Ok(())
     }
 
-    /// Reads a list of literals in place of those that are there.
+    /// Reads a list of literals, instead of those in `lits`.
     pub(super) fn literals(&mut self, lits: &mut Vec<Lit>) -> Result<(), StepError>
         ensures { ReadsFromInput AreLiterals (giving lits.new.items result) R.seen self.old self.new }
     {
@@ -145,7 +150,7 @@ impl<R: CountedRead> Input<'_, R> {
         self.literal_items(count, lits)
     }
 
-    /// Reads a list of hashes in place of those that are there.
+    /// Reads a list of hashes, instead of those in `hashes`.
     pub(super) fn hashes(&mut self, hashes: &mut Vec<ClauseHash>) -> Result<(), StepError>
         ensures { ReadsFromInput AreHashes (giving hashes.new.items result) R.seen self.old self.new }
     {
@@ -154,7 +159,7 @@ impl<R: CountedRead> Input<'_, R> {
         self.hash_items(count, hashes)
     }
 
-    /// Reads a list of units in place of those that are there.
+    /// Reads a list of units, instead of those in `units`.
     pub(super) fn units(&mut self, units: &mut Vec<(Lit, ClauseHash)>) -> Result<(), StepError>
         ensures { ReadsFromInput AreHashedLiterals (giving units.new.items result) R.seen self.old self.new }
     {
@@ -174,6 +179,7 @@ impl<R: CountedRead> Input<'_, R> {
 }
 
 impl<W: CountedWrite, P: Room> Output<W, P> {
+    /// Puts a list of literals.
     pub(super) fn put_literals(&mut self, lits: &[Lit]) -> Result<(), WriteFailed>
         ensures { spelling.SendsSpelling spelling.literals lits.now result W.seen P.waiting self.old self.new }
     {
@@ -184,6 +190,7 @@ impl<W: CountedWrite, P: Room> Output<W, P> {
         Ok(())
     }
 
+    /// Puts a list of hashes.
     pub(super) fn put_hashes(&mut self, hashes: &[ClauseHash]) -> Result<(), WriteFailed>
         ensures { spelling.SendsSpelling spelling.hashes hashes.now result W.seen P.waiting self.old self.new }
     {
@@ -194,6 +201,7 @@ impl<W: CountedWrite, P: Room> Output<W, P> {
         Ok(())
     }
 
+    /// Puts a literal and its hash.
     fn put_unit(&mut self, unit: (Lit, ClauseHash)) -> Result<(), WriteFailed>
         ensures { spelling.SendsSpelling (spelling.both spelling.a_literal spelling.a_hash) unit result W.seen P.waiting
             self.old self.new }
@@ -203,6 +211,7 @@ impl<W: CountedWrite, P: Room> Output<W, P> {
         self.put_number(hash)
     }
 
+    /// Puts a list of units.
     pub(super) fn put_units(&mut self, units: &[(Lit, ClauseHash)]) -> Result<(), WriteFailed>
         ensures { spelling.SendsSpelling spelling.units units.now result W.seen P.waiting self.old self.new }
     {
@@ -213,6 +222,7 @@ impl<W: CountedWrite, P: Room> Output<W, P> {
         Ok(())
     }
 
+    /// Puts a list of literals, and then one of hashes.
     pub(super) fn put_both_lists(
         &mut self,
         lits: &[Lit],

@@ -1,4 +1,4 @@
-//! A number's bytes.
+//! Numbers in LEB128.
 ghost use Rattle.std.specs.Prelude.{◌≡◌, ◌+◌, ◌++◌, ◌-◌, ◌*◌, ◌^◌, ◌<◌, ◌≤◌, ℕ, Some, None, OnOk, length};
 ghost use Rattle.sat_base.specs.device.Reading.{ReadsFromInput};
 ghost use Rattle.sat_base.specs.device.TakenAhead.{TakesNumber, StandsBetween};
@@ -15,13 +15,13 @@ use crate::device::room::Room;
 use crate::{CountedRead, CountedWrite, StepError};
 use std::alloc::AllocError;
 
-/// The most bytes that a number of 64 bits has.
+/// The largest number of bytes of a number.
 pub(super) const LONGEST: usize = 10;
 
-/// What the ninth group of a number counts.
+/// The value of one in the ninth group of a number.
 const LARGEST_PLACE: u64 = 1 << 56;
 
-/// Returns the number that `first` encodes, or `first` and `second` if the number goes on.
+/// Returns the number that `first` encodes, or `first` and `second` if the number continues.
 #[inline(always)]
 fn one_or_two(first: u64, second: u64) -> u64
     requires first { first < 256 }
@@ -109,7 +109,8 @@ impl Ahead {
         self.long_number_at(from, largest)
     }
 
-    /// Does what `number_at` does. Numbers of one and two bytes take the same branch, since their order is unpredictable.
+    /// Does what `number_at` does. Numbers of one and two bytes take the same branch, since their order is
+    /// unpredictable.
     #[inline(always)] // each literal goes through it
     pub(super) fn code_at(&self, from: usize, largest: u64) -> Option<(u64, usize)>
         ensures { (number behind : ℕ) → result ≡ Some (number, behind)
@@ -159,7 +160,7 @@ impl<R: CountedRead> Input<'_, R> {
         self.number_by_bytes(largest)
     }
 
-    /// Reads it byte by byte: it may be cut by the end of a piece, or of the text, or be none.
+    /// Reads it byte by byte: the end of a chunk or of the text may cut it, and it may be no number.
     #[inline(never)] // so that numbers that stand whole pay nothing for it
     fn number_by_bytes(&mut self, largest: u64) -> Result<u64, StepError>
         requires { 0 < largest }
@@ -192,7 +193,7 @@ impl<R: CountedRead> Input<'_, R> {
     }
 }
 
-/// Lets a number's bytes wait, for which there is room.
+/// Puts the bytes of a number, for which there is room.
 #[inline(always)] // each literal and each hash goes through it
 pub(super) fn push_number<P: Room>(pending: &mut P, number: u64)
     requires room { length (P.waiting pending.old) + 10 ≤ P.size pending.old }
@@ -219,7 +220,7 @@ pub fn push_leb128(out: &mut Vec<u8>, number: u64) -> Result<(), AllocError>
 }
 
 impl<W: CountedWrite, P: Room> Output<W, P> {
-    /// Where there is room for the longest number, no byte asks for it again.
+    /// Puts the bytes of a number. If there is room for the longest number, it is not tested for every byte.
     #[inline(always)] // each literal and each hash goes through it
     pub(super) fn put_number(&mut self, number: u64) -> Result<(), WriteFailed>
         ensures { Sends (number_bytes number) result (sink_of W.seen P.waiting self.old)
@@ -232,7 +233,7 @@ impl<W: CountedWrite, P: Room> Output<W, P> {
         Ok(())
     }
 
-    /// Puts a number byte by byte: what waits may have to be written out before one of them.
+    /// Puts a number byte by byte: pending bytes may have to be written out before one of them.
     #[inline(never)] // so that numbers for which there is room pay nothing for it
     fn put_by_bytes(&mut self, number: u64) -> Result<(), WriteFailed>
         ensures { Sends (number_bytes number) result (sink_of W.seen P.waiting self.old)

@@ -1,4 +1,4 @@
-//! Steps for whose bytes there is room among those that wait: no call of the writer, and so no error.
+//! Steps for whose bytes there is room among the pending ones: they call no writer, and have no error.
 ghost use Rattle.std.specs.Prelude.{◌≡◌, ◌+◌, ◌*◌, ◌≤◌, length, true, false};
 ghost use Rattle.sat_base.specs.device.Sink.{Sent, sink_of};
 ghost use Rattle.sat_base.specs.device.Waiting.{HasRoomFor, Takes};
@@ -12,7 +12,7 @@ use crate::steps::fields::tag;
 use crate::steps::numbers::{LONGEST, push_number};
 use crate::{ClauseHash, CountedWrite, DeleteClauseProof, HashBits, Lit, ProofStep, Var};
 
-/// The lengths of a step's two lists, of which a list of units counts as both.
+/// Returns the lengths of a step's two lists. A list of units counts as both.
 #[inline(always)] // most steps have one arm, which their caller knows
 fn list_lengths(step: &ProofStep<'_>) -> (usize, usize)
     ensures { result.0 + result.1 ≡ items_in (step_of step.now) }
@@ -37,6 +37,7 @@ fn list_lengths(step: &ProofStep<'_>) -> (usize, usize)
 }
 
 impl<W: CountedWrite, P: Room> Output<W, P> {
+    /// Pushes a number.
     #[inline(always)]
     fn push_one(&mut self, number: u64)
         requires { HasRoomFor 10 P.waiting P.size self.old.pending }
@@ -47,6 +48,7 @@ impl<W: CountedWrite, P: Room> Output<W, P> {
         push_number(&mut self.pending, number);
     }
 
+    /// Pushes a variable.
     #[inline(always)]
     fn push_variable(&mut self, var: Var)
         requires { HasRoomFor 10 P.waiting P.size self.old.pending }
@@ -56,6 +58,7 @@ impl<W: CountedWrite, P: Room> Output<W, P> {
         self.push_one(var.index() as u64);
     }
 
+    /// Pushes a variable or none.
     #[inline(always)]
     fn push_optional(&mut self, var: Option<Var>)
         requires { HasRoomFor 10 P.waiting P.size self.old.pending }
@@ -68,6 +71,7 @@ impl<W: CountedWrite, P: Room> Output<W, P> {
         }
     }
 
+    /// Pushes a flag.
     #[inline(always)]
     fn push_flag(&mut self, flag: bool)
         requires { HasRoomFor 10 P.waiting P.size self.old.pending }
@@ -81,6 +85,7 @@ impl<W: CountedWrite, P: Room> Output<W, P> {
         }
     }
 
+    /// Pushes a number of bits.
     #[inline(always)]
     fn push_width(&mut self, bits: HashBits)
         requires { HasRoomFor 10 P.waiting P.size self.old.pending }
@@ -90,6 +95,7 @@ impl<W: CountedWrite, P: Room> Output<W, P> {
         self.push_one(bits.get() as u64);
     }
 
+    /// Pushes why a clause is deleted.
     #[inline(always)]
     fn push_deletion(&mut self, proof: DeleteClauseProof)
         requires { HasRoomFor 10 P.waiting P.size self.old.pending }
@@ -103,6 +109,7 @@ impl<W: CountedWrite, P: Room> Output<W, P> {
         }
     }
 
+    /// Pushes a list of literals.
     #[inline(always)]
     fn push_literals(&mut self, lits: &[Lit])
         requires { HasRoomFor (10 * (length lits.now + 1)) P.waiting P.size self.old.pending }
@@ -115,6 +122,7 @@ impl<W: CountedWrite, P: Room> Output<W, P> {
         }
     }
 
+    /// Pushes a list of hashes.
     #[inline(always)]
     fn push_hashes(&mut self, hashes: &[ClauseHash])
         requires { HasRoomFor (10 * (length hashes.now + 1)) P.waiting P.size self.old.pending }
@@ -127,6 +135,7 @@ impl<W: CountedWrite, P: Room> Output<W, P> {
         }
     }
 
+    /// Pushes a literal and its hash.
     #[inline(always)]
     fn push_unit(&mut self, unit: (Lit, ClauseHash))
         requires { HasRoomFor 20 P.waiting P.size self.old.pending }
@@ -139,6 +148,7 @@ impl<W: CountedWrite, P: Room> Output<W, P> {
         self.push_one(hash);
     }
 
+    /// Pushes a list of units.
     fn push_units(&mut self, units: &[(Lit, ClauseHash)])
         requires { HasRoomFor (20 * length units.now + 10) P.waiting P.size self.old.pending }
         ensures sends { spelling.Pushes spelling.units units.now W.seen P.waiting self.old self.new }
@@ -150,6 +160,7 @@ impl<W: CountedWrite, P: Room> Output<W, P> {
         }
     }
 
+    /// Pushes a variable, and another or none.
     #[inline(always)]
     fn push_variables(&mut self, first: Var, second: Option<Var>)
         requires { HasRoomFor 20 P.waiting P.size self.old.pending }
@@ -159,6 +170,7 @@ impl<W: CountedWrite, P: Room> Output<W, P> {
         self.push_optional(second);
     }
 
+    /// Pushes a variable, and whether it is sampled.
     #[inline(always)]
     fn push_mode(&mut self, var: Var, sample: bool)
         requires { HasRoomFor 20 P.waiting P.size self.old.pending }
@@ -168,6 +180,7 @@ impl<W: CountedWrite, P: Room> Output<W, P> {
         self.push_flag(sample);
     }
 
+    /// Pushes a list of literals, and then one of hashes.
     #[inline(always)]
     fn push_both_lists(&mut self, lits: &[Lit], hashes: &[ClauseHash])
         requires { HasRoomFor (10 * (length lits.now + length hashes.now + 2)) P.waiting P.size self.old.pending }
@@ -177,6 +190,7 @@ impl<W: CountedWrite, P: Room> Output<W, P> {
         self.push_hashes(hashes);
     }
 
+    /// Pushes a derived clause.
     #[inline(always)]
     fn push_derived(&mut self, redundant: bool, clause: &[Lit], hashes: &[ClauseHash])
         requires { HasRoomFor (10 * (length clause.now + length hashes.now + 3)) P.waiting P.size self.old.pending }
@@ -187,6 +201,7 @@ impl<W: CountedWrite, P: Room> Output<W, P> {
         self.push_both_lists(clause, hashes);
     }
 
+    /// Pushes a clause, and why it is deleted.
     #[inline(always)]
     fn push_deleted(&mut self, clause: &[Lit], proof: DeleteClauseProof)
         requires { HasRoomFor (10 * (length clause.now + 2)) P.waiting P.size self.old.pending }
@@ -197,7 +212,7 @@ impl<W: CountedWrite, P: Room> Output<W, P> {
         self.push_deletion(proof);
     }
 
-    /// Lets what stands after the tag wait.
+    /// Pushes the fields of a step.
     #[inline(always)]
     fn push_fields(&mut self, step: &ProofStep<'_>)
         requires { HasRoomFor (10 * (items_in (step_of step.now) + 3)) P.waiting P.size self.old.pending }
@@ -227,8 +242,8 @@ impl<W: CountedWrite, P: Room> Output<W, P> {
         }
     }
 
-    /// Tests whether there is room for a step's bytes: a number takes at most ten, and beside its lists a step has at
-    /// most three, and its tag.
+    /// Whether there is room for a step's bytes. A number takes at most ten, and besides its lists a step has at most
+    /// three numbers and its tag.
     #[inline(always)]
     fn has_room(&self, step: &ProofStep<'_>) -> bool
         ensures { result ≡ true → HasRoomFor (10 * (items_in (step_of step.now) + 4)) P.waiting P.size
@@ -239,7 +254,7 @@ impl<W: CountedWrite, P: Room> Output<W, P> {
         4 <= spare && first <= spare - 4 && second <= spare - 4 - first
     }
 
-    /// Lets a step's bytes wait, for which there is room.
+    /// Pushes the bytes of a step, for which there is room.
     #[inline(always)]
     fn push_step(&mut self, step: &ProofStep<'_>)
         requires { HasRoomFor (10 * (items_in (step_of step.now) + 4)) P.waiting P.size self.old.pending }
@@ -249,7 +264,7 @@ impl<W: CountedWrite, P: Room> Output<W, P> {
         self.push_fields(step);
     }
 
-    /// Lets a step's bytes wait where there is room for them all, and returns whether there is.
+    /// Pushes the bytes of a step if there is room for all of them, and returns whether there is.
     #[inline(always)]
     pub(super) fn try_step(&mut self, step: &ProofStep<'_>) -> bool
         ensures sends { result ≡ true → spelling.Pushes spelling.a_step (step_of step.now) W.seen P.waiting self.old

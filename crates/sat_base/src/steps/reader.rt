@@ -14,7 +14,7 @@ use crate::steps::step_lists::Lists;
 use crate::{CountedRead, ProofStep, StepError};
 use std::alloc::Global;
 
-/// What a reader of steps keeps: the bytes read ahead, and the lists of the step in hand.
+/// The buffers of a reader of steps: the bytes read ahead, and the lists of the step in hand.
 #[derive(Drop)]
 pub struct Buffers {
     ahead: Ahead,
@@ -24,14 +24,14 @@ pub struct Buffers {
     failed: bool,
 }
 
-/// A reader of proof steps, which asks its reader for at most 4,096 bytes at a time.
+/// A reader of proof steps. It asks its reader for at most 4,096 bytes at a time.
 pub struct StepReader<'r, R, B: Drop = Buffers> {
     reader: &'r mut R,
     buffers: B,
 }
 
 impl<R, B: Drop> Drop for StepReader<'_, R, B> {
-    /// The reader is left as the last step left it.
+    /// Leaves the reader as the last step left it.
     fn drop(self)
         ensures { self.exit.0.now ≡ self.entry.reader.now }
     {
@@ -42,7 +42,7 @@ impl<R, B: Drop> Drop for StepReader<'_, R, B> {
     }
 }
 
-/// Tests whether no step is read after this error.
+/// Whether no step is read after this error.
 fn stops(error: StepError) -> bool
     ensures { result ≡ is_stop error }
 {
@@ -56,7 +56,7 @@ fn stops(error: StepError) -> bool
     }
 }
 
-/// The tag of a step of this kind.
+/// Returns the tag of a step of this kind.
 #[inline(always)] // a caller that asks for one tag compares once
 fn tag(kind: Kind) -> u8
     ensures { (literals hashes : List ℕ) (units : List (ℕ × ℕ))
@@ -79,7 +79,7 @@ fn tag(kind: Kind) -> u8
     }
 }
 
-/// Reads the next step of a reader, of which this was read ahead.
+/// Reads the next step of a reader, whose next bytes were read ahead.
 fn read_from<R: CountedRead>(
     reader: &mut R,
     ahead: &mut Ahead,
@@ -93,7 +93,7 @@ fn read_from<R: CountedRead>(
 }
 
 impl<'r, R: CountedRead> StepReader<'r, R, Buffers> {
-    /// A reader of the steps that stand next in a reader. Nothing is read yet, and no memory taken.
+    /// Returns a reader of the next steps of a reader. Reads nothing yet, and does not allocate.
     pub fn new(alloc: Global, reader: &'r mut R) -> StepReader<'r, R, Buffers>
         ensures same { reader_name result ≡ reader.entry.ghost_name }
         ensures source { reader_source R.seen result ≡ unread (R.seen reader.old) }
@@ -108,7 +108,7 @@ impl<'r, R: CountedRead> StepReader<'r, R, Buffers> {
         StepReader { reader, buffers }
     }
 
-    /// Reads the next step, which `step` then lends. After any error but `Ends` it only answers that it has failed.
+    /// Reads the next step, which `step` lends. After any error but `Ends`, it returns `HasFailed` from then on.
     pub fn advance(&mut self) -> Result<(), StepError>
         ensures { Next R.seen self.old self.new (giving (step_in self.new) result) }
     {
@@ -131,14 +131,14 @@ impl<'r, R: CountedRead> StepReader<'r, R, Buffers> {
         }
     }
 
-    /// The tag of the step that `advance` has read, from 1 to 13, after an `Ok`. It is told without the step.
+    /// Returns the tag of the step that `advance` has read, from 1 to 13, after an `Ok`.
     pub fn tag(&self) -> u8
         ensures { result ≡ tag_of (step_in self.now) }
     {
         tag(self.buffers.kind)
     }
 
-    /// The step that `advance` has read, after an `Ok`. After an error it says nothing.
+    /// Returns the step that `advance` has read, after an `Ok`. After an error it means nothing.
     pub fn step(&self) -> ProofStep<'_>
         ensures { step_of result ≡ step_in self.now }
     {

@@ -9,13 +9,13 @@ use std::marker::Model;
 pub enum DeleteClauseProof {
     /// A redundant clause is no longer needed.
     Redundant,
-    /// A stronger clause stands in its place.
+    /// A stronger clause replaces it.
     Simplified,
     /// A unit satisfies it.
     Satisfied,
 }
 
-/// How many bits of a hash count, from 0 to 64. Contracts see the number.
+/// The number of bits of a hash that count, from 0 to 64. Contracts see the number.
 #[derive(Clone, Copy, Debug, PartialEq, Eq)]
 pub struct HashBits {
     bits: u32,
@@ -34,7 +34,7 @@ impl Model for HashBits {
 }
 
 impl HashBits {
-    /// This many bits, or `None` past 64.
+    /// Returns this number of bits, or `None` if it is above 64.
     pub fn new(bits: u32) -> Option<HashBits>
         ensures { MatchOption result (64 < bits) (λ h. h ≡ bits) }
     {
@@ -44,7 +44,7 @@ impl HashBits {
         Some(HashBits { bits })
     }
 
-    /// This many bits.
+    /// Returns this number of bits.
     pub(crate) fn of_width(bits: u32) -> HashBits
         requires { bits ≤ 64 }
         ensures { result ≡ bits }
@@ -52,6 +52,7 @@ impl HashBits {
         HashBits { bits }
     }
 
+    /// Returns the number.
     pub fn get(self) -> u32
         ensures value { result ≡ self }
         ensures bound { result ≤ 64 }
@@ -63,21 +64,21 @@ impl HashBits {
 /// A step of a proof. Its lists are lent.
 #[derive(Clone, Copy, Debug)]
 pub enum ProofStep<'a> {
-    /// A variable gets an index of the solver's, or loses the one that it had.
+    /// A variable gets an index of the solver, or loses its index.
     SolverVarName {
         global: Var,
         solver: Option<Var>,
     },
-    /// A variable gets a name of the user's, or loses the one that it had.
+    /// A variable gets a name of the user, or loses its name.
     UserVarName {
         global: Var,
         user: Option<Var>,
     },
-    /// A hidden variable that stands in no clause is forgotten.
+    /// A hidden variable that is in no clause is forgotten.
     DeleteVar {
         var: Var,
     },
-    /// A variable is sampled from here on, or a witness where `sample` is false.
+    /// A variable is sampled from now on, or a witness if `sample` is false.
     ChangeSamplingMode {
         var: Var,
         sample: bool,
@@ -101,7 +102,7 @@ pub enum ProofStep<'a> {
         clause: &'a [Lit],
         proof: DeleteClauseProof,
     },
-    /// So many bits of a hash count from here on.
+    /// This number of bits of a hash count from now on.
     ChangeHashBits {
         bits: HashBits,
     },
@@ -109,11 +110,11 @@ pub enum ProofStep<'a> {
     Model {
         assignment: &'a [Lit],
     },
-    /// What is assumed from here on.
+    /// The assumptions from now on.
     Assumptions {
         assumptions: &'a [Lit],
     },
-    /// Assumptions that can't hold together, which follows by propagation from the clauses with these hashes.
+    /// Assumptions that cannot hold together, by propagation from the clauses with these hashes.
     FailedAssumptions {
         failed_core: &'a [Lit],
         propagation_hashes: &'a [ClauseHash],

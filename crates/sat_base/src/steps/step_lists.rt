@@ -1,4 +1,4 @@
-//! The lists of the step in hand, whose room is used again.
+//! The lists of the step in hand, whose memory is reused.
 ghost use Rattle.std.specs.Prelude.{◌≡◌, []};
 ghost use Rattle.sat_base.specs.steps.StepViews.{step_of};
 ghost use Rattle.sat_base.specs.steps.Kinds.{step_with};
@@ -15,6 +15,7 @@ pub(crate) struct Lists {
 }
 
 impl Lists {
+    /// Returns empty lists. Does not allocate.
     pub(crate) fn new(alloc: Global) -> Lists
         ensures literals { result.literals.items ≡ [] }
         ensures hashes { result.hashes.items ≡ [] }
@@ -27,7 +28,7 @@ impl Lists {
         }
     }
 
-    /// The step of this kind that has these lists.
+    /// Returns the step of this kind that has these lists.
     pub(crate) fn step(&self, kind: Kind) -> ProofStep<'_>
         ensures { step_of result ≡ step_with kind self.now.literals.items self.now.hashes.items self.now.units.items }
     {

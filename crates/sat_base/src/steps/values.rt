@@ -16,6 +16,7 @@ use crate::{CountedRead, CountedWrite, DeleteClauseProof, HashBits, StepError, V
 const LARGEST_INDEX: u64 = MAX_COUNT as u64 - 1;
 
 impl<R: CountedRead> Input<'_, R> {
+    /// Reads a variable.
     pub(super) fn variable(&mut self) -> Result<Var, StepError>
         ensures { ReadsFromInput IsVariable result R.seen self.old self.new }
     {
@@ -23,6 +24,7 @@ impl<R: CountedRead> Input<'_, R> {
         Ok(Var::from_index(index as usize))
     }
 
+    /// Reads a variable or none.
     pub(super) fn optional(&mut self) -> Result<Option<Var>, StepError>
         ensures { ReadsFromInput IsOptionalVariable result R.seen self.old self.new }
     {
@@ -33,6 +35,7 @@ impl<R: CountedRead> Input<'_, R> {
         Ok(Some(Var::from_index((above - 1) as usize)))
     }
 
+    /// Reads a flag.
     pub(super) fn flag(&mut self) -> Result<bool, StepError>
         ensures { ReadsFromInput IsFlag result R.seen self.old self.new }
     {
@@ -43,6 +46,7 @@ impl<R: CountedRead> Input<'_, R> {
         Ok(true)
     }
 
+    /// Reads a number of bits.
     pub(super) fn width(&mut self) -> Result<HashBits, StepError>
         ensures { ReadsFromInput IsWidth result R.seen self.old self.new }
     {
@@ -50,6 +54,7 @@ impl<R: CountedRead> Input<'_, R> {
         Ok(HashBits::of_width(bits as u32))
     }
 
+    /// Reads why a clause is deleted.
     pub(super) fn deletion(&mut self) -> Result<DeleteClauseProof, StepError>
         ensures { ReadsFromInput IsDeletion (valued deletion_of result) R.seen self.old self.new }
     {
@@ -65,12 +70,14 @@ impl<R: CountedRead> Input<'_, R> {
 }
 
 impl<W: CountedWrite, P: Room> Output<W, P> {
+    /// Puts a variable.
     pub(super) fn put_variable(&mut self, var: Var) -> Result<(), WriteFailed>
         ensures { SendsSpelling a_variable var result W.seen P.waiting self.old self.new }
     {
         self.put_number(var.index() as u64)
     }
 
+    /// Puts a variable or none.
     pub(super) fn put_optional(&mut self, var: Option<Var>) -> Result<(), WriteFailed>
         ensures { SendsSpelling an_optional_variable var result W.seen P.waiting self.old self.new }
     {
@@ -80,6 +87,7 @@ impl<W: CountedWrite, P: Room> Output<W, P> {
         }
     }
 
+    /// Puts a flag.
     pub(super) fn put_flag(&mut self, flag: bool) -> Result<(), WriteFailed>
         ensures { SendsSpelling a_flag flag result W.seen P.waiting self.old self.new }
     {
@@ -90,12 +98,14 @@ impl<W: CountedWrite, P: Room> Output<W, P> {
         }
     }
 
+    /// Puts a number of bits.
     pub(super) fn put_width(&mut self, bits: HashBits) -> Result<(), WriteFailed>
         ensures { SendsSpelling a_width bits result W.seen P.waiting self.old self.new }
     {
         self.put_number(bits.get() as u64)
     }
 
+    /// Puts why a clause is deleted.
     pub(super) fn put_deletion(&mut self, proof: DeleteClauseProof) -> Result<(), WriteFailed>
         ensures { SendsSpelling a_deletion (deletion_of proof) result W.seen P.waiting self.old self.new }
     {

@@ -13,18 +13,18 @@ use crate::device::pending::Pending;
 use crate::{CountedWrite, ProofStep};
 use std::io;
 
-/// How many bytes of a single step wait at most.
+/// The largest number of pending bytes of a single step.
 const SHORT_PIECE: usize = 64;
 
-/// A writer of proof steps, which keeps at most 4,096 bytes from step to step, so that a proof of N bytes takes about
-/// N/4,096 writes. They are written out when there is no room for more, at a flush, and when it is taken apart.
+/// A writer of proof steps. It holds at most 4,096 pending bytes from step to step, so a proof of N bytes takes about
+/// N/4,096 writes. Pending bytes are written out if there is no room for more, at a flush, and by `into_inner`.
 #[derive(Drop)]
 pub struct StepWriter<W> {
     output: Output<W, Pending<PIECE>>,
 }
 
 impl<W: CountedWrite> StepWriter<W> {
-    /// Writes nothing yet, and takes no memory.
+    /// Returns a writer of steps. Writes nothing yet, and does not allocate.
     pub fn new(writer: W) -> StepWriter<W>
         ensures { steps_sink W.seen result ≡ empty_sink (W.seen writer) }
     {
@@ -33,8 +33,8 @@ impl<W: CountedWrite> StepWriter<W> {
         }
     }
 
-    /// Lets a step's bytes wait. After an error a front of what waited and of them may have been written; nothing waits
-    /// then.
+    /// Writes a step. After an error, a prefix of the pending bytes and of those of the step may have been written, and
+    /// no bytes are pending.
     pub fn write(&mut self, step: &ProofStep<'_>) -> io::Result<()>
         ensures sends { Sends (step_bytes (step_of step.now)) result (steps_sink W.seen self.old)
             (steps_sink W.seen self.new) }
@@ -47,7 +47,8 @@ impl<W: CountedWrite> StepWriter<W> {
         self.output.give_error(put)
     }
 
-    /// Lets a step's bytes wait where there surely is room for them all, and returns whether there is. Calls no writer.
+    /// Writes a step if there surely is room for all of its bytes, and returns whether there is. Does not call the
+    /// writer.
     #[inline(always)] // so that a caller's step needs no space in memory
     pub fn try_write(&mut self, step: &ProofStep<'_>) -> bool
         ensures sends { result ≡ true → Sent (steps_sink W.seen self.old) (steps_sink W.seen self.new)
@@ -58,7 +59,7 @@ impl<W: CountedWrite> StepWriter<W> {
         self.output.try_step(step)
     }
 
-    /// Writes out what waits, and flushes the writer.
+    /// Writes out the pending bytes, and flushes the writer.
     pub fn flush(&mut self) -> io::Result<()>
         ensures { Flushes result (steps_sink W.seen self.old) (steps_sink W.seen self.new) }
     {
@@ -66,7 +67,7 @@ impl<W: CountedWrite> StepWriter<W> {
         self.output.give_error(flushed)
     }
 
-    /// The writer, and whether what waited was written out. Where nothing waited nothing is done.
+    /// Writes out the pending bytes, if there are any. Returns the writer, and whether that succeeded.
     pub fn into_inner(self) -> (W, io::Result<()>)
         ensures puts { Puts (steps_sink W.seen self).waiting result.1 (steps_sink W.seen self).writer
             (W.seen result.0) }
@@ -78,7 +79,7 @@ impl<W: CountedWrite> StepWriter<W> {
         (output.into_writer(), result)
     }
 
-    /// The writer, which took what was written out so far. What waits is lost.
+    /// Returns the writer. Pending bytes are lost.
     pub fn into_writer(self) -> W
         ensures { W.seen result ≡ (steps_sink W.seen self).writer }
     {
@@ -87,8 +88,8 @@ impl<W: CountedWrite> StepWriter<W> {
     }
 }
 
-/// Writes a step's bytes, taking no memory: in pieces of 64 bytes, so that most steps are one write. After an error a
-/// front of them may have been written.
+/// Writes the bytes of a step, in pieces of 64 bytes, so that most steps take one write. Does not allocate. After an
+/// error a prefix of the bytes may have been written.
 pub fn write_step<W: CountedWrite>(writer: &mut W, step: &ProofStep<'_>) -> io::Result<()>
     ensures puts { Puts (step_bytes (step_of step.now)) result (W.seen writer.old) (W.seen writer.new) }
     ensures spells { OnOk result (SpellsStep (step_of step.now) (step_bytes (step_of step.now))) }

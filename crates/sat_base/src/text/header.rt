@@ -1,4 +1,4 @@
-//! The places in a header line, `p cnf` and two numbers.
+//! Places in a header line, `p cnf` and two numbers.
 ghost use Rattle.std.specs.Prelude.{◌≡◌, false};
 ghost use Rattle.sat_base.specs.text.Text.{is_blank};
 ghost use Rattle.sat_base.specs.text.Spot.{Spot};
@@ -19,18 +19,18 @@ pub(crate) enum Stage {
     Both { vars: u64, clauses: u64 },
 }
 
-/// Where a tokenizer is in the line. Numbers are held at 2^64-1.
+/// A place in the line. Numbers are held at 2^64-1.
 #[derive(Clone, Copy, Drop)]
 pub(crate) enum HeaderPlace {
-    /// Behind the blanks that ended these words.
+    /// After the blanks that ended these words.
     Between(Stage),
-    /// Behind `p`.
+    /// After `p`.
     P,
-    /// Behind the `c` of `cnf`.
+    /// After the `c` of `cnf`.
     C,
-    /// Behind the `cn` of `cnf`.
+    /// After the `cn` of `cnf`.
     Cn,
-    /// Behind `cnf`.
+    /// After `cnf`.
     Cnf,
     /// In the number of variables.
     Vars(u64),
@@ -38,7 +38,7 @@ pub(crate) enum HeaderPlace {
     Clauses { vars: u64, value: u64 },
 }
 
-/// The place in a word that begins with this byte, behind these words, if it may stand there.
+/// Returns the place in a word that begins with this byte, after these words, if the word is allowed there.
 fn begun(ended: Stage, byte: u8) -> Option<HeaderPlace>
     requires { is_blank byte ≡ false }
     ensures { BeganHeader ended byte result }
@@ -72,7 +72,7 @@ fn begun(ended: Stage, byte: u8) -> Option<HeaderPlace>
     }
 }
 
-/// The place behind a byte that is no blank, if the word in hand may then stand there.
+/// Returns the place after a byte that is no blank, if the word in hand is still allowed.
 pub(crate) fn next_in_header(place: HeaderPlace, byte: u8) -> Option<HeaderPlace>
     requires { is_blank byte ≡ false }
     ensures { MovesHeader place byte result }
@@ -115,7 +115,7 @@ pub(crate) fn next_in_header(place: HeaderPlace, byte: u8) -> Option<HeaderPlace
     }
 }
 
-/// The words that have ended where the one in hand does, if it may then stand there.
+/// Returns the words that have ended if the one in hand ends here, if it is allowed then.
 pub(crate) fn ended_in(place: HeaderPlace) -> Option<Stage>
     ensures { (spot : Spot) → IsAtHeader place spot → IsStageIf result (ended_stage spot) }
 {
