@@ -52,7 +52,7 @@ impl Read for Endless<'_> {
     }
 }
 
-pub(crate) fn endless(text: &[u8]) -> Counted<Endless<'_>> {
+pub(crate) fn without_end(text: &[u8]) -> Counted<Endless<'_>> {
     Counted::new(Endless { text, calls: 0 })
 }
 

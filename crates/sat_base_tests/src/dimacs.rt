@@ -8,7 +8,7 @@ ghost use Rattle.sat_base.specs.dimacs.Parsing.{IsWholeText};
 ghost use Rattle.sat_base.specs.text.Tokenizing.{held};
 ghost use Rattle.sat_base.specs.dimacs.Dimacs.{dimacs};
 
-use crate::devices::{by_one, endless};
+use crate::devices::{by_one, without_end};
 use crate::formula::is_printed;
 use sat_base::{
     CnfFormula, Counted, CountedRead, DimacsError, DimacsParser, ExtendFormula, FormulaError,
@@ -486,9 +486,17 @@ fn clauses_are_counted_in_parts(rt: HostRuntime) {
     assert!(rt; answer == Ok(2));
 }
 
+#[test]
+fn a_percent_line_ends_a_formula(rt: HostRuntime) {
+    let mut parser = DimacsParser::new(rt.alloc());
+    assert!(rt; feed(&mut parser, b"1 0\nc %\n").is_ok() && !parser.has_ended());
+    assert!(rt; feed(&mut parser, b" %").is_ok() && parser.has_ended());
+    assert!(rt; parser.finish().is_ok() && !parser.has_ended());
+}
+
 /// How many clauses a text has that goes on with zeros without end, and how often it is read.
 fn parse_endless(alloc: Global, text: &[u8]) -> (Option<usize>, u64) {
-    let mut reader = endless(text);
+    let mut reader = without_end(text);
     let count = match DimacsParser::parse(alloc, &mut reader) {
         Ok(formula) => Some(formula.len()),
         Err(_) => None,
@@ -498,7 +506,7 @@ fn parse_endless(alloc: Global, text: &[u8]) -> (Option<usize>, u64) {
 
 /// The same, for a caller that sees the clauses of every piece.
 fn count_endless(alloc: Global, text: &[u8]) -> (Option<u64>, u64) {
-    let mut reader = endless(text);
+    let mut reader = without_end(text);
     let count = count_in_parts(alloc, &mut reader).ok();
     (count, reader.into_inner().calls)
 }
