@@ -10,14 +10,14 @@ use Rattle.sat_hints.specs.declared.answer.HintWhy.TheVariants.{Syntax, IdOrder,
 use Rattle.sat_hints.specs.declared.answer.HintVerdict.{HintVerdict}
 use Rattle.sat_hints.specs.declared.answer.HintVerdict.TheVariants.{Proved, Bad}
 
--- a clause before the last isn't unit in its turn
+-- a clause before the last is not unit in its turn
 abbrev pub SomeIsNotUnit : List ℕ → List (List ℕ) → Type 0
 SomeIsNotUnit assumed [] = ⊥
 SomeIsNotUnit assumed (clause ∷ []) = ⊥
 SomeIsNotUnit assumed (clause ∷ next ∷ rest) =
     ((l : ℕ) → IsUnit assumed clause l → ⊥) ⊎ ((l : ℕ) × IsUnit assumed clause l × SomeIsNotUnit (l ∷ assumed) (next ∷ rest))
 
--- those before the last are unit in turn, and the last isn't falsified; or there is none
+-- those before the last are unit in turn, and the last is not falsified; or there is none
 abbrev pub LastIsNotFalsified : List ℕ → List (List ℕ) → Type 0
 LastIsNotFalsified assumed [] = Unit {0}
 LastIsNotFalsified assumed (clause ∷ []) = IsFalsified assumed clause → ⊥
@@ -33,12 +33,12 @@ pub record TriesLine (earlier : List Line) (line : Line) (Fails : List ℕ → L
   pub consistent : is_tautology assumed ≡ false
   pub fails : Fails assumed clauses
 
--- Why a line is at fault behind earlier ones, the first reason of these: its id isn't above all before,
+-- Why a line is at fault after earlier ones, the first reason of these: its id is not above all before,
 abbrev pub IsFaultOf : List Line → Line → HintWhy → Type 0
 IsFaultOf earlier line IdOrder = IsInOrder earlier line → ⊥
--- a clause that it names isn't present,
+-- a clause that it names is not present,
 IsFaultOf earlier line UnknownId = IsInOrder earlier line × (clauses_under (named_ids line) earlier ≡ None)
--- these don't run into a conflict,
+-- these do not run into a conflict,
 IsFaultOf earlier line NotUnit = TriesLine earlier line SomeIsNotUnit
 IsFaultOf earlier line NotFalsified = TriesLine earlier line LastIsNotFalsified
 -- or the variable that it makes new is in use.
@@ -50,7 +50,7 @@ abbrev pub IsAtFault : List Line → List ℕ → HintWhy → Type 0
 IsAtFault earlier bytes Syntax = (line : Line) → SpellsLine bytes line → ⊥
 IsAtFault earlier bytes why = (line : Line) × SpellsLine bytes line × IsFaultOf earlier line why
 
--- a line at fault, behind a derivation
+-- a line at fault, after a derivation
 pub record IsBadAt (text : List ℕ) (line : ℕ) (why : HintWhy) : Type 0 where
   pub earlier : List Line
   pub bytes : List ℕ

@@ -9,7 +9,7 @@ use Rattle.sat_hints.specs.Hints.{derives_empty, count_of_cores}
 use Rattle.sat_hints.specs.declared.answer.HintVerdict.{HintVerdict}
 use Rattle.sat_hints.specs.declared.answer.HintVerdict.TheVariants.{Proved}
 
--- a clause that is kept isn't gone
+-- a clause that is kept is not removed
 abbrev pub gone_unless : Bool → ℕ → Option Line
 gone_unless true id = None
 gone_unless false id = Some (Gone id)
@@ -30,12 +30,12 @@ line_told (told.Model assignment) = None
 line_told (told.Assumptions assumptions) = None
 line_told (told.FailedAssumptions core ids) = Some (Core core ids)
 
--- a line in front of these, if there is one
+-- a line before these, if there is one
 abbrev pub with_line : Option Line → List Line → List Line
 with_line None lines = lines
 with_line (Some line) lines = line ∷ lines
 
--- the lines of announcements, the oldest first, behind earlier lines, the newest first
+-- the lines of announcements, the oldest first, after earlier lines, the newest first
 abbrev pub lines_told : List Told → List Line → List Line
 lines_told [] earlier = earlier
 lines_told (t ∷ ts) earlier = lines_told ts (with_line (line_told t.announcement) earlier)

@@ -20,20 +20,21 @@ pub record Gave (from to : Reader) (passed last : List Step) (rest : List ℕ) :
   pub unended : AllByRecursion (λ step. step ≢ End) passed
   pub accepted : AcceptsAll (taken_after passed [])
 
--- a writer took a front of a text, and no write failed
+-- a writer took a prefix of a text, and no write failed
 pub record WritesFrontOf (old new : Writer) (text : List ℕ) : Type 0 where
   pub front : List ℕ
   pub behind : List ℕ
   pub whole : text ≡ front ++ behind
   pub takes : WriterTakes old new front
 
--- a write failed, the last, of the lines of accepted steps, or of theirs and those of the step behind them, which is accepted, too
+-- a write failed, the last, of the lines of accepted steps, or of theirs and those of the step after them, which is accepted, too
 abbrev pub BreaksBehind : Writer → Writer → Step → List Step → Type 0
 BreaksBehind old new step steps = WriterBreaks old new (hint_text steps) ⊎ (Accepts (ready_after steps) step × WriterBreaks old new (hint_text (step ∷ steps)))
 
--- behind the steps that passed one was begun, of which a byte was given, or it was read
+-- after the steps that passed one was begun, of which a byte was given, or it was read and would be accepted
 abbrev pub GaveUpTo : Reader → Reader → List Step → List ℕ → Type 0
-GaveUpTo from to passed rest = (Gave from to passed [] rest × BeginsWithStep rest) ⊎ ((step : Step) × Gave from to passed (step ∷ []) rest)
+GaveUpTo from to passed rest = (Gave from to passed [] rest × BeginsWithStep rest)
+    ⊎ ((step : Step) × Gave from to passed (step ∷ []) rest × Accepts (ready_after (taken_after passed [])) step)
 
 -- the certificate was read and accepted to its end
 pub record IsAccepted (from to : Reader) (passed : List Step) (rest : List ℕ) : Type 0 where
@@ -43,13 +44,13 @@ pub record IsAccepted (from to : Reader) (passed : List Step) (rest : List ℕ) 
 
 -- why the checker refuses it
 abbrev pub RefusesBy : CheckerError → Reader → Reader → List Step → Type 0
--- a step isn't accepted,
+-- a step is not accepted,
 RefusesBy errors.CheckFailed from to passed = (step : Step) × (rest : List ℕ) × Gave from to passed (step ∷ []) rest × (Accepts (ready_after (taken_after passed [])) step → ⊥)
--- the text is over before an end,
+-- the text has ended before an end,
 RefusesBy errors.ProofIncomplete from to passed = (rest : List ℕ) × Gave from to passed [] rest × IsOver to × IsProperFront SpellsStep rest
 -- or no step can follow a byte
 RefusesBy errors.ParseError from to passed = (rest : List ℕ) × Gave from to passed [] rest × Spoilt SpellsStep rest
--- ids and counts don't come to their end within the bytes that a reader gives
+-- ids and counts do not come to their end within the bytes that a reader gives
 RefusesBy errors.CounterEnd from to passed = ⊥
 RefusesBy errors.IoError from to passed = ⊥
 RefusesBy errors.OutOfMemory from to passed = ⊥
@@ -67,12 +68,12 @@ Converts (Err HasDeleteVar) from to old new = ⊥
 -- the checker refuses a step, a byte or the end,
 Converts (Err (Refused e)) from to old new = (passed : List Step) × NoReadFailed from to × RefusesBy e from to passed
     × WritesFrontOf old new (hint_text (taken_after passed []))
--- exactly one read failed, the last, or so many were made and none did,
+-- exactly one read failed, the last, or 2^48 were made and none did,
 Converts (Err Read) from to old new = (passed : List Step) × (rest : List ℕ) × ReadFails from to × Gave from to passed [] rest × IsProperFront SpellsStep rest
     × WritesFrontOf old new (hint_text (taken_after passed []))
--- a write of the lines failed, the last, as the last step read was checked or told,
+-- a write of the lines failed, the last, as the last step read was checked or announced,
 Converts (Err Write) from to old new = (passed : List Step) × (step : Step) × (rest : List ℕ) × NoReadFailed from to × Gave from to passed (step ∷ []) rest
     × BreaksBehind old new step (taken_after passed [])
--- or memory was refused, as a step was read, checked or told
+-- or memory was refused, as a step was read, or as an accepted one was checked or announced
 Converts (Err OutOfMemory) from to old new = (passed : List Step) × (rest : List ℕ) × NoReadFailed from to × GaveUpTo from to passed rest
     × WritesFrontOf old new (hint_text (taken_after passed []))

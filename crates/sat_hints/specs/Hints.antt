@@ -16,7 +16,7 @@ abbrev pub unless_unit_over : ℕ → Option (List ℕ) → Option (List ℕ)
 unless_unit_over v None = None
 unless_unit_over v (Some clause) = if is_unit_over v clause then None else Some clause
 
--- The clause under an id, a sorted set of literals: none where no line brought one, or where it is gone.
+-- The clause under an id, a sorted set of literals: none if no line added one, or if it is removed.
 abbrev pub clause_under : ℕ → List Line → Option (List ℕ)
 clause_under id [] = None
 clause_under id (Input i clause ∷ earlier) = if id == i then Some (canonical clause) else clause_under id earlier
@@ -25,7 +25,7 @@ clause_under id (Gone i ∷ earlier) = if id == i then None else clause_under id
 clause_under id (Core core ids ∷ earlier) = clause_under id earlier
 clause_under id (Fresh v ∷ earlier) = unless_unit_over v (clause_under id earlier)
 
--- with one more in front
+-- with one more before
 abbrev pub and_clauses : Option (List ℕ) → Option (List (List ℕ)) → Option (List (List ℕ))
 and_clauses None cs = None
 and_clauses (Some c) None = None
@@ -61,7 +61,7 @@ named_ids (Gone id) = id ∷ []
 named_ids (Core core ids) = ids
 named_ids (Fresh v) = []
 
--- what is assumed where clauses have to run into a conflict: a clause's negation, or a core
+-- what is assumed if clauses have to run into a conflict: a clause's negation, or a core
 abbrev pub assumed_by : Line → Option (List ℕ)
 assumed_by (Input id clause) = None
 assumed_by (Derived id clause ids) = Some (map negated clause)
@@ -73,7 +73,7 @@ assumed_by (Fresh v) = None
 abbrev pub Conflicts : List ℕ → List (List ℕ) → Type 0
 Conflicts assumed clauses = (is_tautology assumed ≡ true) ⊎ UnitInTurn assumed clauses
 
--- so it is where something is assumed
+-- so it is if something is assumed
 abbrev pub ConflictsIf : Option (List ℕ) → List (List ℕ) → Type 0
 ConflictsIf None clauses = Unit {0}
 ConflictsIf (Some assumed) clauses = Conflicts assumed clauses

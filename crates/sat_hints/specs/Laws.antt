@@ -44,7 +44,7 @@ EachDerivedHolds (Gone id ∷ earlier) = EachDerivedHolds earlier
 EachDerivedHolds (Core core ids ∷ earlier) = EachDerivedHolds earlier
 EachDerivedHolds (Fresh v ∷ earlier) = EachDerivedHolds earlier
 
--- no core is true as a whole in a valuation that the lines before it leave
+-- no core has only true literals in a valuation that the lines before it leave
 abbrev pub EachCoreFails : List Line → Type 0
 EachCoreFails [] = Unit {0}
 EachCoreFails (Input id clause ∷ earlier) = EachCoreFails earlier
@@ -53,11 +53,11 @@ EachCoreFails (Gone id ∷ earlier) = EachCoreFails earlier
 EachCoreFails (Core core ids ∷ earlier) = EachCoreFails earlier × ((a : Valuation) → IsLeftByLines earlier a → EachTrue a core → ⊥)
 EachCoreFails (Fresh v ∷ earlier) = EachCoreFails earlier
 
--- what a derivation derives holds in every valuation that is left by then
+-- what a derivation derives holds in every valuation that is left so far
 abbrev pub DerivedFollow : Type 0
 DerivedFollow = (lines : List Line) → IsHintDerivation lines → EachDerivedHolds lines
 
--- and no core of it is true as a whole in such a valuation
+-- and no core of it has only true literals in such a valuation
 abbrev pub HintCoresFail : Type 0
 HintCoresFail = (lines : List Line) → IsHintDerivation lines → EachCoreFails lines
 
@@ -90,7 +90,7 @@ inputs_of (Fresh v ∷ earlier) = inputs_of earlier
 abbrev pub FormulaIsLeft : Type 0
 FormulaIsLeft = (lines : List Line) (a : Valuation) → EachHolds a (inputs_of lines) → IsLeftByLines lines a
 
--- where no variable becomes new, lines leave the valuations in which the clauses of the formula hold
+-- if no variable becomes new, lines leave the valuations in which the clauses of the formula hold
 abbrev pub FormulaLeaves : Type 0
 FormulaLeaves = (lines : List Line) (a : Valuation) → AllByRecursion MakesNoVarNew lines → IsLeftByLines lines a ↔ EachHolds a (inputs_of lines)
 
@@ -122,7 +122,7 @@ IsTextOrFault (Err Read) steps old new = Unit {0}
 IsTextOrFault (Err Write) steps old new = Unit {0}
 IsTextOrFault (Err OutOfMemory) steps old new = Unit {0}
 
--- `convert` answers that to a certificate, where its reader tells the bytes
+-- `convert` answers that to a certificate, if its reader's bytes are known
 abbrev pub AcceptedConverts : Type 0
 AcceptedConverts = (steps : List Step) (text more : List ℕ) (result : Result (Unit {0}) HintError) (from to : Reader) (old new : Writer) → IsCertificate steps text → from.to_come ≡ Some (text ++ more)
     → Converts result from to old new → IsTextOrFault result steps old new
@@ -135,7 +135,7 @@ ProvedIsNotBad = (text : List ℕ) (empty : Bool) (cores lines line : ℕ) (why 
 abbrev pub OneVerdict : Type 0
 OneVerdict = (text : List ℕ) (v w : HintVerdict) → Judges v text → Judges w text → v ≡ w
 
--- `check` answers just that to a text that is proved, where its reader tells the bytes, or there is a fault
+-- `check` answers just that to a text that is proved, if its reader's bytes are known, or there is a fault
 abbrev pub ProofIsProved : Type 0
 ProofIsProved = (text : List ℕ) (empty : Bool) (cores lines : ℕ) (result : Result HintVerdict HintFault) (from to : Reader) → IsProof text empty cores lines → from.to_come ≡ Some text
     → GaveEnough from to (IsRightIfVerdict result) → IfOk result (λ verdict. verdict ≡ Proved empty cores lines)

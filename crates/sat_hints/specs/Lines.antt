@@ -8,9 +8,9 @@ use Rattle.sat_base.specs.dimacs.DimacsText.{number_text}
 pub data Line : Type 0 where
   Input : ℕ → List ℕ → Line  -- a clause of the formula, under this id
   Derived : ℕ → List ℕ → List ℕ → Line  -- a clause under this id, and the ids of those that it follows from
-  Gone : ℕ → Line  -- the clause under this id is gone
+  Gone : ℕ → Line  -- the clause under this id is removed
   Core : List ℕ → List ℕ → Line  -- literals that fail together, and the ids of the clauses by which they do
-  Fresh : ℕ → Line  -- a variable is new: its units are gone, and it may have another value than before
+  Fresh : ℕ → Line  -- a variable is new: its units are removed, and it may have another value than before
 
 -- an id is below 2^64-1
 abbrev pub AreIds : List ℕ → Type 0
@@ -36,7 +36,7 @@ IsLine (Fresh v) = AreVariables (v ∷ [])
 abbrev pub AreLines : List Line → Type 0
 AreLines = AllByRecursion IsLine
 
--- the word of each item, and a space behind it
+-- the word of each item, and a space after it
 abbrev pub words : (ℕ → List ℕ) → List ℕ → List ℕ
 words word [] = []
 words word (x ∷ xs) = word x ++ (32 ∷ words word xs)
@@ -45,7 +45,7 @@ words word (x ∷ xs) = word x ++ (32 ∷ words word xs)
 abbrev pub id_text : ℕ → List ℕ
 id_text id = decimal (id + 1)
 
--- ids, each with a space behind it
+-- ids, each with a space after it
 abbrev pub id_words : List ℕ → List ℕ
 id_words = words id_text
 
@@ -78,7 +78,7 @@ SpellsLine bytes line = IsLine line × (bytes ≡ line_text line)
 abbrev pub HasNoEnd : List ℕ → Type 0
 HasNoEnd = AllByRecursion (λ b. b ≡ 10 → ⊥)
 
--- What stands first in a text is this line, whatever it says, with the LF that ends it; or all of the text that is left, which has none.
+-- A text begins with this line, whatever the line says, with the LF that ends it; or all of the text that is left, which has none.
 pub data BeginsWithLine (bytes rest : List ℕ) : Type 0 where
   ended : (front : List ℕ) → HasNoEnd front → bytes ≡ front ++ (10 ∷ []) → BeginsWithLine bytes rest
   cut_off : HasNoEnd bytes → (bytes ≡ [] → ⊥) → rest ≡ [] → BeginsWithLine bytes rest

@@ -1,9 +1,9 @@
-//! What is answered to a hint text.
+//! Answers to a hint text.
 
 use std::alloc::{AllocError, AllocFailed};
 use thiserror::Error;
 
-/// Why a line is at fault. Of several reasons it is the first in this order.
+/// Why a line is at fault: the first reason, in this order.
 #[derive(Clone, Copy, Debug, Drop, PartialEq, Eq)]
 pub enum HintWhy {
     /// It is no line of a hint text, or the last one without its LF.
@@ -20,13 +20,13 @@ pub enum HintWhy {
     VarInUse,
 }
 
-/// What a hint text is.
+/// The verdict on a hint text.
 #[derive(Clone, Copy, Debug, Drop, PartialEq, Eq)]
 pub enum HintVerdict {
-    /// A derivation: whether it derives an empty clause, how many cores it has, and how many lines, both held at
-    /// 2^64-1.
+    /// It is a derivation. The fields say whether it derives an empty clause, and the numbers of its cores and of its
+    /// lines, both held at 2^64-1.
     Proved { empty: bool, cores: u64, lines: u64 },
-    /// None: the first line at fault, counted from 1 and held at 2^64-1, and why it is.
+    /// It is none. The fields are the first line at fault, counted from 1 and held at 2^64-1, and the reason.
     Bad { line: u64, why: HintWhy },
 }
 

@@ -16,24 +16,24 @@ use crate::reading::Lists;
 use sat_base::CountedRead;
 use std::alloc::{AllocError, Global};
 
-/// How many bytes are asked for at a time.
+/// The number of bytes that are asked for at a time.
 const PIECE: usize = 4096;
 
-/// A reader is read at most so often.
+/// The largest number of reads.
 const MAX_READS: u64 = 1 << 48;
 
-/// The line in hand, and what the lines before it leave.
+/// The line in hand, and the state after the lines before it.
 #[derive(Drop)]
 struct Checking {
     /// The bytes of a line whose LF has not come yet.
     held: Vec<u8>,
-    /// Where they end.
+    /// The place in the line where they end.
     place: Place,
     lists: Lists,
     judge: Judge,
 }
 
-/// How many bytes the first line has with its LF, if that is among them.
+/// Returns the length of the first line with its LF, if that is among the bytes.
 #[inline(always)]
 fn line_end(bytes: &[u8]) -> Option<usize>
     ensures { MatchOption result (HasNoEnd bytes.now)
@@ -47,7 +47,7 @@ fn line_end(bytes: &[u8]) -> Option<usize>
     None
 }
 
-/// Reads and judges a line from its bytes. The answer is why it is at fault, if it is.
+/// Reads and judges a line from its bytes. Returns why it is at fault, if it is.
 fn take_line(
     lists: &mut Lists,
     judge: &mut Judge,
@@ -66,6 +66,7 @@ fn take_line(
 }
 
 impl Checking {
+    /// Returns a checker before the first byte. Does not allocate.
     fn new(alloc: Global) -> Checking
         ensures ready { IsReadyJudge result.judge }
         ensures read { HasRead result [] }
@@ -93,7 +94,7 @@ impl Checking {
         Ok(why)
     }
 
-    /// Holds bytes of a line that goes on. The answer is that it is at fault, where no line goes on with them.
+    /// Holds further bytes of a line. Returns that it is at fault if no line continues with them.
     fn hold(&mut self, bytes: &[u8]) -> Result<Option<HintWhy>, AllocError>
         requires ready { IsReadyJudge self.old.judge }
         requires inside { HasNoEnd bytes.now }
@@ -123,7 +124,7 @@ impl Checking {
         }
     }
 
-    /// As `feed`, if no bytes are held. Lines are read in place.
+    /// Does what `feed` does, if no bytes are held. Lines are read in place.
     fn feed_in_place(&mut self, piece: &[u8]) -> Result<Option<HintWhy>, AllocError>
         requires ready { IsReadyJudge self.old.judge }
         requires empty { self.old.held.items ≡ [] }
@@ -146,7 +147,7 @@ impl Checking {
         }
     }
 
-    /// Takes the next bytes of the text. The answer is why the first line at fault is, if there is one.
+    /// Checks the next bytes of the text. Returns why the first line at fault is, if there is one.
     fn feed(&mut self, piece: &[u8]) -> Result<Option<HintWhy>, AllocError>
         requires { IsReadyJudge self.old.judge }
         ensures ready { IfOk result (λ why. IsReadyIf why self.new.judge) }
@@ -165,7 +166,7 @@ impl Checking {
         }
     }
 
-    /// As `feed`, with the verdict on the first line at fault.
+    /// Does what `feed` does, but returns the verdict on the first line at fault.
     fn take_piece(&mut self, piece: &[u8]) -> Result<Option<HintVerdict>, HintFault>
         requires { IsReadyJudge self.old.judge }
         ensures memory { IfErr result (λ e. e ≡ HintFault.OutOfMemory) }
@@ -177,7 +178,7 @@ impl Checking {
         }
     }
 
-    /// The verdict where the text is over.
+    /// Returns the verdict if the text ends here.
     fn finish(&self) -> HintVerdict
         ensures { (text : List ℕ) → HasRead self.now text → Judges result text }
     {
@@ -187,6 +188,7 @@ impl Checking {
         self.judge.bad(HintWhy::Syntax)
     }
 
+    /// Reads and checks a text, up to its first line at fault.
     fn check_text<R: CountedRead>(&mut self, text: &mut R) -> Result<HintVerdict, HintFault>
         requires ready { IsReadyJudge self.old.judge }
         requires fresh { HasRead self.old [] }
@@ -212,14 +214,14 @@ impl Checking {
     }
 }
 
-/// Checks a hint text, which is read in pieces of 4,096 bytes up to the first line at fault.
+/// Checks a hint text. It is read in chunks of 4,096 bytes, up to the first line at fault.
 pub fn check<R: CountedRead>(alloc: Global, text: &mut R) -> Result<HintVerdict, HintFault>
-    // The verdict is that on the text that was given, whatever would follow.
+    // The verdict is that on the text that was given, whatever follows.
     ensures given { GaveEnough (R.seen text.old) (R.seen text.new) (IsRightIfVerdict result) }
-    // A read has failed only where the answer is that, and none is tried again.
+    // A read has failed only if this is returned, and none is repeated.
     ensures kept { IsErrOf result HintFault.Read ⊎ ((R.seen text.new).failures ≡ (R.seen text.old).failures) }
     ensures read { IsErrOf result HintFault.Read → ReadFails (R.seen text.old) (R.seen text.new) }
-    // Memory is asked for by bytes alone.
+    // Memory is needed only for bytes.
     ensures some { IsErrOf result HintFault.OutOfMemory
         → length (R.seen text.old).given < length (R.seen text.new).given }
     ensures reads { (R.seen text.new).calls ≤ (R.seen text.old).calls + most_reads }

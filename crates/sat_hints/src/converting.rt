@@ -19,7 +19,7 @@ use sat_base::{CountedRead, CountedWrite};
 use sat_checker::{CheckedProofStep, Checker, CheckerData, CheckerError, ProofProcessor};
 use std::alloc::Global;
 
-/// The line of an announcement, if it has one. Clauses that were stored before, tautologies, names, models and
+/// Returns the line of an announcement, if it has one. Clauses that were stored before, tautologies, names, models and
 /// assumptions have none.
 fn line_told<'a>(step: &CheckedProofStep<'a>) -> Option<HintLine<'a>>
     ensures { option_map line_of result ≡ line_told (announcement_of step.now) }
@@ -68,7 +68,7 @@ fn line_told<'a>(step: &CheckedProofStep<'a>) -> Option<HintLine<'a>>
 }
 
 impl<W: CountedWrite> LineWriter<W> {
-    /// Lets the line of an announcement wait, if it has one.
+    /// Puts the line of an announcement, if it has one.
     fn put_told(&mut self, step: &CheckedProofStep<'_>)
         ensures { PutsText (text_if (line_told (announcement_of step.now))) (outlet W.seen self.old)
             (outlet W.seen self.new) }
@@ -96,7 +96,7 @@ impl<W: CountedWrite + Drop> ProofProcessor for LineWriter<W> {
     }
 }
 
-/// What is answered where the checker answers this. The writer of lines is the only one that is told.
+/// Returns the error for an error of the checker. The writer of lines is its only listener.
 fn hint_error(error: CheckerError) -> HintError
     ensures { result ≡ hint_of error }
 {
@@ -112,7 +112,7 @@ fn hint_error(error: CheckerError) -> HintError
     }
 }
 
-/// Writes the lines of a certificate that this checker checks, but for those that wait at its end.
+/// Writes the lines of a certificate that this checker checks, except those that are pending at its end.
 fn write_checked<R: CountedRead, W: CountedWrite + Drop>(
     checker: &mut Checker,
     certificate: &mut R,
@@ -132,7 +132,7 @@ fn write_checked<R: CountedRead, W: CountedWrite + Drop>(
     }
 }
 
-/// Writes the lines of a certificate, but for those that wait at its end.
+/// Writes the lines of a certificate, except those that are pending at its end.
 fn write_lines<R: CountedRead, W: CountedWrite + Drop>(
     alloc: Global,
     certificate: &mut R,
@@ -146,7 +146,7 @@ fn write_lines<R: CountedRead, W: CountedWrite + Drop>(
     write_checked(&mut checker, certificate, lines)
 }
 
-/// Writes the lines of a certificate, where nothing waits before.
+/// Writes all lines of a certificate, if no bytes are pending before.
 fn write_text<R: CountedRead, W: CountedWrite + Drop>(
     alloc: Global,
     certificate: &mut R,
@@ -169,8 +169,8 @@ fn write_text<R: CountedRead, W: CountedWrite + Drop>(
     }
 }
 
-/// Writes the hint text of a certificate, which is checked meanwhile. It writes in pieces of at most 4,096 bytes, and
-/// takes the memory of a checker, and none for a line.
+/// Writes the hint text of a certificate, and checks the certificate. It writes in pieces of at most 4,096 bytes, and
+/// needs the memory of a checker, but none for lines.
 pub fn convert<R: CountedRead, W: CountedWrite>(
     alloc: Global,
     certificate: &mut R,

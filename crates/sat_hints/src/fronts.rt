@@ -1,4 +1,4 @@
-//! Whether bytes can begin a line, byte by byte.
+//! Tests of whether bytes can begin a line, byte by byte.
 ghost use Rattle.std.specs.Prelude.{◌≡◌, ◌≤◌, ◌∷◌, []};
 ghost use Rattle.sat_hints.specs.Lines.{HasNoEnd};
 ghost use Rattle.sat_hints.specs.inner.Fronts.{letter_place, limit_of, next_of, sign_place, zero_place, LeadsToPlace};
@@ -37,13 +37,13 @@ pub(crate) enum Place {
     Space(Part),
     /// This part comes.
     Item(Part),
-    /// The number with which this part begins has these digits so far, or none where that is 0.
+    /// The number with which this part begins has these digits so far, or none if that is 0.
     Digits(Part, u64),
     /// The LF comes.
     Over,
 }
 
-/// Up to where the numbers go with which a part may begin.
+/// Returns the largest number with which a part may begin.
 fn limit(part: Part) -> u64
     ensures is { result ≡ limit_of part }
     ensures least { 9 ≤ result }
@@ -54,7 +54,7 @@ fn limit(part: Part) -> u64
     }
 }
 
-/// What comes behind a number with which a part begins.
+/// Returns what comes after a number with which a part begins.
 fn next(part: Part) -> Part
     ensures { result ≡ next_of part }
 {
@@ -66,7 +66,7 @@ fn next(part: Part) -> Part
     }
 }
 
-/// The place behind a line's letter.
+/// Returns the place after a line's letter.
 fn behind_letter(byte: u8) -> Option<Place>
     ensures { result ≡ letter_place byte }
 {
@@ -88,7 +88,7 @@ fn behind_letter(byte: u8) -> Option<Place>
     None
 }
 
-/// The place behind a `0` with which a part begins.
+/// Returns the place after a `0` with which a part begins.
 fn behind_zero(part: Part) -> Option<Place>
     ensures { result ≡ zero_place part }
 {
@@ -99,7 +99,7 @@ fn behind_zero(part: Part) -> Option<Place>
     }
 }
 
-/// The place behind a `-` with which a part begins.
+/// Returns the place after a `-` with which a part begins.
 fn behind_sign(part: Part) -> Option<Place>
     ensures { result ≡ sign_place part }
 {
@@ -109,7 +109,7 @@ fn behind_sign(part: Part) -> Option<Place>
     }
 }
 
-/// The place behind one more byte of a number.
+/// Returns the place after one more byte of a number.
 fn in_number(part: Part, number: u64, byte: u8) -> Option<Place>
     ensures { LeadsToPlace (Digits part number) (byte ∷ []) result }
 {
@@ -120,6 +120,7 @@ fn in_number(part: Part, number: u64, byte: u8) -> Option<Place>
     Some(Place::Digits(part, more))
 }
 
+/// Returns the place after the first byte of a part.
 fn at_item(part: Part, byte: u8) -> Option<Place>
     ensures { LeadsToPlace (Item part) (byte ∷ []) result }
 {
@@ -135,6 +136,7 @@ fn at_item(part: Part, byte: u8) -> Option<Place>
     }
 }
 
+/// Returns the place after one more byte of a line.
 fn behind_byte(place: Place, byte: u8) -> Option<Place>
     ensures { (byte ≡ 10 → ⊥) → LeadsToPlace place (byte ∷ []) result }
 {
@@ -152,7 +154,7 @@ fn behind_byte(place: Place, byte: u8) -> Option<Place>
     }
 }
 
-/// The place behind more bytes of a line. `None` where no line goes on with them.
+/// Returns the place after more bytes of a line, or `None` if no line continues with them.
 pub(crate) fn behind(place: Place, bytes: &[u8]) -> Option<Place>
     requires { HasNoEnd bytes.now }
     ensures { LeadsToPlace place bytes.now result }

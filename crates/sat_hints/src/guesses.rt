@@ -1,4 +1,4 @@
-//! Where a clause may be, by its id, so that most are found without a search.
+//! Likely places of clauses by their ids, so that most are found without a search.
 ghost use Rattle.std.specs.Prelude.{length};
 ghost use Rattle.std.specs.List.Sorted.{IsSearchInRange};
 ghost use Rattle.std.specs.List.Sorted.{IsBinarySearchResult};
@@ -6,14 +6,14 @@ ghost use Rattle.std.specs.Ordering.{nat_cmp};
 
 use std::alloc::{AllocError, Global};
 
-/// How far ids may run ahead of the clauses that were noted.
+/// How far ids may be ahead of the clauses that were noted.
 const SPREAD: u64 = 4;
 
-/// So many ids are noted at once.
+/// The number of ids that are noted at once.
 const FIRST: u64 = 4096;
 
-/// A place by id, which may be wrong: it is tested. Ids that run far ahead of the number of clauses have none, so that
-/// the table takes no more room than a few numbers a clause.
+/// Likely places by id. They may be wrong, and are tested. Ids that are far ahead of the number of clauses have none,
+/// so that the table takes at most a few numbers a clause.
 #[derive(Drop)]
 pub(crate) struct Guesses {
     places: Vec<u32>,
@@ -21,6 +21,7 @@ pub(crate) struct Guesses {
 }
 
 impl Guesses {
+    /// Returns a table without places. Does not allocate.
     pub(crate) fn new(alloc: Global) -> Guesses {
         Guesses {
             places: Vec::new(alloc),
@@ -47,7 +48,7 @@ impl Guesses {
         Ok(())
     }
 
-    /// Where an id is among ids that rise.
+    /// Returns the position of an id among ids that rise, if it is there.
     #[inline(always)]
     pub(crate) fn search(&self, ids: &[u64], id: u64) -> Result<usize, usize>
         ensures bound { IsSearchInRange result (length ids.now) }

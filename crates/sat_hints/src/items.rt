@@ -1,12 +1,11 @@
-//! Ids and literals in lists: each as a number and a space.
+//! Writing lists of ids and literals: each is a number and a space.
 ghost use Rattle.std.specs.Prelude.{◌≡◌, ◌+◌, ◌*◌, ◌<◌, ◌≤◌, ◌++◌, ◌∷◌, [], length, take};
 ghost use Rattle.sat_hints.specs.Lines.{id_words, literal_words};
 ghost use Rattle.sat_hints.specs.inner.LineWriting.{sign_text};
 
-use crate::digits::write_digits;
-use sat_base::Lit;
+use sat_base::{Lit, write_decimal};
 
-/// An item has at most a sign, 20 digits and a space.
+/// The largest number of bytes of an item: a sign, 20 digits and a space.
 pub(crate) const MOST_BYTES: usize = 22;
 
 /// Writes the ID of the largest id, and a space.
@@ -17,13 +16,13 @@ fn write_largest(bytes: &mut [u8], at: usize) -> usize
     ensures same { length bytes.new ≡ length bytes.old }
     ensures text { take result bytes.new ≡ take at bytes.old ++ id_words (18446744073709551615 ∷ []) }
 {
-    let end = write_digits(bytes, at, 1844674407370955161);
+    let end = write_decimal(bytes, at, 1844674407370955161);
     bytes[end] = b'6';
     bytes[end + 1] = b' ';
     end + 2
 }
 
-/// Writes the ID of an id, and a space, after the first `at` bytes. Returns where they end.
+/// Writes the ID of an id, and a space, after the first `at` bytes. Returns their end.
 #[inline(always)]
 fn write_id(bytes: &mut [u8], at: usize, id: u64) -> usize
     requires { at + 22 ≤ length bytes.old }
@@ -34,12 +33,12 @@ fn write_id(bytes: &mut [u8], at: usize, id: u64) -> usize
     let Some(number) = id.checked_add(1) else {
         return write_largest(bytes, at);
     };
-    let end = write_digits(bytes, at, number);
+    let end = write_decimal(bytes, at, number);
     bytes[end] = b' ';
     end + 1
 }
 
-/// Writes ids after the first `len` bytes. Returns where they end.
+/// Writes the IDs of ids after the first `len` bytes. Returns their end.
 pub(crate) fn write_ids(bytes: &mut [u8], len: usize, ids: &[u64]) -> usize
     requires { len + 22 * length ids.now ≤ length bytes.old }
     ensures within { result ≤ length bytes.old }
@@ -68,7 +67,7 @@ fn write_sign(bytes: &mut [u8], at: usize, literal: Lit) -> usize
     at + 1
 }
 
-/// Writes the number of a literal, and a space, after the first `at` bytes. Returns where they end.
+/// Writes the number of a literal, and a space, after the first `at` bytes. Returns their end.
 #[inline(always)]
 fn write_literal(bytes: &mut [u8], at: usize, literal: Lit) -> usize
     requires { at + 22 ≤ length bytes.old }
@@ -77,12 +76,12 @@ fn write_literal(bytes: &mut [u8], at: usize, literal: Lit) -> usize
     ensures text { take result bytes.new ≡ take at bytes.old ++ literal_words (literal ∷ []) }
 {
     let start = write_sign(bytes, at, literal);
-    let end = write_digits(bytes, start, literal.index() as u64 + 1);
+    let end = write_decimal(bytes, start, literal.index() as u64 + 1);
     bytes[end] = b' ';
     end + 1
 }
 
-/// Writes literals after the first `len` bytes. Returns where they end.
+/// Writes literals after the first `len` bytes. Returns their end.
 pub(crate) fn write_literals(bytes: &mut [u8], len: usize, literals: &[Lit]) -> usize
     requires { len + 22 * length literals.now ≤ length bytes.old }
     ensures within { result ≤ length bytes.old }

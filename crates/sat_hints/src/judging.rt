@@ -1,8 +1,7 @@
 //! Judging one line after another.
-ghost use Rattle.std.specs.Prelude.{◌≡◌, ◌↔◌, ◌≤◌, ◌+◌, ◌^◌, ◌-◌, ◌<◌, ℕ, [], None, Some, IfOk, IsTrue, OnErr, OnOk};
+ghost use Rattle.std.specs.Prelude.{◌≡◌, ◌≤◌, ◌+◌, ◌^◌, ◌-◌, ◌<◌, ℕ, [], None, Some, IfOk, OnErr, OnOk};
 ghost use Rattle.sat_base.specs.text.Tokenizing.{held};
 ghost use Rattle.sat_checker.specs.LiteralSets.{canonical};
-ghost use Rattle.sat_checker.specs.SortedSets.{IsIncreasing};
 ghost use Rattle.sat_hints.specs.Lines.{Input, Derived, Gone, Core, Fresh, IsLine};
 ghost use Rattle.sat_hints.specs.inner.LineReading.{line_of, IsId};
 ghost use Rattle.sat_checker.specs.inner.Room.{signed};
@@ -14,17 +13,17 @@ use crate::line::HintLine;
 use crate::propagating::conflict;
 use crate::standing::Standing;
 use sat_base::{Lit, Var};
-use sat_checker::sorted_lits::copy_canonical;
+use sat_checker::sorted_lits::{copy_canonical, rises};
 use sat_checker::{Assigned, make_room_for};
 use std::alloc::{AllocError, Global};
 
-/// What the lines so far leave, and room that is used again.
+/// The state after the lines so far, and memory that is reused.
 #[derive(Drop)]
 pub(crate) struct Judge {
     standing: Standing,
-    /// There is room for the literals of present clauses, and for their negations.
+    /// The assumed literals. There is room for the literals of present clauses, and for their negations.
     assumed: Assigned,
-    /// The literals of a clause that comes, as a sorted set, where they don't rise.
+    /// The literals of the next clause as a sorted set, if they do not rise.
     set: Vec<Lit>,
     least_id: u64,
     empty: bool,
@@ -32,21 +31,7 @@ pub(crate) struct Judge {
     lines: u64,
 }
 
-/// Whether each literal is below the next one.
-fn rises(literals: &[Lit]) -> bool
-    ensures { IsTrue result ↔ IsIncreasing literals.now }
-{
-    for place in 1..literals.len() {
-        let last = literals[place - 1].code();
-        let next = literals[place].code();
-        if next <= last {
-            return false;
-        }
-    }
-    true
-}
-
-/// The sorted set of the literals: they themselves where they rise, and else a copy in the buffer.
+/// Returns the sorted set of the literals: the literals themselves if they rise, and otherwise a copy in the buffer.
 fn sorted_set<'a>(buffer: &'a mut Vec<Lit>, literals: &'a [Lit]) -> Result<&'a [Lit], AllocError>
     ensures { IfOk result (λ set. set.now ≡ canonical literals.now) }
 {
@@ -60,6 +45,7 @@ fn sorted_set<'a>(buffer: &'a mut Vec<Lit>, literals: &'a [Lit]) -> Result<&'a [
 }
 
 impl Judge {
+    /// Returns a judge before the first line. Does not allocate.
     pub(crate) fn new(alloc: Global) -> Judge
         ensures ready { IsReadyJudge result }
         ensures taken { HasTakenLines result [] }
@@ -90,7 +76,8 @@ impl Judge {
         Ok(())
     }
 
-    /// Why the clauses under these ids don't run into a conflict with literals, or with their negations, if they don't.
+    /// Returns why the clauses under these ids do not run into a conflict under literals, or under their negations, or
+    /// `None` if they do.
     fn refute(&mut self, literals: &[Lit], negate: bool, ids: &[u64]) -> Option<HintWhy>
         requires { IsReadyJudge self.old }
         ensures same { IsSame self.old self.new }
@@ -99,6 +86,7 @@ impl Judge {
         conflict(&self.standing, ids, literals, negate, &mut self.assumed)
     }
 
+    /// Judges a line `i`.
     fn input(&mut self, id: u64, clause: &[Lit]) -> Result<Option<HintWhy>, AllocError>
         requires ready { IsReadyJudge self.old }
         requires within { IsId id }
@@ -112,6 +100,7 @@ impl Judge {
         Ok(None)
     }
 
+    /// Judges a line `d`.
     fn derived(
         &mut self,
         id: u64,
@@ -135,6 +124,7 @@ impl Judge {
         Ok(None)
     }
 
+    /// Judges a line `x`.
     fn gone(&mut self, id: u64) -> Result<Option<HintWhy>, AllocError>
         requires { IsReadyJudge self.old }
         ensures takes { IfOk result (λ why. TakesOne why self.old self.new (Gone id)) }
@@ -146,6 +136,7 @@ impl Judge {
         Ok(Some(HintWhy::UnknownId))
     }
 
+    /// Judges a line `f`.
     fn core(&mut self, core: &[Lit], ids: &[u64]) -> Option<HintWhy>
         requires { IsReadyJudge self.old }
         ensures { TakesOne result self.old self.new (Core core.now ids.now) }
@@ -158,6 +149,7 @@ impl Judge {
         None
     }
 
+    /// Judges a line `e`.
     fn fresh(&mut self, var: Var) -> Result<Option<HintWhy>, AllocError>
         requires { IsReadyJudge self.old }
         ensures takes { IfOk result (λ why. TakesOne why self.old self.new (Fresh var)) }
@@ -170,7 +162,7 @@ impl Judge {
         Ok(None)
     }
 
-    /// Takes the next line, but for its number.
+    /// Judges the next line, without counting it.
     fn take_unnumbered(&mut self, line: &HintLine<'_>) -> Result<Option<HintWhy>, AllocError>
         requires ready { IsReadyJudge self.old }
         requires within { IsLine (line_of line.now) }
@@ -186,7 +178,7 @@ impl Judge {
         }
     }
 
-    /// Takes the next line. The answer is why it is at fault, if it is. Memory is wanted only for a line that is not.
+    /// Judges the next line. Returns why it is at fault, if it is. Memory is needed only for a line that is not.
     pub(crate) fn take(&mut self, line: &HintLine<'_>) -> Result<Option<HintWhy>, AllocError>
         requires ready { IsReadyJudge self.old }
         requires within { IsLine (line_of line.now) }
@@ -201,7 +193,7 @@ impl Judge {
         Ok(why)
     }
 
-    /// The verdict on a text that these lines are all of.
+    /// Returns the verdict on the text of exactly these lines.
     pub(crate) fn proved(&self) -> HintVerdict
         ensures { result ≡ HintVerdict.Proved self.now.empty self.now.cores self.now.lines }
     {
@@ -212,7 +204,7 @@ impl Judge {
         }
     }
 
-    /// The verdict on a text whose next line is at fault.
+    /// Returns the verdict on a text whose next line is at fault.
     pub(crate) fn bad(&self, why: HintWhy) -> HintVerdict
         ensures { (count : ℕ) → self.now.lines ≡ held count → result ≡ HintVerdict.Bad (held (count + 1)) why }
     {

@@ -1,10 +1,9 @@
-//! The text of hints: a proof that is checked without search.
+//! Hint texts: proofs that are checked without search.
 #![tactic(auto)]
 
 mod answer;
 mod checking;
 mod converting;
-mod digits;
 mod error;
 mod fronts;
 mod guesses;

@@ -2,7 +2,7 @@
 
 use sat_base::{Lit, Var};
 
-/// A line. An id is below 2^64-1; the ID that the text has in its place is one more.
+/// A line. An id is below 2^64-1; the text has an ID, which is one more.
 #[derive(Clone, Copy)]
 pub(crate) enum HintLine<'a> {
     /// `i ID LITS 0`: a clause of the formula.
@@ -17,17 +17,17 @@ pub(crate) enum HintLine<'a> {
         clause: &'a [Lit],
         ids: &'a [u64],
     },
-    /// `x ID 0`: the clause is gone.
+    /// `x ID 0`: the clause is removed.
     Gone {
         id: u64,
     },
-    /// `f LITS 0 IDS 0`: literals that fail together. The clauses that are named run into a conflict when they are all
-    /// true.
+    /// `f LITS 0 IDS 0`: literals that fail together. The clauses that are named run into a conflict if all literals
+    /// are true.
     Core {
         core: &'a [Lit],
         ids: &'a [u64],
     },
-    /// `e VAR 0`: the variable is new. Its units are gone, and no other clause that is present has it.
+    /// `e VAR 0`: the variable is new. Its units are removed, and no other clause that is present has it.
     Fresh {
         var: Var,
     },

@@ -1,34 +1,30 @@
-//! Writing lines of a hint text, through bytes that wait.
+//! Writing lines of a hint text, through a buffer.
 ghost use Rattle.std.specs.Prelude.{◌≡◌, ◌+◌, ◌<◌, ◌∷◌, ◌++◌, [], false, decimal};
 ghost use Rattle.sat_hints.specs.Lines.{Input, Derived, Gone, Core, Fresh, id_words, line_text, literal_words};
 ghost use Rattle.sat_hints.specs.inner.LineReading.{line_of};
 ghost use Rattle.sat_hints.specs.inner.LineWriting.{outlet, both_words, sign_text, PutsText};
 
-use crate::digits::write_digits;
 use crate::items::{MOST_BYTES, write_ids, write_literals};
 use crate::line::HintLine;
-use sat_base::{CountedWrite, Lit, Var};
+use sat_base::{CountedWrite, Lit, MOST_DIGITS, Var, write_decimal};
 
-/// How many bytes wait at most.
+/// The largest number of pending bytes.
 const PIECE: usize = 4096;
 
-/// No number has more digits.
-const MOST_DIGITS: usize = 20;
-
-/// A writer, and bytes that wait until there is no room for more, or nothing more comes. Once a write has failed
-/// nothing more is written.
+/// A writer, and bytes that are pending until there is no room for more, or no more bytes come. After a write has
+/// failed, nothing more is written.
 #[derive(Drop)]
 pub(crate) struct LineWriter<W> {
     writer: W,
     bytes: [u8; PIECE],
-    /// How many of them wait.
+    /// The number of pending bytes.
     len: usize,
     failed: bool,
 }
 
-// Each byte goes through `put`.
+// Every byte passes `put`.
 impl<W: CountedWrite> LineWriter<W> {
-    /// Nothing waits.
+    /// Returns a writer of lines without pending bytes.
     pub(crate) fn new(writer: W) -> LineWriter<W>
         ensures writer { (outlet W.seen result).sink.writer ≡ W.seen writer }
         ensures none { (outlet W.seen result).sink.waiting ≡ [] }
@@ -42,7 +38,7 @@ impl<W: CountedWrite> LineWriter<W> {
         }
     }
 
-    /// The writer. What waits is lost.
+    /// Returns the writer. Pending bytes are lost.
     pub(crate) fn into_writer(self) -> W
         ensures { result ≡ self.writer }
     {
@@ -62,7 +58,7 @@ impl<W: CountedWrite> LineWriter<W> {
         self.failed
     }
 
-    /// Writes out what waits.
+    /// Writes out the pending bytes.
     pub(crate) fn write_out(&mut self)
         requires { self.old.failed ≡ false }
         ensures puts { PutsText [] (outlet W.seen self.old) (outlet W.seen self.new) }
@@ -74,7 +70,7 @@ impl<W: CountedWrite> LineWriter<W> {
         self.len = 0;
     }
 
-    /// Lets a byte wait. What waits is written out first where there is no room.
+    /// Puts a byte. If there is no room, the pending bytes are written out first.
     #[inline(always)]
     fn put(&mut self, byte: u8)
         ensures { PutsText (byte ∷ []) (outlet W.seen self.old) (outlet W.seen self.new) }
@@ -90,7 +86,7 @@ impl<W: CountedWrite> LineWriter<W> {
         self.len += 1;
     }
 
-    /// Writes out what waits, and lets a byte wait.
+    /// Writes out the pending bytes, and puts a byte.
     fn put_behind(&mut self, byte: u8)
         requires { self.old.failed ≡ false }
         ensures { PutsText (byte ∷ []) (outlet W.seen self.old) (outlet W.seen self.new) }
@@ -103,6 +99,7 @@ impl<W: CountedWrite> LineWriter<W> {
         self.len = 1;
     }
 
+    /// Puts bytes.
     fn put_all(&mut self, bytes: &[u8])
         ensures { PutsText bytes.now (outlet W.seen self.old) (outlet W.seen self.new) }
     {
@@ -111,6 +108,7 @@ impl<W: CountedWrite> LineWriter<W> {
         }
     }
 
+    /// Puts a number in decimal.
     fn put_decimal(&mut self, number: u64)
         ensures { PutsText (decimal number) (outlet W.seen self.old) (outlet W.seen self.new) }
     {
@@ -121,10 +119,10 @@ impl<W: CountedWrite> LineWriter<W> {
             self.put_decimal_behind(number);
             return;
         }
-        self.len = write_digits(&mut self.bytes, self.len, number);
+        self.len = write_decimal(&mut self.bytes, self.len, number);
     }
 
-    /// Writes out what waits, and lets the digits of a number wait.
+    /// Writes out the pending bytes, and puts a number in decimal.
     fn put_decimal_behind(&mut self, number: u64)
         requires { self.old.failed ≡ false }
         ensures { PutsText (decimal number) (outlet W.seen self.old) (outlet W.seen self.new) }
@@ -133,10 +131,10 @@ impl<W: CountedWrite> LineWriter<W> {
         if self.failed {
             return;
         }
-        self.len = write_digits(&mut self.bytes, 0, number);
+        self.len = write_decimal(&mut self.bytes, 0, number);
     }
 
-    /// Lets the digits of a number and a space wait.
+    /// Puts a number in decimal, and a space.
     #[inline(always)]
     fn put_item(&mut self, number: u64)
         ensures { PutsText (decimal number ++ 32 ∷ []) (outlet W.seen self.old) (outlet W.seen self.new) }
@@ -148,12 +146,12 @@ impl<W: CountedWrite> LineWriter<W> {
             self.put_item_behind(number);
             return;
         }
-        let at = write_digits(&mut self.bytes, self.len, number);
+        let at = write_decimal(&mut self.bytes, self.len, number);
         self.bytes[at] = b' ';
         self.len = at + 1;
     }
 
-    /// As `put_item`, where there may be no room for as many bytes.
+    /// Does what `put_item` does, if there may be no room for that many bytes.
     #[inline(never)]
     fn put_item_behind(&mut self, number: u64)
         ensures { PutsText (decimal number ++ 32 ∷ []) (outlet W.seen self.old) (outlet W.seen self.new) }
@@ -162,7 +160,7 @@ impl<W: CountedWrite> LineWriter<W> {
         self.put(b' ');
     }
 
-    /// The ID of this id, and a space.
+    /// Puts the ID of an id, and a space.
     #[inline(always)]
     fn put_id(&mut self, id: u64)
         ensures { PutsText (id_words (id ∷ [])) (outlet W.seen self.old) (outlet W.seen self.new) }
@@ -173,6 +171,7 @@ impl<W: CountedWrite> LineWriter<W> {
         }
     }
 
+    /// Puts the IDs of ids, each with a space.
     fn put_ids(&mut self, ids: &[u64])
         ensures { PutsText (id_words ids.now) (outlet W.seen self.old) (outlet W.seen self.new) }
     {
@@ -186,7 +185,7 @@ impl<W: CountedWrite> LineWriter<W> {
         self.len = write_ids(&mut self.bytes, self.len, ids);
     }
 
-    /// As `put_ids`, where there may be no room for all.
+    /// Does what `put_ids` does, if there may be no room for all.
     fn put_each_id(&mut self, ids: &[u64])
         ensures { PutsText (id_words ids.now) (outlet W.seen self.old) (outlet W.seen self.new) }
     {
@@ -195,7 +194,7 @@ impl<W: CountedWrite> LineWriter<W> {
         }
     }
 
-    /// The sign of this literal, if it is negative.
+    /// Puts the sign of a literal, if it is negative.
     #[inline(always)]
     fn put_sign(&mut self, literal: Lit)
         ensures { PutsText (sign_text literal) (outlet W.seen self.old) (outlet W.seen self.new) }
@@ -205,7 +204,7 @@ impl<W: CountedWrite> LineWriter<W> {
         }
     }
 
-    /// The number of this literal, and a space.
+    /// Puts the number of a literal, and a space.
     #[inline(always)]
     fn put_literal(&mut self, literal: Lit)
         ensures { PutsText (literal_words (literal ∷ [])) (outlet W.seen self.old) (outlet W.seen self.new) }
@@ -214,6 +213,7 @@ impl<W: CountedWrite> LineWriter<W> {
         self.put_item(literal.index() as u64 + 1);
     }
 
+    /// Puts the numbers of literals, each with a space.
     fn put_literals(&mut self, literals: &[Lit])
         ensures { PutsText (literal_words literals.now) (outlet W.seen self.old) (outlet W.seen self.new) }
     {
@@ -227,7 +227,7 @@ impl<W: CountedWrite> LineWriter<W> {
         self.len = write_literals(&mut self.bytes, self.len, literals);
     }
 
-    /// As `put_literals`, where there may be no room for all.
+    /// Does what `put_literals` does, if there may be no room for all.
     fn put_each_literal(&mut self, literals: &[Lit])
         ensures { PutsText (literal_words literals.now) (outlet W.seen self.old) (outlet W.seen self.new) }
     {
@@ -236,7 +236,7 @@ impl<W: CountedWrite> LineWriter<W> {
         }
     }
 
-    /// `LITS 0 IDS 0` and LF.
+    /// Puts `LITS 0 IDS 0` and LF.
     fn put_both(&mut self, literals: &[Lit], ids: &[u64])
         ensures { PutsText (both_words literals.now ids.now) (outlet W.seen self.old) (outlet W.seen self.new) }
     {
@@ -246,6 +246,7 @@ impl<W: CountedWrite> LineWriter<W> {
         self.put_all(b"0\n");
     }
 
+    /// Puts a line `i`.
     fn put_input(&mut self, id: u64, clause: &[Lit])
         ensures { PutsText (line_text (Input id clause.now)) (outlet W.seen self.old) (outlet W.seen self.new) }
     {
@@ -255,6 +256,7 @@ impl<W: CountedWrite> LineWriter<W> {
         self.put_all(b"0\n");
     }
 
+    /// Puts a line `d`.
     fn put_derived(&mut self, id: u64, clause: &[Lit], ids: &[u64])
         ensures { PutsText (line_text (Derived id clause.now ids.now)) (outlet W.seen self.old)
             (outlet W.seen self.new) }
@@ -264,6 +266,7 @@ impl<W: CountedWrite> LineWriter<W> {
         self.put_both(clause, ids);
     }
 
+    /// Puts a line `x`.
     fn put_gone(&mut self, id: u64)
         ensures { PutsText (line_text (Gone id)) (outlet W.seen self.old) (outlet W.seen self.new) }
     {
@@ -272,6 +275,7 @@ impl<W: CountedWrite> LineWriter<W> {
         self.put_all(b"0\n");
     }
 
+    /// Puts a line `f`.
     fn put_core(&mut self, core: &[Lit], ids: &[u64])
         ensures { PutsText (line_text (Core core.now ids.now)) (outlet W.seen self.old) (outlet W.seen self.new) }
     {
@@ -279,6 +283,7 @@ impl<W: CountedWrite> LineWriter<W> {
         self.put_both(core, ids);
     }
 
+    /// Puts a line `e`.
     fn put_fresh(&mut self, var: Var)
         ensures { PutsText (line_text (Fresh var)) (outlet W.seen self.old) (outlet W.seen self.new) }
     {
@@ -287,7 +292,7 @@ impl<W: CountedWrite> LineWriter<W> {
         self.put_all(b"0\n");
     }
 
-    /// Lets a line wait.
+    /// Puts a line.
     pub(crate) fn put_line(&mut self, line: &HintLine<'_>)
         ensures { PutsText (line_text (line_of line.now)) (outlet W.seen self.old) (outlet W.seen self.new) }
     {

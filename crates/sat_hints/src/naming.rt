@@ -1,10 +1,10 @@
-//! Whether the clauses that a line names are present.
+//! Tests of whether the clauses that a line names are present.
 ghost use Rattle.std.specs.Prelude.{◌≡◌, ◌≢◌, None, MatchBool};
 ghost use Rattle.sat_hints.specs.inner.Standing.{clauses_of, StandingInvariant};
 
 use crate::standing::Standing;
 
-/// Whether the clauses under these ids are all present.
+/// Whether all clauses under these ids are present.
 pub(crate) fn are_present(standing: &Standing, ids: &[u64]) -> bool
     requires { StandingInvariant standing.now }
     ensures { MatchBool result (clauses_of standing.now ids.now ≢ None) (clauses_of standing.now ids.now ≡ None) }

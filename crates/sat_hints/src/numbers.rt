@@ -1,4 +1,4 @@
-//! Numbers and literals at the front of a line's bytes: decimal, without leading zeros, in front of a single space.
+//! Reading numbers and literals: decimal, without leading zeros, followed by a single space.
 ghost use Rattle.std.specs.Prelude.{◌≡◌, ◌++◌, ◌∷◌, [], ◌<◌, ◌≤◌, ◌^◌, decimal, List, ℕ, MatchBool, MatchOption};
 ghost use Rattle.sat_base.specs.dimacs.DimacsText.{number_text};
 ghost use Rattle.sat_hints.specs.Lines.{id_text};
@@ -7,10 +7,10 @@ ghost use Rattle.sat_hints.specs.inner.LineReading.{EndsNone, NoDigit, NoWord, d
 
 use sat_base::{Lit, Var};
 
-/// Any digit can follow a number that is not above this.
+/// The largest number that any digit can follow.
 const LONG: u64 = 1_000_000_000_000_000_000;
 
-/// What is behind the text, where the bytes begin with it.
+/// Returns the bytes after the text, if the bytes begin with it.
 #[inline(always)]
 pub(crate) fn take_text<'a>(bytes: &'a [u8], text: &[u8]) -> Option<&'a [u8]>
     ensures { MatchOption result ((tail : List ℕ) → bytes.now ≡ text.now ++ tail → ⊥)
@@ -19,8 +19,8 @@ pub(crate) fn take_text<'a>(bytes: &'a [u8], text: &[u8]) -> Option<&'a [u8]>
     bytes.strip_prefix(text)
 }
 
-/// The number with one more digit, or the first digit where it is still 0. `None` for another byte, a leading zero, and
-/// a number past the limit.
+/// Returns the number with one more digit, or the first digit if it is still 0. Returns `None` for another byte, a
+/// leading zero, and a number past the limit.
 #[inline(always)]
 pub(crate) fn with_digit(number: u64, byte: u8, limit: u64) -> Option<u64>
     requires { 9 ≤ limit }
@@ -52,8 +52,8 @@ fn ends_number(number: u64, byte: u8, limit: u64) -> bool
     number <= limit
 }
 
-/// The number from 1 to the limit in front of a space, and what is behind the space. A number with at most 19 digits
-/// is compared with the limit only at its end.
+/// Returns the number from 1 to the limit with which the bytes begin, followed by a space, and the bytes after the
+/// space. A number with at most 19 digits is compared with the limit only at its end.
 #[inline(always)]
 pub(crate) fn read_number(bytes: &[u8], limit: u64) -> Option<(u64, &[u8])>
     requires { 9 ≤ limit }
@@ -83,7 +83,7 @@ pub(crate) fn read_number(bytes: &[u8], limit: u64) -> Option<(u64, &[u8])>
     None
 }
 
-/// As `read_number`, with the limit tested at each digit.
+/// Does what `read_number` does, but tests the limit at every digit.
 #[inline(never)]
 fn read_long(bytes: &[u8], limit: u64) -> Option<(u64, &[u8])>
     requires { 9 ≤ limit }
@@ -101,7 +101,7 @@ fn read_long(bytes: &[u8], limit: u64) -> Option<(u64, &[u8])>
     None
 }
 
-/// The id whose ID stands in front of a space, and what is behind the space.
+/// Returns the id whose ID the bytes begin with, followed by a space, and the bytes after the space.
 #[inline(always)]
 pub(crate) fn read_id(bytes: &[u8]) -> Option<(u64, &[u8])>
     ensures { MatchOption result (NoWord id_text IsId bytes.now)
@@ -111,7 +111,8 @@ pub(crate) fn read_id(bytes: &[u8]) -> Option<(u64, &[u8])>
     Some((number - 1, rest))
 }
 
-/// The index of the variable whose number stands in front of a space, and what is behind the space.
+/// Returns the index of the variable whose number the bytes begin with, followed by a space, and the bytes after the
+/// space.
 #[inline(always)]
 pub(crate) fn read_variable(bytes: &[u8]) -> Option<(usize, &[u8])>
     ensures { MatchOption result (NoWord id_text IsVariableIndex bytes.now)
@@ -121,7 +122,7 @@ pub(crate) fn read_variable(bytes: &[u8]) -> Option<(usize, &[u8])>
     Some((number as usize - 1, rest))
 }
 
-/// The literal in front of a space, and what is behind the space.
+/// Returns the literal with which the bytes begin, followed by a space, and the bytes after the space.
 #[inline(always)]
 pub(crate) fn read_literal(bytes: &[u8]) -> Option<(Lit, &[u8])>
     ensures { MatchOption result (NoWord number_text IsLiteralCode bytes.now)

@@ -9,21 +9,22 @@ use crate::guesses::Guesses;
 use sat_base::{FlatLists, Lit};
 use std::alloc::{AllocError, Global};
 
-/// Clauses in the order of their ids, their literals one after another. Those that are gone are kept until they take
-/// more than half of the room.
+/// Clauses in the order of their ids, their literals one after another. Removed clauses are kept until they are more
+/// than half of all.
 #[derive(Drop)]
 pub(crate) struct Present {
     ids: Vec<u64>,
     clauses: FlatLists<Lit>,
     gone: Vec<bool>,
     guesses: Guesses,
-    /// Clauses and literals, and how many of these are gone.
+    /// The number of clauses and literals, and of those that are removed.
     total: usize,
     unused: usize,
     alloc: Global,
 }
 
 impl Present {
+    /// Returns no clauses. Does not allocate.
     pub(crate) fn new(alloc: Global) -> Present
         ensures store { IsStore result }
         ensures none { result.ids.items ≡ [] }
@@ -41,7 +42,7 @@ impl Present {
         }
     }
 
-    /// The place of the clause under this id, if it is present.
+    /// Returns the place of the clause under this id, if it is present.
     #[inline(always)]
     pub(crate) fn find(&self, id: u64) -> Option<usize>
         requires { IsStore self.now }
@@ -57,6 +58,7 @@ impl Present {
         Some(place)
     }
 
+    /// Returns the clause at a place.
     #[inline(always)]
     pub(crate) fn clause(&self, place: usize) -> &[Lit]
         requires { place < length self.now.clauses }
@@ -65,19 +67,19 @@ impl Present {
         self.clauses.get(place)
     }
 
-    /// How many clauses there are, those that are gone among them.
+    /// Returns the number of clauses, with those that are removed.
     pub(crate) fn len(&self) -> usize
         ensures { result ≡ length self.now.ids.items }
     {
         self.ids.len()
     }
 
-    /// How many places a table of marks of these clauses' literals may have in one list.
+    /// Returns the number of places that a table of marks of these clauses' literals may have in one list.
     pub(crate) fn near_limit(&self) -> usize {
         self.total.saturating_mul(4)
     }
 
-    /// Whether the clause at a place is gone.
+    /// Whether the clause at a place is removed.
     pub(crate) fn is_gone(&self, place: usize) -> bool
         requires { place < length self.now.gone.items }
         ensures { result ≡ slice_index_or self.now.gone.items place false }
@@ -100,7 +102,7 @@ impl Present {
         Ok(())
     }
 
-    /// Takes away the clause at a place, and lets go of those that are gone where they are many.
+    /// Removes the clause at a place, and drops the removed clauses if they are many.
     pub(crate) fn remove(&mut self, place: usize) -> Result<(), AllocError>
         requires store { IsStore self.old }
         requires within { place < length self.old.clauses }
@@ -110,7 +112,7 @@ impl Present {
         self.compact_if_sparse()
     }
 
-    /// Takes away the clause at a place.
+    /// Removes the clause at a place.
     fn take_out(&mut self, place: usize)
         requires store { IsStore self.old }
         requires within { place < length self.old.clauses }
@@ -121,7 +123,7 @@ impl Present {
         self.unused = self.unused.saturating_add(count).saturating_add(1);
     }
 
-    /// Lets go of the clauses that are gone, where they take more than half of the room.
+    /// Drops the removed clauses if they are more than half of all.
     fn compact_if_sparse(&mut self) -> Result<(), AllocError>
         requires { IsStore self.old }
         ensures { OnOk result (SamePresentClauses self.old self.new) }
@@ -132,7 +134,7 @@ impl Present {
         self.compact()
     }
 
-    /// Lets go of the clauses that are gone.
+    /// Drops the removed clauses.
     fn compact(&mut self) -> Result<(), AllocError>
         requires { IsStore self.old }
         ensures { OnOk result (SamePresentClauses self.old self.new) }

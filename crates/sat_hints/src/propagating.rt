@@ -1,4 +1,4 @@
-//! Whether clauses are unit in turn, the last falsified. Want of memory changes no answer.
+//! Tests of whether clauses are unit in turn, and the last falsified. A lack of memory changes no answer.
 ghost use Rattle.std.specs.Prelude.{◌≡◌, ◌≢◌, ◌⊎◌, [], true, false, None, MatchBool};
 ghost use Rattle.sat_checker.specs.LiteralSets.{is_among, is_tautology};
 ghost use Rattle.sat_checker.specs.inner.Room.{AgreesOn, RoomStays, signed};
@@ -12,8 +12,8 @@ use sat_base::Lit;
 use sat_checker::rup::has;
 use sat_checker::{Assigned, Look, assume_if_roomy, look_at};
 
-/// Assumes literals, or their negations, as far as there is room for them. The answer is whether both signs of a
-/// variable are among them, for which the negation of each is looked for among those before it.
+/// Assumes literals, or their negations, as far as there is room for them. Returns whether both signs of a variable are
+/// among them, for which the negation of each is looked for among those before it.
 #[inline(never)]
 fn assume_roomy(assumed: &mut Assigned, literals: &[Lit], negate: bool) -> bool
     requires { assumed.old.literals ≡ [] }
@@ -33,8 +33,8 @@ fn assume_roomy(assumed: &mut Assigned, literals: &[Lit], negate: bool) -> bool
     false
 }
 
-/// Assumes literals, or their negations. Where memory is wanted for one, which then stands in no clause, it assumes
-/// those that there is room for. The answer is whether both signs of a variable are among them.
+/// Assumes literals, or their negations. If memory runs out for one, which then is in no clause, it assumes those for
+/// which there is room. Returns whether both signs of a variable are among them.
 fn assume_all(assumed: &mut Assigned, literals: &[Lit], negate: bool) -> bool
     requires { assumed.old.literals ≡ [] }
     ensures assumes { MatchBool result (is_tautology (signed negate literals.now) ≡ true)
@@ -61,7 +61,7 @@ fn assume_all(assumed: &mut Assigned, literals: &[Lit], negate: bool) -> bool
     false
 }
 
-/// Why a line is at fault whose clause isn't unit in its turn, where clauses under these ids are named behind that.
+/// Returns why a line is at fault whose clause is not unit in its turn, if it names clauses under these ids after that.
 fn not_unit(standing: &Standing, behind: &[u64]) -> HintWhy
     requires { StandingInvariant standing.now }
     ensures { (clauses_of standing.now behind.now ≡ None) × (result ≡ HintWhy.UnknownId)
@@ -73,7 +73,7 @@ fn not_unit(standing: &Standing, behind: &[u64]) -> HintWhy
     HintWhy::UnknownId
 }
 
-/// Why the clauses under these ids don't run into a conflict, if they don't.
+/// Returns why the clauses under these ids do not run into a conflict, or `None` if they do.
 fn follow(standing: &Standing, ids: &[u64], assumed: &mut Assigned) -> Option<HintWhy>
     requires standing { StandingInvariant standing.now }
     requires room { HasRoomForPresent assumed.old.room standing.now }
@@ -102,7 +102,8 @@ fn follow(standing: &Standing, ids: &[u64], assumed: &mut Assigned) -> Option<Hi
     }
 }
 
-/// Why the clauses under these ids and the literals, or their negations, don't run into a conflict, if they don't.
+/// Returns why the clauses under these ids do not run into a conflict under the literals, or under their negations, or
+/// `None` if they do.
 fn conflict_under(
     standing: &Standing,
     ids: &[u64],
@@ -125,7 +126,7 @@ fn conflict_under(
     Some(HintWhy::UnknownId)
 }
 
-/// As `conflict_under`, with nothing assumed before and after.
+/// Does what `conflict_under` does, with nothing assumed before and after.
 pub(crate) fn conflict(
     standing: &Standing,
     ids: &[u64],

@@ -1,4 +1,4 @@
-//! Reading the line with which bytes begin.
+//! Reading the first line of some bytes.
 ghost use Rattle.std.specs.Prelude.{◌≡◌, ◌++◌, List, ℕ, codes, IfOk, MatchOption, []};
 ghost use Rattle.sat_base.specs.dimacs.DimacsText.{number_text};
 ghost use Rattle.sat_hints.specs.Lines.{id_text};
@@ -10,7 +10,7 @@ use crate::numbers::{read_id, read_literal, read_variable, take_text};
 use sat_base::{Lit, Var};
 use std::alloc::{AllocError, Global};
 
-/// The lists of the line in hand, whose room is used again.
+/// The lists of the line in hand, whose memory is reused.
 #[derive(Drop)]
 pub(crate) struct Lists {
     literals: Vec<Lit>,
@@ -27,7 +27,7 @@ pub(crate) enum Head {
     Fresh { var: Var },
 }
 
-/// Reads literals, as many as there are, and gives what is behind them.
+/// Reads as many literals as there are. Returns the bytes after them.
 fn read_literals<'a>(bytes: &'a [u8], literals: &mut Vec<Lit>) -> Result<&'a [u8], AllocError>
     ensures { IfOk result (λ rest. BeginsWithWords number_text IsLiteralCode bytes.now literals.new.items rest.now) }
 {
@@ -41,7 +41,7 @@ fn read_literals<'a>(bytes: &'a [u8], literals: &mut Vec<Lit>) -> Result<&'a [u8
     Ok(rest)
 }
 
-/// Reads ids, as many as there are, and gives what is behind them.
+/// Reads as many ids as there are. Returns the bytes after them.
 fn read_ids<'a>(bytes: &'a [u8], ids: &mut Vec<u64>) -> Result<&'a [u8], AllocError>
     ensures { IfOk result (λ rest. BeginsWithWords id_text IsId bytes.now ids.new.items rest.now) }
 {
@@ -56,6 +56,7 @@ fn read_ids<'a>(bytes: &'a [u8], ids: &mut Vec<u64>) -> Result<&'a [u8], AllocEr
 }
 
 impl Lists {
+    /// Returns empty lists. Does not allocate.
     pub(crate) fn new(alloc: Global) -> Lists
         ensures literals { result.literals.items ≡ [] }
         ensures ids { result.ids.items ≡ [] }
@@ -66,7 +67,7 @@ impl Lists {
         }
     }
 
-    /// The line that has this head and these lists.
+    /// Returns the line with this head and these lists.
     pub(crate) fn line(&self, head: Head) -> HintLine<'_>
         ensures { line_of result ≡ line_with head self.now.literals.items self.now.ids.items }
     {
@@ -115,6 +116,7 @@ impl Lists {
         Ok(take_text(rest, b"0\n"))
     }
 
+    /// Reads a line `i`, after `i `.
     fn read_input<'a>(&mut self, bytes: &'a [u8]) -> Result<Option<(Head, &'a [u8])>, AllocError>
         ensures { IfOk result (λ found. MatchOption found (BeginsWithNoLine (codes "i " ++ bytes.now))
             (λ x. ReadsLine (codes "i " ++ bytes.now) (line_with x.0 self.new.literals.items self.new.ids.items) x.1.now)) }
@@ -129,6 +131,7 @@ impl Lists {
         }
     }
 
+    /// Reads a line `d`, after `d `.
     fn read_derived<'a>(&mut self, bytes: &'a [u8]) -> Result<Option<(Head, &'a [u8])>, AllocError>
         ensures { IfOk result (λ found. MatchOption found (BeginsWithNoLine (codes "d " ++ bytes.now))
             (λ x. ReadsLine (codes "d " ++ bytes.now) (line_with x.0 self.new.literals.items self.new.ids.items) x.1.now)) }
@@ -143,6 +146,7 @@ impl Lists {
         }
     }
 
+    /// Reads a line `f`, after `f `.
     fn read_core<'a>(&mut self, bytes: &'a [u8]) -> Result<Option<(Head, &'a [u8])>, AllocError>
         ensures { IfOk result (λ found. MatchOption found (BeginsWithNoLine (codes "f " ++ bytes.now))
             (λ x. ReadsLine (codes "f " ++ bytes.now) (line_with x.0 self.new.literals.items self.new.ids.items) x.1.now)) }
@@ -153,8 +157,8 @@ impl Lists {
         }
     }
 
-    /// Reads the line with which the bytes begin, with its LF, and keeps its lists. Returns its head and what comes after
-    /// it, or `None` if the bytes begin with no line.
+    /// Reads the line with which the bytes begin, with its LF, and keeps its lists. Returns its head and what comes
+    /// after it, or `None` if the bytes begin with no line.
     pub(crate) fn read_line<'a>(
         &mut self,
         bytes: &'a [u8],
@@ -181,6 +185,7 @@ impl Lists {
     }
 }
 
+/// Reads a line `x`, after `x `.
 fn read_gone(bytes: &[u8]) -> Option<(Head, &[u8])>
     ensures { MatchOption result (BeginsWithNoLine (codes "x " ++ bytes.now))
         (λ x. (ls : List ℕ) (ids : List ℕ) → ReadsLine (codes "x " ++ bytes.now) (line_with x.0 ls ids) x.1.now) }
@@ -190,6 +195,7 @@ fn read_gone(bytes: &[u8]) -> Option<(Head, &[u8])>
     Some((Head::Gone { id }, rest))
 }
 
+/// Reads a line `e`, after `e `.
 fn read_fresh(bytes: &[u8]) -> Option<(Head, &[u8])>
     ensures { MatchOption result (BeginsWithNoLine (codes "e " ++ bytes.now))
         (λ x. (ls : List ℕ) (ids : List ℕ) → ReadsLine (codes "e " ++ bytes.now) (line_with x.0 ls ids) x.1.now) }

@@ -1,4 +1,4 @@
-//! The clauses that are present, where variables become new.
+//! The clauses that are present, if variables become new.
 ghost use Rattle.std.specs.Prelude.{◌≡◌, ◌≢◌, ◌⊎◌, ℕ, [], None, Some, IfOk, OnErr, OnOk, MatchBool, MatchOption};
 ghost use Rattle.sat_checker.specs.SortedSets.{IsIncreasing};
 ghost use Rattle.sat_hints.specs.inner.Clauses.{AllBelow};
@@ -10,16 +10,17 @@ use crate::uses::Uses;
 use sat_base::{Lit, Table, Var};
 use std::alloc::{AllocError, Global};
 
-/// Clauses by their ids. A unit is gone once its variable became new.
+/// Clauses by their ids. A unit is removed when its variable becomes new.
 #[derive(Drop)]
 pub(crate) struct Standing {
     pub(crate) present: Present,
     uses: Uses,
-    /// By variable: its units under ids below this came before it became new.
+    /// By variable: units of it under ids below this came before it became new.
     since: Table<u64>,
 }
 
 impl Standing {
+    /// Returns no clauses. Does not allocate.
     pub(crate) fn new(alloc: Global) -> Standing
         ensures standing { StandingInvariant result }
         ensures none { result.present.ids.items ≡ [] }
@@ -44,7 +45,7 @@ impl Standing {
         id < self.since.get(clause[0].index(), 0)
     }
 
-    /// The place of the clause under this id, if it is present.
+    /// Returns the place of the clause under this id, if it is present.
     pub(crate) fn find(&self, id: u64) -> Option<usize>
         requires { StandingInvariant self.now }
         ensures { MatchOption result (clause_of self.now id ≡ None) (FindsOne self.now id) }
@@ -56,7 +57,7 @@ impl Standing {
         Some(place)
     }
 
-    /// The clause under this id, if it is present.
+    /// Returns the clause under this id, if it is present.
     #[inline(always)]
     pub(crate) fn find_clause(&self, id: u64) -> Option<&[Lit]>
         requires { StandingInvariant self.now }
@@ -84,7 +85,7 @@ impl Standing {
         Ok(())
     }
 
-    /// Takes away the clause under this id. The answer is whether it was present.
+    /// Removes the clause under this id. Returns whether it was present.
     pub(crate) fn remove(&mut self, id: u64) -> Result<bool, AllocError>
         requires { StandingInvariant self.old }
         ensures takes { IfOk result (λ was. MatchBool was ((clause_of self.old id ≢ None) × Drops self.old self.new id)
@@ -99,8 +100,8 @@ impl Standing {
         Ok(true)
     }
 
-    /// Whether the variable is in a clause of two literals or more. All clauses are looked at until a variable became
-    /// new, and none behind that.
+    /// Whether the variable is in a clause of two literals or more. All clauses are looked at until the first variable
+    /// becomes new, and none after that.
     pub(crate) fn is_used(&self, var: Var) -> bool
         requires { StandingInvariant self.now }
         ensures { MatchBool result (IsUsed self.now var) (IsUsed self.now var → ⊥) }
@@ -108,7 +109,7 @@ impl Standing {
         self.uses.has(&self.present, var)
     }
 
-    /// The variable becomes new: its units under ids below this are forgotten.
+    /// Makes a variable new: its units under ids below this are forgotten.
     pub(crate) fn forget_units(&mut self, var: Var, bound: u64) -> Result<(), AllocError>
         requires standing { StandingInvariant self.old }
         requires above { AllBelow self.old.present.ids.items bound }

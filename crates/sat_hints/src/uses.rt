@@ -1,4 +1,4 @@
-//! Which variables stand in clauses of two literals or more.
+//! Which variables are in clauses of two literals or more.
 ghost use Rattle.std.specs.Prelude.{◌≡◌, ◌+◌, ◌*◌, ◌≤◌, ◌<◌, ◌^◌, ℕ, OnOk, MatchBool, true, false};
 ghost use Rattle.sat_checker.specs.LiteralSets.{mentions};
 ghost use Rattle.sat_checker.specs.SortedSets.{IsIncreasing};
@@ -11,8 +11,8 @@ use sat_base::{Lit, Var};
 use sat_checker::store::occurrences::Occurrences;
 use std::alloc::{AllocError, Global};
 
-/// How often literals stand in the clauses of two or more that are present. They are counted from the first variable
-/// on that becomes new, so that a text in which no variable becomes new pays nothing.
+/// The number of times that every literal is in the present clauses of two literals or more. Counting begins with the
+/// first variable that becomes new, so a text in which no variable becomes new pays nothing.
 #[derive(Drop)]
 pub(crate) struct Uses {
     counting: bool,
@@ -31,7 +31,7 @@ fn mentions(clause: &[Lit], var: Var) -> bool
     false
 }
 
-/// Whether the clause has two literals or more, and the variable in one of them.
+/// Whether the clause has two literals or more, and the variable is in one of them.
 fn is_long_with(clause: &[Lit], var: Var) -> bool
     ensures { MatchBool result (0 < times_long (2 * var) clause.now + times_long (2 * var + 1) clause.now)
         (times_long (2 * var) clause.now + times_long (2 * var + 1) clause.now ≡ 0) }
@@ -73,7 +73,7 @@ fn count(counts: &mut Occurrences, clause: &[Lit]) -> Result<(), AllocError>
     Ok(())
 }
 
-/// Counts those of all clauses.
+/// Counts the literals of all clauses of two or more.
 fn count_all(counts: &mut Occurrences, present: &Present) -> Result<(), AllocError>
     requires store { IsStore present.now }
     requires none { (l : ℕ) → count_at counts.old l ≡ 0 }
@@ -89,7 +89,7 @@ fn count_all(counts: &mut Occurrences, present: &Present) -> Result<(), AllocErr
 }
 
 impl Uses {
-    /// Nothing is counted, and no memory is taken.
+    /// Returns no counts. Does not allocate.
     pub(crate) fn new(alloc: Global) -> Uses
         ensures none { (l : ℕ) → uses_at result l ≡ 0 }
         ensures not { result.counting ≡ false }
@@ -100,7 +100,7 @@ impl Uses {
         }
     }
 
-    /// A clause comes, a sorted set.
+    /// Counts a clause that is added, a sorted set.
     pub(crate) fn add(&mut self, clause: &[Lit]) -> Result<(), AllocError>
         requires increasing { IsIncreasing clause.now }
         requires few { (l : ℕ) → uses_at self.old l + times_long l clause.now < 2 ^ 64 }
@@ -114,7 +114,7 @@ impl Uses {
         count(&mut self.counts, clause)
     }
 
-    /// A clause goes.
+    /// Counts a clause that is removed.
     pub(crate) fn take(&mut self, clause: &[Lit])
         requires { (l : ℕ) → if_counting self.old.counting (times_long l clause.now) ≤ uses_at self.old l }
         ensures counting { self.new.counting ≡ self.old.counting }
@@ -127,7 +127,7 @@ impl Uses {
         self.counts.take(clause);
     }
 
-    /// Counts all from here on.
+    /// Counts all clauses, and all changes from now on.
     pub(crate) fn begin(&mut self, present: &Present) -> Result<(), AllocError>
         requires store { IsStore present.now }
         requires counted { (l : ℕ) → uses_at self.old l ≡ if_counting self.old.counting (times_at present.now l) }
@@ -142,7 +142,7 @@ impl Uses {
         Ok(())
     }
 
-    /// Whether a clause of two literals or more has the variable. All are looked at where they aren't counted.
+    /// Whether a clause of two literals or more has the variable. Without counts, all clauses are looked at.
     pub(crate) fn has(&self, present: &Present, var: Var) -> bool
         requires store { IsStore present.now }
         requires counted { (l : ℕ) → uses_at self.now l ≡ if_counting self.now.counting (times_at present.now l) }

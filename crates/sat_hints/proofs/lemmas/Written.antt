@@ -84,7 +84,7 @@ module _ {W P T : Type 0} (seen : W → Writer) (Takes : P → Told → Result U
   errs_written errors.OutOfMemory old new from to f k = elim k.3 [
     | inl h ↦ (k.0, k.1, k.2, inl (gave_of h.0 h.2.fails.stands.kernel.accepted, h.1), stopped new (taken_after k.0 []) h.2)
     | inr h ↦ elim h.2 [
-      | inl s ↦ (k.0, k.1, k.2, inr (h.0, gave_of h.1 s.1.fails.stands.kernel.accepted), stopped new (taken_after k.0 []) s.1)
+      | inl s ↦ (k.0, k.1, k.2, inr (h.0, gave_of h.1 s.1.fails.stands.kernel.accepted, s.0), stopped new (taken_after k.0 []) s.1)
       | inr b ↦ no_memory new h.0 (taken_after k.0 []) (broken_at faults.OutOfMemory new h.0 (taken_after k.0 []) b)
     ]
   ]

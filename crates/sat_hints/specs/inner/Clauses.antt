@@ -6,14 +6,14 @@ use Rattle.sat_checker.specs.inner.OccurrenceView.{times_in}
 use Rattle.sat_hints.specs.Hints.{is_long}
 use Rattle.sat_hints.specs.declared.present.Present.{Present}
 
--- the clause under an id in lists of ids, of clauses and of whether these are gone
+-- the clause under an id in lists of ids, of clauses and of whether these are removed
 abbrev pub listed : ℕ → List ℕ → List (List ℕ) → List Bool → Option (List ℕ)
 listed id [] cs gs = None
 listed id (i ∷ is) [] gs = None
 listed id (i ∷ is) (c ∷ cs) [] = None
 listed id (i ∷ is) (c ∷ cs) (g ∷ gs) = if id == i then (if g then None else Some c) else listed id is cs gs
 
--- the clause that is kept under an id, none where it is gone
+-- the clause that is kept under an id, none if it is removed
 abbrev pub clause_in : Present → ℕ → Option (List ℕ)
 clause_in p id = listed id p.ids.items p.clauses p.gone.items
 
@@ -21,17 +21,17 @@ clause_in p id = listed id p.ids.items p.clauses p.gone.items
 abbrev pub clause_at : Present → ℕ → List ℕ
 clause_at p place = slice_index_or p.clauses place []
 
--- how often a literal stands in a clause of two or more
+-- how often a literal is in a clause of two or more
 abbrev pub times_long : ℕ → List ℕ → ℕ
 times_long l clause = if is_long clause then times_in l clause else 0
 
--- and how often in those that aren't gone
+-- and how often in those that are not removed
 abbrev pub times_kept : ℕ → List (List ℕ) → List Bool → ℕ
 times_kept l [] gs = 0
 times_kept l (c ∷ cs) [] = 0
 times_kept l (c ∷ cs) (g ∷ gs) = (if g then 0 else times_long l c) + times_kept l cs gs
 
--- how often a literal stands in the clauses of two or more that are kept
+-- how often a literal is in the clauses of two or more that are kept
 abbrev pub times_at : Present → ℕ → ℕ
 times_at p l = times_kept l p.clauses p.gone.items
 

@@ -18,7 +18,7 @@ at_turn falsified more = Some NotUnit
 at_turn (opens l) more = more l
 at_turn rests more = Some NotUnit
 
--- why clauses don't run into a conflict, if they don't
+-- why clauses do not run into a conflict, if they do not
 abbrev pub course : List ℕ → List (List ℕ) → Option HintWhy
 course assumed [] = Some NotFalsified
 course assumed (c ∷ []) = at_last (verdict assumed c)
@@ -28,7 +28,7 @@ course assumed (c ∷ d ∷ cs) = at_turn (verdict assumed c) (λ l. course (l �
 abbrev pub AreJustAssumed : List ℕ → List ℕ → Type 0
 AreJustAssumed ls assumed = (l : ℕ) → is_among assumed l ≡ is_among ls l
 
--- why literals, or their negations, and clauses don't run into a conflict, if they don't
+-- why literals, or their negations, and clauses do not run into a conflict, if they do not
 abbrev pub WhyNoConflict : List ℕ → List (List ℕ) → Option HintWhy → Type 0
 WhyNoConflict assumed clauses why =
     ((is_tautology assumed ≡ true) × (why ≡ None)) ⊎ ((is_tautology assumed ≡ false) × (why ≡ course assumed clauses))

@@ -1,4 +1,4 @@
--- What may still come of a line whose front was read.
+-- What may still come of a line whose prefix was read.
 use Rattle.std.specs.Prelude.{ℕ, ◌-◌, ◌^◌, ◌==◌, ◌≡◌, Option, None, Some, List, ◌∷◌, ◌++◌, decimal, codes, if◌then◌else◌}
 use Rattle.sat_base.specs.values.Literals.{var_limit}
 use Rattle.sat_hints.specs.Lines.{Line, AreIds, id_words, SpellsLine}
@@ -8,7 +8,7 @@ use Rattle.sat_hints.specs.declared.fronts.Part.TheVariants.{InputId, DerivedId,
 use Rattle.sat_hints.specs.declared.fronts.Place.{Place}
 use Rattle.sat_hints.specs.declared.fronts.Place.TheVariants.{Letter, Space, Item, Digits, Over}
 
--- up to where the numbers go with which a part may begin; `0` begins with none
+-- the largest number with which a part may begin; `0` begins with none
 abbrev pub limit_of : Part → ℕ
 limit_of InputId = 2 ^ 64 - 1
 limit_of DerivedId = 2 ^ 64 - 1
@@ -19,7 +19,7 @@ limit_of Lists = var_limit
 limit_of Ids = 2 ^ 64 - 1
 limit_of End = 2 ^ 64 - 1
 
--- what comes behind such a number
+-- what comes after such a number
 abbrev pub next_of : Part → Part
 next_of InputId = Clause
 next_of DerivedId = Lists
@@ -30,7 +30,7 @@ next_of Lists = Lists
 next_of Ids = Ids
 next_of End = End
 
--- with the digits so far in front, the bytes are a number, a space and such a rest
+-- after the digits so far, the bytes are a number, a space and such a rest
 pub record Numbered (limit : ℕ) (Rest : List ℕ → Type 0) (number : ℕ) (bytes : List ℕ) : Type 0 where
   pub value : ℕ
   pub rest : List ℕ
@@ -62,12 +62,12 @@ abbrev pub IsLeftIf : Option Place → List ℕ → Type 0
 IsLeftIf None bytes = ⊥
 IsLeftIf (Some place) bytes = IsRestOfLine place bytes
 
--- the place behind a line's letter
+-- the place after a line's letter
 abbrev pub letter_place : ℕ → Option Place
 letter_place b =
     if b == 100 then Some (Space DerivedId) else if b == 120 then Some (Space GoneId) else if b == 105 then Some (Space InputId) else if b == 102 then Some (Space Lists) else if b == 101 then Some (Space FreshVar) else None
 
--- behind a `0` with which a part begins
+-- after a `0` with which a part begins
 abbrev pub zero_place : Part → Option Place
 zero_place InputId = None
 zero_place DerivedId = None
@@ -78,7 +78,7 @@ zero_place Lists = Some (Space Ids)
 zero_place Ids = Some Over
 zero_place End = Some Over
 
--- and behind a `-`
+-- and after a `-`
 abbrev pub sign_place : Part → Option Place
 sign_place InputId = None
 sign_place DerivedId = None
@@ -89,6 +89,6 @@ sign_place Lists = Some (Digits Lists 0)
 sign_place Ids = None
 sign_place End = None
 
--- bytes lead from one place to another; to none where no line goes on with them
+-- bytes lead from one place to another; to none if no line continues with them
 abbrev pub LeadsToPlace : Place → List ℕ → Option Place → Type 0
 LeadsToPlace from bytes to = (more : List ℕ) → IsRestOfLine from (bytes ++ more) → IsLeftIf to more

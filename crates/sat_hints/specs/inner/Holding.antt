@@ -20,12 +20,12 @@ pub record IsWholeLine (bytes : List ℕ) : Type 0 where
   pub inside : HasNoEnd front
   pub ended : bytes ≡ front ++ (10 ∷ [])
 
--- What an answer to a line's bytes means, where the judge was behind these lines.
+-- What an answer to a line's bytes means, if the judge was after these lines.
 abbrev pub JudgesLineBytes : Option HintWhy → Judge → Judge → List Line → List ℕ → Type 0
 JudgesLineBytes None old new lines bytes = (line : Line) × SpellsLine bytes line × FollowsLines lines line × HasTakenLines new (line ∷ lines)
 JudgesLineBytes (Some why) old new lines bytes = IsAtFault lines bytes why × (new.lines ≡ old.lines)
 
--- The text so far: lines that are a derivation, and the front of one more, up to the place where it ends.
+-- The text so far: lines that are a derivation, and a prefix of one more, up to its place.
 pub record HasRead (c : Checking) (text : List ℕ) : Type 0 where
   pub lines : List Line
   pub whole : text ≡ text_of lines ++ c.held.items
@@ -41,7 +41,7 @@ pub record HasFault (c : Checking) (text : List ℕ) (why : HintWhy) : Type 0 wh
   pub number : c.judge.lines ≡ held count
   pub bad : (rest : List ℕ) → Judges (Bad (held (count + 1)) why) (text ++ rest)
 
--- it goes on behind a text, or has met a fault
+-- it goes on after a text, or has met a fault
 abbrev pub HasReadOrFault : Option HintWhy → Checking → List ℕ → Type 0
 HasReadOrFault None c text = HasRead c text
 HasReadOrFault (Some why) c text = HasFault c text why

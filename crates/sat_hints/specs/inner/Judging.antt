@@ -1,4 +1,4 @@
--- How a judge stands behind lines.
+-- The state of a judge after lines.
 use Rattle.std.specs.Prelude.{ℕ, ◌≡◌, ◌⊎◌, ◌+◌, Option, None, Some, List, [], ◌∷◌, length}
 use Rattle.sat_base.specs.text.Tokenizing.{held}
 use Rattle.sat_checker.specs.LiteralSets.{canonical}
@@ -40,12 +40,12 @@ pub record IsSame (old new : Judge) : Type 0 where
   pub cores : new.cores ≡ old.cores
   pub lines : new.lines ≡ old.lines
 
--- why assumed literals and the clauses under these ids don't run into a conflict, if they don't
+-- why assumed literals and the clauses under these ids do not run into a conflict, if they do not
 abbrev pub WhyNotRefuted : Standing → List ℕ → List ℕ → Option HintWhy → Type 0
 WhyNotRefuted s assumed ids why =
     ((clauses_of s ids ≡ None) × (why ≡ Some UnknownId)) ⊎ ((clauses : List (List ℕ)) × (clauses_of s ids ≡ Some clauses) × WhyNoConflict assumed clauses why)
 
--- why the clauses that were looked up don't run into a conflict under assumed literals, if they don't
+-- why the clauses that were looked up do not run into a conflict under assumed literals, if they do not
 abbrev pub course_of : List ℕ → Option (List (List ℕ)) → Option HintWhy
 course_of assumed None = Some UnknownId
 course_of assumed (Some clauses) = course assumed clauses
@@ -77,11 +77,11 @@ abbrev pub TakesOne : Option HintWhy → Judge → Judge → Line → Type 0
 TakesOne None old new line = IsReadyJudge new × (new.lines ≡ old.lines) × ((lines : List Line) → HasTakenLines old lines → HasTakenOne old new lines line)
 TakesOne (Some why) old new line = (new.lines ≡ old.lines) × ((lines : List Line) → HasTakenLines old lines → IsFaultOf lines line why)
 
--- What an answer to a line means, where it was behind these: none is that it follows them.
+-- What an answer to a line means, if it was after these: none is that it follows them.
 abbrev pub TakesLine : Option HintWhy → Judge → Judge → List Line → Line → Type 0
 TakesLine None old new lines line = FollowsLines lines line × HasTakenLines new (line ∷ lines)
 TakesLine (Some why) old new lines line = IsFaultOf lines line why × (new.lines ≡ old.lines)
 
--- whatever lines it was behind
+-- after any lines
 abbrev pub TakesNext : Option HintWhy → Judge → Judge → Line → Type 0
 TakesNext why old new line = (lines : List Line) → HasTakenLines old lines → TakesLine why old new lines line

@@ -1,4 +1,4 @@
--- What is read at the front of a line's bytes, and where nothing is.
+-- What a line's bytes begin with, and when they begin with nothing.
 use Rattle.std.specs.Prelude.{ℕ, zero, suc, ◌*◌, ◌-◌, ◌^◌, ◌<◌, ◌≤◌, ◌≡◌, ◌⊎◌, List, [], ◌∷◌, ◌++◌, decimal, codes}
 use Rattle.std.specs.List.{AllByRecursion}
 use Rattle.sat_base.specs.values.Literals.{var_limit}
@@ -24,7 +24,7 @@ IsVariableIndex v = v < var_limit
 abbrev pub IsLiteralCode : ℕ → Type 0
 IsLiteralCode l = l < 2 * var_limit
 
--- the digits of a number that has begun; 0 where none has been read
+-- the digits of a number that has begun; 0 if none has been read
 abbrev pub digits_so_far : ℕ → List ℕ
 digits_so_far zero = []
 digits_so_far (suc n) = decimal (suc n)
@@ -45,7 +45,7 @@ NoWord word P bytes = (x : ℕ) (tail : List ℕ) → P x → bytes ≡ word x +
 abbrev pub BeginsWithWord : (ℕ → List ℕ) → (ℕ → Type 0) → List ℕ → ℕ → List ℕ → Type 0
 BeginsWithWord word P bytes x rest = P x × (bytes ≡ word x ++ (32 ∷ rest))
 
--- words, each with a space behind it, as many as there are
+-- words, each with a space after it, as many as there are
 pub record BeginsWithWords (word : ℕ → List ℕ) (P : ℕ → Type 0) (bytes xs rest : List ℕ) : Type 0 where
   pub are : AllByRecursion P xs
   pub whole : bytes ≡ words word xs ++ rest

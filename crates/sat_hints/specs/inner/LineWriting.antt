@@ -1,4 +1,4 @@
--- How lines are written through bytes that wait.
+-- How lines are written through pending bytes.
 use Rattle.std.specs.Prelude.{ℕ, ◌≡◌, ◌++◌, Bool, true, false, List, [], take, codes, if◌then◌else◌}
 use Rattle.sat_base.specs.values.Literals.{is_positive}
 use Rattle.sat_base.specs.device.Device.{Writer}
@@ -6,16 +6,16 @@ use Rattle.sat_base.specs.device.Sink.{Sink, Sent, Broken}
 use Rattle.sat_hints.specs.Lines.{id_words, literal_words}
 use Rattle.sat_hints.specs.declared.line_writer.LineWriter.{LineWriter}
 
--- a writer with the bytes that wait for it, and whether a write has failed
+-- a writer with its pending bytes, and whether a write has failed
 pub record Outlet : Type 0 where
   pub sink : Sink
   pub failed : Bool
 
--- a writer of lines, its bytes that wait being the first of its buffer
+-- a writer of lines, whose pending bytes are the first of its buffer
 abbrev pub outlet : {W : Type 0} → (W → Writer) → LineWriter W → Outlet
 outlet seen w = record { sink = record { writer = seen w.writer; waiting = take w.len w.bytes }; failed = w.failed }
 
--- a text was put behind what waited, or a write has failed by now
+-- a text was put after the pending bytes, or a write has failed so far
 abbrev pub PutBy : Bool → List ℕ → Sink → Sink → Type 0
 PutBy false text old new = Sent old new text
 PutBy true text old new = Broken old new text
@@ -33,6 +33,6 @@ sign_text l = if is_positive l then [] else codes "-"
 abbrev pub both_words : List ℕ → List ℕ → List ℕ
 both_words literals ids = literal_words literals ++ (codes "0 " ++ (id_words ids ++ codes "0\n"))
 
--- a text was put behind what waited, unless a write had failed before
+-- a text was put after the pending bytes, unless a write had failed before
 abbrev pub PutsText : List ℕ → Outlet → Outlet → Type 0
 PutsText text old new = PutFrom old.failed text old new

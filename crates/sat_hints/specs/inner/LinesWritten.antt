@@ -1,4 +1,4 @@
--- What an answer means where the lines of a certificate are written through bytes that wait.
+-- What an answer means where the lines of a certificate are written through pending bytes.
 use Rattle.std.specs.Prelude.{ℕ, ◌≡◌, ◌⊎◌, false, List, [], ◌∷◌, ◌++◌, Result, Ok, Err}
 use Rattle.sat_base.specs.device.Device.{Reader, ReadFails}
 use Rattle.sat_base.specs.device.Sink.{Sent, Broken}
@@ -16,7 +16,7 @@ use Rattle.sat_hints.specs.declared.error.HintError.{HintError}
 use Rattle.sat_hints.specs.declared.error.HintError.TheVariants.{Refused, HasDeleteVar, Read, Write, OutOfMemory}
 use Rattle.sat_hints.specs.inner.LineWriting.{Outlet}
 
--- what is answered where the checker answers this
+-- the error for an error of the checker
 abbrev pub hint_of : CheckerError → HintError
 hint_of errors.IoError = Read
 hint_of errors.OutOfMemory = OutOfMemory
@@ -32,18 +32,18 @@ pub record SentAll (old new : Outlet) (text : List ℕ) : Type 0 where
   pub well : new.failed ≡ false
   pub sent : Sent old.sink new.sink text
 
--- or a front of it
+-- or a prefix of it
 pub record SentFront (old new : Outlet) (text : List ℕ) : Type 0 where
   pub front : List ℕ
   pub behind : List ℕ
   pub whole : text ≡ front ++ behind
   pub sent : SentAll old new front
 
--- a write failed of the lines of accepted steps, or of theirs and those of the step behind them, which is accepted, too
+-- a write failed of the lines of accepted steps, or of theirs and those of the step after them, which is accepted, too
 abbrev pub BrokenBehind : Outlet → Outlet → Step → List Step → Type 0
 BrokenBehind old new step steps = Broken old.sink new.sink (hint_text steps) ⊎ (Accepts (ready_after steps) step × Broken old.sink new.sink (hint_text (step ∷ steps)))
 
--- what an answer to a certificate means, whose lines are put behind the bytes that wait
+-- what an answer to a certificate means, whose lines are put after the pending bytes
 abbrev pub WritesLines : Result (Unit {0}) HintError → Reader → Reader → Outlet → Outlet → Type 0
 WritesLines (Ok x) from to old new = (passed : List Step) × (rest : List ℕ) × IsAccepted from to passed rest
     × Judges (hint_verdict (End ∷ taken_after passed [])) (hint_text (End ∷ taken_after passed []))

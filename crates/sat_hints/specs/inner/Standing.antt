@@ -21,7 +21,7 @@ abbrev pub unless_stale : Table ℕ → ℕ → Option (List ℕ) → Option (Li
 unless_stale since id None = None
 unless_stale since id (Some c) = if is_stale since id c then None else Some c
 
--- the clause under an id: none where it is gone, or a unit that is stale
+-- the clause under an id: none if it is removed, or a unit that is stale
 abbrev pub clause_of : Standing → ℕ → Option (List ℕ)
 clause_of s id = unless_stale s.since id (clause_in s.present id)
 

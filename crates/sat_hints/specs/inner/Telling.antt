@@ -1,4 +1,4 @@
--- What a writer of lines makes of what it is told.
+-- What a writer of lines does with an announcement.
 use Rattle.std.specs.Prelude.{◌≡◌, Bool, true, false, Option, None, Some, List, [], Result, Ok, Err, ℕ}
 use Rattle.anyhow.specs.declared.error.Error.{Error}
 use Rattle.sat_base.specs.device.Device.{Writer}
@@ -8,7 +8,7 @@ use Rattle.sat_hints.specs.Conversion.{line_told}
 use Rattle.sat_hints.specs.declared.line_writer.LineWriter.{LineWriter}
 use Rattle.sat_hints.specs.inner.LineWriting.{outlet, PutsText}
 
--- a line's text, where there is one
+-- a line's text, if there is one
 abbrev pub text_if : Option Line → List ℕ
 text_if None = []
 text_if (Some line) = line_text line
@@ -17,7 +17,7 @@ text_if (Some line) = line_text line
 abbrev pub told_text : Told → List ℕ
 told_text t = text_if (line_told t.announcement)
 
--- a fault is answered exactly where a write has failed
+-- a fault is returned exactly if a write has failed
 abbrev pub AnswersIf : Bool → Result (Unit {0}) Error → Type 0
 AnswersIf false result = result ≡ Ok tt
 AnswersIf true (Ok x) = ⊥

@@ -1,4 +1,4 @@
--- How often literals stand in clauses of two or more, once they are counted.
+-- How often literals are in clauses of two or more, once they are counted.
 use Rattle.std.specs.Prelude.{ℕ, Bool, true, false}
 use Rattle.sat_checker.specs.inner.OccurrenceView.{count_at}
 use Rattle.sat_hints.specs.declared.uses.Uses.{Uses}
