@@ -9,6 +9,7 @@ pub mod Progressing
 pub mod Resting
 pub mod Settling
 pub mod Taking
+pub mod View
 pub mod Whole
 pub mod Proving
 pub mod Configuring

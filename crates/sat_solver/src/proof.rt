@@ -7,7 +7,8 @@ ghost use Rattle.sat_solver.specs.proof.Checked.{has_begun};
 ghost use Rattle.sat_solver.specs.proof.MadeView.{Makes};
 ghost use Rattle.sat_solver.specs.session.Session.{May, MayAll};
 ghost use Rattle.sat_solver.specs.proof.Widths.{narrowed, KeepsWidth};
-ghost use Rattle.sat_solver.specs.proof.ProofView.{Closed, IsAtWidth, Open, audience, is_open, is_drat, has_asked};
+ghost use Rattle.sat_solver.specs.proof.ProofView.{Closed, IsAtWidth, Open, asking, audience, is_open, is_drat};
+ghost use Rattle.sat_solver.specs.proof.ProofView.{has_asked};
 ghost use Rattle.sat_solver.specs.proof.ProofView.{target_of, steps_of, session_of, is_checked, is_lost, Checks};
 ghost use Rattle.sat_solver.specs.proof.ProofView.{HasTold, HasAllowedSteps, EmitsExactly, EmitsAsAnswered, PutsOn, TargetTakes};
 ghost use Rattle.sat_solver.specs.proof.ProofView.{FailsOfCheck, FailsOfCheckUnless, FlushesTarget, FlushesOrFails};
@@ -172,7 +173,7 @@ impl<W: CountedWrite + Drop, P: ProofProcessor> Proof<W, P> {
         ensures keeps { HasAllowedSteps self.old → HasAllowedSteps self.new }
         ensures adds { EmitsExactly W.seen [] self.old self.new }
         ensures taking { is_lost self.new ≡ is_lost self.old }
-        ensures asked { has_asked self.new ≡ true }
+        ensures same { self.new ≡ asking self.old }
     {
         self.counting.solving = true;
     }

@@ -90,8 +90,8 @@ pub fn search<W: CountedWrite + Drop, P: ProofProcessor>(
     ensures goes { IfOk result (λ r. r ≡ None
         → FoundNone W.seen (steps.new - steps.old) names.old names.new core.old core.new) }
     ensures ends { IfOk result (λ r. EndedBy W.seen (steps.new - steps.old) r core.old names.old core.new names.new) }
-    ensures rounds { IfOk result (λ o. ComesBy Restarted ReducedAt (RoundOf W.seen) o core.old names.old restarts.old
-        steps.old core.new names.new restarts.new steps.new) }
+    ensures rounds { IfOk result (λ o. ComesBy Restarted (ReducedAt W.seen) (RoundOf W.seen) o core.old names.old
+        restarts.old steps.old core.new names.new restarts.new steps.new) }
     ensures fails { IfErr result (λ e. BreaksRounds W.seen core.old e core.new) }
 {
     let end = steps.saturating_add(max_steps);

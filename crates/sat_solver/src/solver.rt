@@ -1,13 +1,9 @@
 //! An incremental solver that writes a proof.
 //!
-//! Contracts see of a solver its names, steps, assumptions, what it knows of an answer, the rounds it made and whether
-//! a call failed; what holds between calls is `IsSolver`, which `new` gives and each call keeps.
-ghost use Rattle.std.specs.Prelude.{◌≡◌, true, false, []};
-ghost use Rattle.sat_base.specs.script.Judge.{start};
-ghost use Rattle.sat_solver.specs.proof.ProofView.{Closed, has_asked, is_checked, is_lost, target_of};
-ghost use Rattle.sat_solver.specs.variables.Calls.{Agree};
-ghost use Rattle.sat_solver.specs.Configs.{defaults};
-ghost use Rattle.sat_solver.specs.solver.Whole.{SolverInvariant, steps_in};
+//! Contracts see of a solver what `View` of its definitions has, and the judge's state; what holds between calls is
+//! `IsSolver`, which `new` ensures and every call preserves.
+ghost use Rattle.std.specs.Prelude.{◌≡◌};
+ghost use Rattle.sat_solver.specs.solver.View.{IsEmpty, rounds_in};
 
 pub mod answers;
 pub mod assume;
@@ -63,19 +59,7 @@ pub struct Solver<W: CountedWrite + Drop, P: ProofProcessor = Nobody> {
 impl<W: CountedWrite + Drop> Solver<W, Nobody> {
     /// No clauses and no names, and nobody will listen to a checker of its own. Takes no memory.
     pub fn new(alloc: Global) -> Solver<W, Nobody>
-        ensures whole { SolverInvariant result }
-        ensures going { result.failed ≡ false }
-        ensures unused { result.used ≡ false }
-        ensures steps { steps_in result ≡ [] }
-        ensures target { target_of W.seen result.core.proof ≡ Closed }
-        ensures checked { is_checked result.core.proof ≡ false }
-        ensures taking { is_lost result.core.proof ≡ false }
-        ensures begun { has_asked result.core.proof ≡ false }
-        ensures agree { Agree result.names [] start [] }
-        ensures asked { result.assumed.items ≡ [] }
-        ensures config { result.core.config ≡ defaults }
-        ensures state { result.state ≡ State.Unknown }
-        ensures rounds { result.clock.steps ≡ 0 }
+        ensures { IsEmpty W.seen result }
     {
         Solver::telling(alloc)
     }
@@ -84,19 +68,7 @@ impl<W: CountedWrite + Drop> Solver<W, Nobody> {
 impl<W: CountedWrite + Drop, P: ProofProcessor> Solver<W, P> {
     /// As `new`, for processors of this type. Nobody listens yet.
     pub fn telling(alloc: Global) -> Solver<W, P>
-        ensures whole { SolverInvariant result }
-        ensures going { result.failed ≡ false }
-        ensures unused { result.used ≡ false }
-        ensures steps { steps_in result ≡ [] }
-        ensures target { target_of W.seen result.core.proof ≡ Closed }
-        ensures checked { is_checked result.core.proof ≡ false }
-        ensures taking { is_lost result.core.proof ≡ false }
-        ensures begun { has_asked result.core.proof ≡ false }
-        ensures agree { Agree result.names [] start [] }
-        ensures asked { result.assumed.items ≡ [] }
-        ensures config { result.core.config ≡ defaults }
-        ensures state { result.state ≡ State.Unknown }
-        ensures rounds { result.clock.steps ≡ 0 }
+        ensures { IsEmpty W.seen result }
     {
         let config = SolverConfig::default();
         Solver {
@@ -113,7 +85,7 @@ impl<W: CountedWrite + Drop, P: ProofProcessor> Solver<W, P> {
                     next: 0,
                     count: 0,
                 },
-                steps: 0,
+                rounds: 0,
             },
             told: Told {
                 model: Vec::new(alloc),
@@ -133,8 +105,8 @@ impl<W: CountedWrite + Drop, P: ProofProcessor> Solver<W, P> {
 
     /// The rounds of search so far, over all calls of `solve`: at most 2^64-1, also after a call failed.
     pub fn steps(&self) -> u64
-        ensures { result ≡ self.now.clock.steps }
+        ensures { result ≡ rounds_in self.now }
     {
-        self.clock.steps
+        self.clock.rounds
     }
 }

@@ -14,7 +14,8 @@ use Rattle.sat_checker.specs.declared.processing.Processing.{Processing}
 use Rattle.sat_solver.specs.session.Due.{kept_if}
 use Rattle.sat_solver.specs.proof.Listening.{AreJustListeners, Hears, HeardAll, HasHeard, FailedOf}
 use Rattle.sat_solver.specs.session.Session.{MayAll}
-use Rattle.sat_solver.specs.proof.Widths.{IsNarrowedTo}
+use Rattle.sat_solver.specs.proof.Counting.{width_told, written_for}
+use Rattle.sat_solver.specs.proof.Widths.{IsNarrowedTo, KeepsWidth}
 use Rattle.sat_solver.specs.declared.proof.checker.Checked.{Checked}
 use Rattle.sat_solver.specs.declared.proof.made.CheckFault.{CheckFault}
 use Rattle.sat_solver.specs.declared.proof.made.CheckFault.TheVariants as checks
@@ -33,6 +34,20 @@ unended (step ∷ earlier) = kept_if (not (is_end step)) step (unended earlier)
 abbrev pub has_begun : List Step → Bool
 has_begun [] = false
 has_begun (step ∷ earlier) = not (is_end step) || has_begun earlier
+
+-- From steps to what the checker is given for them, and the width of the last of them. Each step has a width of its own, which is told before
+-- it if the step before had another one. Of the end of a proof only the width is told.
+pub data AreGiven : List Step → List Step → ℕ → Type 0 where
+  none_given : AreGiven [] [] 64
+  one_given : {steps given : List Step} {before : ℕ} (step : Step) (now : ℕ) → is_end step ≡ false → KeepsWidth step → AreGiven steps given before → AreGiven (step ∷ steps) (written_for before now step ++ given) now
+  end_given : {steps given : List Step} {before : ℕ} (step : Step) (now : ℕ) → is_end step ≡ true → AreGiven steps given before → AreGiven (step ∷ steps) (width_told before now ++ given) now
+
+-- the same, and then the width of the step that comes next
+pub record AreGivenAndWidth (steps given : List Step) (now : ℕ) : Type 0 where
+  pub before : ℕ
+  pub earlier : List Step
+  pub cut : AreGiven steps earlier before
+  pub told : given ≡ width_told before now ++ earlier
 
 -- who listens to it
 abbrev pub who_listens : {L : Type 0} → Checked L → Processing L Nobody
@@ -74,14 +89,18 @@ OrCause (Ok x) Fed FailsWhileHeard = Fed
 OrCause (Err e) Fed FailsWhileHeard = IsCause e × FailsWhileHeard (cause_in e)
 
 module _ {L : Type 0} (takes : L → Told → Result Unit Error → L → Type 0) where
-  -- it has accepted what is written for these steps, but for ends, goes on, and has told it to these, since they were added
-  pub record IsFed (own : Checked L) (added : List L) (steps : List Step) : Type 0 where
+  -- it has accepted what it was given, goes on, and has told it to these, since they were added
+  pub record IsFedBy (Given : List Step → ℕ → Type 0) (own : Checked L) (added : List L) : Type 0 where
     pub written : List Step
-    pub cut : IsNarrowedTo (unended steps) written own.bits
+    pub cut : Given written own.bits
     pub begun : Processing L Nobody
     pub were : AreJustListeners added begun
     pub stands : HasAccepted (Hears takes) [] begun (seen_of own.checker) written
     pub going : has_failed (kernel_of own.checker) ≡ false
+
+  -- it was given these steps, each at its width
+  abbrev pub IsFed : Checked L → List L → List Step → Type 0
+  IsFed own added steps = IsFedBy (AreGiven steps) own added
 
   -- those who were added have heard what it told, and are these now
   abbrev pub Heard : (added : List L) (now : Listeners L Nobody) → List Step → Type 0
@@ -100,9 +119,9 @@ module _ {L : Type 0} (takes : L → Told → Result Unit Error → L → Type 0
   TakesStep result old step new = (added : List L) (steps : List Step) → MayAll (step ∷ steps) → IsFed old added steps
       → OrCause result (IsFed new added (step ∷ steps)) (FailsWhileHeard added (listeners_of (who_listens new)) (step ∷ steps))
 
-  -- it's told a width
+  -- it is told the width of the step that comes next
   abbrev pub TakesWidth : Result (Unit {0}) CheckerError → Checked L → Checked L → Type 0
-  TakesWidth result old new = (added : List L) (steps : List Step) → MayAll steps → IsFed old added steps → OrCause result (IsFed new added steps) (FailsWhileHeard added (listeners_of (who_listens new)) steps)
+  TakesWidth result old new = (added : List L) (steps : List Step) → MayAll steps → IsFed old added steps → OrCause result (IsFedBy (AreGivenAndWidth steps) new added) (FailsWhileHeard added (listeners_of (who_listens new)) steps)
 
   -- no unit conflict waits for its id any more
   abbrev pub TakesDelayed : Result (Unit {0}) CheckerError → Checked L → Checked L → Type 0

@@ -1,16 +1,17 @@
 -- Rounds one after another, each behind a restart, where one is due, and a reduction.
-use Rattle.std.specs.Prelude.{ℕ, ◌+◌, ◌<◌, ◌≤◌, ◌≡◌, ◌⊎◌, Option, None, Some}
+use Rattle.std.specs.Prelude.{ℕ, ◌+◌, ◌-◌, ◌^◌, ◌<◌, ◌≤◌, ◌≡◌, ◌⊎◌, min, Option, None, Some}
 use Rattle.sat_store.specs.schedule.Luby.{luby, wrapped_number}
 use Rattle.sat_solver.specs.schedule.Gaps.{gap_end}
 use Rattle.sat_solver.specs.declared.schedule.restarts.Restarts.{Restarts}
 use Rattle.sat_solver.specs.declared.schedule.Outcome.{Outcome}
 use Rattle.sat_solver.specs.declared.schedule.Outcome.TheVariants as outcomes
 
--- a gap begins before this round, as long as the sequence's next term times the scale
+-- a gap begins before this round, as long as the sequence's next term times the scale, and is counted
 pub record BeginsGap (round : ℕ) (old new : Restarts) : Type 0 where
   pub given : new.sequence ≡ wrapped_number (old.sequence + 1)
   pub scale : new.scale ≡ old.scale
   pub next : new.next ≡ gap_end round (luby (old.sequence + 1)) old.scale
+  pub count : new.count ≡ min (old.count + 1) (2 ^ 64 - 1)
 
 -- where a gap ends before this round there was a restart, and else nothing changed
 abbrev pub RestartsWhereDue : {A : Type 0} (restarted : A → A → Type 0) → (round : ℕ) → A → Restarts → A → Restarts → Type 0

@@ -111,10 +111,15 @@ pub record Restarted {W L : Type 0} {G : Ghosts L} (a b : Core W L G) : Type 0 w
   pub clauses : SameClauses a.search.parts b.search.parts
   pub same : b ≡ record a { search = record a.search { parts = b.search.parts } }
 
--- a reduction before the round of this number
-abbrev pub ReducedAt : {W L : Type 0} {G : Ghosts L} → Core W L G → ℕ → Core W L G → Type 0
-ReducedAt a round b = Reduces a.config round a.search.parts b.search.parts
+-- a reduction before the round of this number, with its steps; variables, assumptions and parameters are as they were
+pub record ReducedAt {W L : Type 0} {G : Ghosts L} (seen : W → Writer) (a : Core W L G) (round : ℕ) (b : Core W L G) : Type 0 where
+  pub steps : List Step
+  pub adds : EmitsChecked seen steps a.proof b.proof
+  pub reduces : Reduces a.config round a.search.parts b.search.parts
+  pub moved : SameVarsAndAssumptions a.search b.search
+  pub config : b.config ≡ a.config
 
 -- a round, which ended so
-abbrev pub RoundOf : {W L : Type 0} {G : Ghosts L} → (W → Writer) → Core W L G → Variables → Outcome → Core W L G → Variables → Type 0
-RoundOf seen a n outcome b m = RoundEnds seen outcome n m a.proof b.proof a.search b.search
+pub record RoundOf {W L : Type 0} {G : Ghosts L} (seen : W → Writer) (a : Core W L G) (n : Variables) (outcome : Outcome) (b : Core W L G) (m : Variables) : Type 0 where
+  pub ends : RoundEnds seen outcome n m a.proof b.proof a.search b.search
+  pub config : b.config ≡ a.config

@@ -23,6 +23,7 @@ use Rattle.sat_solver.specs.declared.state.State.TheVariants as states
 use Rattle.sat_solver.specs.solver.Calls.{RefinesJudge, Refuses}
 use Rattle.sat_solver.specs.solver.Taking.{BreaksNamesOff, BreaksNamesOr}
 use Rattle.sat_solver.specs.solver.Whole.{HasFullStore, SolverInvariant, steps_in}
+use Rattle.sat_solver.specs.solver.View.{IsInState, answer_in, assumed_in, assumptions_in, has_failed, inside, is_used, known_names, parameters_in, proof_in, schedule_in, target_in}
 
 -- the literals come in, and then the clause
 abbrev pub with_added : List ℕ → Judge → Judge
@@ -47,19 +48,19 @@ ForgetsAnswer before states.UnsatUnderAssumptions = ⊥
 
 -- the leftmost name of mode witness
 abbrev pub HasWitness : {W L : Type 0} {G : Ghosts L} → Solver W L G → List ℕ → Type 0
-HasWitness s user = (j : Judge) (live : Live) → Agree s.names (steps_in s) j live → (name : ℕ) × (refused_literal j (names_in user) ≡ Some (WitnessName name))
+HasWitness s user = (j : Judge) (live : Live) → IsInState s j live → (name : ℕ) × (refused_literal j (names_in user) ≡ Some (WitnessName name))
 
 -- there's none
 abbrev pub AreSampled : {W L : Type 0} {G : Ghosts L} → Solver W L G → List ℕ → Type 0
-AreSampled s user = (j : Judge) (live : Live) → Agree s.names (steps_in s) j live → refused_literal j (names_in user) ≡ None
+AreSampled s user = (j : Judge) (live : Live) → IsInState s j live → refused_literal j (names_in user) ≡ None
 
 -- a call over names failed, for a full clause buffer only where it is full, and so does each one behind it
 pub record EndsNamesOr {W L : Type 0} {G : Ghosts L} (full : Type 0) (seen : W → Writer) (e : SolverError) (old new : Solver W L G) : Type 0 where
-  pub going : old.failed ≡ false
-  pub failed : new.failed ≡ true
+  pub going : has_failed old ≡ false
+  pub failed : has_failed new ≡ true
   pub fault : IsFaultOr full e
-  pub breaks : BreaksNamesOr full seen e old.core new.core
-  pub clock : new.clock ≡ old.clock
+  pub breaks : BreaksNamesOr full seen e (inside old) (inside new)
+  pub clock : schedule_in new ≡ schedule_in old
 
 -- the same where no clause is stored
 abbrev pub EndsNames : {W L : Type 0} {G : Ghosts L} → (W → Writer) → SolverError → Solver W L G → Solver W L G → Type 0
@@ -67,11 +68,11 @@ EndsNames seen e old new = EndsNamesOr ⊥ seen e old new
 
 -- lines of DRAT are written: they have no assumptions
 abbrev pub IsDrat : {W L : Type 0} {G : Ghosts L} → (W → Writer) → Solver W L G → Type 0
-IsDrat seen s = is_drat (target_of seen s.core.proof) ≡ true
+IsDrat seen s = is_drat (target_in seen s) ≡ true
 
 -- and no clause comes behind the first ask
 abbrev pub IsPastDrat : {W L : Type 0} {G : Ghosts L} → (W → Writer) → Solver W L G → Type 0
-IsPastDrat seen s = IsDrat seen s × (has_asked s.core.proof ≡ true)
+IsPastDrat seen s = IsDrat seen s × (has_asked (proof_in s) ≡ true)
 
 -- so that one may
 abbrev pub IsBeforeDrat : {W L : Type 0} {G : Ghosts L} → (W → Writer) → Solver W L G → Type 0
@@ -79,69 +80,74 @@ IsBeforeDrat seen s = IsPastDrat seen s → ⊥
 
 -- no name is of mode witness, but for one that comes in there's no variable left
 abbrev pub LacksRoomForNames : {W L : Type 0} {G : Ghosts L} → Solver W L G → List ℕ → Type 0
-LacksRoomForNames s user = (s.failed ≡ false) × AreSampled s user × (HasRoom s.names (users_in user) → ⊥)
+LacksRoomForNames s user = (has_failed s ≡ false) × AreSampled s user × (HasRoom (known_names s) (users_in user) → ⊥)
+
+-- Which steps a clause made: only such as may come with one, by increasing index. Once the clauses alone are known to be unsatisfiable they only
+-- bring names in. No ask began.
+pub record StepsOfClause {W L : Type 0} {G : Ghosts L} (old new : Solver W L G) (user : List ℕ) : Type 0 where
+  pub comes : OnlyAllowedSteps (MayAdd (names_in user)) (steps_in old) (steps_in new)
+  pub order : (answer_in old ≡ states.Unsat → ⊥) → AddsInOrder (steps_in old) (steps_in new)
+  pub left_out : answer_in old ≡ states.Unsat → OnlyAllowedSteps IsDue (steps_in old) (steps_in new)
+  pub asked : has_asked (proof_in new) ≡ has_asked (proof_in old)
 
 -- a clause was added
 pub record Added {W L : Type 0} {G : Ghosts L} (seen : W → Writer) (old new : Solver W L G) (user : List ℕ) : Type 0 where
   pub before_drat : IsBeforeDrat seen old
   pub sampled : AreSampled old user
-  pub room : HasRoom old.names (users_in user)
-  pub did : RefinesJudge seen old new (with_added user) (due_for_clause old.state user)
-  pub comes : OnlyAllowedSteps (MayAdd (names_in user)) (steps_in old) (steps_in new)
-  pub order : (old.state ≡ states.Unsat → ⊥) → AddsInOrder (steps_in old) (steps_in new)
-  pub left_out : old.state ≡ states.Unsat → OnlyAllowedSteps IsDue (steps_in old) (steps_in new)
-  pub asked : has_asked new.core.proof ≡ has_asked old.core.proof
-  pub assumed : new.assumed ≡ old.assumed
-  pub clock : new.clock ≡ old.clock
-  pub state : ForgetsAnswer old.state new.state
+  pub room : HasRoom (known_names old) (users_in user)
+  pub did : RefinesJudge seen old new (with_added user) (due_for_clause (answer_in old) user)
+  pub assumed : assumed_in new ≡ assumed_in old
+  pub clock : schedule_in new ≡ schedule_in old
+  pub state : ForgetsAnswer (answer_in old) (answer_in new)
+  pub steps : StepsOfClause old new user
 
 -- Refusals come in this order: an earlier failure, lines of DRAT, a name of mode witness, no variable left.
 abbrev pub AddsClause : {W L : Type 0} {G : Ghosts L} → (W → Writer) → Result (Unit {0}) SolverError → Solver W L G → Solver W L G → List ℕ → Type 0
 AddsClause seen (Ok x) old new user = Added seen old new user
-AddsClause seen (Err errors.WitnessVariable) old new user = Refuses old new (((old.failed ≡ false) × IsBeforeDrat seen old) × HasWitness old user)
-AddsClause seen (Err errors.NotInDrat) old new user = Refuses old new ((old.failed ≡ false) × IsPastDrat seen old)
+AddsClause seen (Err errors.WitnessVariable) old new user = Refuses old new (((has_failed old ≡ false) × IsBeforeDrat seen old) × HasWitness old user)
+AddsClause seen (Err errors.NotInDrat) old new user = Refuses old new ((has_failed old ≡ false) × IsPastDrat seen old)
 AddsClause seen (Err errors.VariableLimit) old new user = Refuses old new (IsBeforeDrat seen old × LacksRoomForNames old user)
-AddsClause seen (Err errors.HasFailed) old new user = Refuses old new (old.failed ≡ true)
-AddsClause seen (Err e) old new user = (IsBeforeDrat seen old × AreSampled old user) × HasRoom old.names (users_in user) × EndsNamesOr (HasFullStore new) seen e old new
+AddsClause seen (Err errors.HasFailed) old new user = Refuses old new (has_failed old ≡ true)
+AddsClause seen (Err e) old new user = (IsBeforeDrat seen old × AreSampled old user) × HasRoom (known_names old) (users_in user) × EndsNamesOr (HasFullStore new) seen e old new
 
 -- other assumptions were taken, whatever will be answered
 pub record ReplacesAssumptions {W L : Type 0} {G : Ghosts L} (seen : W → Writer) (old new : Solver W L G) (user : List ℕ) : Type 0 where
   pub sampled : AreSampled old user
-  pub room : HasRoom old.names (users_in user)
+  pub room : HasRoom (known_names old) (users_in user)
   pub did : (o : Outcome) → RefinesJudge seen old new (bring_all (names_in user)) (due_for_asked o user)
   pub comes : OnlyAllowedSteps (MayTake (names_in user)) (steps_in old) (steps_in new)
-  pub asked : has_asked new.core.proof ≡ has_asked old.core.proof
-  pub assumed : new.assumed.items ≡ user
-  pub clock : new.clock ≡ old.clock
-  pub state : ForgetsAnswer old.state new.state
+  pub asked : has_asked (proof_in new) ≡ has_asked (proof_in old)
+  pub assumed : assumptions_in new ≡ user
+  pub clock : schedule_in new ≡ schedule_in old
+  pub state : ForgetsAnswer (answer_in old) (answer_in new)
 
 -- what came of assumptions: these in place of others, or a refusal, or a fault
 abbrev pub AssumesOrRefuses : {W L : Type 0} {G : Ghosts L} → (W → Writer) → Result (Unit {0}) SolverError → Solver W L G → Solver W L G → List ℕ → Type 0
 AssumesOrRefuses seen (Ok x) old new user = ReplacesAssumptions seen old new user
-AssumesOrRefuses seen (Err errors.WitnessVariable) old new user = Refuses old new ((old.failed ≡ false) × HasWitness old user)
-AssumesOrRefuses seen (Err errors.NotInDrat) old new user = Refuses old new ((old.failed ≡ false) × IsDrat seen old)
+AssumesOrRefuses seen (Err errors.WitnessVariable) old new user = Refuses old new ((has_failed old ≡ false) × HasWitness old user)
+AssumesOrRefuses seen (Err errors.NotInDrat) old new user = Refuses old new ((has_failed old ≡ false) × IsDrat seen old)
 AssumesOrRefuses seen (Err errors.VariableLimit) old new user = Refuses old new (LacksRoomForNames old user)
-AssumesOrRefuses seen (Err errors.HasFailed) old new user = Refuses old new (old.failed ≡ true)
-AssumesOrRefuses seen (Err e) old new user = AreSampled old user × HasRoom old.names (users_in user) × EndsNames seen e old new
+AssumesOrRefuses seen (Err errors.HasFailed) old new user = Refuses old new (has_failed old ≡ true)
+AssumesOrRefuses seen (Err e) old new user = AreSampled old user × HasRoom (known_names old) (users_in user) × EndsNames seen e old new
 
 -- INSIDE
 
 -- the same without the flag of failure: what a clause leaves
 pub record AddClauseEffect {W L : Type 0} {G : Ghosts L} (seen : W → Writer) (old new : Solver W L G) (user : List ℕ) : Type 0 where
   pub whole : SolverInvariant new
-  pub does : NamesRefineJudge old.names new.names (steps_in old) (steps_in new) (with_added user) (due_for_clause old.state user)
+  pub does : NamesRefineJudge (known_names old) (known_names new) (steps_in old) (steps_in new) (with_added user) (due_for_clause (answer_in old) user)
   pub comes : OnlyAllowedSteps (MayAdd (names_in user)) (steps_in old) (steps_in new)
-  pub order : (old.state ≡ states.Unsat → ⊥) → AddsInOrder (steps_in old) (steps_in new)
-  pub left_out : old.state ≡ states.Unsat → OnlyAllowedSteps IsDue (steps_in old) (steps_in new)
-  pub took : ComesBySteps seen old.core.proof new.core.proof
-  pub asked : has_asked new.core.proof ≡ has_asked old.core.proof
-  pub width : (steps_in new ≡ steps_in old → ⊥) → IsAtWidth new.core.proof
-  pub failed : new.failed ≡ old.failed
-  pub used : new.used ≡ old.used
-  pub config : new.core.config ≡ old.core.config
-  pub state : ForgetsAnswer old.state new.state
+  pub order : (answer_in old ≡ states.Unsat → ⊥) → AddsInOrder (steps_in old) (steps_in new)
+  pub left_out : answer_in old ≡ states.Unsat → OnlyAllowedSteps IsDue (steps_in old) (steps_in new)
+  pub took : ComesBySteps seen (proof_in old) (proof_in new)
+  pub asked : has_asked (proof_in new) ≡ has_asked (proof_in old)
+  pub width : (steps_in new ≡ steps_in old → ⊥) → IsAtWidth (proof_in new)
+  pub failed : has_failed new ≡ has_failed old
+  pub used : is_used new ≡ is_used old
+  pub config : parameters_in new ≡ parameters_in old
+  pub state : ForgetsAnswer (answer_in old) (answer_in new)
 
 -- what came of a clause before that flag is set: it is in, or a call failed
 abbrev pub TakesInOrBreaks : {W L : Type 0} {G : Ghosts L} → (W → Writer) → Result (Unit {0}) SolverError → Solver W L G → Solver W L G → List ℕ → Type 0
 TakesInOrBreaks seen (Ok x) old new user = AddClauseEffect seen old new user
-TakesInOrBreaks seen (Err e) old new user = BreaksNamesOff (HasFullStore new) seen e old.core new.core
+TakesInOrBreaks seen (Err e) old new user = BreaksNamesOff (HasFullStore new) seen e (inside old) (inside new)

@@ -16,29 +16,31 @@ use Rattle.sat_checker.specs.matching.Bridge.{Live}
 use Rattle.sat_solver.specs.schedule.Solving.{AdvancesIn}
 use Rattle.sat_solver.specs.session.Coming.{OnlyAllowedSteps, EndsAtUnsat}
 use Rattle.sat_solver.specs.session.Making.{ComesBySteps}
-use Rattle.sat_solver.specs.proof.ProofView.{Target, Closed, Open, Broken, HasTold, IsAtWidth, has_asked, is_open, target_of}
+use Rattle.sat_solver.specs.proof.ProofView.{Target, Closed, Open, Broken, FlushesAndTells, HasTold, IsAtWidth, asking, has_asked, is_open, target_of}
 use Rattle.sat_solver.specs.declared.proof.Proof.{Proof}
 use Rattle.sat_solver.specs.declared.solver.Solver.{Solver}
 use Rattle.sat_solver.specs.declared.state.State.{State}
 use Rattle.sat_solver.specs.declared.state.State.TheVariants as states
 use Rattle.sat_solver.specs.solver.Answering.{BreaksCall, FlushFails}
+use Rattle.sat_solver.specs.solver.Found.{SearchedBy}
 use Rattle.sat_solver.specs.solver.Whole.{SolverInvariant, steps_in, line_in}
+use Rattle.sat_solver.specs.solver.View.{IsInState, OnlyProofDiffers, answer_in, assumed_in, assumptions_in, core_told, has_failed, inside, is_used, known_names, parameters_in, proof_in, rounds_in, schedule_in, target_in, used_now}
 
 -- a call was carried out: what it does to the judge's state, and which steps it has made for it, whatever others come between
 pub record RefinesJudge {W L : Type 0} {G : Ghosts L} (seen : W → Writer) (old new : Solver W L G) (judge : Judge → Judge) (due : Judge → List Expected) : Type 0 where
   pub whole : SolverInvariant new
-  pub going : old.failed ≡ false
-  pub failed : new.failed ≡ false
-  pub used : new.used ≡ true
-  pub config : new.core.config ≡ old.core.config
-  pub does : NamesRefineJudge old.names new.names (steps_in old) (steps_in new) judge due
-  pub took : ComesBySteps seen old.core.proof new.core.proof
+  pub going : has_failed old ≡ false
+  pub failed : has_failed new ≡ false
+  pub used : is_used new ≡ true
+  pub config : parameters_in new ≡ parameters_in old
+  pub does : NamesRefineJudge (known_names old) (known_names new) (steps_in old) (steps_in new) judge due
+  pub took : ComesBySteps seen (proof_in old) (proof_in new)
   -- behind a step the solver's own checker, where there is one, is at the width of the target's text
-  pub width : (steps_in new ≡ steps_in old → ⊥) → IsAtWidth new.core.proof
+  pub width : (steps_in new ≡ steps_in old → ⊥) → IsAtWidth (proof_in new)
 
 -- the rounds that a call may make
 abbrev pub rounds_left : {W L : Type 0} {G : Ghosts L} → Solver W L G → ℕ
-rounds_left s = steps_left s.core.config.max_steps s.clock.steps
+rounds_left s = steps_left (parameters_in s).max_steps (rounds_in s)
 
 -- Rounds become more, but not by more than a call may make, and by fewer than 2^(2n+3), where the judge has given n identities out,
 -- whatever its state is that names and steps agree with.
@@ -49,16 +51,16 @@ pub record RoundsOn (n : Variables) (steps : List Step) (budget before now : ℕ
 
 -- the same of the rounds of a call
 abbrev pub CountsRounds : {W L : Type 0} {G : Ghosts L} → Solver W L G → Solver W L G → Type 0
-CountsRounds old new = RoundsOn old.names (steps_in old) old.core.config.max_steps old.clock.steps new.clock.steps
+CountsRounds old new = RoundsOn (known_names old) (steps_in old) (parameters_in old).max_steps (rounds_in old) (rounds_in new)
 
 -- a call failed by what no input decides, and so does each one behind it; where an answer was known, only a flush or the solver's own
 -- checker did
 pub record EndsInFailure {W L : Type 0} {G : Ghosts L} (seen : W → Writer) (e : SolverError) (old new : Solver W L G) : Type 0 where
-  pub going : old.failed ≡ false
-  pub failed : new.failed ≡ true
-  pub breaks : BreaksCall seen e old.core new.core
+  pub going : has_failed old ≡ false
+  pub failed : has_failed new ≡ true
+  pub breaks : BreaksCall seen e (inside old) (inside new)
   pub counts : CountsRounds old new
-  pub known : (old.state ≡ states.Unknown → ⊥) → FlushFails seen e old.core.proof new.core.proof
+  pub known : (answer_in old ≡ states.Unknown → ⊥) → FlushFails seen e (proof_in old) (proof_in new)
 
 -- a call was refused, for this reason, and changed nothing
 pub record Refuses {W L : Type 0} {G : Ghosts L} (old new : Solver W L G) (why : Type 0) : Type 0 where
@@ -75,16 +77,16 @@ due_between_states before now line asked core = []
 
 -- the same by the solver that has answered now
 abbrev pub due_for_answer : {W L : Type 0} {G : Ghosts L} → State → Solver W L G → List Expected
-due_for_answer before s = due_between_states before s.state (line_in s) s.assumed.items s.told.failed_core.items
+due_for_answer before s = due_between_states before (answer_in s) (line_in s) (assumptions_in s) (core_told s)
 
 -- how many rounds were made: at least one for an answer that wasn't known, as many as there may be where there's no answer, and an
 -- answer wherever 2^(2n+3) of them might be made
 pub record Counts {W L : Type 0} {G : Ghosts L} (old new : Solver W L G) : Type 0 where
   pub on : CountsRounds old new
-  pub round : old.state ≡ states.Unknown → (new.state ≡ states.Unknown → ⊥) → old.clock.steps < new.clock.steps
-  pub spent : new.state ≡ states.Unknown → new.clock.steps ≡ old.clock.steps + rounds_left old
-  pub answered : (j : Judge) (live : Live) → Agree old.names (steps_in old) j live → 2 ^ (2 * j.identity_count + 3) ≤ rounds_left old →
-      new.state ≡ states.Unknown → ⊥
+  pub round : answer_in old ≡ states.Unknown → (answer_in new ≡ states.Unknown → ⊥) → rounds_in old < rounds_in new
+  pub spent : answer_in new ≡ states.Unknown → rounds_in new ≡ rounds_in old + rounds_left old
+  pub answered : (j : Judge) (live : Live) → IsInState old j live → 2 ^ (2 * j.identity_count + 3) ≤ rounds_left old →
+      answer_in new ≡ states.Unknown → ⊥
 
 -- of so many rounds of an ask those that learn a clause: all, but for the one that answers
 abbrev pub learned_of : State → (rounds : ℕ) → ℕ
@@ -106,21 +108,33 @@ NotesAsk seen p = is_open (target_of seen p) ≡ true → has_asked p ≡ true
 -- the answer that was known is given again: nothing has changed but the target, to which what waited for it was written
 pub record AnswersAgain {W L : Type 0} {G : Ghosts L} (old new : Solver W L G) : Type 0 where
   pub steps : steps_in new ≡ steps_in old
-  pub same : new ≡ record old { core = record old.core { proof = new.core.proof }; used = true }
+  pub same : OnlyProofDiffers (used_now old) new
 
--- An ask was looked at: assumptions are as they were, names stand for the variables for which they stood, and each round derived a clause
--- that advances, but for the one that answered; nothing else did. The solver's own checker was given all steps, and has told what waited.
-pub record Answered {W L : Type 0} {G : Ghosts L} (seen : W → Writer) (old new : Solver W L G) : Type 0 where
-  pub did : RefinesJudge seen old new (λ j. j) (λ j. due_for_answer old.state new)
+-- An ask made its rounds by the schedule of restarts and reductions, and from the first of them on as hashes of an ask are shortened. Then what
+-- waited was written.
+pub record MakesRounds {W L : Type 0} {G : Ghosts L} (seen : W → Writer) (old new : Solver W L G) : Type 0 where
+  pub behind : Proof W L G
+  pub searched : SearchedBy seen (answer_in new) (schedule_in old) (schedule_in new) (known_names old) (known_names new) (record (inside old) { proof = asking (proof_in old) }) (record (inside new) { proof = behind }) (core_told new)
+  pub flushes : FlushesAndTells seen behind (proof_in new)
+
+-- Which steps an ask made: only such as may come in one, and each round derived a clause that advances, but for the one that answered; nothing
+-- else did. Names stand for the variables for which they stood.
+pub record StepsOfAsk {W L : Type 0} {G : Ghosts L} (seen : W → Writer) (old new : Solver W L G) : Type 0 where
   pub comes : OnlyAllowedSteps EndsAtUnsat (steps_in old) (steps_in new)
-  pub assumed : new.assumed ≡ old.assumed
-  pub users : new.names.global_from_user ≡ old.names.global_from_user
+  pub times : AdvancesIn (steps_in old) (steps_in new) (learned_of (answer_in new) (rounds_in new - rounds_in old))
+  pub users : (known_names new).global_from_user ≡ (known_names old).global_from_user
+  pub asked : NotesAsk seen (proof_in new)
+  pub rounds : answer_in old ≡ states.Unknown → MakesRounds seen old new
+
+-- An ask was looked at. Assumptions are as they were. The solver's own checker was given all steps, and has told what waited.
+pub record Answered {W L : Type 0} {G : Ghosts L} (seen : W → Writer) (old new : Solver W L G) : Type 0 where
+  pub did : RefinesJudge seen old new (λ j. j) (λ j. due_for_answer (answer_in old) new)
+  pub assumed : assumed_in new ≡ assumed_in old
   pub counts : Counts old new
-  pub times : AdvancesIn (steps_in old) (steps_in new) (learned_of new.state (new.clock.steps - old.clock.steps))
-  pub flushed : IsFlushed (target_of seen new.core.proof)
-  pub told : HasTold new.core.proof
-  pub asked : NotesAsk seen new.core.proof
-  pub known : (old.state ≡ states.Unknown → ⊥) → AnswersAgain old new
+  pub known : (answer_in old ≡ states.Unknown → ⊥) → AnswersAgain old new
+  pub flushed : IsFlushed (target_in seen new)
+  pub told : HasTold (proof_in new)
+  pub steps : StepsOfAsk seen old new
 
 -- the answer of an ask by the state that it leaves; an unknown one is no answer
 abbrev pub is_answer : State → Bool → Type 0
@@ -131,7 +145,7 @@ is_answer states.Unsat sat = sat ≡ false
 
 -- what came of an ask: an answer, or rounds that are spent, or a refusal, or a fault
 abbrev pub Solves : {W L : Type 0} {G : Ghosts L} → (W → Writer) → Result Bool SolverError → Solver W L G → Solver W L G → Type 0
-Solves seen (Ok sat) old new = Answered seen old new × is_answer new.state sat
-Solves seen (Err errors.Interrupted) old new = Answered seen old new × (new.state ≡ states.Unknown)
-Solves seen (Err errors.HasFailed) old new = Refuses old new (old.failed ≡ true)
+Solves seen (Ok sat) old new = Answered seen old new × is_answer (answer_in new) sat
+Solves seen (Err errors.Interrupted) old new = Answered seen old new × (answer_in new ≡ states.Unknown)
+Solves seen (Err errors.HasFailed) old new = Refuses old new (has_failed old ≡ true)
 Solves seen (Err e) old new = EndsInFailure seen e old new

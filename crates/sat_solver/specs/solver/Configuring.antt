@@ -1,5 +1,5 @@
 -- Parameters of a solver.
-use Rattle.std.specs.Prelude.{◌≡◌, true, false, Result, Ok, Err, unwrap_or}
+use Rattle.std.specs.Prelude.{ℕ, ◌≡◌, true, false, Option, Result, Ok, Err, unwrap_or}
 use Rattle.sat_checker.specs.declared.processing.ProofProcessor.{Ghosts}
 use Rattle.sat_solver.specs.Configs.{in_range, updated}
 use Rattle.sat_solver.specs.session.Session.{Session}
@@ -10,9 +10,11 @@ use Rattle.sat_solver.specs.declared.context.Core.{Core}
 use Rattle.sat_solver.specs.clause.Activity.{Bumped}
 use Rattle.sat_solver.specs.cdcl.Joint.{IsSearch}
 use Rattle.sat_solver.specs.declared.solver.Solver.{Solver}
+use Rattle.sat_solver.specs.declared.solver.find.Clock.{Clock}
 use Rattle.sat_solver.specs.declared.state.State.{State}
 use Rattle.sat_solver.specs.declared.state.State.TheVariants as states
 use Rattle.sat_solver.specs.solver.Calls.{Refuses}
+use Rattle.sat_solver.specs.solver.View.{answer_in, assumed_in, has_failed, inside, is_used, known_names, parameters_in, proof_in, schedule_in, told_in}
 
 -- the search has the decays of the parameters, and nothing else changed
 pub record SetsDecays {W L : Type 0} {G : Ghosts L} (a b : Core W L G) : Type 0 where
@@ -21,30 +23,38 @@ pub record SetsDecays {W L : Type 0} {G : Ghosts L} (a b : Core W L G) : Type 0 
   pub search : b.search ≡ record a.search { parts = b.search.parts; activity = b.search.activity }
   pub same : b ≡ record a { search = b.search }
 
+-- a schedule at another scale, if there is one
+abbrev pub at_scale : Option ℕ → Clock → Clock
+at_scale scale clock = record clock { restarts = record clock.restarts { scale = unwrap_or scale clock.restarts.scale } }
+
 -- unless the search is over
 abbrev pub HandsOn : {W L : Type 0} {G : Ghosts L} → State → Core W L G → Core W L G → Type 0
 HandsOn states.Unsat a b = b ≡ a
 HandsOn st a b = SetsDecays a b
 
+-- names, steps, assumptions and what is known of an answer are as they were
+pub record KeepsAllElse {W L : Type 0} {G : Ghosts L} (old new : Solver W L G) : Type 0 where
+  pub proof : proof_in new ≡ proof_in old
+  pub names : known_names new ≡ known_names old
+  pub state : answer_in new ≡ answer_in old
+  pub assumed : assumed_in new ≡ assumed_in old
+  pub told : told_in new ≡ told_in old
+  pub used : is_used new ≡ is_used old
+
 -- the parameters were changed, and nothing else that can be asked for
 pub record Configured {W L : Type 0} {G : Ghosts L} (u : SolverConfigUpdate) (old new : Solver W L G) : Type 0 where
-  pub going : old.failed ≡ false
+  pub going : has_failed old ≡ false
   pub range : in_range u ≡ true
-  pub config : new.core.config ≡ updated u old.core.config
-  pub proof : new.core.proof ≡ old.core.proof
-  pub names : new.names ≡ old.names
-  pub state : new.state ≡ old.state
-  pub assumed : new.assumed ≡ old.assumed
-  pub told : new.told ≡ old.told
+  pub config : parameters_in new ≡ updated u (parameters_in old)
+  pub same : KeepsAllElse old new
   -- the schedule of restarts goes on, at the scale of the update
-  pub clock : new.clock ≡ record old.clock { restarts = record old.clock.restarts { scale = unwrap_or u.luby_restart_interval_scale old.clock.restarts.scale } }
-  pub decays : HandsOn old.state (record old.core { config = updated u old.core.config }) new.core
-  pub failed : new.failed ≡ false
-  pub used : new.used ≡ old.used
+  pub clock : schedule_in new ≡ at_scale u.luby_restart_interval_scale (schedule_in old)
+  pub decays : HandsOn (answer_in old) (record (inside old) { config = updated u (parameters_in old) }) (inside new)
+  pub failed : has_failed new ≡ false
 
 -- what came of an update of parameters: one out of range changes none
 abbrev pub Configures : {W L : Type 0} {G : Ghosts L} → Result (Unit {0}) SolverError → SolverConfigUpdate → Solver W L G → Solver W L G → Type 0
 Configures (Ok x) u old new = Configured u old new
-Configures (Err errors.HasFailed) u old new = Refuses old new (old.failed ≡ true)
-Configures (Err errors.OutOfRange) u old new = Refuses old new ((old.failed ≡ false) × (in_range u ≡ false))
+Configures (Err errors.HasFailed) u old new = Refuses old new (has_failed old ≡ true)
+Configures (Err errors.OutOfRange) u old new = Refuses old new ((has_failed old ≡ false) × (in_range u ≡ false))
 Configures (Err e) u old new = ⊥

@@ -13,6 +13,7 @@ use Rattle.sat_solver.specs.declared.error.SolverError.TheVariants as errors
 use Rattle.sat_solver.specs.declared.solver.Solver.{Solver}
 use Rattle.sat_solver.specs.solver.Adding.{Added, AddsClause}
 use Rattle.sat_solver.specs.solver.Calls.{Refuses}
+use Rattle.sat_solver.specs.solver.View.{has_failed}
 
 -- clauses were added, each as by a call of its own
 abbrev pub AddsAll : {W L : Type 0} {G : Ghosts L} → (W → Writer) → Solver W L G → List (List ℕ) → Solver W L G → Type 0
@@ -21,7 +22,7 @@ AddsAll {W} {L} {G} seen old (c ∷ cs) new = (mid : Solver W L G) × Added seen
 
 -- the clauses before one were added, and this one was refused, or failed
 pub record StopsAtClause {W L : Type 0} {G : Ghosts L} (seen : W → Writer) (e : SolverError) (old new : Solver W L G) (clauses : List (List ℕ)) : Type 0 where
-  pub going : old.failed ≡ false
+  pub going : has_failed old ≡ false
   pub before : List (List ℕ)
   pub clause : List ℕ
   pub left : List (List ℕ)
@@ -32,8 +33,8 @@ pub record StopsAtClause {W L : Type 0} {G : Ghosts L} (seen : W → Writer) (e 
 
 -- what came of a formula: all of its clauses were added, or those before the one that stopped it
 abbrev pub AddsFormula : {W L : Type 0} {G : Ghosts L} → (W → Writer) → Result (Unit {0}) SolverError → Solver W L G → Solver W L G → List (List ℕ) → Type 0
-AddsFormula seen (Ok x) old new clauses = (old.failed ≡ false) × AddsAll seen old clauses new
-AddsFormula seen (Err errors.HasFailed) old new clauses = Refuses old new (old.failed ≡ true)
+AddsFormula seen (Ok x) old new clauses = (has_failed old ≡ false) × AddsAll seen old clauses new
+AddsFormula seen (Err errors.HasFailed) old new clauses = Refuses old new (has_failed old ≡ true)
 AddsFormula seen (Err e) old new clauses = StopsAtClause seen e old new clauses
 
 -- TEXTS
@@ -60,7 +61,7 @@ with_failed b s = record s { failed = b }
 
 -- the text is at fault, or a read of it failed: the clauses before were added
 pub record TextFails {W L : Type 0} {G : Ghosts L} (seen : W → Writer) (e : SolverError) (old new : Solver W L G) (from to : Reader) : Type 0 where
-  pub going : old.failed ≡ false
+  pub going : has_failed old ≡ false
   pub fault : DimacsError
   pub is : e ≡ text_fault fault
   pub clauses : List (List ℕ)
@@ -78,7 +79,7 @@ pub record ClauseFails {W L : Type 0} {G : Ghosts L} (seen : W → Writer) (e : 
 
 -- all clauses of a text without a fault were added
 pub record TextAdded {W L : Type 0} {G : Ghosts L} (seen : W → Writer) (old new : Solver W L G) (from to : Reader) : Type 0 where
-  pub going : old.failed ≡ false
+  pub going : has_failed old ≡ false
   pub quiet : NoReadFailed from to
   pub clauses : List (List ℕ)
   pub read : GaveEnough from to (λ text. IsDimacs text clauses Clean)
@@ -87,7 +88,7 @@ pub record TextAdded {W L : Type 0} {G : Ghosts L} (seen : W → Writer) (old ne
 -- what came of a text: all of its clauses were added, or those before a fault of it or of one of them
 abbrev pub AddsText : {W L : Type 0} {G : Ghosts L} → (W → Writer) → Result (Unit {0}) SolverError → Solver W L G → Solver W L G → Reader → Reader → Type 0
 AddsText seen (Ok x) old new from to = TextAdded seen old new from to
-AddsText seen (Err errors.HasFailed) old new from to = Refuses old new (old.failed ≡ true) × (to ≡ from)
+AddsText seen (Err errors.HasFailed) old new from to = Refuses old new (has_failed old ≡ true) × (to ≡ from)
 AddsText seen (Err e) old new from to = TextFails seen e old new from to ⊎ ClauseFails seen e old new from to
 
 -- INSIDE

@@ -6,7 +6,8 @@ use Rattle.sat_solver.specs.declared.schedule.Outcome.{Outcome}
 use Rattle.sat_solver.specs.declared.schedule.Outcome.TheVariants as outcomes
 use Rattle.sat_solver.specs.declared.error.SolverError.{SolverError}
 use Rattle.sat_solver.specs.cdcl.Turns.{IsComplete, IsFailing}
-use Rattle.sat_solver.specs.schedule.Solving.{Ended, ComesByRounds}
+use Rattle.sat_solver.specs.schedule.Rounds.{ComesBy}
+use Rattle.sat_solver.specs.schedule.Solving.{Ended, ComesByRounds, Restarted, ReducedAt, RoundOf}
 use Rattle.sat_solver.specs.declared.variables.Variables.{Variables}
 use Rattle.sat_solver.specs.declared.context.Core.{Core}
 use Rattle.sat_solver.specs.declared.state.State.{State}
@@ -47,7 +48,7 @@ FindsAnswer seen (Some state) rounds n m a b core = FoundSays seen state rounds 
 
 -- the same by the counts of rounds before and now, and by what was told
 abbrev pub FindsBy : {W L : Type 0} {G : Ghosts L} → (W → Writer) → Option State → Clock → Clock → Variables → Variables → Core W L G → Core W L G → Told → Type 0
-FindsBy seen o before now n m a b told = FindsAnswer seen o (now.steps - before.steps) n m a b told.failed_core.items
+FindsBy seen o before now n m a b told = FindsAnswer seen o (now.rounds - before.rounds) n m a b told.failed_core.items
 
 -- what a search came to, before it's told
 abbrev pub OutcomeHolds : {W L : Type 0} {G : Ghosts L} → Outcome → Variables → Core W L G → Type 0
@@ -66,3 +67,22 @@ ToldSays seen o outcome n a b core = ⊥
 -- so an outcome was told, or a call failed
 abbrev pub TellsOutcome : {W L : Type 0} {G : Ghosts L} → (W → Writer) → Result (Option State) SolverError → Outcome → Variables → Core W L G → Core W L G → List ℕ → Type 0
 TellsOutcome seen r outcome n a b core = MatchResult r (λ o. ToldSays seen o outcome n a b core) (λ e. BreaksOff seen e a b)
+
+-- the state that an answer leaves, or that of no answer
+abbrev pub state_found : Option State → State
+state_found None = states.Unknown
+state_found (Some state) = state
+
+-- the last round's outcome was told as this state, which is unknown only if a clause was learned
+abbrev pub TellsLast : {W L : Type 0} {G : Ghosts L} → (W → Writer) → Option Outcome → State → Variables → Core W L G → Core W L G → List ℕ → Type 0
+TellsLast seen None states.Unknown n a b core = b ≡ a
+TellsLast seen None state n a b core = ⊥
+TellsLast seen (Some outcome) state n a b core = ToldSays seen (Some state) outcome n a b core
+
+-- It went from there to here by rounds. A restart and a reduction came before exactly those rounds before which they are due, by the schedule
+-- and the parameters as they were, and the state tells what the last round came to.
+pub record SearchedBy {W L : Type 0} {G : Ghosts L} (seen : W → Writer) (state : State) (before now : Clock) (n m : Variables) (a b : Core W L G) (core : List ℕ) : Type 0 where
+  pub outcome : Option Outcome
+  pub found : Core W L G
+  pub rounds : ComesBy Restarted (ReducedAt seen) (RoundOf seen) outcome a n before.restarts before.rounds found m now.restarts now.rounds
+  pub tells : TellsLast seen outcome state m found b core

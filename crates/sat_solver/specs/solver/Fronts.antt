@@ -8,13 +8,14 @@ use Rattle.sat_solver.specs.proof.Checked.{has_begun}
 use Rattle.sat_solver.specs.proof.Counting.{start}
 use Rattle.sat_solver.specs.proof.Fronts.{FrontSince, WentOn}
 use Rattle.sat_solver.specs.proof.ProofTexts.{TookText}
-use Rattle.sat_solver.specs.proof.ProofView.{Target, Open, TargetTakes, GivesWriter, target_of}
+use Rattle.sat_solver.specs.proof.ProofView.{Target, Open, TargetTakes, GivesWriter}
 use Rattle.sat_solver.specs.solver.Adding.{AddsClause, AssumesOrRefuses}
 use Rattle.sat_solver.specs.solver.Calls.{Solves, IsFlushed}
 use Rattle.sat_solver.specs.solver.Configuring.{Configures}
 use Rattle.sat_solver.specs.solver.Formulas.{AddsFormula, AddsText}
 use Rattle.sat_solver.specs.solver.Naming.{Hides, Witnesses, Samples, NamesNew, NamesFail, Observed}
 use Rattle.sat_solver.specs.solver.Proving.{AddsProcessor, ClosesProof, Enables}
+use Rattle.sat_solver.specs.solver.View.{proof_in, target_in}
 use Rattle.sat_solver.specs.solver.Whole.{steps_in}
 use Rattle.sat_solver.specs.declared.config.SolverConfigUpdate.{SolverConfigUpdate}
 use Rattle.sat_solver.specs.declared.error.SolverError.{SolverError}
@@ -23,7 +24,7 @@ use Rattle.sat_solver.specs.declared.solver.Solver.{Solver}
 
 -- the solver came from there by steps, whether or not a call failed
 abbrev pub ReachesBySteps : {W L : Type 0} {G : Ghosts L} → (W → Writer) → Solver W L G → Solver W L G → Type 0
-ReachesBySteps seen old new = WentOn seen old.core.proof new.core.proof
+ReachesBySteps seen old new = WentOn seen (proof_in old) (proof_in new)
 
 -- Each call goes on so, whatever it answers, but for one that opens a proof, or hands the target back.
 pub record CallsGoOn {W L : Type 0} {G : Ghosts L} (seen : W → Writer) (old new : Solver W L G) : Type 0 where
@@ -48,7 +49,7 @@ pub record CallsGoOn {W L : Type 0} {G : Ghosts L} (seen : W → Writer) (old ne
 -- front of the text of accepted steps.
 abbrev pub HandsFront : {W L : Type 0} {G : Ghosts L} → (W → Writer) → Option W → Solver W L G → Type 0
 HandsFront {W} {L} {G} seen handed s = (opened : Solver W L G) (f : ProofFormat) (from : Writer) (given : W) → handed ≡ Some given
-    → target_of seen opened.core.proof ≡ Open f start (empty_sink from) → has_begun (steps_in opened) ≡ false → ReachesBySteps seen opened s
+    → target_in seen opened ≡ Open f start (empty_sink from) → has_begun (steps_in opened) ≡ false → ReachesBySteps seen opened s
     → ∥ FrontSince f from (seen given) (steps_in opened) (steps_in s) ∥₁
 
 -- Where no call of it failed, and the last was a flush, it has taken the whole text.

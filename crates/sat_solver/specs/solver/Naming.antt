@@ -24,10 +24,11 @@ use Rattle.sat_solver.specs.declared.solver.Solver.{Solver}
 use Rattle.sat_solver.specs.solver.Adding.{EndsNames}
 use Rattle.sat_solver.specs.solver.Calls.{RefinesJudge, Refuses}
 use Rattle.sat_solver.specs.solver.Whole.{SolverInvariant, steps_in}
+use Rattle.sat_solver.specs.solver.View.{IsInState, answer_in, assumed_in, assumptions_in, has_failed, is_used, known_names, parameters_in, proof_in, schedule_in, told_in}
 
 -- the name is one of those assumed
 abbrev pub IsAsked : {W L : Type 0} {G : Ghosts L} → Solver W L G → ℕ → Type 0
-IsAsked s user = (l : ℕ) × Among l s.assumed.items × (variable l ≡ user)
+IsAsked s user = (l : ℕ) × Among l (assumptions_in s) × (variable l ≡ user)
 
 -- the value of a variable of the proof by the values of the search, if there is one
 abbrev pub variable_value : {W L : Type 0} {G : Ghosts L} → Solver W L G → Option ℕ → Option Bool
@@ -50,20 +51,20 @@ IsKeptOrFalse (Some a) (Some b) = b ≡ a
 pub record Renamed {W L : Type 0} {G : Ghosts L} (seen : W → Writer) (old new : Solver W L G) (judge : Judge → Judge) (due : Judge → List Expected) (May : List Step → Step → Type 0) : Type 0 where
   pub did : RefinesJudge seen old new judge due
   pub comes : OnlyAllowedSteps May (steps_in old) (steps_in new)
-  pub asked : has_asked new.core.proof ≡ has_asked old.core.proof
-  pub assumed : new.assumed ≡ old.assumed
-  pub told : new.told ≡ old.told
-  pub clock : new.clock ≡ old.clock
-  pub state : new.state ≡ old.state
+  pub asked : has_asked (proof_in new) ≡ has_asked (proof_in old)
+  pub assumed : assumed_in new ≡ assumed_in old
+  pub told : told_in new ≡ told_in old
+  pub clock : schedule_in new ≡ schedule_in old
+  pub state : answer_in new ≡ answer_in old
   pub values : (user : ℕ) → IsKeptOrFalse (name_value old user) (name_value new user)
 
 -- what came of a call that changes the mode of a name, or hides it; which steps it may make
 abbrev pub ChangesMode : {W L : Type 0} {G : Ghosts L} → (W → Writer) → Result (Unit {0}) SolverError → Solver W L G → Solver W L G → ℕ → (Judge → Judge) → (Judge → List Expected) → (List Step → Step → Type 0) → Type 0
-ChangesMode seen (Ok x) old new user judge due May = (IsAsked old user → ⊥) × Renamed seen old new judge due May × HasRoom old.names (user ∷ [])
-ChangesMode seen (Err errors.AssumedVariable) old new user judge due May = Refuses old new ((old.failed ≡ false) × IsAsked old user)
-ChangesMode seen (Err errors.VariableLimit) old new user judge due May = Refuses old new ((old.failed ≡ false) × (IsAsked old user → ⊥) × (HasRoom old.names (user ∷ []) → ⊥))
-ChangesMode seen (Err errors.HasFailed) old new user judge due May = Refuses old new (old.failed ≡ true)
-ChangesMode seen (Err e) old new user judge due May = (IsAsked old user → ⊥) × HasRoom old.names (user ∷ []) × EndsNames seen e old new
+ChangesMode seen (Ok x) old new user judge due May = (IsAsked old user → ⊥) × Renamed seen old new judge due May × HasRoom (known_names old) (user ∷ [])
+ChangesMode seen (Err errors.AssumedVariable) old new user judge due May = Refuses old new ((has_failed old ≡ false) × IsAsked old user)
+ChangesMode seen (Err errors.VariableLimit) old new user judge due May = Refuses old new ((has_failed old ≡ false) × (IsAsked old user → ⊥) × (HasRoom (known_names old) (user ∷ []) → ⊥))
+ChangesMode seen (Err errors.HasFailed) old new user judge due May = Refuses old new (has_failed old ≡ true)
+ChangesMode seen (Err e) old new user judge due May = (IsAsked old user → ⊥) × HasRoom (known_names old) (user ∷ []) × EndsNames seen e old new
 
 -- so of hiding a name, which the judge counts from 1
 abbrev pub Hides : {W L : Type 0} {G : Ghosts L} → (W → Writer) → Result (Unit {0}) SolverError → Solver W L G → Solver W L G → ℕ → Type 0
@@ -79,17 +80,17 @@ Samples seen r old new user = ChangesMode seen r old new user (accepted (Sample 
 
 -- the name comes next, whatever the judge's state is that names and steps agree with
 abbrev pub IsNextName : {W L : Type 0} {G : Ghosts L} → Solver W L G → ℕ → Type 0
-IsNextName s name = (j : Judge) (live : Live) → Agree s.names (steps_in s) j live → IsLowestUnused j name
+IsNextName s name = (j : Judge) (live : Live) → IsInState s j live → IsLowestUnused j name
 
 -- why a call for a new name failed: `VariableLimit` comes exactly where every variable of the proof is in use
 abbrev pub NewFails : {W L : Type 0} {G : Ghosts L} → (W → Writer) → SolverError → Solver W L G → Solver W L G → Type 0
-NewFails seen errors.HasFailed old new = Refuses old new (old.failed ≡ true)
-NewFails seen errors.VariableLimit old new = Refuses old new ((old.failed ≡ false) × NoneLeft old.names)
-NewFails seen e old new = (NoneLeft old.names → ⊥) × EndsNames seen e old new
+NewFails seen errors.HasFailed old new = Refuses old new (has_failed old ≡ true)
+NewFails seen errors.VariableLimit old new = Refuses old new ((has_failed old ≡ false) × NoneLeft (known_names old))
+NewFails seen e old new = (NoneLeft (known_names old) → ⊥) × EndsNames seen e old new
 
 -- why names for hidden variables weren't given: none of them lacks a variable
 abbrev pub NamesFail : {W L : Type 0} {G : Ghosts L} → (W → Writer) → SolverError → Solver W L G → Solver W L G → Type 0
-NamesFail seen errors.HasFailed old new = Refuses old new (old.failed ≡ true)
+NamesFail seen errors.HasFailed old new = Refuses old new (has_failed old ≡ true)
 NamesFail seen errors.VariableLimit old new = ⊥
 NamesFail seen e old new = EndsNames seen e old new
 
@@ -98,24 +99,32 @@ abbrev pub NamesNew : {W L : Type 0} {G : Ghosts L} → (W → Writer) → Resul
 NamesNew seen (Ok user) old new = IsNextName old (user + 1) × Renamed seen old new (bring_in (user + 1)) (λ j. map NewName (new_names (user + 1) j)) IsDue
 NamesNew seen (Err e) old new = NewFails seen e old new
 
+-- what a call over names leaves as it was: parameters, assumptions, what is known of an answer, and the schedule; no ask began
+pub record KeepsRest {W L : Type 0} {G : Ghosts L} (old new : Solver W L G) : Type 0 where
+  pub config : parameters_in new ≡ parameters_in old
+  pub asked : has_asked (proof_in new) ≡ has_asked (proof_in old)
+  pub assumed : assumed_in new ≡ assumed_in old
+  pub told : told_in new ≡ told_in old
+  pub clock : schedule_in new ≡ schedule_in old
+  pub state : answer_in new ≡ answer_in old
+
+-- which steps it made, and what holds behind them
+pub record StepsOfNames {W L : Type 0} {G : Ghosts L} (seen : W → Writer) (old new : Solver W L G) : Type 0 where
+  pub whole : SolverInvariant new
+  pub took : ComesBySteps seen (proof_in old) (proof_in new)
+  pub width : (steps_in new ≡ steps_in old → ⊥) → IsAtWidth (proof_in new)
+
 -- Each hidden variable that is kept got the next name and mode witness, by increasing variable, and what is known of an answer stands.
 -- Where there is none, a proof may still be opened.
 pub record Observed {W L : Type 0} {G : Ghosts L} (seen : W → Writer) (old new : Solver W L G) (users : List ℕ) : Type 0 where
-  pub whole : SolverInvariant new
-  pub going : old.failed ≡ false
-  pub failed : new.failed ≡ false
-  pub used : new.used ≡ (old.used || not (length users == 0))
-  pub config : new.core.config ≡ old.core.config
-  pub observes : (j : Judge) (live : Live) → Agree old.names (steps_in old) j live → (k : Judge) × Observes 0 (steps_in old) j live (steps_in new) k users × Agree new.names (steps_in new) k live
-  pub all : (v : ℕ) → IsHidden new.names v → ⊥
+  pub going : has_failed old ≡ false
+  pub failed : has_failed new ≡ false
+  pub used : is_used new ≡ (is_used old || not (length users == 0))
+  pub observes : (j : Judge) (live : Live) → IsInState old j live → (k : Judge) × Observes 0 (steps_in old) j live (steps_in new) k users × IsInState new k live
+  pub all : (v : ℕ) → IsHidden (known_names new) v → ⊥
   pub values : (v : ℕ) → variable_value new (Some v) ≡ variable_value old (Some v)
-  pub took : ComesBySteps seen old.core.proof new.core.proof
-  pub width : (steps_in new ≡ steps_in old → ⊥) → IsAtWidth new.core.proof
-  pub asked : has_asked new.core.proof ≡ has_asked old.core.proof
-  pub assumed : new.assumed ≡ old.assumed
-  pub told : new.told ≡ old.told
-  pub clock : new.clock ≡ old.clock
-  pub state : new.state ≡ old.state
+  pub same : KeepsRest old new
+  pub steps : StepsOfNames seen old new
 
 -- INSIDE
 

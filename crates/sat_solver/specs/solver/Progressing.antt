@@ -13,6 +13,7 @@ use Rattle.sat_solver.specs.declared.solver.Solver.{Solver}
 use Rattle.sat_solver.specs.declared.state.State.TheVariants as states
 use Rattle.sat_solver.specs.variables.Counting.{count_to}
 use Rattle.sat_solver.specs.variables.Variables.{global_at, indices_used}
+use Rattle.sat_solver.specs.solver.View.{answer_in, has_failed}
 use Rattle.sat_solver.specs.solver.Whole.{IsSolver}
 
 -- a variable has this index, and no value
@@ -30,8 +31,8 @@ open_in s = open_vars s.names s.core.search.parts.assignment.current
 -- no call failed, and the clauses aren't known to be unsatisfiable
 pub record GoesOnIn {W L : Type 0} {G : Ghosts L} (s : Solver W L G) : Type 0 where
   pub solver : IsSolver s
-  pub going : s.failed ≡ false
-  pub left : s.state ≡ states.Unsat → ⊥
+  pub going : has_failed s ≡ false
+  pub left : answer_in s ≡ states.Unsat → ⊥
 
 -- how many long clauses of a tier weren't deleted
 abbrev pub clauses_of : Parts → Tier → ℕ
@@ -44,3 +45,7 @@ pub record CountsClauses (r : Progress) (p : Parts) : Type 0 where
   pub core : r.core ≡ clauses_of p tiers.Core
   pub mid : r.mid ≡ clauses_of p tiers.Mid
   pub local : r.local ≡ clauses_of p tiers.Local
+
+-- the same of a solver
+abbrev pub CountsClausesIn : {W L : Type 0} {G : Ghosts L} → Progress → Solver W L G → Type 0
+CountsClausesIn r s = CountsClauses r s.core.search.parts

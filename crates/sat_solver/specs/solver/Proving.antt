@@ -22,124 +22,130 @@ use Rattle.sat_solver.specs.declared.solver.Solver.{Solver}
 use Rattle.sat_solver.specs.declared.state.State.TheVariants as states
 use Rattle.sat_solver.specs.solver.Calls.{Refuses}
 use Rattle.sat_solver.specs.solver.Whole.{SolverInvariant, steps_in}
+use Rattle.sat_solver.specs.solver.View.{OnlyProofDiffers, answer_in, has_failed, is_used, known_names, proof_in, schedule_in, target_in}
+
+-- the solver's own checker is as it was, if there is one
+pub record KeepsChecker {W L : Type 0} {G : Ghosts L} (old new : Solver W L G) : Type 0 where
+  pub listening : audience (proof_in new) ≡ audience (proof_in old)
+  pub taking : is_lost (proof_in new) ≡ is_lost (proof_in old)
 
 -- a target was opened, before anything else
 pub record Opened {W L : Type 0} {G : Ghosts L} (seen : W → Writer) (format : ProofFormat) (target : W) (old new : Solver W L G) : Type 0 where
-  pub going : old.failed ≡ false
-  pub first : old.used ≡ false
-  pub shut : is_open (target_of seen old.core.proof) ≡ false
+  pub going : has_failed old ≡ false
+  pub first : is_used old ≡ false
+  pub shut : is_open (target_in seen old) ≡ false
   pub steps : steps_in new ≡ steps_in old
-  pub listening : audience new.core.proof ≡ audience old.core.proof
-  pub taking : is_lost new.core.proof ≡ is_lost old.core.proof
-  pub asked : has_asked new.core.proof ≡ false
-  pub target_is : target_of seen new.core.proof ≡ Open format start (empty_sink (seen target))
-  pub same : new ≡ record old { core = record old.core { proof = new.core.proof } }
+  pub checker : KeepsChecker old new
+  pub asked : has_asked (proof_in new) ≡ false
+  pub target_is : target_in seen new ≡ Open format start (empty_sink (seen target))
+  pub same : OnlyProofDiffers old new
 
 -- what came of opening a proof: only a solver that wasn't used, with no proof open, takes a target
 abbrev pub OpensProof : {W L : Type 0} {G : Ghosts L} → (W → Writer) → Result (Unit {0}) SolverError → ProofFormat → W → Solver W L G → Solver W L G → Type 0
 OpensProof seen (Ok x) format target old new = Opened seen format target old new
-OpensProof seen (Err errors.HasFailed) format target old new = Refuses old new (old.failed ≡ true)
-OpensProof seen (Err errors.TooLate) format target old new = Refuses old new ((old.failed ≡ false) × ((old.used ≡ true) ⊎ (is_open (target_of seen old.core.proof) ≡ true)))
+OpensProof seen (Err errors.HasFailed) format target old new = Refuses old new (has_failed old ≡ true)
+OpensProof seen (Err errors.TooLate) format target old new = Refuses old new ((has_failed old ≡ false) × ((is_used old ≡ true) ⊎ (is_open (target_in seen old) ≡ true)))
 OpensProof seen (Err e) format target old new = ⊥
 
 -- the solver has a checker of its own, before any step but ends of proofs
 pub record StartsChecking {W L : Type 0} {G : Ghosts L} (seen : W → Writer) (old new : Solver W L G) : Type 0 where
-  pub going : old.failed ≡ false
-  pub first : old.used ≡ false
+  pub going : has_failed old ≡ false
+  pub first : is_used old ≡ false
   pub begun : has_begun (steps_in old) ≡ false
-  pub target : target_of seen new.core.proof ≡ target_of seen old.core.proof
-  pub checks : proofs.Checks old.core.proof new.core.proof
-  pub asked : has_asked new.core.proof ≡ has_asked old.core.proof
-  pub same : new ≡ record old { core = record old.core { proof = new.core.proof } }
+  pub target : target_in seen new ≡ target_in seen old
+  pub checks : proofs.Checks (proof_in old) (proof_in new)
+  pub asked : has_asked (proof_in new) ≡ has_asked (proof_in old)
+  pub same : OnlyProofDiffers old new
 
 -- what came of asking for a checker of the solver's own: it begins, or it's too late for one
 abbrev pub Enables : {W L : Type 0} {G : Ghosts L} → (W → Writer) → Result (Unit {0}) SolverError → Solver W L G → Solver W L G → Type 0
 Enables seen (Ok x) old new = StartsChecking seen old new
-Enables seen (Err errors.HasFailed) old new = Refuses old new (old.failed ≡ true)
-Enables seen (Err errors.TooLate) old new = Refuses old new ((old.failed ≡ false) × ((old.used ≡ true) ⊎ (has_begun (steps_in old) ≡ true)))
+Enables seen (Err errors.HasFailed) old new = Refuses old new (has_failed old ≡ true)
+Enables seen (Err errors.TooLate) old new = Refuses old new ((has_failed old ≡ false) × ((is_used old ≡ true) ⊎ (has_begun (steps_in old) ≡ true)))
 Enables seen (Err e) old new = ⊥
+
+-- these listen, behind those who did: where the checker lacked a step, it begins anew
+pub record ListensBehind {W L : Type 0} {G : Ghosts L} (more : List L) (old new : Solver W L G) : Type 0 where
+  pub before : List L
+  pub listed : ListedAnew (proof_in old) before
+  pub listening : audience (proof_in new) ≡ Some (before ++ more)
 
 -- a processor listens to the solver's own checker, behind those who did, before any step but ends of proofs
 pub record GainsListener {W L : Type 0} {G : Ghosts L} (seen : W → Writer) (processor : L) (old new : Solver W L G) : Type 0 where
-  pub going : old.failed ≡ false
-  pub first : old.used ≡ false
+  pub going : has_failed old ≡ false
+  pub first : is_used old ≡ false
   pub begun : has_begun (steps_in old) ≡ false
   pub steps : steps_in new ≡ steps_in old
-  pub target : target_of seen new.core.proof ≡ target_of seen old.core.proof
-  pub before : List L
-  pub listed : ListedAnew old.core.proof before
-  pub listening : audience new.core.proof ≡ Some (before ++ processor ∷ [])
-  pub taking : is_lost new.core.proof ≡ false
-  pub asked : has_asked new.core.proof ≡ has_asked old.core.proof
-  pub same : new ≡ record old { core = record old.core { proof = new.core.proof } }
+  pub target : target_in seen new ≡ target_in seen old
+  pub listens : ListensBehind (processor ∷ []) old new × (is_lost (proof_in new) ≡ false)
+  pub asked : has_asked (proof_in new) ≡ has_asked (proof_in old)
+  pub same : OnlyProofDiffers old new
 
 -- no memory was left for it
 pub record Unheard {W L : Type 0} {G : Ghosts L} (seen : W → Writer) (old new : Solver W L G) : Type 0 where
-  pub going : old.failed ≡ false
-  pub first : old.used ≡ false
+  pub going : has_failed old ≡ false
+  pub first : is_used old ≡ false
   pub begun : has_begun (steps_in old) ≡ false
-  pub failed : new.failed ≡ true
+  pub failed : has_failed new ≡ true
   pub steps : steps_in new ≡ steps_in old
-  pub target : target_of seen new.core.proof ≡ target_of seen old.core.proof
-  pub before : List L
-  pub listed : ListedAnew old.core.proof before
-  pub listening : audience new.core.proof ≡ Some before
-  pub clock : new.clock ≡ old.clock
+  pub target : target_in seen new ≡ target_in seen old
+  pub listens : ListensBehind [] old new
+  pub clock : schedule_in new ≡ schedule_in old
 
 -- what came of adding a processor: it listens, or came too late, or no memory was left for it
 abbrev pub AddsProcessor : {W L : Type 0} {G : Ghosts L} → (W → Writer) → Result (Unit {0}) SolverError → L → Solver W L G → Solver W L G → Type 0
 AddsProcessor seen (Ok x) processor old new = GainsListener seen processor old new
-AddsProcessor seen (Err errors.HasFailed) processor old new = Refuses old new (old.failed ≡ true)
-AddsProcessor seen (Err errors.TooLate) processor old new = Refuses old new ((old.failed ≡ false) × ((old.used ≡ true) ⊎ (has_begun (steps_in old) ≡ true)))
+AddsProcessor seen (Err errors.HasFailed) processor old new = Refuses old new (has_failed old ≡ true)
+AddsProcessor seen (Err errors.TooLate) processor old new = Refuses old new ((has_failed old ≡ false) × ((is_used old ≡ true) ⊎ (has_begun (steps_in old) ≡ true)))
 AddsProcessor seen (Err errors.OutOfMemory) processor old new = Unheard seen old new
 AddsProcessor seen (Err e) processor old new = ⊥
 
 -- the target came back, with the last step; the solver's own checker was given all steps, and has told what waited
 pub record ClosedOne {W L : Type 0} {G : Ghosts L} (seen : W → Writer) (given : W) (old new : Solver W L G) : Type 0 where
-  pub going : old.failed ≡ false
+  pub going : has_failed old ≡ false
   pub whole : SolverInvariant new
-  pub does : NamesRefineJudge old.names new.names (steps_in old) (steps_in new) (λ j. j) (λ j. Finish ∷ [])
-  pub closes : ClosesOne seen given old.core.proof new.core.proof
+  pub does : NamesRefineJudge (known_names old) (known_names new) (steps_in old) (steps_in new) (λ j. j) (λ j. Finish ∷ [])
+  pub closes : ClosesOne seen given (proof_in old) (proof_in new)
   -- since it was opened, before any step but ends of proofs, it took the text of steps that a checker accepts
-  pub certificate : (f : ProofFormat) (from : Writer) (before : List Step) → has_begun before ≡ false → WroteSince seen f from before old.core.proof → TookAcceptedSteps f from (seen given) before (steps_in new)
+  pub certificate : (f : ProofFormat) (from : Writer) (before : List Step) → has_begun before ≡ false → WroteSince seen f from before (proof_in old) → TookAcceptedSteps f from (seen given) before (steps_in new)
   -- the lines of DRAT that the steps give are a derivation, and refute the added clauses where these are known to be unsatisfiable
   pub derives : IsDratDerivation (steps_in new)
-  pub refutes : old.state ≡ states.Unsat → RefutesByUnits (present (steps_in new)) []
-  pub same : new ≡ record old { core = record old.core { proof = new.core.proof } }
+  pub refutes : answer_in old ≡ states.Unsat → RefutesByUnits (present (steps_in new)) []
+  pub same : OnlyProofDiffers old new
 
 -- none was open
 pub record ClosedNone {W L : Type 0} {G : Ghosts L} (seen : W → Writer) (old new : Solver W L G) : Type 0 where
-  pub going : old.failed ≡ false
-  pub closes : ClosesNone seen old.core.proof new.core.proof
-  pub same : new ≡ record old { core = record old.core { proof = new.core.proof } }
+  pub going : has_failed old ≡ false
+  pub closes : ClosesNone seen (proof_in old) (proof_in new)
+  pub same : OnlyProofDiffers old new
 
 -- the target failed at the last step's text
 pub record ClosedBroken {W L : Type 0} {G : Ghosts L} (seen : W → Writer) (old new : Solver W L G) : Type 0 where
-  pub going : old.failed ≡ false
-  pub failed : new.failed ≡ true
-  pub fails : FailsToEmit seen (End ∷ []) old.core.proof new.core.proof
-  pub clock : new.clock ≡ old.clock
+  pub going : has_failed old ≡ false
+  pub failed : has_failed new ≡ true
+  pub fails : FailsToEmit seen (End ∷ []) (proof_in old) (proof_in new)
+  pub clock : schedule_in new ≡ schedule_in old
 
 -- no memory was left, and nothing was made; or it was wanted by the solver's own checker behind the last step
 pub record ClosedStarved {W L : Type 0} {G : Ghosts L} (seen : W → Writer) (old new : Solver W L G) : Type 0 where
-  pub going : old.failed ≡ false
-  pub failed : new.failed ≡ true
-  pub adds : EmitsExactly seen [] old.core.proof new.core.proof ⊎ FailsCheck seen checks.OutOfMemory (End ∷ []) old.core.proof new.core.proof
-  pub loss : NamesLoss errors.OutOfMemory old.core.proof new.core.proof
-  pub clock : new.clock ≡ old.clock
+  pub going : has_failed old ≡ false
+  pub failed : has_failed new ≡ true
+  pub adds : EmitsExactly seen [] (proof_in old) (proof_in new) ⊎ FailsCheck seen checks.OutOfMemory (End ∷ []) (proof_in old) (proof_in new)
+  pub loss : NamesLoss errors.OutOfMemory (proof_in old) (proof_in new)
+  pub clock : schedule_in new ≡ schedule_in old
 
 -- the solver's own checker failed behind the last step
 pub record ClosedUnchecked {W L : Type 0} {G : Ghosts L} (seen : W → Writer) (fault : CheckFault) (old new : Solver W L G) : Type 0 where
-  pub going : old.failed ≡ false
-  pub failed : new.failed ≡ true
-  pub fails : FailsCheck seen fault (End ∷ []) old.core.proof new.core.proof
-  pub clock : new.clock ≡ old.clock
+  pub going : has_failed old ≡ false
+  pub failed : has_failed new ≡ true
+  pub fails : FailsCheck seen fault (End ∷ []) (proof_in old) (proof_in new)
+  pub clock : schedule_in new ≡ schedule_in old
 
 -- what came of closing a proof: the target came back, or none was open, or something failed
 abbrev pub ClosesProof : {W L : Type 0} {G : Ghosts L} → (W → Writer) → Result (Option W) SolverError → Solver W L G → Solver W L G → Type 0
 ClosesProof seen (Ok None) old new = ClosedNone seen old new
 ClosesProof seen (Ok (Some given)) old new = ClosedOne seen given old new
-ClosesProof seen (Err errors.HasFailed) old new = Refuses old new (old.failed ≡ true)
+ClosesProof seen (Err errors.HasFailed) old new = Refuses old new (has_failed old ≡ true)
 ClosesProof seen (Err (errors.ProofIoError cause)) old new = ClosedBroken seen old new
 ClosesProof seen (Err errors.OutOfMemory) old new = ClosedStarved seen old new
 ClosesProof seen (Err errors.CounterEnd) old new = ClosedUnchecked seen checks.CounterEnd old new

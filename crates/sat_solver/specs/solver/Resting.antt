@@ -12,38 +12,39 @@ use Rattle.sat_solver.specs.declared.state.State.{State}
 use Rattle.sat_solver.specs.declared.state.State.TheVariants as states
 use Rattle.sat_solver.specs.solver.Lines.{IsCoreOf}
 use Rattle.sat_solver.specs.solver.Whole.{IsSolver, steps_in, asked_in, line_in}
+use Rattle.sat_solver.specs.solver.View.{IsInState, answer_in, core_told, has_failed, known_names}
 
 -- some state of the judge is what names and steps say
 abbrev pub IsJudged : {W L : Type 0} {G : Ghosts L} → Solver W L G → Type 0
-IsJudged s = HasJudge s.names (steps_in s)
+IsJudged s = HasJudge (known_names s) (steps_in s)
 
 -- so it is where a call may be made and none failed
 abbrev pub SolverIsJudged : {W L : Type 0} {G : Ghosts L} → Solver W L G → Type 0
-SolverIsJudged s = IsSolver s → s.failed ≡ false → IsJudged s
+SolverIsJudged s = IsSolver s → has_failed s ≡ false → IsJudged s
 
 -- right for the assumptions, whatever the judge's state is that names and steps agree with
 abbrev pub IsRightLine : {W L : Type 0} {G : Ghosts L} → Solver W L G → List ℕ → Type 0
-IsRightLine s line = (j : Judge) (live : Live) → Agree s.names (steps_in s) j live → IsRightModel j (asked_in s) (map named_literal line)
+IsRightLine s line = (j : Judge) (live : Live) → IsInState s j live → IsRightModel j (asked_in s) (map named_literal line)
 
 -- the same of a failed core, in whatever order
 abbrev pub IsRightCoreOf : {W L : Type 0} {G : Ghosts L} → Solver W L G → List ℕ → Type 0
-IsRightCoreOf s core = (j : Judge) (live : Live) → Agree s.names (steps_in s) j live → IsCoreOf j (asked_in s) (map named_literal core)
+IsRightCoreOf s core = (j : Judge) (live : Live) → IsInState s j live → IsCoreOf j (asked_in s) (map named_literal core)
 
 -- a model over names
 pub record IsModel {W L : Type 0} {G : Ghosts L} (s : Solver W L G) (line : List ℕ) : Type 0 where
-  pub going : s.failed ≡ false
-  pub state : s.state ≡ states.Sat
+  pub going : has_failed s ≡ false
+  pub state : answer_in s ≡ states.Sat
   pub line_is : line ≡ line_in s
   pub right : IsRightLine s line
 
 -- there's none
 abbrev pub HasNone : {W L : Type 0} {G : Ghosts L} → Solver W L G → Type 0
-HasNone s = (s.failed ≡ false) × (s.state ≡ states.Sat → ⊥)
+HasNone s = (has_failed s ≡ false) × (answer_in s ≡ states.Sat → ⊥)
 
 -- why no model is given
 abbrev pub ModelFails : {W L : Type 0} {G : Ghosts L} → SolverError → Solver W L G → Type 0
-ModelFails errors.HasFailed s = s.failed ≡ true
-ModelFails errors.OutOfMemory s = (s.failed ≡ false) × (s.state ≡ states.Sat)
+ModelFails errors.HasFailed s = has_failed s ≡ true
+ModelFails errors.OutOfMemory s = (has_failed s ≡ false) × (answer_in s ≡ states.Sat)
 ModelFails e s = ⊥
 
 -- the state is that nothing satisfies the clauses, or the clauses and the assumptions
@@ -55,16 +56,16 @@ is_unsat states.Unsat = Unit {0}
 
 -- the failed core where the state is this one: what was told for an ask that failed under its assumptions, else the empty list
 abbrev pub core_for : {W L : Type 0} {G : Ghosts L} → State → Solver W L G → List ℕ
-core_for states.UnsatUnderAssumptions s = s.told.failed_core.items
+core_for states.UnsatUnderAssumptions s = (core_told s)
 core_for st s = []
 
 -- a failed core over names
 pub record IsCore {W L : Type 0} {G : Ghosts L} (s : Solver W L G) (core : List ℕ) : Type 0 where
-  pub going : s.failed ≡ false
-  pub unsat : is_unsat s.state
-  pub core_is : core ≡ core_for s.state s
+  pub going : has_failed s ≡ false
+  pub unsat : is_unsat (answer_in s)
+  pub core_is : core ≡ core_for (answer_in s) s
   pub right : IsRightCoreOf s core
 
 -- there's none
 abbrev pub HasNoCore : {W L : Type 0} {G : Ghosts L} → Solver W L G → Type 0
-HasNoCore s = (s.failed ≡ true) ⊎ (is_unsat s.state → ⊥)
+HasNoCore s = (has_failed s ≡ true) ⊎ (is_unsat (answer_in s) → ⊥)

@@ -25,7 +25,7 @@ pub record Settled {W L : Type 0} {G : Ghosts L} (seen : W → Writer) (old new 
   pub users : new.names.global_from_user ≡ old.names.global_from_user
   pub config : new.core.config ≡ old.core.config
   pub counts : Counts old new
-  pub times : AdvancesIn (steps_in old) (steps_in new) (learned_of new.state (new.clock.steps - old.clock.steps))
+  pub times : AdvancesIn (steps_in old) (steps_in new) (learned_of new.state (new.clock.rounds - old.clock.rounds))
   pub known : (old.state ≡ states.Unknown → ⊥) → EmitsExactly seen [] old.core.proof new.core.proof × (new ≡ record old { core = record old.core { proof = new.core.proof } })
 
 -- so it was settled, or a call failed: where an answer was known, a flush or the solver's own checker

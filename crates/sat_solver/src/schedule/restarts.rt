@@ -1,5 +1,5 @@
 //! When restarts are due.
-ghost use Rattle.std.specs.Prelude.{◌≡◌, ◌+◌};
+ghost use Rattle.std.specs.Prelude.{◌≡◌, ◌+◌, ◌-◌, ◌^◌, min};
 ghost use Rattle.sat_store.specs.schedule.Luby.{luby, wrapped_number};
 ghost use Rattle.sat_solver.specs.schedule.Gaps.{gap_end};
 
@@ -10,9 +10,9 @@ use sat_store::LubySequence;
 pub struct Restarts {
     pub sequence: LubySequence,
     pub scale: u64,
-    /// The round before which the next restart stands.
+    /// The round before which the next restart is due.
     pub next: u64,
-    /// How many there were, held at 2^64-1.
+    /// The number of restarts, at most 2^64-1.
     pub count: u64,
 }
 
@@ -21,6 +21,7 @@ pub fn begin_gap(restarts: &mut Restarts, round: u64)
     ensures given { restarts.new.sequence ≡ wrapped_number (restarts.old.sequence + 1) }
     ensures scale { restarts.new.scale ≡ restarts.old.scale }
     ensures next { restarts.new.next ≡ gap_end round (luby (restarts.old.sequence + 1)) restarts.old.scale }
+    ensures count { restarts.new.count ≡ min (restarts.old.count + 1) (2 ^ 64 - 1) }
 {
     let gap = restarts.sequence.advance().saturating_mul(restarts.scale);
     restarts.next = round.saturating_add(gap);

@@ -8,6 +8,7 @@ ghost use Rattle.sat_solver.specs.variables.Refusing.{names_in};
 ghost use Rattle.sat_solver.specs.declared.state.State.TheVariants.{Unsat};
 ghost use Rattle.sat_solver.specs.solver.Adding.{AssumesOrRefuses, IsDrat, due_for_asked};
 ghost use Rattle.sat_solver.specs.solver.Asking.{Asks};
+ghost use Rattle.sat_solver.specs.solver.View.{has_failed};
 ghost use Rattle.sat_solver.specs.solver.Whole.{IsSolver, SolverInvariant};
 
 use crate::SolverError;
@@ -61,7 +62,7 @@ impl<W: CountedWrite + Drop, P: ProofProcessor> Solver<W, P> {
         requires { IsSolver self.old }
         ensures solver { IsSolver self.new }
         ensures assumes { AssumesOrRefuses W.seen result self.old self.new lits.now }
-        ensures drat { self.old.failed ≡ false → IsDrat W.seen self.old → IsErrOf result SolverError.NotInDrat }
+        ensures drat { has_failed self.old ≡ false → IsDrat W.seen self.old → IsErrOf result SolverError.NotInDrat }
     {
         if self.failed {
             return Err(SolverError::HasFailed);

@@ -5,6 +5,7 @@ ghost use Rattle.sat_solver.specs.cdcl.Going.{IsFault, IsFaultOr};
 ghost use Rattle.sat_solver.specs.load.Literals.{NoWitness};
 ghost use Rattle.sat_solver.specs.declared.state.State.TheVariants.{Unsat};
 ghost use Rattle.sat_solver.specs.solver.Adding.{AddsClause, IsBeforeDrat, IsPastDrat, TakesInOrBreaks};
+ghost use Rattle.sat_solver.specs.solver.View.{has_failed};
 ghost use Rattle.sat_solver.specs.solver.Whole.{HasFullStore, IsSolver, SolverInvariant};
 
 use crate::SolverError;
@@ -71,7 +72,7 @@ impl<W: CountedWrite + Drop, P: ProofProcessor> Solver<W, P> {
         requires { IsSolver self.old }
         ensures solver { IsSolver self.new }
         ensures adds { AddsClause W.seen result self.old self.new lits.now }
-        ensures drat { self.old.failed ≡ false → IsPastDrat W.seen self.old → IsErrOf result SolverError.NotInDrat }
+        ensures drat { has_failed self.old ≡ false → IsPastDrat W.seen self.old → IsErrOf result SolverError.NotInDrat }
     {
         if self.failed {
             return Err(SolverError::HasFailed);

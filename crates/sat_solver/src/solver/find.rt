@@ -4,7 +4,7 @@ ghost use Rattle.sat_solver.specs.schedule.Counting.{AnswersWithin, CountsOn, Sp
 ghost use Rattle.sat_solver.specs.schedule.Solving.{values_in};
 ghost use Rattle.sat_solver.specs.solver.Joined.{IsJoined};
 ghost use Rattle.sat_solver.specs.solver.Answering.{BreaksOff};
-ghost use Rattle.sat_solver.specs.solver.Found.{FindsBy, OutcomeHolds, TellsOutcome};
+ghost use Rattle.sat_solver.specs.solver.Found.{FindsBy, OutcomeHolds, SearchedBy, TellsOutcome, state_found};
 
 use crate::cdcl::fault::Fault;
 use crate::context::Core;
@@ -27,7 +27,7 @@ pub struct Told {
 #[derive(Drop)]
 pub struct Clock {
     pub restarts: Restarts,
-    pub steps: u64,
+    pub rounds: u64,
 }
 
 /// Tells what a search came to.
@@ -65,14 +65,16 @@ pub fn find_answer<W: CountedWrite + Drop, P: ProofProcessor>(
     requires joined { IsJoined names.old core.old }
     requires scale { 0 < clock.old.restarts.scale }
     ensures scale { clock.new.restarts.scale ≡ clock.old.restarts.scale }
-    ensures counts { CountsOn (values_in core.old) core.old.config.max_steps clock.old.steps clock.new.steps }
-    ensures round { TakesRound result clock.old.steps clock.new.steps }
-    ensures interrupted { SpendsRounds result (steps_left core.old.config.max_steps clock.old.steps) clock.old.steps
-        clock.new.steps }
+    ensures counts { CountsOn (values_in core.old) core.old.config.max_steps clock.old.rounds clock.new.rounds }
+    ensures round { TakesRound result clock.old.rounds clock.new.rounds }
+    ensures interrupted { SpendsRounds result (steps_left core.old.config.max_steps clock.old.rounds) clock.old.rounds
+        clock.new.rounds }
     ensures answered { AnswersWithin result (values_in core.old)
-        (steps_left core.old.config.max_steps clock.old.steps) }
+        (steps_left core.old.config.max_steps clock.old.rounds) }
     ensures finds { IfOk result (λ r. FindsBy W.seen r clock.old clock.new names.old names.new core.old core.new
         told.new) }
+    ensures searched { IfOk result (λ r. SearchedBy W.seen (state_found r) clock.old clock.new names.old names.new
+        core.old core.new told.new.failed_core.items) }
     ensures breaks { IfErr result (λ e. BreaksOff W.seen e core.old core.new) }
 {
     let max_steps = core.config.max_steps;
@@ -80,7 +82,7 @@ pub fn find_answer<W: CountedWrite + Drop, P: ProofProcessor>(
         core,
         names,
         &mut clock.restarts,
-        &mut clock.steps,
+        &mut clock.rounds,
         max_steps,
     )?;
     match found {

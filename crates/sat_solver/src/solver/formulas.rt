@@ -1,5 +1,6 @@
 //! Formulas, clause by clause, and their texts.
-ghost use Rattle.std.specs.Prelude.{◌≡◌, false};
+ghost use Rattle.std.specs.Prelude.{◌≡◌, ◌≤◌, ◌+◌, false};
+ghost use Rattle.sat_base.specs.device.Device.{most_reads};
 ghost use Rattle.sat_base.specs.dimacs.Parsing.{all_taken, no_progress};
 ghost use Rattle.sat_solver.specs.solver.Formulas.{AddsFormula, AddsText, AddsFormulaRead, text_fault, is_want};
 ghost use Rattle.sat_solver.specs.solver.Whole.{IsSolver};
@@ -90,6 +91,7 @@ impl<W: CountedWrite + Drop, P: ProofProcessor> Solver<W, P> {
         requires fresh { parser.old ≡ no_progress }
         ensures solver { IsSolver self.new }
         ensures adds { AddsText W.seen result self.old self.new (R.seen reader.old) (R.seen reader.new) }
+        ensures reads { (R.seen reader.new).calls ≤ (R.seen reader.old).calls + most_reads }
     {
         let mut piece = [0; PIECE];
         for _ in 0..MAX_READS {
@@ -116,6 +118,7 @@ impl<W: CountedWrite + Drop, P: ProofProcessor> Solver<W, P> {
         requires { IsSolver self.old }
         ensures solver { IsSolver self.new }
         ensures adds { AddsText W.seen result self.old self.new (R.seen reader.old) (R.seen reader.new) }
+        ensures reads { (R.seen reader.new).calls ≤ (R.seen reader.old).calls + most_reads }
     {
         if self.failed {
             return Err(SolverError::HasFailed);

@@ -1,7 +1,8 @@
 //! How far a solver has come.
 ghost use Rattle.std.specs.Prelude.{◌≡◌, false, slice_index_or};
 ghost use Rattle.sat_solver.specs.variables.Variables.{AreTidy};
-ghost use Rattle.sat_solver.specs.solver.Progressing.{is_open_at, open_vars, open_in, GoesOnIn, CountsClauses};
+ghost use Rattle.sat_solver.specs.solver.Progressing.{is_open_at, open_vars, open_in, GoesOnIn, CountsClausesIn};
+ghost use Rattle.sat_solver.specs.solver.View.{has_failed, restarts_in, rounds_in};
 ghost use Rattle.sat_solver.specs.solver.Whole.{IsSolver};
 
 use crate::Progress;
@@ -41,14 +42,14 @@ fn open_count(names: &Variables, values: &[Option<bool>]) -> u64
 impl<W: CountedWrite + Drop, P: ProofProcessor> Solver<W, P> {
     /// Rounds, restarts, variables without a value, and clauses by kind, at this time. Takes no memory.
     pub fn progress(&self) -> Progress
-        ensures conflicts { result.conflicts ≡ self.now.clock.steps }
-        ensures restarts { result.restarts ≡ self.now.clock.restarts.count }
-        ensures vars { IsSolver self.now → self.now.failed ≡ false → result.vars ≡ open_in self.now }
-        ensures clauses { GoesOnIn self.now → CountsClauses result self.now.core.search.parts }
+        ensures conflicts { result.conflicts ≡ rounds_in self.now }
+        ensures restarts { result.restarts ≡ restarts_in self.now }
+        ensures vars { IsSolver self.now → has_failed self.now ≡ false → result.vars ≡ open_in self.now }
+        ensures clauses { GoesOnIn self.now → CountsClausesIn result self.now }
     {
         let parts = &self.core.search.parts;
         Progress {
-            conflicts: self.clock.steps,
+            conflicts: self.clock.rounds,
             restarts: self.clock.restarts.count,
             vars: open_count(&self.names, parts.assignment.assignment()),
             binary: parts.binary.implications() as u64 / 2,

@@ -1,6 +1,8 @@
 //! Answers under assumptions.
+ghost use Rattle.std.specs.Prelude.{◌≡◌, OnOk};
 ghost use Rattle.sat_solver.specs.solver.Whole.{IsSolver, SolverInvariant};
 ghost use Rattle.sat_solver.specs.solver.Calls.{Solves};
+ghost use Rattle.sat_solver.specs.solver.Found.{SearchedBy};
 ghost use Rattle.sat_solver.specs.solver.Settling.{AnswersOrBreaks};
 
 use crate::SolverError;
@@ -15,7 +17,9 @@ impl<W: CountedWrite + Drop, P: ProofProcessor> Solver<W, P> {
     /// Looks for an answer, where none is known.
     fn find_where_unknown(&mut self) -> Result<(), Fault>
         requires whole { SolverInvariant self.old }
-        ensures { AnswersOrBreaks W.seen result self.old self.new }
+        ensures answers { AnswersOrBreaks W.seen result self.old self.new }
+        ensures searched { OnOk result (self.old.state ≡ State.Unknown → SearchedBy W.seen self.new.state self.old.clock
+            self.new.clock self.old.names self.new.names self.old.core self.new.core self.new.told.failed_core.items) }
     {
         match self.state {
             State::Unknown => {}

@@ -40,7 +40,7 @@ use Rattle.sat_solver.specs.cdcl.Joint.{assumed_in, SameVarsAndAssumptions, glob
 use Rattle.sat_solver.specs.cdcl.Learning.{LastAdvances}
 use Rattle.sat_solver.specs.clause.Reduced.{Reduced, Reduces, ReducesBy}
 use Rattle.sat_solver.specs.cdcl.Rounds.{RoundLearns, RoundSays}
-use Rattle.sat_solver.specs.schedule.Solving.{AdvanceTimes, StandsStill, words_in, values_in, ComesByRounds, TakesNoRounds, EndSays, Ended, BreaksRounds}
+use Rattle.sat_solver.specs.schedule.Solving.{AdvanceTimes, StandsStill, words_in, values_in, ComesByRounds, TakesNoRounds, EndSays, Ended, BreaksRounds, ReducedAt}
 use Rattle.sat_solver.proofs.lemmas.cdcl.TurnLemmas.{moved_refl, moved_trans, ready_moved, free_moved, leaves_refl}
 use Rattle.sat_parts.specs.parts.Frame.{SameClauses, AddsNoUnit}
 use Rattle.sat_solver.proofs.lemmas.fits.LearnedLemmas.{fits_undone}
@@ -251,3 +251,7 @@ module _ {W L : Type 0} {G : Ghosts L} (seen : W → Writer) where
 
     pub round_fails : (e : SolverError) → Round (Err e) → (s : Core W L G) (n : Variables) (k : ℕ) → ComesByRounds seen s n k a na → BreaksRounds seen s e b
     round_fails e g = λ s n k gone. falls a b na nb config e g s n k gone
+
+-- a reduction, as a schedule of rounds has it
+pub reduced_at : {W L : Type 0} {G : Ghosts L} (seen : W → Writer) (a b : Core W L G) (round : ℕ) → b.config ≡ a.config → (x : Unit {0}) → ReducesBy (Reduces a.config round) seen (Ok x) a.proof b.proof a.search b.search → ReducedAt seen a round b
+reduced_at seen a b round config x g = record { steps = g.steps; adds = g.went; reduces = g.ends.1; moved = g.ends.0.moved; config = config }

@@ -1,6 +1,8 @@
 -- A solver's own checker takes what may be made.
-use Rattle.std.proofs.Common.{ℕ, ◌≡◌, ◌∙◌, ◌⊎◌, inl, inr, Bool, true, false, not, ◌||◌, Option, None, Some, List, [], ◌∷◌, ◌++◌, Result, Ok, Err, refl, sym, ap, subst}
-use Rattle.std.proofs.lemmas.Bool.{true≢false}
+use Rattle.std.proofs.Common.{ℕ, ◌≡◌, ◌∙◌, ◌⊎◌, inl, inr, Bool, true, false, cond, eqb, not, ◌||◌, Option, None, Some, List, [], ◌∷◌, ◌++◌, Result, Ok, Err, refl, sym, ap, subst}
+use Rattle.std.proofs.lemmas.Bool.{true≢false, eq-eqb, eqb-true}
+use Rattle.sat_solver.specs.proof.Counting.{width_told}
+use Rattle.sat_solver.proofs.lemmas.session.CutsLemmas.{told}
 use Rattle.std.proofs.Math.Bool.{Bool-set}
 use Rattle.std.proofs.Math.Logic.{∥∥₁_elim, ∥∥₁_prop}
 use Rattle.anyhow.specs.declared.error.Error.{Error}
@@ -22,7 +24,7 @@ use Rattle.sat_checker.proofs.lemmas.telling.Heard.{nobody_fails}
 use Rattle.sat_checker.specs.declared.processing.ProofProcessor.{Ghosts}
 use Rattle.sat_solver.specs.declared.proof.made.CheckFault.{CheckFault}
 use Rattle.sat_solver.specs.declared.proof.made.CheckFault.TheVariants as checks
-use Rattle.sat_solver.specs.proof.Checked.{is_end, unended, has_begun, who_listens, FedUnless, IsFed, Heard, HeardWhole, FailsWhileHeard, IsCause, cause_in, OrCause, TakesStep, TakesWidth, TakesDelayed, FeedsOwnChecker, AddsOwnListener, BeginsAnew}
+use Rattle.sat_solver.specs.proof.Checked.{is_end, unended, has_begun, who_listens, AreGiven, none_given, one_given, end_given, AreGivenAndWidth, FedUnless, IsFed, IsFedBy, Heard, HeardWhole, FailsWhileHeard, IsCause, cause_in, OrCause, TakesStep, TakesWidth, TakesDelayed, FeedsOwnChecker, AddsOwnListener, BeginsAnew}
 use Rattle.sat_solver.specs.session.Due.{kept_if}
 use Rattle.sat_solver.specs.proof.Listening.{AreJustListeners, Hears, FailedOf, reads_nothing}
 use Rattle.sat_solver.specs.proof.MadeView.{audience, listed_in, Handed, HandedIn, HandedWhole, HandedWholeIn, HasListeners, IsHanded, IsHandedWhole, ListedAnew, cleared_complaint}
@@ -33,6 +35,29 @@ use Rattle.sat_solver.specs.declared.proof.checker.Checked.{Checked}
 use Rattle.sat_solver.proofs.lemmas.session.EndedLemmas.{unended_may}
 use Rattle.sat_solver.proofs.lemmas.session.HearingLemmas.{answered_delayed, has_heard, heard_all, none_told, widths_quiet}
 use Rattle.sat_solver.proofs.lemmas.session.Narrowing.{widths_are_free}
+
+-- what was given is written for the steps, but for ends
+given_narrowed : {steps given : List Step} {width : ℕ} → AreGiven steps given width → IsNarrowedTo (unended steps) given width
+given_narrowed none_given = none_yet
+given_narrowed (one_given {steps} {given} {before} step now e k g) =
+    subst (λ x. IsNarrowedTo x (narrowed now step ∷ (width_told before now ++ given)) now) (sym (ap (λ b. kept_if (not b) step (unended steps)) e)) (one_more step k (told before now (given_narrowed g)))
+given_narrowed (end_given {steps} {given} {before} step now e g) =
+    subst (λ x. IsNarrowedTo x (width_told before now ++ given) now) (sym (ap (λ b. kept_if (not b) step (unended steps)) e)) (told before now (given_narrowed g))
+
+then_narrowed : {steps given : List Step} {now : ℕ} → AreGivenAndWidth steps given now → IsNarrowedTo (unended steps) given now
+then_narrowed {steps} {given} {now} t = subst (λ x. IsNarrowedTo (unended steps) x now) (sym t.told) (told t.before now (given_narrowed t.cut))
+
+-- a width that stays isn't told
+width_same : (bits : ℕ) (written : List Step) → written ≡ width_told bits bits ++ written
+width_same bits written = ap (λ b. cond b [] (ChangeHashBits bits ∷ []) ++ written) (sym (eq-eqb bits bits refl))
+
+-- another one is
+width_other : (before now : ℕ) → (before ≡ now → ⊥) → ChangeHashBits now ∷ [] ≡ width_told before now
+width_other before now n = go (eqb before now) refl
+  where
+    go : (b : Bool) → eqb before now ≡ b → ChangeHashBits now ∷ [] ≡ cond b [] (ChangeHashBits now ∷ [])
+    go true e = absurd (n (eqb-true before now e))
+    go false e = refl
 
 -- what comes of an answer, where more comes of it
 pub cause_map : (r : Result (Unit {0}) CheckerError) (F G : Type 0) (P Q : CheckFault → Type 0) → (F → G) → ((fault : CheckFault) → P fault → Q fault) → OrCause r F P → OrCause r G Q
@@ -51,12 +76,24 @@ unended_none : (steps : List Step) → has_begun steps ≡ false → unended ste
 unended_none [] e = refl
 unended_none (step ∷ steps) e = ended_next step steps (unended_none steps) e
 
+-- ends of proofs before the first step, at the width that there is
+given_end : (step : Step) (steps written : List Step) (bits : ℕ) → (has_begun steps ≡ false → AreGiven steps written bits) → has_begun (step ∷ steps) ≡ false → AreGiven (step ∷ steps) written bits
+given_end step steps written bits rest e = go (is_end step) refl
+  where
+    go : (b : Bool) → is_end step ≡ b → AreGiven (step ∷ steps) written bits
+    go true w = subst (λ x. AreGiven (step ∷ steps) x bits) (sym (width_same bits written)) (end_given step bits w (rest (sym (ap (λ x. not x || has_begun steps) w) ∙ e)))
+    go false w = absurd (true≢false (sym (ap (λ x. not x || has_begun steps) w) ∙ e))
+
+given_ended : (steps written : List Step) (bits : ℕ) → AreGiven [] written bits → has_begun steps ≡ false → AreGiven steps written bits
+given_ended [] written bits g e = g
+given_ended (step ∷ steps) written bits g e = given_end step steps written bits (given_ended steps written bits g) e
+
 module _ {L : Type 0} (takes : L → Told → Result Unit Error → L → Type 0) where
   -- nothing was taken yet, and these listen
   pub fed_first : (own : Checked L) (added : List L) → own.bits ≡ 64 → kernels.HasAccepted (kernel_of own.checker) [] → has_failed (kernel_of own.checker) ≡ false → kernels.IsSettled (kernel_of own.checker) → AreJustListeners added (who_listens own) → IsFed takes own added []
   fed_first own added e s g settled listed = record {
     written = [];
-    cut = subst (IsNarrowedTo [] []) (sym e) none_yet;
+    cut = subst (AreGiven [] []) (sym e) none_given;
     begun = who_listens own;
     were = listed;
     stands = record { kernel = s; heard = λ f. rw settled ([], refl, refl) };
@@ -65,7 +102,7 @@ module _ {L : Type 0} (takes : L → Told → Result Unit Error → L → Type 0
 
   -- one that has taken nothing stands behind ends of proofs
   pub fed_ended : (own : Checked L) (added : List L) (steps : List Step) → has_begun steps ≡ false → IsFed takes own added [] → IsFed takes own added steps
-  fed_ended own added steps e fed = record { written = fed.written; cut = subst (λ x. IsNarrowedTo x fed.written own.bits) (sym (unended_none steps e)) fed.cut; begun = fed.begun; were = fed.were; stands = fed.stands; going = fed.going }
+  fed_ended own added steps e fed = record { written = fed.written; cut = given_ended steps fed.written own.bits fed.cut e; begun = fed.begun; were = fed.were; stands = fed.stands; going = fed.going }
 
   -- those who listen have heard what it told
   pub fed_heard : (own : Checked L) (added : List L) (steps : List Step) → IsFed takes own added steps → Heard takes added (listeners_of (who_listens own)) steps
@@ -75,7 +112,7 @@ module _ {L : Type 0} (takes : L → Told → Result Unit Error → L → Type 0
     all = refl;
     written = fed.written;
     bits = own.bits;
-    cut = fed.cut;
+    cut = given_narrowed fed.cut;
     begun = fed.begun;
     were = fed.were;
     heard = (who_listens own, refl, inl (heard_all takes fed.begun (who_listens own) fed.written own.checker.kernel.state.formula.status.conflict (fed.stands.heard fed.going)));
@@ -90,7 +127,7 @@ module _ {L : Type 0} (takes : L → Told → Result Unit Error → L → Type 0
       all = refl;
       written = fed.written;
       bits = own.bits;
-      cut = fed.cut;
+      cut = given_narrowed fed.cut;
       begun = fed.begun;
       were = fed.were;
       heard = (who_listens own, refl, heard_all takes fed.begun (who_listens own) fed.written own.checker.kernel.state.formula.status.conflict (fed.stands.heard fed.going));
@@ -109,28 +146,32 @@ module _ {L : Type 0} (takes : L → Told → Result Unit Error → L → Type 0
   failed_later : (added : List L) (now : Listeners L Nobody) (step : Step) (steps : List Step) (fault : CheckFault) → FailsWhileHeard takes added now steps fault → FailsWhileHeard takes added now (step ∷ steps) fault
   failed_later added now step steps fault h = record { later = step ∷ h.later; taken = h.taken; all = ap (λ xs. step ∷ xs) h.all; written = h.written; bits = h.bits; cut = h.cut; begun = h.begun; were = h.were; heard = h.heard }
 
+  -- a width stays
+  pub width_kept : (old : Checked L) (bits : ℕ) → old.bits ≡ bits → TakesWidth takes (Ok tt) old old
+  width_kept old bits e added steps may fed = record { written = fed.written; cut = record { before = old.bits; earlier = fed.written; cut = fed.cut; told = width_same old.bits fed.written }; begun = fed.begun; were = fed.were; stands = fed.stands; going = fed.going }
+
   module _ (r : Result (Unit {0}) CheckerError) (old new : Checked L) where
     -- a width was told
-    pub width_fed : (bits : ℕ) → new.bits ≡ bits → FeedsOwnChecker takes r (seen_of old.checker) (ChangeHashBits bits) (seen_of new.checker) → TakesWidth takes r old new
-    width_fed bits e feeds added steps may fed =
-        cause_map r _ (IsFed takes new added steps) _ (FailsWhileHeard takes added (listeners_of (who_listens new)) steps)
-        (λ s. record { written = ChangeHashBits bits ∷ fed.written; cut = subst (IsNarrowedTo (unended steps) (ChangeHashBits bits ∷ fed.written)) (sym e) changed; begun = fed.begun; were = fed.were; stands = s.0; going = s.1 })
+    pub width_fed : (bits : ℕ) → (old.bits ≡ bits → ⊥) → new.bits ≡ bits → FeedsOwnChecker takes r (seen_of old.checker) (ChangeHashBits bits) (seen_of new.checker) → TakesWidth takes r old new
+    width_fed bits other e feeds added steps may fed =
+        cause_map r _ (IsFedBy takes (AreGivenAndWidth steps) new added) _ (FailsWhileHeard takes added (listeners_of (who_listens new)) steps)
+        (λ s. record { written = ChangeHashBits bits ∷ fed.written; cut = subst (AreGivenAndWidth steps (ChangeHashBits bits ∷ fed.written)) (sym e) (record { before = old.bits; earlier = fed.written; cut = fed.cut; told = ap (λ ws. ws ++ fed.written) (width_other old.bits bits other) }); begun = fed.begun; were = fed.were; stands = s.0; going = s.1 })
         failed
-        (feeds fed.begun fed.written fed.stands fed.going ((widths_are_free (unended steps) fed.written old.bits fed.cut (unended_may steps may)).may, tt))
+        (feeds fed.begun fed.written fed.stands fed.going ((widths_are_free (unended steps) fed.written old.bits (given_narrowed fed.cut) (unended_may steps may)).may, tt))
       where
         changed : IsNarrowedTo (unended steps) (ChangeHashBits bits ∷ fed.written) bits
-        changed = width_changes bits fed.cut
+        changed = width_changes bits (given_narrowed fed.cut)
 
         failed : (fault : CheckFault) → FailedOf takes fed.begun (who_listens new) fed.written fault ⊎ FailedOf takes fed.begun (who_listens new) (ChangeHashBits bits ∷ fed.written) fault → FailsWhileHeard takes added (listeners_of (who_listens new)) steps fault
-        failed fault (inl h) = record { later = []; taken = steps; all = refl; written = fed.written; bits = old.bits; cut = fed.cut; begun = fed.begun; were = fed.were; heard = (who_listens new, refl, h) }
+        failed fault (inl h) = record { later = []; taken = steps; all = refl; written = fed.written; bits = old.bits; cut = given_narrowed fed.cut; begun = fed.begun; were = fed.were; heard = (who_listens new, refl, h) }
         failed fault (inr h) = record { later = []; taken = steps; all = refl; written = ChangeHashBits bits ∷ fed.written; bits = bits; cut = changed; begun = fed.begun; were = fed.were; heard = (who_listens new, refl, h) }
 
     -- what waited was told
     pub delayed_fed : new.bits ≡ old.bits → ChecksDelayed (Hears takes) r (seen_of old.checker) (seen_of new.checker) → TakesDelayed takes r old new
     delayed_fed e tells added steps fed =
         cause_map r _ _ _ _
-        (λ s. (record { written = fed.written; cut = subst (IsNarrowedTo (unended steps) fed.written) (sym e) fed.cut; begun = fed.begun; were = fed.were; stands = s.0; going = s.1 }, s.2))
-        (λ fault h. record { later = []; taken = steps; all = refl; written = fed.written; bits = old.bits; cut = fed.cut; begun = fed.begun; were = fed.were; heard = (who_listens new, refl, h) })
+        (λ s. (record { written = fed.written; cut = subst (AreGiven steps fed.written) (sym e) fed.cut; begun = fed.begun; were = fed.were; stands = s.0; going = s.1 }, s.2))
+        (λ fault h. record { later = []; taken = steps; all = refl; written = fed.written; bits = old.bits; cut = given_narrowed fed.cut; begun = fed.begun; were = fed.were; heard = (who_listens new, refl, h) })
         (answered_delayed takes fed.begun (seen_of old.checker) (seen_of new.checker) fed.written fed.going r (tells [] fed.begun fed.written fed.stands))
 
   module _ (old : Checked L) (step : Step) where
@@ -141,14 +182,14 @@ module _ {L : Type 0} (takes : L → Told → Result Unit Error → L → Type 0
         cause_map r Fed (IsFed takes new added (step ∷ steps)) _ (FailsWhileHeard takes added (listeners_of (who_listens new)) (step ∷ steps)) by failed
         (subst (λ x. FeedsOwnChecker takes r (seen_of mid.checker) x (seen_of new.checker)) is feeds f.begun f.written f.stands f.going (widths_are_free (step ∷ unended steps) (narrowed mid.bits step ∷ f.written) mid.bits cut allowed).may)
       where
-        f : IsFed takes mid added steps
+        f : IsFedBy takes (AreGivenAndWidth steps) mid added
         f = told added steps may.0 fed
 
         kept : unended (step ∷ steps) ≡ step ∷ unended steps
         kept = ap (λ b. kept_if (not b) step (unended steps)) e
 
         cut : IsNarrowedTo (step ∷ unended steps) (narrowed mid.bits step ∷ f.written) mid.bits
-        cut = one_more step k f.cut
+        cut = one_more step k (then_narrowed f.cut)
 
         cut_all : IsNarrowedTo (unended (step ∷ steps)) (narrowed mid.bits step ∷ f.written) mid.bits
         cut_all = subst (λ x. IsNarrowedTo x (narrowed mid.bits step ∷ f.written) mid.bits) (sym kept) cut
@@ -162,7 +203,8 @@ module _ {L : Type 0} (takes : L → Told → Result Unit Error → L → Type 0
         by : Fed → IsFed takes new added (step ∷ steps)
         by h = record {
           written = narrowed mid.bits step ∷ f.written;
-          cut = subst (IsNarrowedTo (unended (step ∷ steps)) (narrowed mid.bits step ∷ f.written)) (sym same) cut_all;
+          cut = subst (AreGiven (step ∷ steps) (narrowed mid.bits step ∷ f.written)) (sym same)
+              (subst (λ x. AreGiven (step ∷ steps) (narrowed mid.bits step ∷ x) mid.bits) (sym f.cut.told) (one_given step mid.bits e k f.cut.cut));
           begun = f.begun;
           were = f.were;
           stands = h.0;
@@ -170,17 +212,14 @@ module _ {L : Type 0} (takes : L → Told → Result Unit Error → L → Type 0
         }
 
         failed : (fault : CheckFault) → FailedOf takes f.begun (who_listens new) f.written fault ⊎ FailedOf takes f.begun (who_listens new) (narrowed mid.bits step ∷ f.written) fault → FailsWhileHeard takes added (listeners_of (who_listens new)) (step ∷ steps) fault
-        failed fault (inl h) = record { later = step ∷ []; taken = steps; all = refl; written = f.written; bits = mid.bits; cut = f.cut; begun = f.begun; were = f.were; heard = (who_listens new, refl, h) }
+        failed fault (inl h) = record { later = step ∷ []; taken = steps; all = refl; written = f.written; bits = mid.bits; cut = then_narrowed f.cut; begun = f.begun; were = f.were; heard = (who_listens new, refl, h) }
         failed fault (inr h) = record { later = []; taken = step ∷ steps; all = refl; written = narrowed mid.bits step ∷ f.written; bits = mid.bits; cut = cut_all; begun = f.begun; were = f.were; heard = (who_listens new, refl, h) }
 
     -- a width alone was told
     pub width_taken : (r : Result (Unit {0}) CheckerError) (new : Checked L) → is_end step ≡ true → TakesWidth takes r old new → TakesStep takes r old step new
     width_taken r new e told added steps may fed =
-        cause_map r _ _ _ _ (λ (f : IsFed takes new added steps). record { written = f.written; cut = subst (λ x. IsNarrowedTo x f.written new.bits) (sym kept) f.cut; begun = f.begun; were = f.were; stands = f.stands; going = f.going })
+        cause_map r _ _ _ _ (λ (f : IsFedBy takes (AreGivenAndWidth steps) new added). record { written = f.written; cut = subst (λ x. AreGiven (step ∷ steps) x new.bits) (sym f.cut.told) (end_given step new.bits e f.cut.cut); begun = f.begun; were = f.were; stands = f.stands; going = f.going })
         (failed_later added (listeners_of (who_listens new)) step steps) (told added steps may.0 fed)
-      where
-        kept : unended (step ∷ steps) ≡ unended steps
-        kept = ap (λ b. kept_if (not b) step (unended steps)) e
 
     -- the width wasn't
     pub width_untaken : (er : CheckerError) (new : Checked L) → TakesWidth takes (Err er) old new → TakesStep takes (Err er) old step new
@@ -204,7 +243,7 @@ module _ {L : Type 0} (takes : L → Told → Result Unit Error → L → Type 0
       → listeners_of (who_listens new) ≡ record (listeners_of (who_listens old)) { processors = (listeners_of (who_listens old)).processors ++ one ∷ [] } → IsFed takes new (added ++ one ∷ []) steps
   listens_more old new one added steps unbegun fed bits kernel listed = record {
     written = fed.written;
-    cut = subst (IsNarrowedTo (unended steps) fed.written) (sym bits) fed.cut;
+    cut = subst (AreGiven steps fed.written) (sym bits) fed.cut;
     begun = who_listens new;
     were = listed_more added one (who_listens old) (who_listens new) (ap listeners_of (heard_none (told_by conflict fed.written) fed.begun (who_listens old) silent (fed.stands.heard fed.going)) ∙ fed.were) listed;
     stands = record {
@@ -218,7 +257,7 @@ module _ {L : Type 0} (takes : L → Told → Result Unit Error → L → Type 0
       conflict = old.checker.kernel.state.formula.status.conflict
 
       silent : told_by conflict fed.written ≡ []
-      silent = none_told fed.written (widths_quiet (unended steps) (unended_none steps unbegun) fed.cut) conflict
+      silent = none_told fed.written (widths_quiet (unended steps) (unended_none steps unbegun) (given_narrowed fed.cut)) conflict
 
   -- another one was added, or no memory was left for it
   pub taken_in : (r : Result (Unit {0}) CheckerError) (old new : Checked L) (one : L) → new.bits ≡ old.bits

@@ -9,7 +9,7 @@ use Rattle.sat_solver.specs.declared.proof.hash_bits.Counting.{Counting}
 use Rattle.sat_solver.proofs.lemmas.session.Narrowing.{widths_are_free}
 
 -- a width that changes was written
-told : {made written : List Step} (before now : ℕ) → IsNarrowedTo made written before → IsNarrowedTo made (width_told before now ++ written) now
+pub told : {made written : List Step} (before now : ℕ) → IsNarrowedTo made written before → IsNarrowedTo made (width_told before now ++ written) now
 told {made} {written} before now w = go (eqb before now) refl
   where
     go : (b : Bool) → eqb before now ≡ b → IsNarrowedTo made (cond b [] (ChangeHashBits now ∷ []) ++ written) now

@@ -1,15 +1,17 @@
 -- An ask: it begins, an answer is looked for, and what waits is flushed.
-use Rattle.std.proofs.Common.{◌≡◌, true, false, Err, []}
+use Rattle.std.proofs.Common.{◌≡◌, true, false, Err, [], ap, subst}
 use Rattle.sat_base.specs.device.Device.{Writer}
 use Rattle.sat_checker.specs.declared.processing.ProofProcessor.{Ghosts}
 use Rattle.sat_solver.specs.cdcl.Going.{fault_of}
-use Rattle.sat_solver.specs.proof.ProofView.{EmitsExactly, FlushesAndTells, FlushesOrFails, has_asked, is_lost}
+use Rattle.sat_solver.specs.proof.ProofView.{EmitsExactly, FlushesAndTells, FlushesOrFails, asking as asking_proof, has_asked, is_lost}
 use Rattle.sat_solver.specs.declared.error.SolverError.{SolverError}
 use Rattle.sat_solver.specs.declared.proof.Proof.{Proof}
 use Rattle.sat_solver.specs.declared.proof.ProofError.{ProofError}
 use Rattle.sat_solver.specs.declared.solver.Solver.{Solver}
 use Rattle.sat_solver.specs.solver.Calls.{Answered, Solves}
+use Rattle.sat_solver.specs.declared.state.State.TheVariants as states
 use Rattle.sat_solver.specs.solver.Failing.{failed_with}
+use Rattle.sat_solver.specs.solver.Found.{SearchedBy}
 use Rattle.sat_solver.specs.solver.Settling.{Settled, AnswersOrBreaks}
 use Rattle.sat_solver.specs.solver.Whole.{IsSolver}
 use Rattle.sat_solver.proofs.lemmas.session.AskingLemmas.{asked_flushed}
@@ -28,7 +30,7 @@ module _ {W L : Type 0} {G : Ghosts L} (seen : W → Writer) (s : Solver W L G) 
   pub ask_ends : (e : SolverError) → AnswersOrBreaks seen (Err e) asking mid → Solves seen (Err e) s (failed_with mid)
   ask_ends e h =
       solve_ends seen s mid going e
-      (breaks_begun seen used p adds taking e mid.core h.0, rounds_begun seen used p adds taking mid.clock.steps h.1, λ n. flush_begun seen used p adds taking e mid.core.proof (h.2 n))
+      (breaks_begun seen used p adds taking e mid.core h.0, rounds_begun seen used p adds taking mid.clock.rounds h.1, λ n. flush_begun seen used p adds taking e mid.core.proof (h.2 n))
 
   module _ (settled : Settled seen asking mid) (q : Proof W L G) where
     abbrev pub flushed : Solver W L G
@@ -48,7 +50,12 @@ module _ {W L : Type 0} {G : Ghosts L} (seen : W → Writer) (s : Solver W L G) 
     pub ask_whole : FlushesAndTells seen mid.core.proof q → IsSolver flushed
     ask_whole f _ = (settled_flushed seen used mid behind q f).whole
 
-    pub ask_answered : has_asked p ≡ true → FlushesAndTells seen mid.core.proof q → Answered seen s flushed
-    ask_answered asked f =
+    pub ask_answered : p ≡ asking_proof s.core.proof → (s.state ≡ states.Unknown → SearchedBy seen mid.state s.clock mid.clock s.names mid.names asking.core mid.core mid.told.failed_core.items) → FlushesAndTells seen mid.core.proof q → Answered seen s flushed
+    ask_answered same searched f =
         answered seen s flushed (settled_flushed seen used mid behind q f) going (flushed_by seen mid.core.proof q f) f.told
-        (asked_flushed seen settled.took.0 p mid.core.proof q asked settled.took.1 f)
+        (asked_flushed seen settled.took.0 p mid.core.proof q (ap (λ (x : Proof W L G). has_asked x) same) settled.took.1 f)
+        (λ u. record {
+          behind = mid.core.proof;
+          searched = subst (λ x. SearchedBy seen mid.state s.clock mid.clock s.names mid.names (record s.core { proof = x }) mid.core mid.told.failed_core.items) same (searched u);
+          flushes = f;
+        })

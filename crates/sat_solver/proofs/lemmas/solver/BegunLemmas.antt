@@ -29,8 +29,8 @@ module _ {W L : Type 0} {G : Ghosts L} (seen : W → Writer) (old : Solver W L G
   pub whole_begun : SolverInvariant old → SolverInvariant begun
   whole_begun whole = whole_over old.core old.names old.asked old.assumed.items old.told.failed_core.items old.clock.restarts.scale old.state p whole adds.history taking
 
-  pub rounds_begun : (now : ℕ) → RoundsOn old.names (steps_in begun) old.core.config.max_steps old.clock.steps now → RoundsOn old.names (steps_in old) old.core.config.max_steps old.clock.steps now
-  rounds_begun now h = subst (λ ss. RoundsOn old.names ss old.core.config.max_steps old.clock.steps now) adds.history h
+  pub rounds_begun : (now : ℕ) → RoundsOn old.names (steps_in begun) old.core.config.max_steps old.clock.rounds now → RoundsOn old.names (steps_in old) old.core.config.max_steps old.clock.rounds now
+  rounds_begun now h = subst (λ ss. RoundsOn old.names ss old.core.config.max_steps old.clock.rounds now) adds.history h
 
   -- what is settled behind it
   pub settled_begun : (new : Solver W L G) → Settled seen begun new → Settled seen old new
@@ -38,13 +38,13 @@ module _ {W L : Type 0} {G : Ghosts L} (seen : W → Writer) (old : Solver W L G
     whole = s.whole;
     comes = subst (λ ss. OnlyAllowedSteps EndsAtUnsat ss (steps_in new)) adds.history s.comes;
     config = s.config;
-    times = subst (λ ss. AdvancesIn ss (steps_in new) (learned_of new.state (new.clock.steps - old.clock.steps))) adds.history s.times;
+    times = subst (λ ss. AdvancesIn ss (steps_in new) (learned_of new.state (new.clock.rounds - old.clock.rounds))) adds.history s.times;
     does = subst (λ ss. NamesRefineJudge old.names new.names ss (steps_in new) (λ j. j) (λ j. due_for_answer old.state new)) adds.history s.does;
     took = (_, adds_more seen [] s.took.0 old.core.proof p new.core.proof adds s.took.1);
     width = λ n. s.width (λ e. n (e ∙ adds.history));
     same = s.same;
     users = s.users;
-    counts = record { on = rounds_begun new.clock.steps s.counts.on; round = s.counts.round; spent = s.counts.spent; answered = subst (λ ss. (j : Judge) (live : Live) → Agree old.names ss j live → 2 ^ (2 * j.identity_count + 3) ≤ rounds_left old → new.state ≡ states.Unknown → ⊥) adds.history s.counts.answered };
+    counts = record { on = rounds_begun new.clock.rounds s.counts.on; round = s.counts.round; spent = s.counts.spent; answered = subst (λ ss. (j : Judge) (live : Live) → Agree old.names ss j live → 2 ^ (2 * j.identity_count + 3) ≤ rounds_left old → new.state ≡ states.Unknown → ⊥) adds.history s.counts.answered };
     known = λ k. (let h = s.known k in (adds_more seen [] [] old.core.proof p new.core.proof adds h.0, h.1));
   }
 

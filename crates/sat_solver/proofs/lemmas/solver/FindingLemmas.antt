@@ -10,12 +10,14 @@ use Rattle.sat_solver.specs.declared.schedule.Outcome.TheVariants as outcomes
 use Rattle.sat_solver.specs.declared.error.SolverError.{SolverError}
 use Rattle.sat_solver.specs.declared.variables.Variables.{Variables}
 use Rattle.sat_solver.specs.declared.context.Core.{Core}
-use Rattle.sat_solver.specs.schedule.Solving.{Ended}
+use Rattle.sat_solver.specs.schedule.Rounds.{ComesBy}
+use Rattle.sat_solver.specs.schedule.Solving.{Ended, Restarted, ReducedAt, RoundOf}
 use Rattle.sat_solver.specs.declared.state.State.{State}
 use Rattle.sat_solver.specs.declared.state.State.TheVariants as states
 use Rattle.sat_solver.specs.solver.Joined.{IsJoined}
 use Rattle.sat_solver.specs.solver.Answering.{BreaksOff}
-use Rattle.sat_solver.specs.solver.Found.{OutcomeHolds, ToldSays, TellsOutcome, FindsAnswer}
+use Rattle.sat_solver.specs.solver.Found.{OutcomeHolds, ToldSays, TellsOutcome, FindsAnswer, SearchedBy, state_found}
+use Rattle.sat_solver.specs.declared.solver.find.Clock.{Clock}
 use Rattle.sat_solver.proofs.lemmas.solver.AnsweredLemmas.{joined_by}
 
 module _ {W L : Type 0} {G : Ghosts L} (seen : W → Writer) (n m : Variables) (a : Core W L G) where
@@ -55,3 +57,11 @@ module _ {W L : Type 0} {G : Ghosts L} (seen : W → Writer) (n m : Variables) (
   pub breaks_by : {k : ℕ} → (outcome : Outcome) (r : Result (Option State) SolverError) (mid b : Core W L G) (core : List ℕ) → Ended seen a n k outcome mid m → TellsOutcome seen r outcome m mid b core → IfErr r (λ x. BreaksOff seen x a b)
   breaks_by outcome (Ok o) mid b core e t = tt
   breaks_by outcome (Err x) mid b core e t = breaks_told outcome x mid b e t
+
+  -- by which rounds it was found
+  pub searched_by : (before now : Clock) (outcome : Outcome) (r : Result (Option State) SolverError) (mid b : Core W L G) (core : List ℕ) →
+      ComesBy Restarted (ReducedAt seen) (RoundOf seen) (Some outcome) a n before.restarts before.rounds mid m now.restarts now.rounds →
+      TellsOutcome seen r outcome m mid b core → IfOk r (λ o. SearchedBy seen (state_found o) before now n m a b core)
+  searched_by before now outcome (Ok (Some state)) mid b core rounds t = record { outcome = Some outcome; found = mid; rounds = rounds; tells = t }
+  searched_by before now outcome (Ok None) mid b core rounds t = absurd t
+  searched_by before now outcome (Err x) mid b core rounds t = tt

@@ -133,7 +133,7 @@ module _ {W L : Type 0} {G : Ghosts L} (seen : W → Writer) where
   solved a b (Err e) h = broke e a.core b.core h.breaks
 
   configured : (a b : Solver W L G) (r : Result (Unit {0}) SolverError) (u : SolverConfigUpdate) → Configures r u a b → ReachesBySteps seen a b
-  configured a b (Ok x) u h = subst (WentOn seen a.core.proof) (sym h.proof) (went_none seen a.core.proof)
+  configured a b (Ok x) u h = subst (WentOn seen a.core.proof) (sym h.same.proof) (went_none seen a.core.proof)
   configured a b (Err errors.HasFailed) u h = same a b _ h
   configured a b (Err errors.OutOfRange) u h = same a b _ h
   configured a b (Err e) u h = absurd h
@@ -172,7 +172,7 @@ module _ {W L : Type 0} {G : Ghosts L} (seen : W → Writer) where
     witnesses = λ r user. mode_changed old new r user _ _ _;
     samples = λ r user. mode_changed old new r user _ _ _;
     names = named old new;
-    observes = λ users h. took old.core.proof new.core.proof h.took;
+    observes = λ users h. took old.core.proof new.core.proof h.steps.took;
     observing_fails = unnamed old new;
     solves = solved old new;
     configures = configured old new;

@@ -356,20 +356,17 @@ next_name s whole user next j live agree = lowest_unused s.names (steps_in s) j 
 pub observed_all : {W L : Type 0} {G : Ghosts L} (seen : W → Writer) (s : Solver W L G) → SolverInvariant s → s.failed ≡ false → (n' : Variables) (p : Proof W L G) (users : List ℕ) (used : Bool) → used ≡ (s.used || not (eqb (length users) 0)) → NamesAllHidden s.names n' (steps_in s) (steps_of p) users → ComesByCheckedSteps seen s.core.proof p →
     Observed seen s (record s { core = record s.core { proof = p }; names = n'; used = used }) users
 observed_all seen s whole going n' p users used opened all took = record {
-  whole = whole_renamed s whole n' p all.stands (λ l v h e. all.names (variable l) v e) (alike_unseen s.names n' (steps_in s) (steps_of p) all.unseen)
-      (let k = whole.judged in let kept = all.kept k.0 k.1 k.2 in (kept.0, k.1, kept.2)) took.1.taking;
+  steps = record {
+    whole = whole_renamed s whole n' p all.stands (λ l v h e. all.names (variable l) v e) (alike_unseen s.names n' (steps_in s) (steps_of p) all.unseen)
+        (let k = whole.judged in let kept = all.kept k.0 k.1 k.2 in (kept.0, k.1, kept.2)) took.1.taking;
+    took = (took.0, gains_adds seen took.0 s.core.proof p took.1);
+    width = gained_width seen s.core.proof p took;
+  };
   going = going;
   failed = going;
   used = opened;
-  config = refl;
+  same = record { config = refl; asked = took.1.asked; assumed = refl; told = refl; clock = refl; state = refl };
   observes = all.kept;
   all = all.all;
   values = λ v. ap (λ (b : Bool). Some b) (value_same seen s whole going n' p (alike_unseen s.names n' (steps_in s) (steps_of p) all.unseen) all.stands v (λ b. ap (λ f. f (coded v b)) all.unseen.search.units));
-  took = (took.0, gains_adds seen took.0 s.core.proof p took.1);
-  width = gained_width seen s.core.proof p took;
-  asked = took.1.asked;
-  assumed = refl;
-  told = refl;
-  clock = refl;
-  state = refl;
 }

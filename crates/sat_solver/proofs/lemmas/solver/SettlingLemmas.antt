@@ -52,7 +52,7 @@ use Rattle.sat_solver.specs.declared.solver.find.Clock.{Clock}
 use Rattle.sat_solver.specs.solver.Joined.{IsJoined, name_of}
 use Rattle.sat_solver.specs.solver.Answering.{BreaksOff, FlushFails, WritesFailedCore, line_of, model_of}
 use Rattle.sat_solver.specs.solver.Found.{FoundModel, FoundCore, FoundNone, FoundSays}
-use Rattle.sat_solver.specs.solver.Calls.{Answered, Counts, CountsRounds, RoundsOn, IsFlushed, NotesAsk, learned_of, due_between_states, due_for_answer}
+use Rattle.sat_solver.specs.solver.Calls.{Answered, Counts, CountsRounds, RoundsOn, IsFlushed, MakesRounds, NotesAsk, learned_of, due_between_states, due_for_answer}
 use Rattle.sat_solver.specs.solver.Settling.{Settled}
 use Rattle.sat_solver.specs.solver.Whole.{SolverInvariant, IsWholeOf, StateSays, AskGoesOn, HasCore, steps_in, session_in, line_in}
 use Rattle.sat_solver.proofs.lemmas.solver.AnsweredLemmas.{asked_shown, core_among, core_spelt, core_none, joined_by, does_shown, does_failed}
@@ -104,7 +104,7 @@ module _ {W L : Type 0} {G : Ghosts L} (seen : W → Writer) (s : Solver W L G) 
       spent = λ u. absurd (n u);
       answered = λ j live a fits u. n u;
     };
-    times = record { steps = []; behind = refl; times = no_rounds s.state s.clock.steps };
+    times = record { steps = []; behind = refl; times = no_rounds s.state s.clock.rounds };
     known = λ k. (adds_none seen s.core.proof, refl);
   }
     where
@@ -130,7 +130,7 @@ module _ {W L : Type 0} {G : Ghosts L} (seen : W → Writer) (s : Solver W L G) 
     kept_spelt {t} k = globals_kept s.names m s.assumed.items s.asked.globals.items whole.spelt k.users
 
     -- where there's no answer by now
-    pub settled_none : s.state ≡ states.Unknown → Counts s (record s { core = core; names = m; told = told; clock = clock }) → FoundNone seen (clock.steps - s.clock.steps) s.names m s.core core → Settled seen s (record s { core = core; names = m; told = told; clock = clock })
+    pub settled_none : s.state ≡ states.Unknown → Counts s (record s { core = core; names = m; told = told; clock = clock }) → FoundNone seen (clock.rounds - s.clock.rounds) s.names m s.core core → Settled seen s (record s { core = core; names = m; told = told; clock = clock })
     settled_none unknown counts found = record {
       whole = record {
         stands = found.joined.stands;
@@ -152,7 +152,7 @@ module _ {W L : Type 0} {G : Ghosts L} (seen : W → Writer) (s : Solver W L G) 
       users = found.gone.asked.users;
       config = found.gone.config;
       counts = counts;
-      times = subst (λ st. AdvancesIn (steps_in s) (steps_of core.proof) (learned_of st (clock.steps - s.clock.steps))) (sym unknown) (record { steps = found.gone.steps; behind = found.gone.adds.history; times = found.gone.times });
+      times = subst (λ st. AdvancesIn (steps_in s) (steps_of core.proof) (learned_of st (clock.rounds - s.clock.rounds))) (sym unknown) (record { steps = found.gone.steps; behind = found.gone.adds.history; times = found.gone.times });
       known = λ k. absurd (k unknown);
     }
 
@@ -164,7 +164,7 @@ module _ {W L : Type 0} {G : Ghosts L} (seen : W → Writer) (s : Solver W L G) 
       unknown_told st d = subst (λ before. NamesRefineJudge s.names m (steps_in s) (steps_of core.proof) (λ j. j) (λ j. due_between_states before st (line_of m core) s.assumed.items told.failed_core.items)) (sym unknown) d
 
       -- where a model was found
-      pub settled_model : Counts s (new states.Sat) → FoundModel seen (clock.steps - s.clock.steps) s.names m s.core core → Settled seen s (new states.Sat)
+      pub settled_model : Counts s (new states.Sat) → FoundModel seen (clock.rounds - s.clock.rounds) s.names m s.core core → Settled seen s (new states.Sat)
       settled_model counts found = record {
         whole = record {
           stands = found.shown.joined.stands;
@@ -226,7 +226,7 @@ module _ {W L : Type 0} {G : Ghosts L} (seen : W → Writer) (s : Solver W L G) 
               (does_shown seen m found.mid mid core found.shown s.assumed.items (subst (λ c. AllByRecursion (λ l. Among l (line_by c)) s.assumed.items) found.shown.search asked)))
 
       -- where assumptions were found that can't be true together
-      pub settled_core : Counts s (new states.UnsatUnderAssumptions) → FoundCore seen (clock.steps - s.clock.steps) s.names m s.core core told.failed_core.items → Settled seen s (new states.UnsatUnderAssumptions)
+      pub settled_core : Counts s (new states.UnsatUnderAssumptions) → FoundCore seen (clock.rounds - s.clock.rounds) s.names m s.core core told.failed_core.items → Settled seen s (new states.UnsatUnderAssumptions)
       settled_core counts found = record {
         whole = record {
           stands = found.failed.joined.stands;
@@ -295,7 +295,7 @@ module _ {W L : Type 0} {G : Ghosts L} (seen : W → Writer) (s : Solver W L G) 
               }
 
       -- where the clauses alone turned out to be unsatisfiable
-      pub settled_unsat : Counts s (new states.Unsat) → Ended seen s.core s.names (clock.steps - s.clock.steps - 1) outcomes.Unsat core m → Settled seen s (new states.Unsat)
+      pub settled_unsat : Counts s (new states.Unsat) → Ended seen s.core s.names (clock.rounds - s.clock.rounds - 1) outcomes.Unsat core m → Settled seen s (new states.Unsat)
       settled_unsat counts ended = record {
         whole = record {
           stands = ended.does.stands;
@@ -403,7 +403,7 @@ module _ {W L : Type 0} {G : Ghosts L} (seen : W → Writer) (old mid : Solver W
       flush_checked checks.CounterEnd h = h
       flush_checked (checks.Processor cause) h = h
 
-module _ {W L : Type 0} {G : Ghosts L} (seen : W → Writer) (s : Solver W L G) (whole : SolverInvariant s) (unknown : s.state ≡ states.Unknown) (core : Core W L G) (m : Variables) (told : Told) (clock : Clock) (scale : clock.restarts.scale ≡ s.clock.restarts.scale) (on : CountsOn (values_in s.core) s.core.config.max_steps s.clock.steps clock.steps) where
+module _ {W L : Type 0} {G : Ghosts L} (seen : W → Writer) (s : Solver W L G) (whole : SolverInvariant s) (unknown : s.state ≡ states.Unknown) (core : Core W L G) (m : Variables) (told : Told) (clock : Clock) (scale : clock.restarts.scale ≡ s.clock.restarts.scale) (on : CountsOn (values_in s.core) s.core.config.max_steps s.clock.rounds clock.rounds) where
   goes_on : AskGoesOn s.core s.names s.asked
   goes_on = subst (λ st. StateSays st s.core s.names s.asked s.assumed.items s.told.failed_core.items) unknown whole.says
 
@@ -417,7 +417,7 @@ module _ {W L : Type 0} {G : Ghosts L} (seen : W → Writer) (s : Solver W L G) 
       let identities = agree.judged.identities in
       omega arith
 
-  pub rounds_on : RoundsOn s.names (steps_in s) s.core.config.max_steps s.clock.steps clock.steps
+  pub rounds_on : RoundsOn s.names (steps_in s) s.core.config.max_steps s.clock.rounds clock.rounds
   rounds_on = record {
     more = on.more;
     within = on.within;
@@ -425,16 +425,16 @@ module _ {W L : Type 0} {G : Ghosts L} (seen : W → Writer) (s : Solver W L G) 
   }
 
   -- an answer was found
-  pub settled_some : s.clock.steps < clock.steps → (st : State) → FoundSays seen st (clock.steps - s.clock.steps) s.names m s.core core told.failed_core.items → Settled seen s (record s { core = core; names = m; told = told; clock = clock; state = st })
+  pub settled_some : s.clock.rounds < clock.rounds → (st : State) → FoundSays seen st (clock.rounds - s.clock.rounds) s.names m s.core core told.failed_core.items → Settled seen s (record s { core = core; names = m; told = told; clock = clock; state = st })
   settled_some round states.Unknown found = absurd found
   settled_some round states.Sat found = settled_model seen s whole goes_on core m told clock scale unknown (record { on = rounds_on; round = λ u k. round; spent = λ u. absurd (apart_sat u); answered = λ j live a fits u. apart_sat u }) found
   settled_some round states.UnsatUnderAssumptions found = settled_core seen s whole goes_on core m told clock scale unknown (record { on = rounds_on; round = λ u k. round; spent = λ u. absurd (apart_core u); answered = λ j live a fits u. apart_core u }) found
   settled_some round states.Unsat found = settled_unsat seen s whole goes_on core m told clock scale unknown (record { on = rounds_on; round = λ u k. round; spent = λ u. absurd (apart_unsat u); answered = λ j live a fits u. apart_unsat u }) found
 
   -- or none by now
-  pub settled_without : clock.steps ≡ s.clock.steps + steps_left s.core.config.max_steps s.clock.steps →
-      ((n : ℕ) → values_in s.core ≤ n → 2 ^ (2 * n + 3) ≤ steps_left s.core.config.max_steps s.clock.steps → ⊥) →
-      FoundNone seen (clock.steps - s.clock.steps) s.names m s.core core → Settled seen s (record s { core = core; names = m; told = told; clock = clock })
+  pub settled_without : clock.rounds ≡ s.clock.rounds + steps_left s.core.config.max_steps s.clock.rounds →
+      ((n : ℕ) → values_in s.core ≤ n → 2 ^ (2 * n + 3) ≤ steps_left s.core.config.max_steps s.clock.rounds → ⊥) →
+      FoundNone seen (clock.rounds - s.clock.rounds) s.names m s.core core → Settled seen s (record s { core = core; names = m; told = told; clock = clock })
   settled_without spent answered found = settled_none seen s whole goes_on core m told clock scale unknown (record { on = rounds_on; round = λ u k. absurd (k unknown); spent = λ u. spent; answered = λ j live a fits u. answered j.identity_count (over_identities j live a) fits }) found
 
 -- a target was flushed
@@ -448,18 +448,15 @@ flushed_by seen p q f = go (target_of seen p) (target_of seen q) f.target
 
 -- CALLS
 
-module _ {W L : Type 0} {G : Ghosts L} (seen : W → Writer) (s new : Solver W L G) (settled : Settled seen (record s { used = true }) new) (going : s.failed ≡ false) (flushed : IsFlushed (target_of seen new.core.proof)) (told : HasTold new.core.proof) (asked : NotesAsk seen new.core.proof) where
+module _ {W L : Type 0} {G : Ghosts L} (seen : W → Writer) (s new : Solver W L G) (settled : Settled seen (record s { used = true }) new) (going : s.failed ≡ false) (flushed : IsFlushed (target_of seen new.core.proof)) (told : HasTold new.core.proof) (asked : NotesAsk seen new.core.proof) (rounds : s.state ≡ states.Unknown → MakesRounds seen s new) where
   -- an ask was looked at
   pub answered : Answered seen s new
   answered = record {
     did = record { whole = settled.whole; going = going; failed = ap (λ (x : Solver W L G). x.failed) settled.same ∙ going; used = ap (λ (x : Solver W L G). x.used) settled.same; config = settled.config; does = settled.does; took = settled.took; width = settled.width };
-    comes = settled.comes;
     assumed = ap (λ (x : Solver W L G). x.assumed) settled.same;
-    users = settled.users;
     counts = record { on = settled.counts.on; round = settled.counts.round; spent = settled.counts.spent; answered = settled.counts.answered };
-    times = settled.times;
     flushed = flushed;
     told = told;
-    asked = asked;
+    steps = record { comes = settled.comes; times = settled.times; users = settled.users; asked = asked; rounds = rounds };
     known = λ k. let h = settled.known k in record { steps = h.0.history; same = h.1 };
   }

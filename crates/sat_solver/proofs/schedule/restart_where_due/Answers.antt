@@ -51,5 +51,5 @@ returns-clause-due g c =
     inr (
       omega (arith, c.if-round-restarts.false),
       record { levels = e.levels; clauses = e.same; same = refl },
-      record { given = c.begin_gap.ensures.given; scale = c.begin_gap.ensures.scale; next = c.begin_gap.ensures.next },
+      record { given = c.begin_gap.ensures.given; scale = c.begin_gap.ensures.scale; next = c.begin_gap.ensures.next; count = c.begin_gap.ensures.count },
     )

@@ -7,7 +7,7 @@ use Rattle.sat_solver.specs.schedule.Climbing.{Climbs}
 use Rattle.sat_solver.specs.schedule.Rounds.{no_round, one_more as one_more_round}
 use Rattle.sat_solver.specs.schedule.Solving.{words_in, values_in, ComesByRounds, Ended, RoundOf}
 use Rattle.sat_solver.proofs.lemmas.schedule.ProgressLemmas.{come_begins, come_climbs, come_keeps, few_rounds, none_left}
-use Rattle.sat_solver.proofs.lemmas.schedule.SolvingLemmas.{core_word, gone_none, reduced_sound, reduced_words, reduced_goes, reduced_fails, round_sound, round_most, round_words, round_goes, round_ends, round_fails}
+use Rattle.sat_solver.proofs.lemmas.schedule.SolvingLemmas.{core_word, gone_none, reduced_at, reduced_sound, reduced_words, reduced_goes, reduced_fails, round_sound, round_most, round_words, round_goes, round_ends, round_fails}
 use Rattle.sat_solver.proofs.schedule.search.Goals as goal
 
 -- no count has gone on by itself
@@ -92,8 +92,8 @@ loop-steps-preserved g c =
         behind_restart = b;
         due = c.restart_where_due.ensures.due;
         behind_reduction = r;
-        reduction = c.in_ok-reduce.ensures.ends.1;
-        ends = subst (λ o. RoundOf seen r c.loop-steps.names o d names) learned rounded;
+        reduction = reduced_at seen b r c.loop-steps.steps refl tt c.in_ok-reduce.ensures;
+        ends = subst (λ o. RoundOf seen r c.loop-steps.names o d names) learned (record { ends = rounded; config = refl });
       });
     }
 
@@ -125,7 +125,8 @@ returns-then-not-is_learned-clause-ends g c =
 
 pub returns-then-not-is_learned-clause-rounds : goal.returns-then-not-is_learned-clause-rounds
 returns-then-not-is_learned-clause-rounds g c =
-    let b = c.restart_where_due.new.core in (
+    let b = c.restart_where_due.new.core in
+    let r : Core g.row.W.Denot g.row.P.Denot g.P.ProofProcessor = record b { proof = c.reduce.new.proof; search = c.reduce.new.search } in (
       c.loop-steps.core,
       c.loop-steps.names,
       c.loop-steps.restarts,
@@ -135,9 +136,9 @@ returns-then-not-is_learned-clause-rounds g c =
       record {
         behind_restart = b;
         due = c.restart_where_due.ensures.due;
-        behind_reduction = record b { proof = c.reduce.new.proof; search = c.reduce.new.search };
-        reduction = c.in_ok-reduce.ensures.ends.1;
-        ends = c.in_ok-outcome.ensures;
+        behind_reduction = r;
+        reduction = reduced_at g.W.CountedWrite.seen b r c.loop-steps.steps refl tt c.in_ok-reduce.ensures;
+        ends = record { ends = c.in_ok-outcome.ensures; config = refl };
       },
     )
 

@@ -15,7 +15,7 @@ invariant-loop-steps g l = record {
   within : l.steps ≤ l.end;
   come : values_in l.fn.core < 63 → HasCome words_in l.core (values_in l.fn.core) l.fn.steps l.steps l.restarts.next l.restarts.sequence;
   goes : ComesByRounds g.W.CountedWrite.seen l.fn.core l.fn.names (l.steps - l.fn.steps) l.core l.names;
-  rounds : AreRounds Restarted ReducedAt (RoundOf g.W.CountedWrite.seen) l.fn.core l.fn.names l.fn.restarts l.fn.steps l.core l.names l.restarts l.steps;
+  rounds : AreRounds Restarted (ReducedAt g.W.CountedWrite.seen) (RoundOf g.W.CountedWrite.seen) l.fn.core l.fn.names l.fn.restarts l.fn.steps l.core l.names l.restarts l.steps;
 }
 
 abbrev pub decreases-loop-steps : goal.decreases-loop-steps

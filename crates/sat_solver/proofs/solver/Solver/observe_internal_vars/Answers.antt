@@ -9,7 +9,7 @@ pub returns-in-Ok-clause-solver : goal.returns-in-Ok-clause-solver
 returns-in-Ok-clause-solver g c = λ e.
     let s = c.args.self.now in
     (observed_all g.W.CountedWrite.seen s (c.requires c.if-self.false) c.if-self.false c.observe_internal_vars.new.variables c.observe_internal_vars.new.writer c.observe_internal_vars.new.users.items _ (c.is_used-self.ensures ∙ ap (λ (xs : List ℕ). s.used || not (eqb (length xs) 0)) c.deref.ensures.value) c.in-Ok.ensures.names
-    (c.in-Ok.ensures.came s.core.proof (none_took g.W.CountedWrite.seen s.core.proof))).whole
+    (c.in-Ok.ensures.came s.core.proof (none_took g.W.CountedWrite.seen s.core.proof))).steps.whole
 
 pub returns-in-Ok-clause-observes : goal.returns-in-Ok-clause-observes
 returns-in-Ok-clause-observes g c =

@@ -11,45 +11,45 @@ find_where_unknown-requires g c =
     record { whole = whole_begun g.W.CountedWrite.seen used c.begin_ask.new.self c.begin_ask.ensures.adds c.begin_ask.ensures.taking (c.requires c.if-self.false) }
 
 pub fail-requires : goal.fail-requires
-fail-requires g c = record { kept = c.in-Err.ensures.0.1 }
+fail-requires g c = record { kept = c.in-Err.ensures.answers.0.1 }
 
 pub returns-in-Err-clause-solves : goal.returns-in-Err-clause-solves
 returns-in-Err-clause-solves g c =
-    rw (c.fail.ensures.error, c.fail.ensures.fails) (ask_ends g.W.CountedWrite.seen c.args.self.now c.if-self.false c.begin_ask.new.self c.begin_ask.ensures.adds c.begin_ask.ensures.taking c.find_where_unknown.new.self c.in-Err.fault c.in-Err.ensures)
+    rw (c.fail.ensures.error, c.fail.ensures.fails) (ask_ends g.W.CountedWrite.seen c.args.self.now c.if-self.false c.begin_ask.new.self c.begin_ask.ensures.adds c.begin_ask.ensures.taking c.find_where_unknown.new.self c.in-Err.fault c.in-Err.ensures.answers)
 
 pub fail-requires-in-Err-flush : goal.fail-requires-in-Err-flush
 fail-requires-in-Err-flush g c =
-    let h = ask_breaks g.W.CountedWrite.seen c.args.self.now c.if-self.false c.begin_ask.new.self c.begin_ask.ensures.adds c.begin_ask.ensures.taking c.find_where_unknown.new.self c.in_default.ensures c.flush.new.self c.in-Err-flush.error c.in-Err-flush.ensures.flushes in
+    let h = ask_breaks g.W.CountedWrite.seen c.args.self.now c.if-self.false c.begin_ask.new.self c.begin_ask.ensures.adds c.begin_ask.ensures.taking c.find_where_unknown.new.self c.in_default.ensures.answers c.flush.new.self c.in-Err-flush.error c.in-Err-flush.ensures.flushes in
     record { kept = rw c.from.ensures h.0.1 }
 
 pub returns-in-Err-flush-clause-solves : goal.returns-in-Err-flush-clause-solves
 returns-in-Err-flush-clause-solves g c =
-    rw (c.fail-in-Err-flush.ensures.error, c.fail-in-Err-flush.ensures.fails, c.from.ensures) (ask_broken g.W.CountedWrite.seen c.args.self.now c.if-self.false c.begin_ask.new.self c.begin_ask.ensures.adds c.begin_ask.ensures.taking c.find_where_unknown.new.self c.in_default.ensures c.flush.new.self c.in-Err-flush.error c.in-Err-flush.ensures.flushes)
+    rw (c.fail-in-Err-flush.ensures.error, c.fail-in-Err-flush.ensures.fails, c.from.ensures) (ask_broken g.W.CountedWrite.seen c.args.self.now c.if-self.false c.begin_ask.new.self c.begin_ask.ensures.adds c.begin_ask.ensures.taking c.find_where_unknown.new.self c.in_default.ensures.answers c.flush.new.self c.in-Err-flush.error c.in-Err-flush.ensures.flushes)
 
 pub returns-in-Sat-clause-solver : goal.returns-in-Sat-clause-solver
-returns-in-Sat-clause-solver g c = ask_whole g.W.CountedWrite.seen c.args.self.now c.if-self.false c.begin_ask.new.self c.begin_ask.ensures.adds c.begin_ask.ensures.taking c.find_where_unknown.new.self c.in_default.ensures c.flush.new.self c.in_default-flush.ensures.flushes
+returns-in-Sat-clause-solver g c = ask_whole g.W.CountedWrite.seen c.args.self.now c.if-self.false c.begin_ask.new.self c.begin_ask.ensures.adds c.begin_ask.ensures.taking c.find_where_unknown.new.self c.in_default.ensures.answers c.flush.new.self c.in_default-flush.ensures.flushes
 
 pub returns-in-Sat-clause-solves : goal.returns-in-Sat-clause-solves
 returns-in-Sat-clause-solves g c =
-    (ask_answered g.W.CountedWrite.seen c.args.self.now c.if-self.false c.begin_ask.new.self c.begin_ask.ensures.adds c.begin_ask.ensures.taking c.find_where_unknown.new.self c.in_default.ensures c.flush.new.self c.begin_ask.ensures.asked c.in_default-flush.ensures.flushes, subst (λ st. is_answer st true) (sym c.in-Sat.is) refl)
+    (ask_answered g.W.CountedWrite.seen c.args.self.now c.if-self.false c.begin_ask.new.self c.begin_ask.ensures.adds c.begin_ask.ensures.taking c.find_where_unknown.new.self c.in_default.ensures.answers c.flush.new.self c.begin_ask.ensures.same c.in_default.ensures.searched c.in_default-flush.ensures.flushes, subst (λ st. is_answer st true) (sym c.in-Sat.is) refl)
 
 pub returns-in-UnsatUnderAssumptions-clause-solver : goal.returns-in-UnsatUnderAssumptions-clause-solver
-returns-in-UnsatUnderAssumptions-clause-solver g c = ask_whole g.W.CountedWrite.seen c.args.self.now c.if-self.false c.begin_ask.new.self c.begin_ask.ensures.adds c.begin_ask.ensures.taking c.find_where_unknown.new.self c.in_default.ensures c.flush.new.self c.in_default-flush.ensures.flushes
+returns-in-UnsatUnderAssumptions-clause-solver g c = ask_whole g.W.CountedWrite.seen c.args.self.now c.if-self.false c.begin_ask.new.self c.begin_ask.ensures.adds c.begin_ask.ensures.taking c.find_where_unknown.new.self c.in_default.ensures.answers c.flush.new.self c.in_default-flush.ensures.flushes
 
 pub returns-in-UnsatUnderAssumptions-clause-solves : goal.returns-in-UnsatUnderAssumptions-clause-solves
 returns-in-UnsatUnderAssumptions-clause-solves g c =
-    (ask_answered g.W.CountedWrite.seen c.args.self.now c.if-self.false c.begin_ask.new.self c.begin_ask.ensures.adds c.begin_ask.ensures.taking c.find_where_unknown.new.self c.in_default.ensures c.flush.new.self c.begin_ask.ensures.asked c.in_default-flush.ensures.flushes, subst (λ st. is_answer st false) (sym c.in-UnsatUnderAssumptions.is) refl)
+    (ask_answered g.W.CountedWrite.seen c.args.self.now c.if-self.false c.begin_ask.new.self c.begin_ask.ensures.adds c.begin_ask.ensures.taking c.find_where_unknown.new.self c.in_default.ensures.answers c.flush.new.self c.begin_ask.ensures.same c.in_default.ensures.searched c.in_default-flush.ensures.flushes, subst (λ st. is_answer st false) (sym c.in-UnsatUnderAssumptions.is) refl)
 
 pub returns-in-Unsat-clause-solver : goal.returns-in-Unsat-clause-solver
-returns-in-Unsat-clause-solver g c = ask_whole g.W.CountedWrite.seen c.args.self.now c.if-self.false c.begin_ask.new.self c.begin_ask.ensures.adds c.begin_ask.ensures.taking c.find_where_unknown.new.self c.in_default.ensures c.flush.new.self c.in_default-flush.ensures.flushes
+returns-in-Unsat-clause-solver g c = ask_whole g.W.CountedWrite.seen c.args.self.now c.if-self.false c.begin_ask.new.self c.begin_ask.ensures.adds c.begin_ask.ensures.taking c.find_where_unknown.new.self c.in_default.ensures.answers c.flush.new.self c.in_default-flush.ensures.flushes
 
 pub returns-in-Unsat-clause-solves : goal.returns-in-Unsat-clause-solves
 returns-in-Unsat-clause-solves g c =
-    (ask_answered g.W.CountedWrite.seen c.args.self.now c.if-self.false c.begin_ask.new.self c.begin_ask.ensures.adds c.begin_ask.ensures.taking c.find_where_unknown.new.self c.in_default.ensures c.flush.new.self c.begin_ask.ensures.asked c.in_default-flush.ensures.flushes, subst (λ st. is_answer st false) (sym c.in-Unsat.is) refl)
+    (ask_answered g.W.CountedWrite.seen c.args.self.now c.if-self.false c.begin_ask.new.self c.begin_ask.ensures.adds c.begin_ask.ensures.taking c.find_where_unknown.new.self c.in_default.ensures.answers c.flush.new.self c.begin_ask.ensures.same c.in_default.ensures.searched c.in_default-flush.ensures.flushes, subst (λ st. is_answer st false) (sym c.in-Unsat.is) refl)
 
 pub returns-in-Unknown-clause-solver : goal.returns-in-Unknown-clause-solver
-returns-in-Unknown-clause-solver g c = ask_whole g.W.CountedWrite.seen c.args.self.now c.if-self.false c.begin_ask.new.self c.begin_ask.ensures.adds c.begin_ask.ensures.taking c.find_where_unknown.new.self c.in_default.ensures c.flush.new.self c.in_default-flush.ensures.flushes
+returns-in-Unknown-clause-solver g c = ask_whole g.W.CountedWrite.seen c.args.self.now c.if-self.false c.begin_ask.new.self c.begin_ask.ensures.adds c.begin_ask.ensures.taking c.find_where_unknown.new.self c.in_default.ensures.answers c.flush.new.self c.in_default-flush.ensures.flushes
 
 pub returns-in-Unknown-clause-solves : goal.returns-in-Unknown-clause-solves
 returns-in-Unknown-clause-solves g c =
-    (ask_answered g.W.CountedWrite.seen c.args.self.now c.if-self.false c.begin_ask.new.self c.begin_ask.ensures.adds c.begin_ask.ensures.taking c.find_where_unknown.new.self c.in_default.ensures c.flush.new.self c.begin_ask.ensures.asked c.in_default-flush.ensures.flushes, c.in-Unknown.is)
+    (ask_answered g.W.CountedWrite.seen c.args.self.now c.if-self.false c.begin_ask.new.self c.begin_ask.ensures.adds c.begin_ask.ensures.taking c.find_where_unknown.new.self c.in_default.ensures.answers c.flush.new.self c.begin_ask.ensures.same c.in_default.ensures.searched c.in_default-flush.ensures.flushes, c.in-Unknown.is)

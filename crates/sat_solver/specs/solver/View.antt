@@ -1,0 +1,145 @@
+-- What callers know of a solver: its contracts say what becomes of these words, and of the judge's state.
+use Rattle.std.specs.Prelude.{◌≡◌, ℕ, Bool, true, false, Option, None, List, []}
+use Rattle.std.specs.Global.{Vec}
+use Rattle.sat_base.specs.device.Device.{Writer}
+use Rattle.sat_base.specs.script.Judge.{Judge, start}
+use Rattle.sat_base.specs.steps.Steps.{Step}
+use Rattle.sat_checker.specs.matching.Bridge.{Live}
+use Rattle.sat_checker.specs.declared.processing.ProofProcessor.{Ghosts}
+use Rattle.sat_solver.specs.proof.ProofView as proofs
+use Rattle.sat_solver.specs.proof.ProofView.{Target, Closed, target_of}
+use Rattle.sat_solver.specs.variables.Calls.{Agree}
+use Rattle.sat_solver.specs.Configs.{defaults}
+use Rattle.sat_solver.specs.declared.config.SolverConfig.{SolverConfig}
+use Rattle.sat_solver.specs.declared.context.Core.{Core}
+use Rattle.sat_solver.specs.declared.proof.Proof.{Proof}
+use Rattle.sat_solver.specs.declared.solver.Solver.{Solver}
+use Rattle.sat_solver.specs.declared.solver.find.Clock.{Clock}
+use Rattle.sat_solver.specs.declared.solver.find.Told.{Told}
+use Rattle.sat_solver.specs.declared.variables.Variables.{Variables}
+use Rattle.sat_solver.specs.declared.state.State.{State}
+use Rattle.sat_solver.specs.declared.state.State.TheVariants as states
+use Rattle.sat_solver.specs.solver.Whole.{SolverInvariant, steps_in}
+
+-- did a call fail? Then every later one does
+abbrev pub has_failed : {W L : Type 0} {G : Ghosts L} → Solver W L G → Bool
+has_failed s = s.failed
+
+-- did a clause, a name, assumptions or an ask come before? Then no proof can be opened
+abbrev pub is_used : {W L : Type 0} {G : Ghosts L} → Solver W L G → Bool
+is_used s = s.used
+
+-- what is known of an answer
+abbrev pub answer_in : {W L : Type 0} {G : Ghosts L} → Solver W L G → State
+answer_in s = s.state
+
+-- the assumptions, as codes of literals over names
+abbrev pub assumptions_in : {W L : Type 0} {G : Ghosts L} → Solver W L G → List ℕ
+assumptions_in s = s.assumed.items
+
+-- the same, as they are stored
+abbrev pub assumed_in : {W L : Type 0} {G : Ghosts L} → Solver W L G → Vec ℕ
+assumed_in s = s.assumed
+
+-- the names, and the variables for which they stand
+abbrev pub known_names : {W L : Type 0} {G : Ghosts L} → Solver W L G → Variables
+known_names s = s.names
+
+-- what the last answers were: a model over variables, and a failed core
+abbrev pub told_in : {W L : Type 0} {G : Ghosts L} → Solver W L G → Told
+told_in s = s.told
+
+-- the last failed core, over names
+abbrev pub core_told : {W L : Type 0} {G : Ghosts L} → Solver W L G → List ℕ
+core_told s = s.told.failed_core.items
+
+-- the rounds of all asks, and when restarts are due
+abbrev pub schedule_in : {W L : Type 0} {G : Ghosts L} → Solver W L G → Clock
+schedule_in s = s.clock
+
+-- the rounds of all asks
+abbrev pub rounds_in : {W L : Type 0} {G : Ghosts L} → Solver W L G → ℕ
+rounds_in s = s.clock.rounds
+
+-- the restarts of all asks
+abbrev pub restarts_in : {W L : Type 0} {G : Ghosts L} → Solver W L G → ℕ
+restarts_in s = s.clock.restarts.count
+
+-- the parameters
+abbrev pub parameters_in : {W L : Type 0} {G : Ghosts L} → Solver W L G → SolverConfig
+parameters_in s = s.core.config
+
+-- all that it works with besides its names: the proof, the search and the parameters
+abbrev pub inside : {W L : Type 0} {G : Ghosts L} → Solver W L G → Core W L G
+inside s = s.core
+
+-- the proof, of which contracts see its steps, its target and the solver's own checker
+abbrev pub proof_in : {W L : Type 0} {G : Ghosts L} → Solver W L G → Proof W L G
+proof_in s = s.core.proof
+
+-- where the text of its steps goes
+abbrev pub target_in : {W L : Type 0} {G : Ghosts L} → (W → Writer) → Solver W L G → Target
+target_in seen s = target_of seen s.core.proof
+
+-- nothing has changed but the proof
+abbrev pub OnlyProofDiffers : {W L : Type 0} {G : Ghosts L} → Solver W L G → Solver W L G → Type 0
+OnlyProofDiffers old new = new ≡ record old { core = record old.core { proof = new.core.proof } }
+
+-- the same solver, used by now
+abbrev pub used_now : {W L : Type 0} {G : Ghosts L} → Solver W L G → Solver W L G
+used_now s = record s { used = true }
+
+-- the judge's state is this one, with these variables
+abbrev pub IsInState : {W L : Type 0} {G : Ghosts L} → Solver W L G → Judge → Live → Type 0
+IsInState s j live = Agree s.names (steps_in s) j live
+
+-- all of these words at once, as one value
+pub record View (L : Type 0) : Type 0 where
+  pub failed : Bool
+  pub used : Bool
+  pub answer : State
+  pub assumptions : List ℕ
+  pub rounds : ℕ
+  pub restarts : ℕ
+  pub parameters : SolverConfig
+  pub steps : List Step  -- the newest first
+  pub target : Target
+  pub listeners : Option (List L)  -- if there is a checker of its own: those who were added to it
+  pub asked : Bool  -- has an ask begun since a proof was opened?
+
+abbrev pub view_of : {W L : Type 0} {G : Ghosts L} → (W → Writer) → Solver W L G → View L
+view_of seen s = record {
+  failed = s.failed;
+  used = s.used;
+  answer = s.state;
+  assumptions = s.assumed.items;
+  rounds = s.clock.rounds;
+  restarts = s.clock.restarts.count;
+  parameters = s.core.config;
+  steps = steps_in s;
+  target = target_in seen s;
+  listeners = proofs.audience s.core.proof;
+  asked = proofs.has_asked s.core.proof;
+}
+
+-- of an empty solver
+abbrev pub empty_view : {L : Type 0} → View L
+empty_view = record {
+  failed = false;
+  used = false;
+  answer = states.Unknown;
+  assumptions = [];
+  rounds = 0;
+  restarts = 0;
+  parameters = defaults;
+  steps = [];
+  target = Closed;
+  listeners = None;
+  asked = false;
+}
+
+-- no call was made yet
+pub record IsEmpty {W L : Type 0} {G : Ghosts L} (seen : W → Writer) (s : Solver W L G) : Type 0 where
+  pub view : view_of seen s ≡ empty_view
+  pub state : IsInState s start []
+  pub whole : SolverInvariant s
