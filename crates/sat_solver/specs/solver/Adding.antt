@@ -6,12 +6,12 @@ use Rattle.sat_checker.specs.declared.processing.ProofProcessor.{Ghosts}
 use Rattle.sat_solver.specs.declared.error.SolverError.{SolverError}
 use Rattle.sat_solver.specs.declared.error.SolverError.TheVariants as errors
 use Rattle.sat_solver.specs.load.Literals.{named_literal}
-use Rattle.sat_solver.specs.variables.Calls.{Agree, NamesRefineJudge}
+use Rattle.sat_solver.specs.variables.Calls.{NamesRefineJudge}
 use Rattle.sat_solver.specs.variables.Coming.{IsDue, MayAdd, MayTake}
 use Rattle.sat_solver.specs.variables.Ordering.{AddsInOrder}
 use Rattle.sat_solver.specs.session.Coming.{OnlyAllowedSteps}
 use Rattle.sat_solver.specs.session.Making.{ComesBySteps}
-use Rattle.sat_solver.specs.proof.ProofView.{IsAtWidth, is_drat, has_asked, target_of}
+use Rattle.sat_solver.specs.proof.ProofView.{IsAtWidth, is_drat, has_asked}
 use Rattle.sat_checker.specs.matching.Expected.{Outcome, Expected, Adds, Opens, bringing}
 use Rattle.sat_checker.specs.matching.Bridge.{Live}
 use Rattle.sat_solver.specs.variables.Refusing.{names_in}

@@ -7,7 +7,6 @@ use Rattle.sat_base.specs.script.Judge.{Judge, Sampled, Witnessed, bring_in, new
 use Rattle.sat_checker.specs.declared.processing.ProofProcessor.{Ghosts}
 use Rattle.sat_solver.specs.declared.error.SolverError.{SolverError}
 use Rattle.sat_solver.specs.declared.error.SolverError.TheVariants as errors
-use Rattle.sat_solver.specs.variables.Calls.{Agree}
 use Rattle.sat_checker.specs.matching.Expected.{Expected, NewName, hiding, setting}
 use Rattle.sat_checker.specs.matching.Bridge.{Live}
 use Rattle.sat_solver.specs.variables.Naming.{IsLowestUnused, NoneLeft}

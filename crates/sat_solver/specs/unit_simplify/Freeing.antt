@@ -1,5 +1,5 @@
 -- Variables are freed by marks.
-use Rattle.std.specs.Prelude.{ℕ, zero, suc, ◌≡◌, ◌≢◌, Bool, true, false, None, List, length, slice_index_or as get_or, if◌then◌else◌}
+use Rattle.std.specs.Prelude.{ℕ, zero, suc, ◌≡◌, ◌≢◌, Bool, false, None, List, length, slice_index_or as get_or, if◌then◌else◌}
 use Rattle.sat_store.specs.heap.Vsids.{with_available}
 use Rattle.sat_parts.specs.prop.Values.{assigned}
 use Rattle.sat_parts.specs.declared.parts.Parts.{Parts}

@@ -2,7 +2,7 @@
 use Rattle.std.proofs.Common.{ℕ, ◌≡◌, ◌∙◌, Bool, true, false, Option, List, [], ◌∷◌, ◌++◌, map, refl, ap, cond}
 use Rattle.std.specs.List.{AllByRecursion}
 use Rattle.sat_base.specs.values.Literals.{variable, negated}
-use Rattle.sat_base.specs.steps.Steps.{Step, SolverVarName, UserVarName, DeleteVar, ChangeSamplingMode, AddClause, AtClause, UnitClauses, DeleteClause, ChangeHashBits, Model, Assumptions, FailedAssumptions, End, Redundant, Simplified, Satisfied}
+use Rattle.sat_base.specs.steps.Steps.{Step, AtClause, UnitClauses, DeleteClause, Redundant, Simplified, Satisfied}
 use Rattle.sat_checker.specs.LiteralSets.{is_among, is_tautology, canonical}
 use Rattle.sat_checker.specs.Stored.{Variable}
 use Rattle.sat_solver.specs.session.Session.{Session, with_fact, with_facts, with_sorted, with_live_clause, knowing_literals, after, session_after}

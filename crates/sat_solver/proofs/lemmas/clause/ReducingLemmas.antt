@@ -8,7 +8,7 @@ use Rattle.sat_base.specs.steps.Steps.{Step, DeleteClause, Redundant}
 use Rattle.sat_store.specs.clause.Buffer.{IsClause, lits_at, header_at}
 use Rattle.sat_store.specs.clause.Header.{is_learned, index_of}
 use Rattle.sat_store.specs.declared.clause.tier.Tier.{Tier}
-use Rattle.sat_store.specs.declared.clause.tier.Tier.TheVariants.{Irred, Core, Mid, Local}
+use Rattle.sat_store.specs.declared.clause.tier.Tier.TheVariants.{Irred, Local}
 use Rattle.sat_parts.specs.clause.Db.{live_refs, is_live, is_live_of}
 use Rattle.sat_parts.proofs.lemmas.clause.ListLemmas.{place_in}
 use Rattle.sat_parts.proofs.lemmas.clause.OrderLemmas.{shuffled_eq}

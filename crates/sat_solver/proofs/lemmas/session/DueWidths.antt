@@ -1,6 +1,6 @@
 -- What is due, at whatever widths steps are written.
 use Rattle.std.proofs.Common.{ℕ, ◌≡◌, List, [], ◌∷◌, map, refl, ap}
-use Rattle.sat_base.specs.steps.Steps.{Step, SolverVarName, UserVarName, DeleteVar, ChangeSamplingMode, AddClause, AtClause, UnitClauses, DeleteClause, ChangeHashBits, Model, Assumptions, FailedAssumptions, End}
+use Rattle.sat_base.specs.steps.Steps.{Step, UserVarName, AddClause, Model, Assumptions, FailedAssumptions, End}
 use Rattle.sat_checker.specs.matching.Checking.{is_ordered}
 use Rattle.sat_solver.specs.proof.Widths.{narrowed, IsNarrowedTo, none_yet, width_changes, one_more}
 use Rattle.sat_solver.specs.session.Due.{kept_if, ordered_of, without_hashes, WidthsKeepOrder}

@@ -1,6 +1,6 @@
 -- The last irredundant clause that was derived, as session and checker have it.
 use Rattle.std.proofs.Common.{ℕ, ◌≡◌, Bool, true, false, cond, List, [], ◌∷◌, refl, ◌∙◌, arith, Option, None, Some}
-use Rattle.sat_base.specs.steps.Steps.{Step, SolverVarName, UserVarName, DeleteVar, ChangeSamplingMode, AddClause, AtClause, UnitClauses, DeleteClause, ChangeHashBits, Model, Assumptions, FailedAssumptions, End}
+use Rattle.sat_base.specs.steps.Steps.{Step, AtClause, ChangeHashBits}
 use Rattle.sat_checker.specs.LiteralSets.{is_tautology, canonical}
 use Rattle.sat_checker.specs.Stored.{Stored}
 use Rattle.sat_checker.specs.Storing.{settled, with_canonical, with_literals_known, last_literals}

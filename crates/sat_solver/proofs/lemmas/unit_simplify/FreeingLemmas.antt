@@ -1,24 +1,20 @@
 -- Variables are freed by marks, in any order.
-use Rattle.std.proofs.Common.{ℕ, zero, suc, ◌+◌, ◌≡◌, ◌≢◌, ◌<◌, ◌≤◌, ◌∙◌, inl, inr, Bool, true, false, cond, Option, Some, None, List, length, get_or, set, refl, sym, ap, subst, arith, get_or-set_same, get_or-set_other}
+use Rattle.std.proofs.Common.{ℕ, zero, suc, ◌+◌, ◌≡◌, ◌<◌, ◌≤◌, ◌∙◌, inl, inr, Bool, true, false, cond, Some, None, List, length, get_or, set, refl, sym, ap, subst, arith, get_or-set_same, get_or-set_other}
 use Rattle.std.proofs.lemmas.Bool.{cases_eq, true≢false}
 use Rattle.std.proofs.lemmas.List.{length-set, set_comm}
-use Rattle.std.specs.List.{Contains}
 use Rattle.sat_base.specs.values.Literals.{var_limit}
 use Rattle.sat_base.specs.steps.Steps.{Step}
 use Rattle.sat_store.specs.heap.Vsids.{Queue, with_available}
-use Rattle.sat_parts.specs.clause.Db.{live_refs}
 use Rattle.sat_parts.specs.declared.parts.Parts.{Parts}
 use Rattle.sat_parts.specs.prop.Ready.{state_of}
 use Rattle.sat_parts.specs.prop.Values.{Values, value_of, assigned}
-use Rattle.sat_parts.specs.parts.Frame.{Freed}
-use Rattle.sat_parts.specs.parts.Whole.{PartsInvariant, InNoClause}
-use Rattle.sat_parts.specs.parts.Words.{TrailWordExtendsFor, trail_letters}
+use Rattle.sat_parts.specs.parts.Whole.{InNoClause}
+use Rattle.sat_parts.specs.parts.Words.{trail_letters}
 use Rattle.sat_parts.proofs.lemmas.parts.LoadFrames.{freed_frame}
 use Rattle.sat_parts.proofs.lemmas.parts.LoadLemmas.{sound_freed}
 use Rattle.sat_parts.proofs.lemmas.parts.WordSteps.{gone_freed, word_goes, begins_refl}
 use Rattle.sat_solver.specs.declared.context.Search.{Search}
 use Rattle.sat_solver.specs.declared.variables.Variables.{Variables}
-use Rattle.sat_solver.specs.session.Session.{session_after}
 use Rattle.sat_solver.specs.unit_simplify.Freed.{MayFree, GivesUp, FreesSome}
 use Rattle.sat_solver.specs.unit_simplify.Freeing.{without_var, freed_below, freed_search, MarksAtMost}
 use Rattle.sat_solver.specs.variables.Naming.{PutsUnit}

@@ -1,5 +1,5 @@
 -- What takes steps, from call to call.
-use Rattle.std.proofs.Common.{◌≡◌, sym, subst, Result, Ok, Err, List, [], ◌∷◌}
+use Rattle.std.proofs.Common.{◌≡◌, sym, subst, Result, Err, List, [], ◌∷◌}
 use Rattle.std.specs.Prelude.{IsErrAnd}
 use Rattle.std.proofs.lemmas.Result.{err_from_is_err_and}
 use Rattle.sat_base.specs.device.Device.{Writer}

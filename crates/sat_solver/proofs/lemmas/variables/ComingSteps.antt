@@ -4,7 +4,7 @@ use Rattle.std.proofs.lemmas.Bool.{cases_Bool, true≢false}
 use Rattle.std.proofs.lemmas.Option.{none-some, same_Some}
 use Rattle.sat_base.specs.values.Literals.{variable}
 use Rattle.sat_base.specs.script.Script.{Among}
-use Rattle.sat_base.specs.steps.Steps.{Step, SolverVarName, UserVarName, DeleteVar, ChangeSamplingMode, AddClause, AtClause, UnitClauses, DeleteClause, ChangeHashBits, Model, Assumptions, FailedAssumptions, End}
+use Rattle.sat_base.specs.steps.Steps.{Step, SolverVarName, UserVarName, DeleteVar, ChangeSamplingMode, DeleteClause, ChangeHashBits}
 use Rattle.sat_checker.specs.LiteralSets.{mentions}
 use Rattle.sat_solver.specs.session.Coming.{OnlyAllowedSteps, DeletesAdded}
 use Rattle.sat_solver.specs.session.Session.{session_after}

@@ -1,4 +1,4 @@
-use Rattle.std.proofs.Common.{◌<◌, ◌≡◌, Option, None, Some, true, false, [], refl, sym, subst, arith}
+use Rattle.std.proofs.Common.{◌<◌, ◌≡◌, Option, None, Some, false, [], refl, sym, subst, arith}
 use Rattle.std.specs.Prelude.{is_some}
 use Rattle.std.proofs.lemmas.Bool.{true≢false}
 use Rattle.sat_solver.specs.declared.config.SolverConfig.{SolverConfig}

@@ -1,4 +1,4 @@
-use Rattle.std.proofs.Common.{◌≡◌, ◌∙◌, ◌+◌, ◌<◌, Some, false, true, sym, subst, ap, arith, length, get_or}
+use Rattle.std.proofs.Common.{◌≡◌, ◌∙◌, ◌+◌, Some, false, true, sym, subst, arith, length, get_or}
 use Rattle.std.proofs.lemmas.Bool.{true≢false}
 use Rattle.sat_solver.specs.session.Session.{session_after}
 use Rattle.sat_solver.specs.variables.Variables.{global_at}
