@@ -1,12 +1,11 @@
 -- What storing a derived clause changes is what deriving it announces.
-use Rattle.std.proofs.Common.{ℕ, ◌+◌, ◌^◌, max, inl, inr, ◌≤◌, ◌≡◌, ◌==◌, ◌&&◌, Bool, true, false, not, cond, List, [], ◌∷◌, length, Option, None, Some, is_some, Result, Ok, Err, refl, sym, ◌∙◌, ap, arith}
+use Rattle.std.proofs.Common.{ℕ, ◌+◌, ◌^◌, max, inl, inr, ◌≤◌, ◌≡◌, ◌==◌, ◌&&◌, Bool, true, false, not, cond, List, [], ◌∷◌, length, Option, None, Some, is_some, Err, refl, sym, ◌∙◌, ap, arith}
 use Rattle.sat_checker.specs.Stored.{Stored, StoredClause}
 use Rattle.sat_checker.specs.Storing.{clause_with, with_input, with_stored}
 use Rattle.sat_checker.specs.announcements.Announcements.{MakeIrredundant, derived_set, id_of, id_of_set, redundant_alone}
 use Rattle.sat_checker.specs.inner.FormulaView.{KeepsOrSpends}
 use Rattle.sat_checker.specs.inner.StoreView.{Stores, count_in, id_in}
 use Rattle.sat_checker.specs.telling.AnnouncingView.{stored_as, change_in, AreLong}
-use Rattle.sat_checker.specs.declared.announce.announcing.Change.{Change}
 use Rattle.sat_checker.specs.declared.announce.announcing.Change.TheVariants as changes
 use Rattle.sat_checker.specs.declared.store.Placed.{Placed}
 use Rattle.sat_checker.specs.declared.store.Store.{Store}

@@ -1,7 +1,7 @@
 -- Whatever steps come, no set of literals is stored twice, and each has a count.
 use Rattle.std.proofs.Common.{ℕ, Bool, true, false, cond, List, [], ◌∷◌, map, Option, None, Some}
 use Rattle.sat_base.specs.values.Literals.{negated}
-use Rattle.sat_base.specs.steps.Steps.{Redundant, Simplified, Satisfied, Step, SolverVarName, UserVarName, DeleteVar, ChangeSamplingMode, AddClause, AtClause, UnitClauses, DeleteClause, ChangeHashBits, Model, Assumptions, FailedAssumptions, End}
+use Rattle.sat_base.specs.steps.Steps.{Redundant, Simplified, Satisfied, Step, SolverVarName, UserVarName, AddClause, AtClause, UnitClauses, DeleteClause}
 use Rattle.sat_checker.specs.LiteralSets.{is_tautology, canonical}
 use Rattle.sat_checker.specs.Stored.{StoredClause, Stored, is_unit}
 use Rattle.sat_checker.specs.Storing.{with_unit, with_units, with_contradiction, with_new_unit, settled_by, settled, with_canonical, with_set, without_clause, with_stored, with_input, with_literals_known}

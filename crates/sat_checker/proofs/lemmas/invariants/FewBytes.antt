@@ -4,7 +4,7 @@ use Rattle.std.specs.List.{AllByRecursion}
 use Rattle.sat_base.specs.values.Literals.{negated}
 use Rattle.sat_base.specs.steps.Formats.{Items}
 use Rattle.sat_base.specs.steps.Numbers.{IsNumber}
-use Rattle.sat_base.specs.steps.Steps.{Redundant, Simplified, Satisfied, Step, SolverVarName, UserVarName, DeleteVar, ChangeSamplingMode, AddClause, AtClause, UnitClauses, DeleteClause, ChangeHashBits, Model, Assumptions, FailedAssumptions, End}
+use Rattle.sat_base.specs.steps.Steps.{Redundant, Simplified, Satisfied, Step, SolverVarName, UserVarName, AddClause, AtClause, UnitClauses, DeleteClause}
 use Rattle.sat_base.specs.steps.StepText.{IsLiteral, IsHash, AreLiterals, SpellsFields, SpellsStep, SpellsSteps, tag_of}
 use Rattle.sat_checker.specs.LiteralSets.{is_tautology, canonical, same_literals}
 use Rattle.sat_checker.specs.Stored.{StoredClause, Stored, is_unit}

@@ -1,6 +1,6 @@
 -- Which clause is the last irredundant one behind a step.
 use Rattle.std.proofs.Common.{ℕ, ◌+◌, ◌<◌, ◌≤◌, ◌≡◌, Bool, true, false, cond, List, [], ◌∷◌, length, refl, ◌∙◌, ap, arith, Option, None, Some}
-use Rattle.sat_base.specs.steps.Steps.{SolverVarName, UserVarName, DeleteVar, ChangeSamplingMode, AddClause, AtClause, UnitClauses, DeleteClause, ChangeHashBits, Model, Assumptions, FailedAssumptions, End}
+use Rattle.sat_base.specs.steps.Steps.{SolverVarName, UserVarName, DeleteVar, AddClause, AtClause, UnitClauses, DeleteClause, ChangeHashBits, Model, FailedAssumptions}
 use Rattle.sat_checker.specs.LiteralSets.{is_tautology, canonical}
 use Rattle.sat_checker.specs.Stored.{StoredClause, Last, NoneYet, Empty, UnitClause, LongClause, Stored}
 use Rattle.sat_checker.specs.Storing.{clause_with, irredundant_count, settled_by, with_canonical, with_stored_clause, with_literals_known, last_literals, long_at, clause_numbered, unit_numbered}

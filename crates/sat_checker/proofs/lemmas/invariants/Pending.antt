@@ -1,10 +1,10 @@
 -- A pending unit conflict changes nothing in what is accepted.
 use Rattle.std.proofs.Common.{ℕ, ◌+◌, ◌≡◌, Bool, true, false, cond, eqb, List, [], ◌∷◌, ◌++◌, map, filter, ◌↔◌, Option, None, Some, refl, sym, ◌∙◌, ap, subst}
 use Rattle.sat_base.specs.values.Literals.{negated}
-use Rattle.sat_base.specs.steps.Steps.{Redundant, Simplified, Satisfied, Step, SolverVarName, UserVarName, DeleteVar, ChangeSamplingMode, AddClause, AtClause, UnitClauses, DeleteClause, ChangeHashBits, Model, Assumptions, FailedAssumptions, End}
+use Rattle.sat_base.specs.steps.Steps.{Simplified, Step, SolverVarName, UserVarName, DeleteVar, UnitClauses, DeleteClause, ChangeHashBits, Model, Assumptions, End}
 use Rattle.sat_checker.specs.LiteralSets.{is_among}
 use Rattle.sat_checker.specs.Propagation.{PassesCheck}
-use Rattle.sat_checker.specs.Stored.{StoredUnit, Stored, Last, NoneYet, Empty, UnitClause, LongClause, is_unit, unit_literals, long_clauses, hash_by}
+use Rattle.sat_checker.specs.Stored.{StoredUnit, Stored, Last, NoneYet, is_unit, unit_literals, long_clauses, hash_by}
 use Rattle.sat_checker.specs.Storing.{with_contradiction, with_new_unit, with_unit, settled_by, last_literals}
 use Rattle.sat_checker.specs.Accepts.{PassesByHashes, PassInTurn, IsStrictSubset, Accepts}
 use Rattle.sat_checker.specs.Invariants.{PendingChangesNothing}

@@ -2,7 +2,7 @@
 use Rattle.std.proofs.Common.{ℕ, ◌≡◌, Bool, true, false, cond, eqb, List, [], ◌∷◌, map, Option, None, Some, refl, sym, ◌∙◌, ap, subst, ◌⊎◌, inl, inr}
 use Rattle.std.proofs.lemmas.Bool.{both_ways, true≢false, eqb-true, eq-eqb}
 use Rattle.sat_base.specs.values.Literals.{variable, negated}
-use Rattle.sat_base.specs.steps.Steps.{Redundant, Simplified, Satisfied, Step, SolverVarName, UserVarName, DeleteVar, ChangeSamplingMode, AddClause, AtClause, UnitClauses, DeleteClause, ChangeHashBits, Model, Assumptions, FailedAssumptions, End}
+use Rattle.sat_base.specs.steps.Steps.{Redundant, Step, SolverVarName, UserVarName, DeleteVar, ChangeSamplingMode, AddClause, AtClause, UnitClauses, DeleteClause, Model, Assumptions}
 use Rattle.sat_checker.specs.LiteralSets.{is_among, is_tautology, canonical}
 use Rattle.sat_checker.specs.Stored.{Stored, Variable, Sample, Witness, Hide, unknown, is_known, is_unit}
 use Rattle.sat_checker.specs.Storing.{with_set, with_canonical, with_stored, with_input, with_unit, with_contradiction, with_new_unit, with_units, settled, settled_by, with_known, with_literals_known}

@@ -3,7 +3,7 @@ use Rattle.std.proofs.Common.{ℕ, ◌+◌, ◌≡◌, ◌<◌, Bool, true, fals
 use Rattle.std.proofs.lemmas.Bool.{or_cases, or_left, or_right, or_parts, both_ways, true≢false, eqb-true, ne_eqb}
 use Rattle.std.specs.List.{AllByRecursion, list_any}
 use Rattle.sat_base.specs.values.Literals.{variable, negated}
-use Rattle.sat_base.specs.steps.Steps.{Redundant, Simplified, Satisfied, Step, SolverVarName, UserVarName, DeleteVar, ChangeSamplingMode, AddClause, AtClause, UnitClauses, DeleteClause, ChangeHashBits, Model, Assumptions, FailedAssumptions, End}
+use Rattle.sat_base.specs.steps.Steps.{Redundant, Simplified, Satisfied, Step, SolverVarName, UserVarName, DeleteVar, AddClause, AtClause, UnitClauses, DeleteClause, Model, FailedAssumptions}
 use Rattle.sat_checker.specs.LiteralSets.{is_among, mentions, is_part, is_tautology, same_literals, canonical}
 use Rattle.sat_checker.specs.Stored.{StoredClause, StoredUnit, Last, NoneYet, Empty, UnitClause, LongClause, Stored, is_unit, unit_literals}
 use Rattle.sat_checker.specs.Storing.{clause_with, irredundant_count, without_count, unless_gone, without_clause, with_unit, with_contradiction, with_new_unit, settled, with_set, unit_at, long_at, with_canonical, with_stored, with_input, with_units, with_literals_known, without_variable, clause_numbered, last_literals}

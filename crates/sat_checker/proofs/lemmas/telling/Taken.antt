@@ -3,8 +3,7 @@ use Rattle.std.proofs.Common.{ℕ, ◌+◌, ◌≤◌, ◌≡◌, Bool, true, fa
 use Rattle.std.proofs.lemmas.Bool.{true≢false}
 use Rattle.std.specs.Result.{is_err, OnOk, OnErr, IsErrOf}
 use Rattle.std.proofs.lemmas.List.{append-nil}
-use Rattle.sat_base.specs.steps.Steps.{Step, SolverVarName, UserVarName, DeleteVar, ChangeSamplingMode, AddClause, UnitClauses, DeleteClause, ChangeHashBits, Model, Assumptions, FailedAssumptions, End}
-use Rattle.sat_base.specs.steps.Steps as kinds
+use Rattle.sat_base.specs.steps.Steps.{Step, UserVarName, DeleteVar, ChangeSamplingMode}
 use Rattle.sat_checker.specs.Stored.{Stored, Variable}
 use Rattle.sat_checker.specs.Spent.{IsSpent}
 use Rattle.sat_checker.specs.Storing.{settled}

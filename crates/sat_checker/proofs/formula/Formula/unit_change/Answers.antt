@@ -1,4 +1,4 @@
-use Rattle.std.proofs.Common.{[], ◌∷◌, refl, sym, ap, ◌∙◌}
+use Rattle.std.proofs.Common.{[], ◌∷◌, sym, ap, ◌∙◌}
 use Rattle.sat_checker.specs.Storing.{unit_id}
 use Rattle.sat_checker.specs.announcements.Announcements.{derived_set}
 use Rattle.sat_checker.proofs.lemmas.formula.Changes.{neither_told}
