@@ -10,7 +10,7 @@ use Rattle.sat_checker.specs.inner.Room.{AgreesOn, HasRoomFor, HasRoomForAll}
 use Rattle.sat_checker.specs.Verdicts.{Verdict, falsified, opens, rests, verdict, verdict_of_open, not_false}
 use Rattle.sat_hints.specs.Checks.{SomeIsNotUnit, LastIsNotFalsified}
 use Rattle.sat_hints.specs.declared.answer.HintWhy.{HintWhy}
-use Rattle.sat_hints.specs.declared.answer.HintWhy.TheVariants.{Syntax, IdOrder, UnknownId, NotUnit, NotFalsified, VarInUse}
+use Rattle.sat_hints.specs.declared.answer.HintWhy.TheVariants.{NotUnit, NotFalsified}
 use Rattle.sat_hints.specs.inner.Course.{at_last, at_turn, course}
 
 abbrev IsFalse : List ℕ → ℕ → Type 0

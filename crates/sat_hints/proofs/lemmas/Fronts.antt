@@ -7,7 +7,7 @@ use Rattle.sat_hints.specs.Lines.{HasNoEnd, id_text, id_words, literal_words}
 use Rattle.sat_hints.specs.inner.LineReading.{IsNumberUpTo, IsLiteralCode, NoDigit, digits_so_far}
 use Rattle.sat_hints.specs.inner.Fronts.{limit_of, next_of, zero_place, sign_place, Numbered, IsPartOfLine, IsRestOfLine, IsLeftIf, LeadsToPlace}
 use Rattle.sat_hints.specs.declared.fronts.Part.{Part}
-use Rattle.sat_hints.specs.declared.fronts.Part.TheVariants.{InputId, DerivedId, GoneId, FreshVar, Clause, Lists, Ids, End}
+use Rattle.sat_hints.specs.declared.fronts.Part.TheVariants.{Clause, Lists, Ids, End}
 use Rattle.sat_hints.specs.declared.fronts.Place.{Place}
 use Rattle.sat_hints.specs.declared.fronts.Place.TheVariants.{Item, Digits}
 use Rattle.sat_hints.proofs.lemmas.Digits.{number_goes_on, plain_number, plain_so_far, so_far}

@@ -12,7 +12,7 @@ use Rattle.sat_hints.specs.inner.LineReading.{IsId, IsLiteralCode, ReadsLine, Be
 use Rattle.sat_hints.specs.inner.Judging.{HasTakenLines, TakesLine, TakesNext}
 use Rattle.sat_hints.specs.inner.Holding.{IsWholeLine, JudgesLineBytes, ReadsFurther}
 use Rattle.sat_hints.specs.declared.answer.HintWhy.{HintWhy}
-use Rattle.sat_hints.specs.declared.answer.HintWhy.TheVariants.{Syntax, IdOrder, UnknownId, NotUnit, NotFalsified, VarInUse}
+use Rattle.sat_hints.specs.declared.answer.HintWhy.TheVariants.{Syntax}
 use Rattle.sat_hints.specs.declared.judging.Judge.{Judge}
 use Rattle.sat_hints.specs.declared.checking.Checking.{Checking}
 use Rattle.sat_hints.proofs.lemmas.Digits.{are_digits}

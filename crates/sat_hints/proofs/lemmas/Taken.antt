@@ -18,7 +18,7 @@ use Rattle.sat_hints.specs.inner.Standing.{clause_of, clauses_of, AddsStandingCl
 use Rattle.sat_hints.specs.inner.Course.{course, WhyNoConflict}
 use Rattle.sat_hints.specs.inner.Judging.{IsReadyJudge, HasTakenLines, IsSame, MayFollow, WhyNotRefuted, StoresClause, TakesOne}
 use Rattle.sat_hints.specs.declared.answer.HintWhy.{HintWhy}
-use Rattle.sat_hints.specs.declared.answer.HintWhy.TheVariants.{Syntax, IdOrder, UnknownId, NotUnit, NotFalsified, VarInUse}
+use Rattle.sat_hints.specs.declared.answer.HintWhy.TheVariants.{NotUnit, NotFalsified, VarInUse}
 use Rattle.sat_hints.specs.declared.judging.Judge.{Judge}
 use Rattle.sat_hints.specs.declared.standing.Standing.{Standing}
 use Rattle.sat_hints.proofs.lemmas.Courses.{Says, course_says}

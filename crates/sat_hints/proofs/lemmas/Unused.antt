@@ -1,6 +1,6 @@
 -- Lines that make a variable new, and others.
 use Rattle.std.proofs.Common.{ℕ, ◌≡◌, List, [], Option, None, Some, refl, sym, ◌∙◌}
-use Rattle.sat_hints.specs.Lines.{Line, Input, Derived, Gone, Core, Fresh}
+use Rattle.sat_hints.specs.Lines.{Line, Fresh}
 use Rattle.sat_hints.specs.Hints.{clauses_under, IsInOrder, named_ids, assumed_by, UsesVariable}
 
 -- a line that makes a variable new has no id, names no clause and assumes nothing

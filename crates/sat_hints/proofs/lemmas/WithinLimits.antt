@@ -3,7 +3,7 @@ use Rattle.std.proofs.Common.{ℕ, ◌*◌, ◌-◌, ◌^◌, ◌<◌, ◌≤◌
 use Rattle.std.specs.List.{AllByRecursion}
 use Rattle.sat_base.specs.values.Literals.{var_limit}
 use Rattle.sat_base.specs.steps.Formats.{Items, Both}
-use Rattle.sat_base.specs.steps.Steps.{Redundant, Simplified, Satisfied, Step, SolverVarName, UserVarName, DeleteVar, ChangeSamplingMode, AddClause, AtClause, UnitClauses, DeleteClause, ChangeHashBits, Model, Assumptions, FailedAssumptions, End}
+use Rattle.sat_base.specs.steps.Steps.{Redundant, Simplified, Satisfied, Step, UserVarName, DeleteVar, ChangeSamplingMode, AddClause, AtClause, UnitClauses, DeleteClause, Model, Assumptions, FailedAssumptions}
 use Rattle.sat_base.specs.steps.StepText as text
 use Rattle.sat_base.specs.steps.StepText.{SpellsFields, SpellsStep, SpellsSteps}
 use Rattle.sat_checker.specs.LiteralSets.{is_tautology, canonical}

@@ -1,6 +1,5 @@
 -- How clauses run, in turn, under assumed literals.
-use Rattle.std.specs.Prelude.{ℕ, ◌≡◌, ◌⊎◌, Bool, true, false, Option, None, Some, List, [], ◌∷◌, map}
-use Rattle.sat_base.specs.values.Literals.{negated_if}
+use Rattle.std.specs.Prelude.{ℕ, ◌≡◌, ◌⊎◌, true, false, Option, None, Some, List, [], ◌∷◌}
 use Rattle.sat_checker.specs.LiteralSets.{is_among, is_tautology}
 use Rattle.sat_checker.specs.Verdicts.{Verdict, falsified, opens, rests, verdict}
 use Rattle.sat_hints.specs.declared.answer.HintWhy.{HintWhy}

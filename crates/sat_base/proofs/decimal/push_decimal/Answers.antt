@@ -1,4 +1,4 @@
-use Rattle.std.proofs.Common.{◌≡◌, ◌++◌, List, ℕ, arith, sym, ap, ◌∙◌}
+use Rattle.std.proofs.Common.{arith}
 use Rattle.sat_base.proofs.lemmas.values.Decimals.{few_digits}
 use Rattle.sat_base.proofs.decimal.push_decimal.Goals as goal
 

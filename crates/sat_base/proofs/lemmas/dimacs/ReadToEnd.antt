@@ -1,5 +1,5 @@
 -- A formula's text that was read to its end, or up to a line that ends it.
-use Rattle.std.proofs.Common.{◌≡◌, ◌⊎◌, ℕ, ◌+◌, ◌<◌, ◌≤◌, List, [], ◌∷◌, ◌++◌, Bool, true, false, None, Result, Ok, Err, refl, sym, ap, subst, inl, inr, ◌∙◌, append_assoc, length, length-append, arith}
+use Rattle.std.proofs.Common.{◌≡◌, ◌⊎◌, ℕ, ◌+◌, ◌<◌, ◌≤◌, List, [], ◌∷◌, ◌++◌, Bool, true, false, None, Result, Ok, Err, sym, ap, subst, inl, inr, ◌∙◌, append_assoc, length, arith}
 use Rattle.std.specs.Io.KnownBytes.{IsAtEnd}
 use Rattle.std.specs.List.{FoldsTo, concat}
 use Rattle.sat_base.specs.declared.dimacs.error.DimacsError.{DimacsError}
@@ -7,7 +7,7 @@ use Rattle.sat_base.specs.declared.dimacs.error.DimacsError.TheVariants as error
 use Rattle.sat_base.specs.device.Device.{Reader, ReadsOnce, GaveFront, GaveAll, GaveEnough, most_reads}
 use Rattle.sat_base.specs.text.Text.{HasEnded, scan, header_first, Scan}
 use Rattle.sat_base.specs.values.Formulas.{Formula}
-use Rattle.sat_base.specs.dimacs.Dimacs.{Clean, Dimacs, dimacs, dimacs_of}
+use Rattle.sat_base.specs.dimacs.Dimacs.{Dimacs, dimacs, dimacs_of}
 use Rattle.sat_base.specs.dimacs.Parsing.{Finishes, Parses, IsSoundText, GaveSound, IsWholeText, RefusesPiece, Progress, Calls, FeedsAndVisits, no_progress}
 use Rattle.sat_base.specs.dimacs.Faults.{ReadsNext}
 use Rattle.sat_base.proofs.lemmas.text.TextRuns.{standing, stands_first, open_looks}

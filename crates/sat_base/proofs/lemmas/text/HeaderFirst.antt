@@ -1,7 +1,7 @@
 -- Of a text's tokens only the first may be a header.
 use Rattle.std.proofs.Common.{◌≡◌, ℕ, ◌+◌, List, [], ◌∷◌, ◌++◌, Bool, true, false, cond, Option, Some, None, refl, sym, subst, ◌⊎◌, inl, inr}
 use Rattle.std.specs.Prelude.{nat_eq, ◌&&◌}
-use Rattle.sat_base.specs.text.Text.{words, begins_with, is_letter, digits, plain, minus, behind_minus, alone, token, header_if, is_none, on_line, Token, Number, Letter, Header, Wrong, tokens_of, lines, scan, tokens}
+use Rattle.sat_base.specs.text.Text.{words, begins_with, is_letter, digits, plain, minus, behind_minus, alone, token, header_if, is_none, on_line, Token, Number, Header, Wrong, tokens_of, lines, scan, tokens}
 use Rattle.sat_base.specs.script.Language.{spoken}
 
 -- no header

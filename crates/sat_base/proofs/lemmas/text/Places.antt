@@ -9,7 +9,7 @@ use Rattle.sat_base.specs.declared.text.header.HeaderPlace.TheVariants as header
 use Rattle.sat_base.specs.declared.text.Token.{Token as CodeToken}
 use Rattle.sat_base.specs.declared.text.Token.TheVariants as code
 use Rattle.sat_base.specs.text.Text.{is_blank, is_digit, minus, token, Token, Number, Letter, Wrong}
-use Rattle.sat_base.specs.text.Spot.{Stage, Spot, Fresh, Leading, Comment, Between, Within, HeaderBetween, HeaderWithin, Spoilt, Over, IsSpot, in_hand, behind_header_word, behind_blank, line_at}
+use Rattle.sat_base.specs.text.Spot.{Stage, Spot, Fresh, Leading, Comment, Within, HeaderWithin, Spoilt, Over, IsSpot, in_hand, behind_header_word, behind_blank, line_at}
 use Rattle.sat_base.specs.text.Tokenizing.{held, held_token, IsAtHeader, IsAt, MovesSpot, MovesPlace, Began, grown, IsHeldToken, SaysInHand, ended_stage, LeadsBehind, LeadsBelow, may_come}
 use Rattle.sat_base.proofs.lemmas.text.Spots.{Solid-more, fresh_leads, leading_comment, leading_end, leading_header, leading_late_header, leading_word, comment_more, between_word, within_more, spoilt_more, over_more}
 use Rattle.sat_base.proofs.lemmas.text.Words.{SpellsHeld_one, SpellsHeld_more, BeginsWrong_more, BeginsWrong_letter, BeginsWrong_plain, BeginsWrong_minus, BeginsWrong_negative, word_plain, word_minus, word_bare, word_letter, word_wrong}

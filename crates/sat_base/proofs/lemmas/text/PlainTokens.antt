@@ -3,8 +3,8 @@ use Rattle.std.proofs.Common.{◌≡◌, ℕ, ◌+◌, List, [], ◌∷◌, ◌+
 use Rattle.std.proofs.lemmas.Bool.Decides.{nat_tests}
 use Rattle.std.specs.Prelude.{nat_eq}
 use Rattle.sat_base.specs.declared.text.Tokenizer.{Tokenizer}
-use Rattle.sat_base.specs.text.Text.{is_blank, digits, Token, Number, Letter, Header, Wrong, token, Scan, header_from}
-use Rattle.sat_base.specs.text.Spot.{Stage, Begun, Named, Format, Vars, Both, stage_behind, stage_end, Spot, Fresh, Leading, Comment, Between, Within, HeaderBetween, HeaderWithin, Spoilt, Over, IsSpot, left, in_hand, spoils, behind_header_word, ended_by_blank, behind_blank, behind_LF, lines_behind, onto}
+use Rattle.sat_base.specs.text.Text.{is_blank, digits, Token, Header, Wrong, token, Scan, header_from}
+use Rattle.sat_base.specs.text.Spot.{Stage, Begun, stage_behind, stage_end, Spot, Fresh, Leading, Comment, Between, Within, HeaderBetween, HeaderWithin, Spoilt, Over, IsSpot, left, in_hand, spoils, behind_header_word, ended_by_blank, behind_blank, behind_LF, lines_behind, onto}
 use Rattle.sat_base.specs.text.Tokenizing.{BeginsSpoilt, StandsBefore, IsOfHeader, HoldsNoWord}
 use Rattle.sat_base.proofs.lemmas.text.HeaderFirst.{IsWord, word_token}
 use Rattle.sat_base.proofs.lemmas.text.Spots.{LF_left, blank_left, end_left, header_between_word, header_spoilt}

@@ -7,7 +7,7 @@ use Rattle.sat_base.specs.declared.text.header.HeaderPlace.TheVariants as header
 use Rattle.sat_base.specs.declared.text.Token.{Token as CodeToken}
 use Rattle.sat_base.specs.declared.text.Tokenizer.{Tokenizer}
 use Rattle.sat_base.specs.text.Text.{is_blank, Token, Scan, scan}
-use Rattle.sat_base.specs.text.Spot.{Stage, Begun, Named, Format, Vars, Both, stage_end, Spot, Fresh, Leading, Comment, Between, Within, HeaderBetween, HeaderWithin, Spoilt, Over, IsSpot, left, in_hand, behind_LF, lines_behind, behind_blank, ended_by_blank, line_at, onto}
+use Rattle.sat_base.specs.text.Spot.{Stage, Begun, stage_end, Spot, Fresh, Over, IsSpot, left, in_hand, behind_LF, lines_behind, behind_blank, ended_by_blank, line_at, onto}
 use Rattle.sat_base.specs.text.Chunks.{IgnoresRest}
 use Rattle.sat_base.specs.text.Tokenizing.{held, IsAt, MovesPlace, may_come, IsHeldToken, SaysInHand, SaysAtBlank, LeadsBehind, StandsBefore, GivesToken, TakesByte, IsQuiet, IsOfHeader, HoldsNoWord, GivesLast}
 use Rattle.sat_base.proofs.lemmas.text.Spots.{start, LF_left, blank_left, end_left, last_left_end, over_more}

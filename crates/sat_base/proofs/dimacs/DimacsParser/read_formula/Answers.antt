@@ -1,10 +1,10 @@
-use Rattle.std.proofs.Common.{◌≡◌, ◌+◌, ◌<◌, ◌⊎◌, Bool, false, ℕ, zero, suc, List, [], ◌++◌, inl, inr, Ok, Err, refl, ap, sym, subst, ◌∙◌, take, length, length-append, rules, arith}
+use Rattle.std.proofs.Common.{◌≡◌, ◌+◌, ◌<◌, ℕ, zero, suc, List, [], ◌++◌, inl, inr, Ok, Err, refl, ap, sym, subst, ◌∙◌, take, length-append, rules, arith}
 use Rattle.std.proofs.lemmas.Result.{err_from_is_err_and}
 use Rattle.sat_base.specs.text.Text.{HasEnded}
 use Rattle.sat_base.specs.dimacs.Parsing.{Progress, Parses, no_progress, with_fed, IsSoundSoFar, IsSoundText}
 use Rattle.sat_base.proofs.lemmas.device.Given.{gave_none, gave_more, gave_still, not_ended, enough_front, few_front, calls_within, calls_upto, still_open}
 use Rattle.sat_base.proofs.lemmas.dimacs.Parsed.{ends_by, stands_of, piece_given, sound_none}
-use Rattle.sat_base.proofs.lemmas.dimacs.ParseAnswers.{finish_no_read, finish_no_stop, refused_no_read, refused_no_stop, read_is_no_stop, read_is_no_want}
+use Rattle.sat_base.proofs.lemmas.dimacs.ParseAnswers.{finish_no_read, finish_no_stop, refused_no_read, refused_no_stop, read_is_no_stop}
 use Rattle.sat_base.proofs.lemmas.dimacs.ReadToEnd.{ReadToEnd, some_read, next_kept, next_within, read_to_end, none_has_ended, read_front, enough_read, refused_on, sound_end, sound_piece}
 use Rattle.sat_base.proofs.lemmas.device.WholeAnswers.{ok_is_no_err}
 use Rattle.sat_base.proofs.dimacs.DimacsParser.read_formula.Goals as goal

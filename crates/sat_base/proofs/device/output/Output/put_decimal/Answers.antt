@@ -1,5 +1,4 @@
-use Rattle.std.proofs.Common.{◌≡◌, arith, subst}
-use Rattle.std.specs.Result.{OnOk}
+use Rattle.std.proofs.Common.{arith}
 use Rattle.sat_base.proofs.lemmas.values.Decimals.{few_digits}
 use Rattle.sat_base.proofs.device.output.Output.put_decimal.Goals as goal
 

@@ -1,6 +1,3 @@
-use Rattle.std.proofs.Common.{Bool, refl, inl, inr, sym, subst}
-use Rattle.sat_base.specs.dimacs.Parsing.{SaysEnded}
-use Rattle.sat_base.specs.dimacs.ParserPlaces.{progress_of}
 use Rattle.sat_base.proofs.lemmas.dimacs.Feeding.{says_ended}
 use Rattle.sat_base.proofs.dimacs.parser.Parser.has_ended.Goals as goal
 
