@@ -1,3 +1,4 @@
+use Rattle.std.proofs.lemmas.Grind.{common_steps}
 use Rattle.std.proofs.Common.{ℕ, ◌≡◌, ◌+◌, ◌-◌, ◌<◌, Bool, List, length, get_or, set, drop, sym, ap, subst, ◌∙◌, arith}
 use Rattle.std.proofs.lemmas.List.{get_or-drop, length-drop, drop-set-add, take-set-le}
 use Rattle.std.proofs.lemmas.List.Filters.{FiltersInPlace, FiltersInPlace-more_set, FiltersInPlace-more_no}
@@ -37,6 +38,4 @@ loop-at-preserved c =
     ]
 
 pub returns-clause-rest : goal.returns-clause-rest
-returns-clause-rest c =
-    let e : c.loop-at.at ≡ c.args.place.len = omega arith in
-    rest_by c.args.lits.now.items c.loop-at.lits.items c.args.place.start c.args.place.len c.loop-at.invariant.front (rw (← e) c.loop-at.invariant.kept.rest)
+returns-clause-rest c = grind (arith, common_steps, rest_by)

@@ -4,7 +4,7 @@ use Rattle.sat_base.specs.values.Literals.{variable}
 use Rattle.sat_store.specs.clause.Buffer.{lits_at}
 use Rattle.sat_parts.specs.prop.Graphs.{node_of}
 use Rattle.sat_parts.specs.clause.Glue.{levels_of}
-use Rattle.sat_parts.proofs.lemmas.clause.GlueLemmas.{left_more, left_none, level_at}
+use Rattle.sat_parts.proofs.lemmas.clause.GlueLemmas.{left_more, level_at}
 use Rattle.sat_parts.proofs.glue.clear_clause_levels.Goals as goal
 
 pub loop-at-preserved : goal.loop-at-preserved
@@ -24,11 +24,3 @@ loop-at-preserved c =
       size = length-set c.loop-at.flags.flags.items c.level-level.result false ∙ c.loop-at.invariant.size;
       left = left_more c.loop-at.flags.flags.items (take c.args.seen levels) c.loop-at.at c.level-level.result c.loop-at.invariant.left lt' x_is b;
     }
-
-pub returns-clause-clear : goal.returns-clause-clear
-returns-clause-clear c =
-    let levels : List ℕ = levels_of c.args.graph.now (lits_at c.args.clauses.now c.args.cref) in
-    let n : length (levels_of c.args.graph.now (lits_at c.args.clauses.now c.args.cref)) ≡ length (lits_at c.args.clauses.now c.args.cref) = length-map (lits_at c.args.clauses.now c.args.cref) (λ l. (node_of c.args.graph.now (variable l)).level) in
-    let seen : length (take c.args.seen (levels_of c.args.graph.now (lits_at c.args.clauses.now c.args.cref))) ≡ c.args.seen = length-take-le c.args.seen levels (omega (arith, n, c.requires.within)) in
-    let e : c.loop-at.at ≡ length (take c.args.seen (levels_of c.args.graph.now (lits_at c.args.clauses.now c.args.cref))) = omega (arith, seen) in
-    left_none c.loop-at.flags.flags.items (take c.args.seen levels) c.loop-at.at c.loop-at.invariant.left e

@@ -1,4 +1,4 @@
-use Rattle.std.proofs.Common.{◌≡◌, ◌<◌, length, get_or, refl, ap, sym, ◌∙◌, arith, true, length-set}
+use Rattle.std.proofs.Common.{◌≡◌, ◌<◌, length, get_or, ap, sym, ◌∙◌, arith, true, length-set}
 use Rattle.std.proofs.lemmas.Grind.{common_steps}
 use Rattle.std.proofs.lemmas.List.{length-map}
 use Rattle.sat_base.specs.values.Literals.{variable}
@@ -10,12 +10,7 @@ use Rattle.sat_parts.proofs.glue.mark_clause_levels.Goals as goal
 use Rattle.sat_parts.proofs.glue.mark_clause_levels.Goals.{then-not-index, else-not-index}
 
 pub loop-at-init : goal.loop-at-init
-loop-at-init c = record {
-  size = refl;
-  marked = marked_none c.args.flags.now.flags.items (levels_of c.args.graph.now (lits_at c.args.clauses.now c.args.cref)) c.requires.clear;
-  few = omega arith;
-  below = omega arith;
-}
+loop-at-init c = grind (arith, common_steps, marked_none)
 
 pub loop-at-preserved : goal.loop-at-preserved
 loop-at-preserved c =
@@ -50,11 +45,6 @@ returns-clause-glue c =
     let e : c.loop-at.at ≡ length (levels_of c.args.graph.now (lits_at c.args.clauses.now c.args.cref)) = omega (arith, c.len-end.ensures.lits, length-map (lits_at c.args.clauses.now c.args.cref) (λ l. (node_of c.args.graph.now (variable l)).level)) in
     let all = (marked_all c.loop-at.flags.flags.items (levels_of c.args.graph.now (lits_at c.args.clauses.now c.args.cref)) c.loop-at.at c.loop-at.glue c.loop-at.invariant.marked e).0 in
     omega (arith, all, c.loop-at.invariant.below)
-
-pub returns-clause-marked : goal.returns-clause-marked
-returns-clause-marked c =
-    let e : c.loop-at.at ≡ c.len-end.result = omega arith in
-    rw (← e) c.loop-at.invariant.marked.marks
 
 pub returns-then-glue-limit-clause-glue : goal.returns-then-glue-limit-clause-glue
 returns-then-glue-limit-clause-glue c =

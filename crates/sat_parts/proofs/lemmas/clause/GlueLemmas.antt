@@ -1,7 +1,7 @@
 -- Flags of levels that are set and cleared, one by one.
 use Rattle.std.proofs.Common.{ℕ, zero, suc, ◌≡◌, ◌+◌, ◌-◌, ◌<◌, ◌≤◌, ◌||◌, inl, inr, List, [], ◌∷◌, ◌++◌, length, get_or, set, take, drop, refl, sym, ap, ◌∙◌, subst, arith, eqb, length-set, get_or-set_same, get_or-set_other, Bool, true, false}
 use Rattle.std.proofs.lemmas.Bool.{cases_eq, cases_Bool, eqb-true, eq-eqb, ne_eqb, true≢false}
-use Rattle.std.proofs.lemmas.List.{drop_more, drop_all, length_push, take_all, ext_get_or, get_or-map}
+use Rattle.std.proofs.lemmas.List.{drop_more, length_push, take_all, ext_get_or, get_or-map}
 use Rattle.std.proofs.lemmas.List.Folds.{list_any_more, list_any-append}
 use Rattle.std.proofs.lemmas.Map.Keys.{IsDistinct-push, IsDistinct-from_apart}
 use Rattle.std.proofs.lemmas.Map.Made.{length-from_keys}
@@ -147,12 +147,6 @@ left_more flags levels i x h lt x_is b q c t =
           let g : (eqb q (get_or levels i 0) || among q (drop (i + 1) levels)) ≡ true = ap (λ xs. among q xs) (sym (drop_more levels i 0 lt)) ∙ old in
           sym (ap (λ z. z || among q (drop (i + 1) levels)) f) ∙ g
     ]
-
-pub left_none : (flags : List Bool) (levels : List ℕ) (i : ℕ) → AreLeft flags levels i → i ≡ length levels → (q : ℕ) → q < length flags → get_or flags q false ≡ false
-left_none flags levels i h e q b = elim (cases_Bool (get_or flags q false)) [
-  | inl t ↦ absurd (true≢false (sym (h q b t) ∙ ap (λ xs. among q xs) (drop_all i levels (omega arith))))
-  | inr f ↦ f
-]
 
 pub same_flags : (old new : List Bool) → length new ≡ length old → ((k : ℕ) → get_or old k false ≡ false) → ((k : ℕ) → k < length new → get_or new k false ≡ false) → new ≡ old
 same_flags old new n h g = ext_get_or false new old n (λ k b. g k b ∙ sym (h k))

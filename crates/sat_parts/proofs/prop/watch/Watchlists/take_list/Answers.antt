@@ -1,13 +1,12 @@
-use Rattle.std.proofs.Common.{List, [], ap, sym, refl, ◌∙◌, arith}
+use Rattle.std.proofs.lemmas.Grind.{common_steps}
+use Rattle.std.proofs.Common.{List, [], ap, refl, ◌∙◌, arith}
 use Rattle.sat_parts.specs.declared.prop.watch.Watch.{Watch}
 use Rattle.sat_parts.specs.prop.WatchLists.{Watching}
 use Rattle.sat_parts.proofs.lemmas.prop.WidenLemmas.{wide_step, wide_past}
 use Rattle.sat_parts.proofs.prop.watch.Watchlists.take_list.Goals as goal
 
 pub returns-then-code-len-clause-rest : goal.returns-then-code-len-clause-rest
-returns-then-code-len-clause-rest c =
-    let made : List (List Watch) → Watching = λ ls. record { lists = ls; enabled = c.self.inside.enabled } in
-    rw (← c.self.view_is) (ap made (sym (wide_past c.self.inside.count c.self.inside.watches.items c.args.lit (omega (arith, c.if-code-len.true, c.code-code.ensures.value)))))
+returns-then-code-len-clause-rest c = grind (arith, common_steps, wide_past)
 
 pub returns-clause-rest : goal.returns-clause-rest
 returns-clause-rest c =
