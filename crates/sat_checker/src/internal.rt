@@ -9,10 +9,10 @@ use sat_base::ProofStep;
 
 /// Checks the steps of a proof one at a time, as they are made.
 pub trait SelfChecker {
-    /// From the state before, this step was answered so, to the state after.
+    /// Relates the state before a call, the step, the result, and the state after it.
     ghost checks: { Self → Step → Result (Unit {0}) ErrorOfChecker → Self → Type 0 };
 
-    /// From the state before, the settling of what is delayed was answered so, to the state after.
+    /// Relates the state before what is delayed is settled, the result, and the state after it.
     ghost settles: { Self → Result (Unit {0}) ErrorOfChecker → Self → Type 0 };
 
     /// Checks the next step, and accepts it if it passes.

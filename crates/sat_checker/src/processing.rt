@@ -20,7 +20,7 @@ use thiserror::Error;
 
 /// Receives what a checker announces.
 pub trait ProofProcessor: Drop {
-    /// From the value before, this announcement was answered so, to the value after.
+    /// Relates the value before a call, the announcement, the result, and the value after it.
     ghost takes: { Self → Told → Result (Unit {0}) Cause → Self → Type 0 };
 
     /// Receives an announcement, and what can be looked up about variables meanwhile.
@@ -259,7 +259,6 @@ pub struct Nobody {}
 impl ProofProcessor for Nobody {
     ghost takes = { takes_all };
 
-    /// Notifies all listeners of an announcement, while these variables can be looked up.
     fn process_step(
         &mut self,
         _step: &CheckedProofStep<'_>,
@@ -279,7 +278,7 @@ impl ProofTranscriptProcessor for Nobody {
     }
 }
 
-/// Tells an announcement to all who listen, while these variables may be looked up.
+/// Notifies all listeners of an announcement, while these variables can be looked up.
 pub fn process_step<P: ProofProcessor, T: ProofTranscriptProcessor>(
     processing: &mut Processing<P, T>,
     variables: &Variables,

@@ -39,7 +39,7 @@ use std::marker::Model;
 #[derive(Drop)]
 pub(crate) struct Units {
     ids: LitNumbers,
-    /// The place of each on the trail of what is assumed, by which it is taken out of there.
+    /// The places of units on the trail of what is assumed, by which they are removed there.
     places: LitNumbers,
     assigned: Assigned,
     order: UnitOrder,

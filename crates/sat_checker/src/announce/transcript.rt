@@ -36,7 +36,7 @@ pub enum ProofTranscriptStep<'a> {
 
 /// Receives the steps of a transcript.
 pub trait ProofTranscriptProcessor: Drop {
-    /// From the value before, this step was answered so, to the value after.
+    /// Relates the value before a call, the step, the result, and the value after it.
     ghost reads: { Self → Transcribed → Result (Unit {0}) Error → Self → Type 0 };
 
     /// Receives a step.

@@ -5,7 +5,7 @@ use crate::announce::announcement::{CheckedProofStep, CheckerData};
 use crate::announce::transcript::{ProofTranscriptProcessor, ProofTranscriptStep};
 use crate::processing::ProofProcessor;
 
-/// The value in the box is told, and stays in it.
+/// Passes what is announced to the value in the box, which stays there.
 impl ProofProcessor for Box<dyn ProofProcessor> {
     ghost use Rattle.std.specs.Prelude.{◌≡◌};
 
@@ -22,7 +22,7 @@ impl ProofProcessor for Box<dyn ProofProcessor> {
     }
 }
 
-/// The value in the box is told, and stays in it.
+/// Passes what is announced to the value in the box, which stays there.
 impl ProofTranscriptProcessor for Box<dyn ProofTranscriptProcessor> {
     ghost use Rattle.std.specs.Prelude.{◌≡◌};
 

@@ -275,7 +275,7 @@ impl Clauses {
     }
 
     /// Drops the removed clauses, if they are more than half of all, or fill more than half of the buffer. The places
-    /// are numbered anew. If memory runs out, they stay.
+    /// are numbered again. If memory runs out, they stay.
     pub fn compact(&mut self) -> Result<(), AllocError>
         ensures left { MayDrop self.old self.new }
         ensures few { OnOk result (2 * gone_count self.new ≤ length self.new) }
