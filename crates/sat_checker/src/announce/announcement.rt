@@ -118,7 +118,7 @@ pub(crate) struct Was {
 #[derive(Clone, Copy)]
 pub struct CheckerData<'a> {
     variables: &'a Variables,
-    /// The variable whose name or mode has changed by now, with what was kept of it before.
+    /// The variable whose name or mode has changed since, with its earlier data.
     was: Option<&'a Was>,
 }
 
