@@ -1,25 +1,10 @@
-//! Callers: of a solver, and of a proof over a target that is lent.
-ghost use Rattle.sat_solver.specs.solver.Whole.{IsSolver};
+//! A caller of a proof over a target that is lent.
 ghost use Rattle.sat_solver_tests.specs.Calling.{Calls, PutsOwned};
 
-use sat_base::{CountedWrite, Lit, ProofStep};
+use sat_base::{CountedWrite, ProofStep};
+use sat_solver::ProofFormat;
 use sat_solver::proof::{Proof, ProofError};
-use sat_solver::{ProofFormat, Solver, SolverError};
 use std::alloc::Global;
-
-/// Whether the clauses and these literals can be satisfied; the assumptions are none afterwards.
-pub fn may_be<W: CountedWrite + Drop>(
-    solver: &mut Solver<W>,
-    lits: &[Lit],
-) -> Result<bool, SolverError>
-    requires { IsSolver solver.old }
-    ensures { IsSolver solver.new }
-{
-    solver.assume(lits)?;
-    let sat = solver.solve()?;
-    solver.assume(&[])?;
-    Ok(sat)
-}
 
 /// Writes an ask for nothing, and the last step, into a target of its own, which comes back.
 fn write_owned<W: CountedWrite + Drop>(

@@ -37,3 +37,4 @@ mod states;
 mod texts;
 #[cfg(test)]
 mod twenty;
+pub mod whole;
