@@ -10,6 +10,8 @@ mod collection;
 #[cfg(test)]
 mod data;
 #[cfg(test)]
+mod example;
+#[cfg(test)]
 mod glue;
 #[cfg(test)]
 mod lists;
