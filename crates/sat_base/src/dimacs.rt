@@ -1,5 +1,5 @@
 //! Formulas in DIMACS CNF, read in any chunking.
-ghost use Rattle.std.specs.Prelude.{◌≡◌, ◌≤◌, ◌+◌, ◌++◌, ◌⊎◌, length, Ok, Err, IfOk, IfErr, OnOk, IsErrOf};
+ghost use Rattle.std.specs.Prelude.{◌≡◌, ◌≤◌, ◌<◌, ◌+◌, ◌++◌, ◌⊎◌, false, length, Ok, Err, IfOk, IfErr, OnOk, IsErrOf};
 ghost use Rattle.std.specs.Io.{ReadsAtMost};
 ghost use Rattle.sat_base.specs.device.Device.{most_reads, ReadFails, GaveEnough};
 ghost use Rattle.sat_base.specs.values.Literals.{var_limit};
@@ -9,7 +9,7 @@ ghost use Rattle.sat_base.specs.values.Formulas.{vars_of};
 ghost use Rattle.sat_base.specs.dimacs.ParserPlaces.{with_parser};
 ghost use Rattle.sat_base.specs.dimacs.Parsing.{no_progress, clauses_read, lines_read, held_numbers, all_taken};
 ghost use Rattle.sat_base.specs.dimacs.Parsing.{FeedsPiece, IsSoundSoFar, GaveSound, Finishes, Parses, KeepsText};
-ghost use Rattle.sat_base.specs.dimacs.Parsing.{ParsesInParts, RefusesPiece, SaysEnded, VisitsAll};
+ghost use Rattle.sat_base.specs.dimacs.Parsing.{ParsesInParts, RefusesPiece, SaysEnded, StopsReading, VisitsAll};
 ghost use Rattle.sat_base.specs.dimacs.Faults.{ReadsNext};
 
 mod clauses;
@@ -147,6 +147,8 @@ impl DimacsParser {
         // follows.
         ensures sound { IsErrOf result DimacsError.Read ⊎ IsErrOf result DimacsError.OutOfMemory
             → GaveSound (R.seen reader.old) (R.seen reader.new) }
+        // No piece is read after a line that ends the text.
+        ensures stops { StopsReading (R.seen reader.old) (R.seen reader.new) }
         ensures reads { (R.seen reader.new).calls ≤ (R.seen reader.old).calls + most_reads }
         ensures fresh { IsErrOf result DimacsError.HasFailed → ⊥ }
     {
@@ -158,6 +160,7 @@ impl DimacsParser {
     fn read_next<R: CountedRead>(&self, reader: &mut R, room: &mut [u8]) -> io::Result<usize>
         ensures bound { ReadsAtMost result room.new }
         ensures reads { ReadsNext result room.new self.now.fed (R.seen reader.old) (R.seen reader.new) }
+        ensures goes_on { IfOk result (λ n. 0 < n → SaysEnded false self.now) }
     {
         if self.has_ended() {
             return Ok(0);
@@ -182,6 +185,7 @@ impl DimacsParser {
         ensures read { IsErrOf result DimacsError.Read → ReadFails (R.seen reader.old) (R.seen reader.new) }
         ensures sound { IsErrOf result DimacsError.Read ⊎ IsErrOf result DimacsError.OutOfMemory
             → GaveSound (R.seen reader.old) (R.seen reader.new) }
+        ensures stops { StopsReading (R.seen reader.old) (R.seen reader.new) }
         ensures reads { (R.seen reader.new).calls ≤ (R.seen reader.old).calls + most_reads }
         ensures fresh { IsErrOf result DimacsError.HasFailed → ⊥ }
     {

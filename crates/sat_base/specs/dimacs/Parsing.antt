@@ -3,7 +3,7 @@ use Rattle.std.specs.Borrow.{MutBor}
 use Rattle.std.specs.Io.KnownBytes.{IsAtEnd}
 use Rattle.std.specs.List.{FoldsTo, concat}
 use Rattle.std.specs.Prelude.{◌≡◌, ◌<◌, ◌≤◌, ◌+◌, ◌⊎◌, ◌-◌, ℕ, length, get_or, nat_eq, List, [], ◌∷◌, ◌++◌, Bool, true, false, ◌||◌, Option, None, Some, Result, Ok, Err, if◌then◌else◌}
-use Rattle.sat_base.specs.device.Device.{Reader, CanFollow, GaveFront, GaveEnough}
+use Rattle.sat_base.specs.device.Device.{Reader, CanFollow, GaveFront, GaveEnough, piece_size}
 use Rattle.sat_base.specs.text.Text.{is_blank, Token, Number, scan, tokens, HasEnded, dimacs_header}
 use Rattle.sat_base.specs.text.WrongWords.{RightAhead}
 use Rattle.sat_base.specs.text.Tokenizing.{held}
@@ -96,6 +96,14 @@ IsSoundSoFar p = IsSoundText p.fed
 abbrev pub GaveSound : Reader → Reader → Type 0
 GaveSound old new = (text : List ℕ) × GaveFront old new text × IsSoundText text
     × (old.calls < new.calls → new.ended ≡ true → (dimacs text).ending ≡ Clean)
+
+-- after a line that ends it, a text goes on for less than a piece
+abbrev pub EndsInLastPiece : List ℕ → Type 0
+EndsInLastPiece text = (front rest : List ℕ) → text ≡ front ++ rest → HasEnded front → length rest < piece_size
+
+-- so does what was given: no piece was read after that line
+abbrev pub StopsReading : Reader → Reader → Type 0
+StopsReading old new = (text : List ℕ) × GaveFront old new text × EndsInLastPiece text
 
 -- a prefix of the piece was taken, up to and with a fault
 pub record EndsAtFault (ending : Ending) (piece : List ℕ) (old new : Progress) : Type 0 where

@@ -1,14 +1,17 @@
 -- A formula's text that was read to its end, or up to a line that ends it.
-use Rattle.std.proofs.Common.{◌≡◌, ◌⊎◌, ℕ, ◌+◌, ◌<◌, ◌≤◌, List, [], ◌∷◌, ◌++◌, Bool, true, false, None, Result, Ok, Err, sym, ap, subst, inl, inr, ◌∙◌, append_assoc, length, arith}
+use Rattle.std.proofs.Common.{refl, take, length-append, ◌≡◌, ◌⊎◌, ℕ, ◌+◌, ◌<◌, ◌≤◌, List, [], ◌∷◌, ◌++◌, Bool, true, false, None, Result, Ok, Err, sym, ap, subst, inl, inr, ◌∙◌, append_assoc, length, arith}
+use Rattle.std.proofs.lemmas.List.{length-take-le}
+use Rattle.std.proofs.lemmas.Bool.Decides.{nat_tests}
+use Rattle.std.specs.Prelude.{nat_lt}
 use Rattle.std.specs.Io.KnownBytes.{IsAtEnd}
 use Rattle.std.specs.List.{FoldsTo, concat}
 use Rattle.sat_base.specs.declared.dimacs.error.DimacsError.{DimacsError}
 use Rattle.sat_base.specs.declared.dimacs.error.DimacsError.TheVariants as errors
-use Rattle.sat_base.specs.device.Device.{Reader, ReadsOnce, GaveFront, GaveAll, GaveEnough, most_reads}
+use Rattle.sat_base.specs.device.Device.{Reader, ReadsOnce, GaveFront, GaveAll, GaveEnough, most_reads, piece_size}
 use Rattle.sat_base.specs.text.Text.{HasEnded, scan, header_first, Scan}
 use Rattle.sat_base.specs.values.Formulas.{Formula}
 use Rattle.sat_base.specs.dimacs.Dimacs.{Dimacs, dimacs, dimacs_of}
-use Rattle.sat_base.specs.dimacs.Parsing.{Finishes, Parses, IsSoundText, GaveSound, IsWholeText, RefusesPiece, Progress, Calls, FeedsAndVisits, no_progress}
+use Rattle.sat_base.specs.dimacs.Parsing.{Finishes, Parses, IsSoundText, GaveSound, IsWholeText, RefusesPiece, Progress, Calls, FeedsAndVisits, no_progress, with_fed, EndsInLastPiece, SaysEnded}
 use Rattle.sat_base.specs.dimacs.Faults.{ReadsNext}
 use Rattle.sat_base.proofs.lemmas.text.TextRuns.{standing, stands_first, open_looks}
 use Rattle.sat_base.proofs.lemmas.device.Given.{end_after, enough_all, enough_front, still_open}
@@ -117,3 +120,44 @@ sound_end {T} r e a c text p q k i f g s h = absurd (let z : ◌≡◌ {A = Resu
 pub sound_piece : {T : Type 0} (r : Result T DimacsError) (e : DimacsError) (a c : Reader) (fed piece : List ℕ) (p : Progress) → r ≡ Err e → p.fed ≡ fed → RefusesPiece e piece p → GaveFront a c (fed ++ piece) → c.ended ≡ false → r ≡ Err errors.OutOfMemory → GaveSound a c
 sound_piece {T} r errors.OutOfMemory a c fed piece p k e f g o h = (fed ++ piece, g, subst (λ (z : List ℕ). IsSoundText (z ++ piece)) e f.1, λ called ends. still_open c _ o ends)
 sound_piece {T} r e a c fed piece p k i f g o h = absurd (let z : ◌≡◌ {A = Result T DimacsError} (Err e) (Err errors.OutOfMemory) = sym k ∙ h in cc)
+
+-- NO PIECE IS READ AFTER THE END
+ended_longer : (front more : List ℕ) → HasEnded front → HasEnded (front ++ more)
+ended_longer front more h rest = ap scan (append_assoc front more rest) ∙ h (more ++ rest) ∙ sym (h more)
+
+prefix_of : (front rest text piece : List ℕ) → text ++ piece ≡ front ++ rest → length front ≤ length text → (mid : List ℕ) × (text ≡ front ++ mid)
+prefix_of [] rest text piece e h = (text, refl)
+prefix_of (x ∷ xs) rest [] piece e h = absurd (omega arith)
+prefix_of (x ∷ xs) rest (y ∷ ys) piece e h =
+    let t : ys ++ piece ≡ xs ++ rest = cc in
+    let same : y ≡ x = cc in
+    let m = prefix_of xs rest ys piece t (omega arith) in
+    (m.0, grow x y ys (xs ++ m.0) same m.1)
+  where
+    grow : (a b : ℕ) (us vs : List ℕ) → b ≡ a → us ≡ vs → b ∷ us ≡ a ∷ vs
+    grow a b us vs f g = cc
+
+pub stops_none : EndsInLastPiece []
+stops_none front rest e h = let l = ap length e ∙ length-append front rest in omega arith
+
+pub stops_after : (text piece : List ℕ) → (HasEnded text → ⊥) → length piece ≤ piece_size → EndsInLastPiece (text ++ piece)
+stops_after text piece going h front rest e ended = go (nat_lt (length rest) piece_size) refl
+  where
+    go : (b : Bool) → nat_lt (length rest) piece_size ≡ b → length rest < piece_size
+    go true t = grind (arith, nat_tests)
+    go false t =
+        let far : piece_size ≤ length rest = grind (arith, nat_tests) in
+        let l : length (text ++ piece) ≡ length (front ++ rest) = ap length e in
+        let a = length-append text piece in
+        let b = length-append front rest in
+        let m = prefix_of front rest text piece e (omega arith) in
+        absurd (going (subst HasEnded (sym m.1) (ended_longer front m.0 ended)))
+
+-- that was no longer than it
+pub short_piece : (n : ℕ) (buf : List ℕ) → n ≤ length buf → length buf ≡ piece_size → length (take n buf) ≤ piece_size
+short_piece n buf h e = let l = length-take-le n buf h in omega arith
+
+-- a parser that goes on has a text that has not ended
+pub going_on : (p : Progress) (text : List ℕ) → p ≡ with_fed text no_progress → SaysEnded false p → HasEnded text → ⊥
+going_on p text e (inl stopped) h = absurd (let g : ◌≡◌ {A = Bool} true false = sym stopped ∙ ap (λ (k : Progress). k.stopped) e in cc)
+going_on p text e (inr going) h = going (subst HasEnded (sym (ap (λ (k : Progress). k.fed) e)) h)

@@ -5,7 +5,7 @@ use Rattle.sat_base.specs.dimacs.Parsing.{Progress, Parses, no_progress, with_fe
 use Rattle.sat_base.proofs.lemmas.device.Given.{gave_none, gave_more, gave_still, not_ended, enough_front, few_front, calls_within, calls_upto, still_open}
 use Rattle.sat_base.proofs.lemmas.dimacs.Parsed.{ends_by, stands_of, piece_given, sound_none}
 use Rattle.sat_base.proofs.lemmas.dimacs.ParseAnswers.{finish_no_read, finish_no_stop, refused_no_read, refused_no_stop, read_is_no_stop}
-use Rattle.sat_base.proofs.lemmas.dimacs.ReadToEnd.{ReadToEnd, some_read, next_kept, next_within, read_to_end, none_has_ended, read_front, enough_read, refused_on, sound_end, sound_piece}
+use Rattle.sat_base.proofs.lemmas.dimacs.ReadToEnd.{ReadToEnd, some_read, next_kept, next_within, read_to_end, none_has_ended, read_front, enough_read, refused_on, sound_end, sound_piece, stops_none, stops_after, short_piece, going_on}
 use Rattle.sat_base.proofs.lemmas.device.WholeAnswers.{ok_is_no_err}
 use Rattle.sat_base.proofs.dimacs.DimacsParser.read_formula.Goals as goal
 
@@ -21,7 +21,7 @@ read_before p text zero T e none then h = absurd (none_has_ended (subst HasEnded
 read_before p text (suc n) T e none then h = then (omega arith)
 
 pub loop-init : goal.loop-init
-loop-init g c = record { bytes = ([], c.requires, gave_none _, omega arith, λ e. refl); sound = subst IsSoundSoFar (sym c.requires) sound_none; open_yet = λ h. absurd (omega arith); failures = refl; calls = omega arith }
+loop-init g c = record { bytes = ([], c.requires, gave_none _, omega arith, λ e. refl, stops_none); sound = subst IsSoundSoFar (sym c.requires) sound_none; open_yet = λ h. absurd (omega arith); failures = refl; calls = omega arith }
 
 pub loop-preserved : goal.loop-preserved
 loop-preserved g c =
@@ -31,7 +31,7 @@ loop-preserved g c =
     let piece = take c.in-Ok.count buf in
     let once = some_read c.in-Ok.count buf c.loop.self.fed (S c.loop.reader) (S c.read_next.new.reader) (search rules) c.in-Ok.ensures.reads in
     record {
-      bytes = (b.0 ++ piece, c.in_ok-feed_or_find_fault-in-Ok.ensures.fed.1 ∙ ap (λ (k : Progress). with_fed piece k) b.1, gave_more (S c.args.reader.now) (S c.loop.reader) (S c.read_next.new.reader) b.0 c.in-Ok.count buf b.2 once, omega (arith, b.3, length-append b.0 piece, piece_given c.in-Ok.count buf (search rules) (search rules)), λ e. absurd (omega arith));
+      bytes = (b.0 ++ piece, c.in_ok-feed_or_find_fault-in-Ok.ensures.fed.1 ∙ ap (λ (k : Progress). with_fed piece k) b.1, gave_more (S c.args.reader.now) (S c.loop.reader) (S c.read_next.new.reader) b.0 c.in-Ok.count buf b.2 once, omega (arith, b.3, length-append b.0 piece, piece_given c.in-Ok.count buf (search rules) (search rules)), λ e. absurd (omega arith), stops_after b.0 piece (going_on c.loop.self b.0 b.1 (c.in-Ok.ensures.goes_on (search rules))) (short_piece c.in-Ok.count buf (search rules) (search rules)));
       sound = c.in_ok-feed_or_find_fault-in-Ok.ensures.sound;
       open_yet = λ h. not_ended (S c.loop.reader) (S c.read_next.new.reader) c.in-Ok.count buf once (search rules);
       failures = once.failures.0 ∙ c.loop.invariant.failures;
@@ -211,3 +211,40 @@ returns-in-Err-clause-reads g c = calls_within _ _ _ c.loop.counter c.in-Err.ens
 
 pub returns-clause-reads : goal.returns-clause-reads
 returns-clause-reads g c = calls_upto _ _ c.loop.counter c.loop.invariant.calls c.loop.auto.counter-end
+
+-- WHERE IT STOPPED
+
+pub returns-in-Ok-eq0-clause-stops : goal.returns-in-Ok-eq0-clause-stops
+returns-in-Ok-eq0-clause-stops g c =
+    let S = g.R.CountedRead.seen in
+    let b = c.loop.invariant.bytes in
+    let all = read_to_end (S c.args.reader.now) (S c.loop.reader) (S c.read_next.new.reader) b.0 c.loop.self.fed c.in-Ok-eq0.field-0 c.loop.counter c.read_next.new.room b.2 c.in-Ok-eq0.ensures.reads (search rules) (search rules) c.loop.invariant.calls b.3 (read_before c.loop.self b.0 c.loop.counter _ b.1 b.4 c.loop.invariant.open_yet) in
+    (b.0, read_front _ _ b.0 c.loop.self.fed all, b.5)
+
+pub returns-in_err-finish-in-Ok-eq0-clause-stops : goal.returns-in_err-finish-in-Ok-eq0-clause-stops
+returns-in_err-finish-in-Ok-eq0-clause-stops g c =
+    let S = g.R.CountedRead.seen in
+    let b = c.loop.invariant.bytes in
+    let all = read_to_end (S c.args.reader.now) (S c.loop.reader) (S c.read_next.new.reader) b.0 c.loop.self.fed c.in-Ok-eq0.field-0 c.loop.counter c.read_next.new.room b.2 c.in-Ok-eq0.ensures.reads (search rules) (search rules) c.loop.invariant.calls b.3 (read_before c.loop.self b.0 c.loop.counter _ b.1 b.4 c.loop.invariant.open_yet) in
+    (b.0, read_front _ _ b.0 c.loop.self.fed all, b.5)
+
+pub returns-in_err-feed_or_find_fault-in-Ok-clause-stops : goal.returns-in_err-feed_or_find_fault-in-Ok-clause-stops
+returns-in_err-feed_or_find_fault-in-Ok-clause-stops g c =
+    let S = g.R.CountedRead.seen in
+    let b = c.loop.invariant.bytes in
+    let buf = c.read_next.new.room in
+    let piece = take c.in-Ok.count buf in
+    let once = some_read c.in-Ok.count buf c.loop.self.fed (S c.loop.reader) (S c.read_next.new.reader) (search rules) c.in-Ok.ensures.reads in (
+      b.0 ++ piece,
+      gave_more (S c.args.reader.now) (S c.loop.reader) (S c.read_next.new.reader) b.0 c.in-Ok.count buf b.2 once,
+      stops_after b.0 piece (going_on c.loop.self b.0 b.1 (c.in-Ok.ensures.goes_on (search rules))) (short_piece c.in-Ok.count buf (search rules) (search rules)),
+    )
+
+pub returns-in-Err-clause-stops : goal.returns-in-Err-clause-stops
+returns-in-Err-clause-stops g c =
+    let S = g.R.CountedRead.seen in
+    let b = c.loop.invariant.bytes in
+    (b.0, gave_still _ (S c.args.reader.now) (S c.loop.reader) (S c.read_next.new.reader) b.0 c.read_next.new.room b.2 c.in-Err.ensures.reads, b.5)
+
+pub returns-clause-stops : goal.returns-clause-stops
+returns-clause-stops g c = let b = c.loop.invariant.bytes in (b.0, b.2, b.5)
