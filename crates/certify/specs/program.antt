@@ -1,3 +1,4 @@
 pub mod Printing
 pub mod HintPrinting
 pub mod Calls
+pub mod FileCalls

@@ -1,4 +1,4 @@
-//! The program `certify`: hands its arguments and its standard streams to `certify::program`.
+//! The program `certify`: passes its arguments and its standard streams to `certify::program`.
 #![tactic(auto)]
 
 ghost use Rattle.std.specs.Prelude.{◌≡◌, IfOk, drop};
@@ -8,11 +8,18 @@ use certify::program::program;
 use sat_base::Counted;
 use std::alloc::{AllocError, Global};
 use std::env::Args;
+use std::fs::{File, OpenOptions};
+use std::os::fd::AsFd;
 use std::process::ExitCode;
 use std::rt::Env;
 use std::{env, io};
 
-/// The words behind the first.
+/// The status of a fault.
+const FAILED: u8 = 3;
+/// The error of the system for a descriptor that is not open, `EBADF`.
+const NOT_OPEN: i32 = 9;
+
+/// Returns the words after the first.
 fn behind_first(alloc: Global, mut words: Args) -> Result<Vec<String>, AllocError>
     ensures { IfOk result (λ behind. behind.items ≡ drop 1 (into_iter_items words)) }
 {
@@ -24,16 +31,47 @@ fn behind_first(alloc: Global, mut words: Args) -> Result<Vec<String>, AllocErro
     Ok(behind)
 }
 
-/// The arguments behind the program's own name.
+/// Returns the arguments after the program's own name.
 fn arguments<R: Env + AllocGlobal>(rt: &R) -> io::Result<Vec<String>> {
     let words = env::args(rt)?;
     Ok(behind_first(rt.alloc(), words)?)
 }
 
+/// Whether the descriptor of a stream is open.
+fn is_open<S: AsFd>(stream: &S) -> bool {
+    match stream.as_fd().try_clone_to_owned() {
+        Ok(_) => true,
+        Err(e) => e.raw_os_error() != Some(NOT_OPEN),
+    }
+}
+
+/// Opens `/dev/null` under the descriptor of a stream that is not open: the next file would get that descriptor, and
+/// what is written to the stream. All lower descriptors must be open.
+fn hold<S: AsFd>(rt: &HostRuntime, stream: &S) -> io::Result<Option<File>> {
+    if is_open(stream) {
+        return Ok(None);
+    }
+    let mut options = OpenOptions::new();
+    options.read(true).write(true);
+    Ok(Some(options.open(rt, "/dev/null")?))
+}
+
+/// Calls the program with open standard streams.
+fn call(rt: &HostRuntime) -> io::Result<u8> {
+    let input = rt.stdin();
+    let output = rt.stdout();
+    let errors = rt.stderr();
+    let _input = hold(rt, &input)?;
+    let _output = hold(rt, &output)?;
+    let _errors = hold(rt, &errors)?;
+    let arguments = arguments(rt);
+    let mut input = Counted::new(input);
+    let mut output = Counted::new(output);
+    let mut errors = Counted::new(errors);
+    Ok(program(rt, arguments, &mut input, &mut output, &mut errors))
+}
+
 fn main(rt: HostRuntime) -> ExitCode {
-    let arguments = arguments(&rt);
-    let mut input = Counted::new(rt.stdin());
-    let mut output = Counted::new(rt.stdout());
-    let mut errors = Counted::new(rt.stderr());
-    ExitCode::from(program(&rt, arguments, &mut input, &mut output, &mut errors))
+    // Without `/dev/null` there is nothing to hold a closed stream's descriptor, and nothing is done.
+    ExitCode::from(call(&rt).unwrap_or(FAILED))
 }

@@ -3,6 +3,7 @@
 use crate::devices::fails_at;
 use certify::program::program;
 use sat_base::Counted;
+use std::os::unix::fs::symlink;
 use std::{fs, io, process};
 
 /// A folder for the files of one test.
@@ -44,6 +45,16 @@ impl Folder<'_> {
 
     fn read(&self, name: &str) -> io::Result<Vec<u8>> {
         fs::read(self.rt, self.path_of(name)?)
+    }
+
+    /// Makes a symbolic link, or a further name of a file of the folder.
+    fn link(&self, original: &str, name: &str, is_hard: bool) -> io::Result<()> {
+        let link = self.path_of(name)?;
+        if is_hard {
+            fs::hard_link(self.rt, self.path_of(original)?, link)
+        } else {
+            symlink(self.rt, original, link)
+        }
     }
 
     fn holds(&self, name: &str, bytes: &[u8]) -> bool {
@@ -99,6 +110,8 @@ impl Folder<'_> {
     fn acts(&self, action: &Action<'_>) -> bool {
         match action {
             Action::Put(name, bytes) => self.put(name, bytes).is_ok(),
+            Action::Link(original, name) => self.link(original, name, false).is_ok(),
+            Action::Name(original, name) => self.link(original, name, true).is_ok(),
             Action::Holds(name, bytes) => self.holds(name, bytes),
             Action::Does(call, end) => self.does(*call, *end),
             Action::Ends(call, status) => self.ends(*call, *status),
@@ -132,6 +145,10 @@ type End<'a> = (u8, &'a str, &'a str);
 #[derive(Drop)]
 enum Action<'a> {
     Put(&'a str, &'a [u8]),
+    /// Makes a symbolic link of this text.
+    Link(&'a str, &'a str),
+    /// Makes a further name of a file.
+    Name(&'a str, &'a str),
     Holds(&'a str, &'a [u8]),
     Does(Words<'a>, End<'a>),
     /// With this status, and nothing printed.
@@ -306,7 +323,55 @@ const UNOPENED: &[&[Action<'static>]] = &[&[
     Action::Does(("check", &["."], ""), (3, "", "certify: Read\n")),
 ]];
 
-const TABLES: &[&[&[Action<'static>]]] = &[HINTED, CHECKED, RUN, UNOPENED];
+/// The usage, for a call that would write over what it reads, or write one file twice.
+const REFUSED: End<'static> = (
+    2,
+    "",
+    "usage: certify [run S A C [STEPS] | confirm S A C | hints C H | check H]\n",
+);
+
+/// Outputs that are the input, or the other output: by the same word, another word, a link, or a further name. Nothing
+/// is written over.
+const OVERLAPPING: &[&[Action<'static>]] = &[
+    &[
+        Action::Put("s", b"1 0\na 0\n"),
+        Action::Link("s", "l"),
+        Action::Name("s", "m"),
+        Action::Does(("run", &["s", "s", "c"], ""), REFUSED),
+        Action::Does(("run", &["./s", "s", "c"], ""), REFUSED),
+        Action::Does(("run", &["s", "a", "./s"], "7"), REFUSED),
+        Action::Does(("run", &["s", "l", "c"], ""), REFUSED),
+        Action::Does(("run", &["l", "a", "m"], ""), REFUSED),
+        Action::Holds("s", b"1 0\na 0\n"),
+    ],
+    &[
+        Action::Put("d", &[13]),
+        Action::Link("d", "e"),
+        Action::Does(("hints", &["d", "d"], ""), REFUSED),
+        Action::Does(("hints", &["./d", "d"], ""), REFUSED),
+        Action::Does(("hints", &["d", "e"], ""), REFUSED),
+        Action::Holds("d", &[13]),
+    ],
+    &[
+        Action::Put("s", b"1 0\na 0\n"),
+        Action::Put("o", b"old"),
+        Action::Does(("run", &["s", "o", "o"], ""), REFUSED),
+        Action::Does(("run", &["s", "o", "./o"], ""), REFUSED),
+        Action::Holds("o", b"old"),
+        Action::Does(("run", &["s", "p", "p"], ""), REFUSED),
+        Action::Does(("check", &["p"], ""), (3, "", "certify: Read\n")),
+        Action::Does(("run", &["s", "p", "./p"], ""), REFUSED),
+        Action::Holds("p", b""),
+    ],
+    &[
+        Action::Put("s", b"1 0\na 0\n"),
+        Action::Link("/dev/null", "null"),
+        Action::Does(("run", &["s", "null", "null"], ""), (0, "", ONE_UNIT)),
+        Action::Does(("run", &["s", "null", "./null"], ""), (0, "", ONE_UNIT)),
+    ],
+];
+
+const TABLES: &[&[&[Action<'static>]]] = &[HINTED, CHECKED, RUN, UNOPENED, OVERLAPPING];
 
 /// Tests whether each row of a table is so, in a folder of its own.
 fn are_so(rt: &HostRuntime, name: &str, rows: &[&[Action<'_>]]) -> bool {

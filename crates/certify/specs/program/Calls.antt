@@ -48,6 +48,22 @@ AsksNothing words = (request : Request) → AsksFor words request → ⊥
 abbrev pub IsMisuse : List (List ℕ) → Type 0
 IsMisuse words = (words ≡ [] → ⊥) × AsksNothing words
 
+-- a call that writes files
+abbrev pub WritesFiles : Request → Type 0
+WritesFiles (Run s a c budget) = Unit {0}
+WritesFiles (Confirm s a c) = ⊥
+WritesFiles (Hints c h) = Unit {0}
+WritesFiles (Check h) = ⊥
+
+-- The words are a call that writes files: other words may lead to one file.
+abbrev pub MayOverlap : List (List ℕ) → Type 0
+MayOverlap words = (request : Request) × AsksFor words request × WritesFiles request
+
+-- Words that are no call have status 2. Others have it only if the call writes files.
+pub record TellsUsage (words : List (List ℕ)) (status : ℕ) : Type 0 where
+  pub told : IsMisuse words → status ≡ 2
+  pub only : status ≡ 2 → IsMisuse words ⊎ MayOverlap words
+
 -- a run over these files, with so many steps for each ask
 abbrev pub running : RunFiles → ℕ → Request
 running files budget = Run files.script.now files.answers.now files.certificate.now budget

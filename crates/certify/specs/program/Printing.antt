@@ -1,5 +1,5 @@
 -- What the program prints.
-use Rattle.std.specs.Prelude.{ℕ, ◌≡◌, ◌↔◌, true, Bool, false, None, List, [], ◌∷◌, ◌++◌, codes, decimal}
+use Rattle.std.specs.Prelude.{ℕ, ◌≡◌, ◌↔◌, ◌⊎◌, true, Bool, false, None, List, [], ◌∷◌, ◌++◌, codes, decimal}
 use Rattle.sat_base.specs.device.Device.{Reader, Writer, GaveEnough, WriterTakes}
 use Rattle.sat_base.specs.script.Script.{ScriptEnding, Clean, Malformed}
 use Rattle.sat_checker.specs.matching.ProofChecking.{the_checking}
@@ -8,6 +8,7 @@ use Rattle.certify.specs.confirm.VerdictPromises.{Exact}
 use Rattle.sat_base.specs.script.Language.{reading}
 use Rattle.certify.specs.run.FinishedRun.{AnswersRightly, TookCertificate}
 use Rattle.certify.specs.run.StepsLeft.{largest_count}
+use Rattle.certify.specs.run.Unfinished.{TookBytes}
 use Rattle.certify.specs.declared.summary.Summary.{Summary}
 use Rattle.certify.specs.declared.verdict.Verdict.{Verdict}
 use Rattle.certify.specs.declared.verdict.Verdict.TheVariants.{Yes, No}
@@ -110,6 +111,19 @@ pub record Prints (status : ℕ) (text : List ℕ) (old new : Writer) : Type 0 w
 -- the same of the text that a reader gave, whatever would follow
 abbrev pub PrintsVerdict : ℕ → Reader × Reader → Writer × Writer → Type 0
 PrintsVerdict status input output = GaveEnough input.0 input.1 (λ text. Prints status text output.0 output.1)
+
+-- A prefix of right answers to a text was printed, and of `c confirmed` after them.
+pub record PrintsPrefix (text : List ℕ) (old new : Writer) : Type 0 where
+  pub answers : List ℕ
+  pub answered : IsAnswered text answers
+  pub bytes : List ℕ
+  pub behind : List ℕ
+  pub whole : answers ++ verdict_text Yes ≡ bytes ++ behind
+  pub took : TookBytes old new bytes
+
+-- nothing was printed, or such a prefix, for the text that a reader gave, whatever would follow
+abbrev pub PrintsAtMost : Reader × Reader → Writer × Writer → Type 0
+PrintsAtMost input output = TookBytes output.0 output.1 [] ⊎ GaveEnough input.0 input.1 (λ text. PrintsPrefix text output.0 output.1)
 
 -- A line was printed. The status is 0 exactly where this is so.
 pub record PrintsLine (status : ℕ) (line : List ℕ) (IsSo : Type 0) (old new : Writer) : Type 0 where

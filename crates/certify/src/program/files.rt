@@ -1,9 +1,13 @@
 //! Calls over files, which are opened in the order of the arguments.
-ghost use Rattle.certify.specs.program.Calls.{HasStatus};
+ghost use Rattle.std.specs.Prelude.{◌≡◌, ◌⊎◌, IfOk, IfSome};
+ghost use Rattle.certify.specs.Devices.{took};
+ghost use Rattle.certify.specs.program.FileCalls.{ChecksFile, ConfirmsFiles, HintsFiles, IsMade, IsOpened, RunsFiles};
 
 use crate::fault::RunFault;
 use crate::program::call::RunFiles;
 use crate::program::fault::{Fault, HintsFault};
+use crate::program::overlap::{is_one_file, overlaps};
+use crate::program::printing::misused;
 use crate::program::progress::tell_progress;
 use crate::program::texts::{check_text, confirm_given, run_text, write_hints};
 use crate::verdict::ConfirmFault;
@@ -11,7 +15,9 @@ use sat_base::{Counted, CountedWrite};
 use std::fs::{File, Files};
 
 /// Opens a text to be read. If it can't be opened, that is this fault.
-fn open<R: Files>(rt: &R, path: &str, fault: Fault) -> Result<Counted<R::File>, Fault> {
+fn open<R: Files>(rt: &R, path: &str, fault: Fault) -> Result<Counted<R::File>, Fault>
+    ensures { IfOk result (IsOpened R.File.remaining) }
+{
     match File::open(rt, path) {
         Ok(file) => Ok(Counted::new(file)),
         Err(_) => Err(fault),
@@ -19,10 +25,37 @@ fn open<R: Files>(rt: &R, path: &str, fault: Fault) -> Result<Counted<R::File>, 
 }
 
 /// Makes an empty text to be written. If it can't be made, that is this fault.
-fn make<R: Files>(rt: &R, path: &str, fault: Fault) -> Result<Counted<R::File>, Fault> {
+fn make<R: Files>(rt: &R, path: &str, fault: Fault) -> Result<Counted<R::File>, Fault>
+    ensures { IfOk result (IsMade R.File.contents) }
+{
     match File::create(rt, path) {
         Ok(file) => Ok(Counted::new(file)),
         Err(_) => Err(fault),
+    }
+}
+
+/// The outputs of a run.
+type Outputs<F> = (Counted<F>, Counted<F>);
+
+/// Makes the outputs of a run. `None`: the first, which is made only now, has the name of the second, too.
+fn make_outputs<R: Files>(
+    rt: &R,
+    files: RunFiles<'_>,
+) -> Result<Option<Outputs<R::File>>, Fault>
+    ensures { IfOk result (λ made. IfSome made (λ outputs. IsMade R.File.contents outputs.0
+        × IsMade R.File.contents outputs.1)) }
+{
+    let answers = make(rt, files.answers, Fault::Run(RunFault::AnswersWrite))?;
+    if is_one_file(rt, files.answers, files.certificate) {
+        return Ok(None);
+    }
+    match make(
+        rt,
+        files.certificate,
+        Fault::Run(RunFault::CertificateWrite),
+    ) {
+        Ok(certificate) => Ok(Some((answers, certificate))),
+        Err(fault) => Err(fault),
     }
 }
 
@@ -33,15 +66,15 @@ pub(super) fn run_files<R: AllocGlobal + Files, E: CountedWrite>(
     budget: u64,
     errors: &mut E,
 ) -> Result<u8, Fault>
-    ensures { HasStatus result }
+    ensures { IfOk result (λ s. (s ≡ 2) ⊎ RunsFiles R.File.remaining R.File.contents s budget) }
 {
+    if overlaps(rt, files) {
+        return Ok(misused(errors));
+    }
     let mut script = open(rt, files.script, Fault::Run(RunFault::ScriptRead))?;
-    let mut answers = make(rt, files.answers, Fault::Run(RunFault::AnswersWrite))?;
-    let mut certificate = make(
-        rt,
-        files.certificate,
-        Fault::Run(RunFault::CertificateWrite),
-    )?;
+    let Some((mut answers, mut certificate)) = make_outputs(rt, files)? else {
+        return Ok(misused(errors));
+    };
     let (status, progress) = run_text(
         rt.alloc(),
         &mut script,
@@ -59,7 +92,7 @@ pub(super) fn confirm_files<R: AllocGlobal + Files, O: CountedWrite>(
     files: RunFiles<'_>,
     output: &mut O,
 ) -> Result<u8, Fault>
-    ensures { HasStatus result }
+    ensures { IfOk result (λ s. ConfirmsFiles R.File.remaining s (took O.seen output.old output.new)) }
 {
     let mut script = open(rt, files.script, Fault::Confirm(ConfirmFault::ScriptRead))?;
     let mut answers = open(rt, files.answers, Fault::Confirm(ConfirmFault::AnswersRead))?;
@@ -84,8 +117,11 @@ pub(super) fn hint_files<R: AllocGlobal + Files, E: CountedWrite>(
     hints: &str,
     errors: &mut E,
 ) -> Result<u8, Fault>
-    ensures { HasStatus result }
+    ensures { IfOk result (λ s. (s ≡ 2) ⊎ HintsFiles R.File.remaining R.File.contents s) }
 {
+    if is_one_file(rt, certificate, hints) {
+        return Ok(misused(errors));
+    }
     let mut certificate = open(rt, certificate, Fault::Hints(HintsFault::Read))?;
     let mut hints = make(rt, hints, Fault::Hints(HintsFault::Write))?;
     write_hints(rt.alloc(), &mut certificate, &mut hints, errors)
@@ -97,7 +133,7 @@ pub(super) fn check_file<R: AllocGlobal + Files, O: CountedWrite>(
     hints: &str,
     output: &mut O,
 ) -> Result<u8, Fault>
-    ensures { HasStatus result }
+    ensures { IfOk result (λ s. ChecksFile R.File.remaining s (took O.seen output.old output.new)) }
 {
     let mut text = open(rt, hints, Fault::Hints(HintsFault::Read))?;
     check_text(rt.alloc(), &mut text, output)

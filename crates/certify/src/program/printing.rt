@@ -1,15 +1,22 @@
-//! Writing to the standard streams, and the statuses behind what was done.
-ghost use Rattle.std.specs.Prelude.{◌≡◌, [], OnOk, true};
-ghost use Rattle.sat_base.specs.device.Device.{WriterTakes};
+//! Writing to the standard streams, and the statuses.
+ghost use Rattle.std.specs.Prelude.{◌≡◌, [], OnErr, OnOk, true};
+ghost use Rattle.sat_base.specs.device.Device.{WriterBreaks, WriterTakes};
+ghost use Rattle.certify.specs.run.Unfinished.{TookBytes};
 
 use crate::fault::RunFault;
 use crate::program::fault::Fault;
 use sat_base::CountedWrite;
 
-/// Everything was done, and every answer was confirmed.
+/// Everything is done, and every answer is confirmed.
 pub(super) const DONE: u8 = 0;
-/// The script is malformed, the answers weren't confirmed, or there is no right hint text.
+/// The script is malformed, the answers are not confirmed, or there is no right hint text.
 pub(super) const REFUSED: u8 = 1;
+/// The arguments are not those of the usage, or an output is the input or the other output.
+const MISUSED: u8 = 2;
+/// A fault, which standard error names.
+const FAILED: u8 = 3;
+
+const USAGE: &str = "usage: certify [run S A C [STEPS] | confirm S A C | hints C H | check H]\n";
 
 /// Writes a line with this name to standard error. A fault there is ignored.
 pub(super) fn tell<E: CountedWrite>(errors: &mut E, name: &str) {
@@ -19,9 +26,27 @@ pub(super) fn tell<E: CountedWrite>(errors: &mut E, name: &str) {
     let _ = errors.flush_counted();
 }
 
-/// Writes to standard output. A fault there is told as one of writing answers, whatever is written.
+/// Writes the usage to standard error. A fault there is ignored. Returns the status.
+pub(super) fn misused<E: CountedWrite>(errors: &mut E) -> u8
+    ensures { result ≡ 2 }
+{
+    let _ = errors.write_all_counted(USAGE.as_bytes());
+    let _ = errors.flush_counted();
+    MISUSED
+}
+
+/// Writes a fault's name to standard error. Returns the status, which is the same for all faults.
+pub(super) fn failed<E: CountedWrite>(errors: &mut E, fault: Fault) -> u8
+    ensures { result ≡ 3 }
+{
+    tell(errors, fault.name());
+    FAILED
+}
+
+/// Writes to standard output. A fault there is reported as one of writing answers, whatever is written.
 pub(super) fn write_out<O: CountedWrite>(output: &mut O, bytes: &[u8]) -> Result<(), Fault>
-    ensures { OnOk result (WriterTakes (O.seen output.old) (O.seen output.new) bytes.now) }
+    ensures takes { OnOk result (WriterTakes (O.seen output.old) (O.seen output.new) bytes.now) }
+    ensures breaks { OnErr result (WriterBreaks (O.seen output.old) (O.seen output.new) bytes.now) }
 {
     match output.write_all_counted(bytes) {
         Ok(()) => Ok(()),
@@ -33,6 +58,7 @@ pub(super) fn write_out<O: CountedWrite>(output: &mut O, bytes: &[u8]) -> Result
 pub(super) fn flush_out<O: CountedWrite>(output: &mut O) -> Result<(), Fault>
     ensures took { OnOk result (WriterTakes (O.seen output.old) (O.seen output.new) []) }
     ensures flushed { OnOk result ((O.seen output.new).flushed ≡ true) }
+    ensures kept { OnErr result (TookBytes (O.seen output.old) (O.seen output.new) []) }
 {
     match output.flush_counted() {
         Ok(()) => Ok(()),

@@ -5,9 +5,14 @@ use log::{Level, Logged, info};
 use sat_base::CountedWrite;
 use sat_solver::Progress;
 
-/// Logs the counts of a finished run's solver to standard error, in one line. A fault there is ignored.
-pub(super) fn tell_progress<E: CountedWrite>(errors: &mut E, progress: &Progress) {
-    let rt = Logged::new((), Level::Info, Writer::new(errors));
+/// At least as many bytes as the line has: eight numbers of at most twenty digits, and less than a hundred bytes besides.
+const LINE: usize = 512;
+
+/// Writes the line of a finished run's counts to `line`, as far as it fits. Returns its length.
+fn fill_line(line: &mut [u8], progress: &Progress) -> usize {
+    let size = line.len();
+    let mut room: &mut [u8] = line;
+    let rt = Logged::new((), Level::Info, Writer::new(&mut room));
     info!(rt; target: "certify",
         conflicts = progress.conflicts,
         restarts = progress.restarts,
@@ -19,4 +24,13 @@ pub(super) fn tell_progress<E: CountedWrite>(errors: &mut E, progress: &Progress
         local = progress.local;
         "progress"
     );
+    drop(rt);
+    size.saturating_sub(room.len())
+}
+
+/// Logs the counts of a finished run's solver to standard error: one line, in one write. A fault there is ignored.
+pub(super) fn tell_progress<E: CountedWrite>(errors: &mut E, progress: &Progress) {
+    let mut line = [0; LINE];
+    let count = fill_line(&mut line, progress).min(LINE);
+    let _ = errors.write_all_counted(&line[..count]);
 }

@@ -2,7 +2,7 @@
 ghost use Rattle.std.specs.Prelude.{IfOk};
 ghost use Rattle.certify.specs.Devices.{gave, took};
 ghost use Rattle.certify.specs.program.Calls.{HasStatus};
-ghost use Rattle.certify.specs.program.Printing.{IsWritten, Prints, PrintsVerdict};
+ghost use Rattle.certify.specs.program.Printing.{IsWritten, Prints, PrintsAtMost, PrintsPrefix, PrintsVerdict};
 
 use crate::fault::RunFault;
 use crate::program::fault::Fault;
@@ -14,7 +14,7 @@ use sat_base::{Counted, CountedRead, CountedWrite, read_whole};
 use sat_solver::Progress;
 use std::alloc::Global;
 
-/// What a run over texts in memory wrote.
+/// What a run in memory wrote.
 #[derive(Drop)]
 struct Written {
     answers: Vec<u8>,
@@ -23,7 +23,7 @@ struct Written {
     progress: Progress,
 }
 
-/// Prints what was answered to a script, and the verdict on it, which is yes. The answer is the status.
+/// Prints the answers to a script, and then the verdict on them, which is yes. Returns the status.
 fn print_confirmed<O: CountedWrite>(
     alloc: Global,
     script: &[u8],
@@ -33,6 +33,7 @@ fn print_confirmed<O: CountedWrite>(
     requires { IsWritten script.now written.now }
     ensures small { HasStatus result }
     ensures printed { IfOk result (λ status. Prints status script.now (O.seen output.old) (O.seen output.new)) }
+    ensures prefix { PrintsPrefix script.now (O.seen output.old) (O.seen output.new) }
 {
     write_out(output, &written.answers)?;
     let mut line = Vec::new(alloc);
@@ -48,7 +49,7 @@ fn print_confirmed<O: CountedWrite>(
     Ok(status(verdict, written.malformed))
 }
 
-/// Answers a script, and confirms the answers. The answer is the status.
+/// Answers a script, and confirms the answers. Returns the status.
 pub(super) fn answer<I: CountedRead, O: CountedWrite, E: CountedWrite>(
     alloc: Global,
     input: &mut I,
@@ -58,6 +59,7 @@ pub(super) fn answer<I: CountedRead, O: CountedWrite, E: CountedWrite>(
     ensures small { HasStatus result }
     ensures printed { IfOk result (λ s. PrintsVerdict s (gave I.seen input.old input.new)
         (took O.seen output.old output.new)) }
+    ensures prefix { PrintsAtMost (gave I.seen input.old input.new) (took O.seen output.old output.new) }
 {
     let script = read_whole(alloc, input)?;
     let written = run_in_memory(alloc, &script)?;
@@ -65,7 +67,7 @@ pub(super) fn answer<I: CountedRead, O: CountedWrite, E: CountedWrite>(
     print_confirmed(alloc, &script, &written, output)
 }
 
-/// Runs a script with all rounds allowed. A failed write into memory is want of memory.
+/// Runs a script with all rounds allowed. A failed write into memory means that memory ran out.
 fn run_in_memory(alloc: Global, script: &[u8]) -> Result<Written, Fault>
     ensures { IfOk result (IsWritten script.now) }
 {

@@ -1,0 +1,76 @@
+-- What calls over files do with the files that they opened. No contract can say what a path leads to: a file is known by what it gives and
+-- what it takes.
+use Rattle.std.specs.Prelude.{ℕ, ◌≡◌, ◌≤◌, ◌⊎◌, Option, List}
+use Rattle.sat_base.specs.declared.device.counted.Counted.{Counted}
+use Rattle.sat_base.specs.device.Counting.{device_of, new_reader, new_writer, reader_of, writer_of}
+use Rattle.sat_base.specs.device.Device.{Writer}
+use Rattle.certify.specs.program.Calls.{Request, Run, Confirm, Hints, Check, AsksFor}
+use Rattle.certify.specs.program.HintPrinting.{PrintsHintVerdict, WritesHints}
+use Rattle.certify.specs.program.Printing.{PrintsYesOrNo, Ran}
+
+-- a file that was opened to be read, and not read yet
+abbrev pub IsOpened : {F : Type 0} → (F → Option (List ℕ)) → Counted F → Type 0
+IsOpened remaining f = reader_of remaining f ≡ new_reader (remaining (device_of f))
+
+-- a file that was made, and not written yet
+abbrev pub IsMade : {F : Type 0} → (F → Option (List ℕ)) → Counted F → Type 0
+IsMade contents f = writer_of contents f ≡ new_writer (contents (device_of f))
+
+-- a file that was opened and read
+pub record ReadFile {F : Type 0} (remaining : F → Option (List ℕ)) : Type 0 where
+  pub old : Counted F
+  pub new : Counted F
+  pub opened : IsOpened remaining old
+
+-- a file that was made and written
+pub record WrittenFile {F : Type 0} (contents : F → Option (List ℕ)) : Type 0 where
+  pub old : Counted F
+  pub new : Counted F
+  pub made : IsMade contents old
+
+-- `run`: the answers to the script were written, and their certificate
+pub record RunsFiles {F : Type 0} (remaining contents : F → Option (List ℕ)) (status budget : ℕ) : Type 0 where
+  pub script : ReadFile remaining
+  pub answers : WrittenFile contents
+  pub certificate : WrittenFile contents
+  pub small : status ≤ 1
+  pub ran : Ran status budget (reader_of remaining script.old, reader_of remaining script.new)
+      (writer_of contents answers.old, writer_of contents answers.new) (writer_of contents certificate.old, writer_of contents certificate.new)
+
+-- `confirm`: whether the three texts match was printed
+pub record ConfirmsFiles {F : Type 0} (remaining : F → Option (List ℕ)) (status : ℕ) (output : Writer × Writer) : Type 0 where
+  pub script : ReadFile remaining
+  pub answers : ReadFile remaining
+  pub certificate : ReadFile remaining
+  pub small : status ≤ 1
+  pub printed : PrintsYesOrNo status (reader_of remaining script.old, reader_of remaining script.new)
+      (reader_of remaining answers.old, reader_of remaining answers.new) (reader_of remaining certificate.old, reader_of remaining certificate.new)
+      output
+
+-- `hints`: the hint text of the certificate was written, or it has none
+pub record HintsFiles {F : Type 0} (remaining contents : F → Option (List ℕ)) (status : ℕ) : Type 0 where
+  pub certificate : ReadFile remaining
+  pub hints : WrittenFile contents
+  pub small : status ≤ 1
+  pub written : WritesHints status (reader_of remaining certificate.old, reader_of remaining certificate.new)
+      (writer_of contents hints.old, writer_of contents hints.new)
+
+-- `check`: what the hint text is was printed
+pub record ChecksFile {F : Type 0} (remaining : F → Option (List ℕ)) (status : ℕ) (output : Writer × Writer) : Type 0 where
+  pub hints : ReadFile remaining
+  pub small : status ≤ 1
+  pub printed : PrintsHintVerdict status (reader_of remaining hints.old, reader_of remaining hints.new) output
+
+-- What a call did that ended with this status: what it asks for; or, with status 2, nothing was written over, and nothing printed. Only a
+-- call that writes files can have status 2.
+abbrev pub CallDone : {F : Type 0} → (remaining contents : F → Option (List ℕ)) → Request → ℕ → Writer × Writer → Type 0
+CallDone remaining contents (Run s a c budget) status output =
+    (output.1 ≡ output.0) × ((status ≡ 2) ⊎ RunsFiles remaining contents status budget)
+CallDone remaining contents (Confirm s a c) status output = ConfirmsFiles remaining status output
+CallDone remaining contents (Hints c h) status output = (output.1 ≡ output.0) × ((status ≡ 2) ⊎ HintsFiles remaining contents status)
+CallDone remaining contents (Check h) status output = ChecksFile remaining status output
+
+-- the same of the words of a call, if there was no fault
+abbrev pub DoneOverFiles : {F : Type 0} → (remaining contents : F → Option (List ℕ)) → List (List ℕ) → ℕ → Writer × Writer → Type 0
+DoneOverFiles remaining contents words status output =
+    (request : Request) → AsksFor words request → status ≤ 2 → CallDone remaining contents request status output

@@ -1,0 +1,38 @@
+//! Files that a call would write over, or write twice, under other names.
+
+use crate::program::call::RunFiles;
+use std::fs;
+use std::fs::{Files, Metadata};
+use std::os::unix::fs::MetadataExt;
+
+/// Whether these are of one regular file: it has a device and an inode, which all of its names share.
+fn is_same(one: &Metadata, other: &Metadata) -> bool {
+    one.is_file() && one.ino() != 0 && one.ino() == other.ino() && one.dev() == other.dev()
+}
+
+/// Whether two paths lead to one regular file, be it by a link or in other words.
+pub(super) fn is_one_file<R: Files>(rt: &R, one: &str, other: &str) -> bool {
+    match (fs::metadata(rt, one), fs::metadata(rt, other)) {
+        (Ok(one), Ok(other)) => is_same(&one, &other),
+        _ => false,
+    }
+}
+
+/// Whether two outputs would be written into one file: the paths lead to one regular file, or are the same and lead to
+/// no file yet.
+fn is_one_output<R: Files>(rt: &R, one: &str, other: &str) -> bool {
+    if one == other {
+        return match fs::metadata(rt, one) {
+            Ok(found) => found.is_file(),
+            Err(_) => true,
+        };
+    }
+    is_one_file(rt, one, other)
+}
+
+/// Whether a run would write over its script, or write answers and certificate into one file.
+pub(super) fn overlaps<R: Files>(rt: &R, files: RunFiles<'_>) -> bool {
+    is_one_file(rt, files.script, files.answers)
+        || is_one_file(rt, files.script, files.certificate)
+        || is_one_output(rt, files.answers, files.certificate)
+}
