@@ -39,7 +39,7 @@ fn answer<S: CountedRead, A: CountedWrite, C: CountedWrite + Drop>(
     ensures runs { FinishesOrFaults result.1 budget (gave S.seen script.old script.new)
         (took A.seen answers.old answers.new) (C.seen certificate, C.seen result.0) }
     ensures unfinished { OnErr result.1
-        (Unfinished (gave S.seen script.old script.new) (took A.seen answers.old answers.new)) }
+        (Unfinished budget (gave S.seen script.old script.new) (took A.seen answers.old answers.new)) }
     ensures steps { TookSteps (C.seen certificate, C.seen result.0) }
     ensures counter_end { IsErrOf result.1 RunFault.CounterEnd → CounterEnds (gave S.seen script.old script.new) }
     ensures reads { ReadsFew (gave S.seen script.old script.new) }
@@ -61,7 +61,7 @@ fn answer_into<S: CountedRead, A: CountedWrite, C: CountedWrite>(
     ensures runs { FinishesOrFaults result budget (gave S.seen script.old script.new)
         (took A.seen answers.old answers.new) (took C.seen certificate.old certificate.new) }
     ensures unfinished { OnErr result
-        (Unfinished (gave S.seen script.old script.new) (took A.seen answers.old answers.new)) }
+        (Unfinished budget (gave S.seen script.old script.new) (took A.seen answers.old answers.new)) }
     ensures steps { TookSteps (took C.seen certificate.old certificate.new) }
     ensures counter_end { IsErrOf result RunFault.CounterEnd → CounterEnds (gave S.seen script.old script.new) }
     ensures reads { ReadsFew (gave S.seen script.old script.new) }
@@ -94,10 +94,10 @@ pub fn run<S: CountedRead, A: CountedWrite, C: CountedWrite>(
     ensures backed { Backed result budget S.seen A.seen C.seen (script.old, answers.old, certificate.old)
         (script.new, answers.new, certificate.new) }
     ensures flushed { OnOk result (((A.seen answers.new).flushed ≡ true) × ((C.seen certificate.new).flushed ≡ true)) }
-    // Where it isn't finished, the answers' writer took a front of right answers to the text that was given, whatever
-    // would follow.
+    // If it is not finished, the answers' writer received a prefix of right answers to the text that was given, whatever
+    // would follow. An unknown one among them has exhausted its rounds.
     ensures unfinished { OnErr result
-        (Unfinished (gave S.seen script.old script.new) (took A.seen answers.old answers.new)) }
+        (Unfinished budget (gave S.seen script.old script.new) (took A.seen answers.old answers.new)) }
     // Whatever is answered, the certificate's writer took a front of the text of steps that a checker accepts, and
     // nothing else.
     ensures steps { TookSteps (took C.seen certificate.old certificate.new) }

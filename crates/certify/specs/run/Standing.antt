@@ -103,11 +103,13 @@ pub record ServedNext {C : Type 0} (seen : C → Writer) (old new : Session C) (
 -- Where the last command, which isn't refused, wasn't carried out, a front of right answers to it and what is left was written.
 abbrev pub StopsCarrying : {T C : Type 0} → Result T RunFault → Session C → Command → Reading → Writer → Writer → Type 0
 StopsCarrying r old c left before after =
-    OnErr r ((j : Judge) (live : Live) → AgreesWithJudge old.solver j live → refusal_of j c ≡ None → TookAnswersFront old.commands j (onto_commands (c ∷ []) left) before after)
+    OnErr r ((j : Judge) (live : Live) → AgreesWithJudge old.solver j live → refusal_of j c ≡ None
+    → TookAnswersFront old.budget old.solver.clock.steps old.commands j (onto_commands (c ∷ []) left) before after)
 
 -- the same of a script that wasn't served from here on
 abbrev pub StopsOver : {T C : Type 0} → Result T RunFault → Session C → Reading → Writer → Writer → Type 0
-StopsOver r old script before after = OnErr r ((j : Judge) → JudgeIsAt old j → TookAnswersFront (old.commands + 1) j script before after)
+StopsOver r old script before after =
+    OnErr r ((j : Judge) → JudgeIsAt old j → TookAnswersFront old.budget old.solver.clock.steps (old.commands + 1) j script before after)
 
 -- why the last command, which isn't refused, wasn't carried out, but for devices and memory
 abbrev pub CausedBy : {T C : Type 0} → Result T RunFault → Session C → Session C → Command → Type 0

@@ -1,5 +1,5 @@
 -- What a run that wasn't finished has written of the answers, and what any run has written of its certificate.
-use Rattle.std.specs.Prelude.{ℕ, ◌+◌, ◌-◌, ◌^◌, ◌<◌, ◌≤◌, ◌≡◌, ◌⊎◌, List, ◌++◌, length}
+use Rattle.std.specs.Prelude.{ℕ, ◌+◌, ◌-◌, ◌^◌, ◌<◌, ◌≤◌, ◌≡◌, ◌⊎◌, List, [], ◌∷◌, ◌++◌, map, length}
 use Rattle.std.specs.Io.KnownBytes.{Appends}
 use Rattle.sat_base.specs.device.Device.{Reader, Writer, CanFollow, GaveFront}
 use Rattle.sat_base.specs.script.Judge.{Judge, accepted_of, after_script, start}
@@ -14,24 +14,39 @@ use Rattle.sat_solver.specs.proof.Counting.{start as uncounted, TruncatesHashes}
 use Rattle.sat_solver.specs.proof.OutputView.{text_in}
 use Rattle.certify.specs.answers.Answers.{answers_from}
 use Rattle.certify.specs.answers.RightAnswers.{AreRight}
+use Rattle.certify.specs.declared.summary.AskReport.{AskReport}
+use Rattle.certify.specs.run.FinishedRun.{IsBounded, SpendsWithinBudget, answer_kind, identities_given}
 
 -- the writer took these bytes, whether or not a call failed then
 pub record TookBytes (old new : Writer) (bytes : List ℕ) : Type 0 where
   pub taken : new.taken ≡ old.taken ++ bytes
   pub told : Appends old.contents new.contents bytes
 
--- Right answers to a script begin with these bytes, where its first command has this number.
-pub record BeginAnswers (number : ℕ) (j : Judge) (script : Reading) (bytes : List ℕ) : Type 0 where
-  pub outcomes : List Outcome
-  pub right : AreRight j (accepted_of j script.0) outcomes
-  pub behind : List ℕ
-  pub whole : answers_from number j script.0 script.1 outcomes ≡ bytes ++ behind
+-- `AreSpent` of the first asks: what is said of the rounds of each ask that was answered
+abbrev pub AreSpentSoFar : (budget before : ℕ) → (given : List ℕ) → List AskReport → Type 0
+AreSpentSoFar budget before given [] = Unit {0}
+AreSpentSoFar budget before [] (report ∷ reports) = ⊥
+AreSpentSoFar budget before (n ∷ ns) (report ∷ reports) =
+    SpendsWithinBudget budget before report × IsBounded n budget before report × AreSpentSoFar budget (before + report.steps) ns reports
 
--- the writer took a front of them, and nothing else
-pub record TookAnswersFront (number : ℕ) (j : Judge) (script : Reading) (old new : Writer) : Type 0 where
+-- Right answers to a script begin with these bytes, if its first command has this number and so many rounds were made before. They are the
+-- answers to the first asks, in the rounds that are reported: an answer is unknown only if these are exhausted.
+pub record BeginAnswers (budget before number : ℕ) (j : Judge) (script : Reading) (bytes : List ℕ) : Type 0 where
+  pub told : List Outcome
+  pub later : List Outcome  -- of the other asks, as they might be
+  pub right : AreRight j (accepted_of j script.0) (told ++ later)
+  -- whatever they are
+  pub begins : (others : List Outcome) → length others ≡ length later
+      → (behind : List ℕ) × (answers_from number j script.0 script.1 (told ++ others) ≡ bytes ++ behind)
+  pub reports : List AskReport
+  pub kinds : map (λ r. r.answer) reports ≡ map answer_kind told
+  pub spent : AreSpentSoFar budget before (identities_given j (accepted_of j script.0)) reports
+
+-- the writer took a prefix of them, and nothing else
+pub record TookAnswersFront (budget before number : ℕ) (j : Judge) (script : Reading) (old new : Writer) : Type 0 where
   pub bytes : List ℕ
   pub took : TookBytes old new bytes
-  pub front : BeginAnswers number j script bytes
+  pub front : BeginAnswers budget before number j script bytes
 
 -- a reader gave the front of a text of which this is so, whatever follows
 pub record GaveFrontOf (old new : Reader) (P : List ℕ → Type 0) : Type 0 where
@@ -39,9 +54,9 @@ pub record GaveFrontOf (old new : Reader) (P : List ℕ → Type 0) : Type 0 whe
   pub front : GaveFront old new text
   pub holds : (rest : List ℕ) → CanFollow old new rest → P (text ++ rest)
 
--- the writer took a front of right answers to the text that the reader gave, whatever follows in it
-abbrev pub Unfinished : Reader × Reader → Writer × Writer → Type 0
-Unfinished script answers = GaveFrontOf script.0 script.1 (λ text. TookAnswersFront 1 start (reading text) answers.0 answers.1)
+-- the writer took a prefix of right answers to the text that the reader gave, whatever follows in it
+abbrev pub Unfinished : ℕ → Reader × Reader → Writer × Writer → Type 0
+Unfinished budget script answers = GaveFrontOf script.0 script.1 (λ text. TookAnswersFront budget 0 1 start (reading text) answers.0 answers.1)
 
 -- Behind so many commands, these are more than are counted, or the judge gives out more identities than there are variables.
 abbrev pub Exceeds : (count : ℕ) → Judge → Reading → Type 0

@@ -246,22 +246,24 @@ module _ {C : Type 0} (seen : C → Writer) (budget : ℕ) (w : Writer) (s t : S
 
   -- what it has written of the answers
   abbrev Front : List ℕ → Writer → Type 0
-  Front text w = TookAnswersFront 1 start (reading text) u w
+  Front text w = TookAnswersFront budget 0 1 start (reading text) u w
 
-  first_command : (text : List ℕ) (w : Writer) → TookAnswersFront (s.commands + 1) start (reading text) u w → Front text w
-  first_command text w k = subst (λ (n : ℕ). TookAnswersFront (n + 1) start (reading text) u w) fresh.commands k
+  first_command : (text : List ℕ) (w : Writer) → TookAnswersFront s.budget s.solver.clock.steps (s.commands + 1) start (reading text) u w → Front text w
+  first_command text w k =
+      subst (λ (m : ℕ). TookAnswersFront m 0 1 start (reading text) u w) fresh.budget_is
+      (subst (λ (m : ℕ). TookAnswersFront s.budget m 1 start (reading text) u w) fresh.rounds (subst (λ (n : ℕ). TookAnswersFront s.budget s.solver.clock.steps (n + 1) start (reading text) u w) fresh.commands k))
 
-  served_front : (e : RunFault) → FailsWhole seen e (unread x) b s.solver t.solver u v → ((total : List ℕ) → Covers b total → Front (rest_in total (unread x)) z) → Unfinished (x, b.reader) (u, z)
+  served_front : (e : RunFault) → FailsWhole seen e (unread x) b s.solver t.solver u v → ((total : List ℕ) → Covers b total → Front (rest_in total (unread x)) z) → Unfinished budget (x, b.reader) (u, z)
   served_front fault.ScriptRead h f = faulted_front x b h.0.0 (λ text. Front text z) h.0.1 f
   served_front e h f = passed_front 1 x b h.0.0 (λ text. Front text z) h.0.1 f
 
-  pub unfinished_so : (served : Result (Option ℕ) RunFault) (r : Result Summary RunFault) → ServesScript seen start reading written served (unread x) b s t u v → EndsRun seen served r t given v z → OnErr r (Unfinished (x, b.reader) (u, z))
+  pub unfinished_so : (served : Result (Option ℕ) RunFault) (r : Result Summary RunFault) → ServesScript seen start reading written served (unread x) b s t u v → EndsRun seen served r t given v z → OnErr r (Unfinished budget (x, b.reader) (u, z))
   unfinished_so (Ok at) (Ok summary) h f = tt
   unfinished_so (Ok at) (Err e) h f = passed_front 1 x b h.0.0.0 (λ text. Front text z) h.0.0.1
       (λ total k.
       let all = h.2 total k in
       first_command (rest_in total (unread x)) z (front_whole s.budget (place_in s start) (reading (rest_in total (unread x))) (steps_in t.solver) all.text all.reports all.refused u v z all.serves all.told f.1))
-  unfinished_so (Err e) r h f = subst (λ (q : Result Summary RunFault). OnErr q (Unfinished (x, b.reader) (u, z))) (sym f.0)
+  unfinished_so (Err e) r h f = subst (λ (q : Result Summary RunFault). OnErr q (Unfinished budget (x, b.reader) (u, z))) (sym f.0)
       (served_front e h.0 (λ total k. subst (λ (w : Writer). Front (rest_in total (unread x)) w) (sym f.1) (first_command (rest_in total (unread x)) v (h.1 total k))))
 
   -- why a counter has ended

@@ -21,6 +21,7 @@ use Rattle.certify.specs.declared.fault.RunFault.TheVariants as fault
 use Rattle.certify.specs.declared.run.session.Session.{Session}
 use Rattle.certify.specs.declared.summary.AskReport.{AskReport}
 use Rattle.certify.specs.answers.RightAnswers.{IsRight}
+use Rattle.certify.specs.run.FinishedRun.{IsBounded, SpendsWithinBudget, answer_kind}
 use Rattle.certify.specs.run.Unfinished.{TookAnswersFront}
 use Rattle.certify.specs.run.Asking.{AskEffect}
 use Rattle.certify.specs.run.SolverCalls.{FaultSays, FailsSolver, IsAllowed, IsReady, Searched, proof_in}
@@ -116,22 +117,31 @@ module _ {C : Type 0} (seen : C → Writer) (old : Session C) (now : Solver C) (
   right : IsRight (accepted (Ask (named_literals user)) j) (named_literals user) (outcome_for report.answer now)
   right = ask_right seen old.solver sought.mid now user old.budget report sought.opened sought.searched sought.right j live means free
 
-  pub ask_told : WriterTakes before after text → TookAnswersFront old.commands j (onto_commands (Ask (named_literals user) ∷ []) left) before after
-  ask_told t = front_answered old.commands j (named_literals user) (outcome_for report.answer now) left before after free right (subst (WriterTakes before after) sought.text_is t)
+  kind_is : report.answer ≡ answer_kind (outcome_for report.answer now)
+  kind_is = kind_told report.answer now
 
-  pub ask_cut : WriterBreaks before after text → TookAnswersFront old.commands j (onto_commands (Ask (named_literals user) ∷ []) left) before after
-  ask_cut b = front_cut old.commands j (named_literals user) (outcome_for report.answer now) left before after free right (subst (WriterBreaks before after) sought.text_is b)
+  spends : SpendsWithinBudget old.budget old.solver.clock.steps report
+  spends = ask_spent seen old.solver sought.mid now user old.budget report sought.opened sought.searched sought.right
+
+  bounded : IsBounded (accepted (Ask (named_literals user)) j).identity_count old.budget old.solver.clock.steps report
+  bounded = ask_bounded seen old.solver sought.mid now user old.budget report sought.opened sought.searched sought.right j live means free
+
+  pub ask_told : WriterTakes before after text → TookAnswersFront old.budget old.solver.clock.steps old.commands j (onto_commands (Ask (named_literals user) ∷ []) left) before after
+  ask_told t = front_answered old.budget old.solver.clock.steps old.commands j (named_literals user) (outcome_for report.answer now) report left before after free right kind_is spends bounded (subst (WriterTakes before after) sought.text_is t)
+
+  pub ask_cut : WriterBreaks before after text → TookAnswersFront old.budget old.solver.clock.steps old.commands j (onto_commands (Ask (named_literals user) ∷ []) left) before after
+  ask_cut b = front_cut old.budget old.solver.clock.steps old.commands j (named_literals user) (outcome_for report.answer now) report left before after free right kind_is spends bounded (subst (WriterBreaks before after) sought.text_is b)
 
 -- a command that was carried out
 pub carried_stops : {C : Type 0} (seen : C → Writer) (old new : Session C) (c : Command) (before after : Writer) (left : Reading) → CarriedOut seen old new c before after
-    → (j : Judge) (live : Live) → AgreesWithJudge old.solver j live → refusal_of j c ≡ None → TookAnswersFront old.commands j (onto_commands (c ∷ []) left) before after
+    → (j : Judge) (live : Live) → AgreesWithJudge old.solver j live → refusal_of j c ≡ None → TookAnswersFront old.budget old.solver.clock.steps old.commands j (onto_commands (c ∷ []) left) before after
 carried_stops seen old new c before after left h j live means free =
     front_served old.budget (last_place old j) (place_in new (accepted c j)) (c ∷ []) left h.text h.reports 0 before after (h.serves j live means free).2 h.told
 
 -- nothing was written
 pub nothing_stops : {T C : Type 0} (r : Result T RunFault) (old : Session C) (c : Command) (left : Reading) (w : Writer) → StopsCarrying r old c left w w
 nothing_stops (Ok x) old c left w = tt
-nothing_stops (Err e) old c left w = λ j live means free. front_none old.commands j (onto_commands (c ∷ []) left) w
+nothing_stops (Err e) old c left w = λ j live means free. front_none old.budget old.solver.clock.steps old.commands j (onto_commands (c ∷ []) left) w
 
 -- of any fault
 pub on_err : {T : Type 0} (r : Result T RunFault) (P : Type 0) → P → OnErr r P

@@ -1,6 +1,7 @@
 -- What a part of a run that failed has written of the answers.
-use Rattle.std.proofs.Common.{ℕ, ◌+◌, ◌≡◌, ◌∙◌, Option, Some, None, List, [], ◌∷◌, ◌++◌, Err, append_assoc, refl, sym, ap, subst}
-use Rattle.std.proofs.lemmas.List.{append-nil}
+use Rattle.std.proofs.Common.{ℕ, ◌+◌, ◌*◌, ◌≡◌, ◌∙◌, Option, Some, None, List, [], ◌∷◌, ◌++◌, map, length, Err, append_assoc, refl, sym, ap, subst, arith}
+use Rattle.std.proofs.lemmas.List.{append-nil, map-append}
+use Rattle.std.proofs.lemmas.Nat.{pow_pos}
 use Rattle.std.specs.Io.KnownBytes.{Appends, Keeps}
 use Rattle.sat_base.specs.device.Device.{Writer, FlushesOnce, WriterTakes, WriterBreaks}
 use Rattle.sat_base.specs.script.Script.{Literal, Command, Clause, Ask, Hide, Witness, Sample, Malformed}
@@ -11,8 +12,10 @@ use Rattle.sat_base.specs.steps.Steps.{Step}
 use Rattle.sat_checker.specs.matching.Expected.{Outcome, Unknown}
 use Rattle.certify.specs.answers.Answers.{answers_from, malformed_line, outcome_text, refused_line}
 use Rattle.certify.specs.answers.RightAnswers.{AreRight, IsRight}
+use Rattle.certify.specs.declared.summary.Answer.TheVariants as kind
 use Rattle.certify.specs.declared.summary.AskReport.{AskReport}
-use Rattle.certify.specs.run.Unfinished.{BeginAnswers, TookBytes, TookAnswersFront}
+use Rattle.certify.specs.run.FinishedRun.{AreSpent, IsBounded, SpendsWithinBudget, answer_kind, identities_given}
+use Rattle.certify.specs.run.Unfinished.{AreSpentSoFar, BeginAnswers, TookBytes, TookAnswersFront}
 use Rattle.certify.specs.run.Serving.{RunPlace, Serves}
 use Rattle.certify.specs.run.ServedScript.{ServesTo}
 use Rattle.certify.proofs.lemmas.run.ServedOnce.{accepted_next, accepted_refused}
@@ -35,53 +38,122 @@ unknowns_right j (Hide names ∷ commands) = unknowns_right (accepted (Hide name
 unknowns_right j (Witness names ∷ commands) = unknowns_right (accepted (Witness names) j) commands
 unknowns_right j (Sample names ∷ commands) = unknowns_right (accepted (Sample names) j) commands
 
--- FRONTS OF ANSWERS
+-- ROUNDS OF THE FIRST ASKS
 
-module _ (n : ℕ) (j : Judge) where
-  pub begins_none : (script : Reading) → BeginAnswers n j script []
+-- of all asks, so of the first
+spent_first : (budget before : ℕ) (ns : List ℕ) (rs qs : List AskReport) → AreSpent budget before ns (rs ++ qs) → AreSpentSoFar budget before ns rs
+spent_first budget before ns [] qs h = tt
+spent_first budget before [] (r ∷ rs) qs h = h
+spent_first budget before (n ∷ ns) (r ∷ rs) qs h = (h.0, h.1, spent_first budget (before + r.steps) ns rs qs h.2)
+
+not_unknown : kind.Sat ≡ kind.Unknown → ⊥
+not_unknown e = cc
+
+-- a report that any ask can have
+abbrev quick : AskReport
+quick = record { answer = kind.Sat; steps = 0 }
+
+quick_spent : (budget before : ℕ) → SpendsWithinBudget budget before quick
+quick_spent budget before = record { within = omega arith; unknown = λ e. absurd (not_unknown e) }
+
+quick_bounded : (n budget before : ℕ) → IsBounded n budget before quick
+quick_bounded n budget before = record { few = pow_pos (2 * n + 3); answered = λ le. not_unknown }
+
+-- reports for the other asks
+padded : (budget before : ℕ) (ns : List ℕ) (rs : List AskReport) → AreSpentSoFar budget before ns rs → (qs : List AskReport) × AreSpent budget before ns (rs ++ qs)
+padded budget before [] [] h = ([], tt)
+padded budget before (n ∷ ns) [] h = let k = padded budget (before + 0) ns [] tt in (quick ∷ k.0, (quick_spent budget before, quick_bounded n budget before, k.1))
+padded budget before [] (r ∷ rs) h = absurd h
+padded budget before (n ∷ ns) (r ∷ rs) h = let k = padded budget (before + r.steps) ns rs h.2 in (k.0, (h.0, h.1, k.1))
+
+-- PREFIXES OF ANSWERS
+
+module _ (budget before n : ℕ) (j : Judge) where
+  pub begins_none : (script : Reading) → BeginAnswers budget before n j script []
   begins_none script = record {
-    outcomes = unknowns (accepted_of j script.0);
+    told = [];
+    later = unknowns (accepted_of j script.0);
     right = unknowns_right j (accepted_of j script.0);
-    behind = answers_from n j script.0 script.1 (unknowns (accepted_of j script.0));
-    whole = refl;
+    begins = λ others e. (answers_from n j script.0 script.1 others, refl);
+    reports = [];
+    kinds = refl;
+    spent = tt;
   }
 
-  begins_less : (script : Reading) (bytes more : List ℕ) → BeginAnswers n j script (bytes ++ more) → BeginAnswers n j script bytes
-  begins_less script bytes more h = record { outcomes = h.outcomes; right = h.right; behind = more ++ h.behind; whole = h.whole ∙ append_assoc bytes more h.behind }
+  begins_less : (script : Reading) (bytes more : List ℕ) → BeginAnswers budget before n j script (bytes ++ more) → BeginAnswers budget before n j script bytes
+  begins_less script bytes more h = record {
+    told = h.told;
+    later = h.later;
+    right = h.right;
+    begins = λ others e. let k = h.begins others e in (more ++ k.0, k.1 ∙ append_assoc bytes more k.0);
+    reports = h.reports;
+    kinds = h.kinds;
+    spent = h.spent;
+  }
 
-  -- the answer to the next command, which is right
-  begins_ask : (ls : List Literal) (o : Outcome) (left : Reading) → refusal_of j (Ask ls) ≡ None → IsRight (accepted (Ask ls) j) ls o → BeginAnswers n j (onto_commands (Ask ls ∷ []) left) (outcome_text o)
-  begins_ask ls o left e right =
+  -- the answer to the next command, which is right, and the rounds that it took
+  begins_ask : (ls : List Literal) (o : Outcome) (report : AskReport) (left : Reading) → refusal_of j (Ask ls) ≡ None → IsRight (accepted (Ask ls) j) ls o → report.answer ≡ answer_kind o → SpendsWithinBudget budget before report
+      → IsBounded (accepted (Ask ls) j).identity_count budget before report → BeginAnswers budget before n j (onto_commands (Ask ls ∷ []) left) (outcome_text o)
+  begins_ask ls o report left e right same spends bounded =
       let later = accepted_of (accepted (Ask ls) j) left.0 in
       record {
-        outcomes = o ∷ unknowns later;
+        told = o ∷ [];
+        later = unknowns later;
         right = subst (λ cs. AreRight j cs (o ∷ unknowns later)) (sym (accepted_next j (Ask ls) left.0 e)) (right, unknowns_right (accepted (Ask ls) j) later);
-        behind = answers_from (n + 1) (accepted (Ask ls) j) left.0 left.1 (unknowns later);
-        whole = rw e refl;
+        begins = λ others e2. (answers_from (n + 1) (accepted (Ask ls) j) left.0 left.1 others, rw e refl);
+        reports = report ∷ [];
+        kinds = ap (λ k. k ∷ []) same;
+        spent = subst (λ cs. AreSpentSoFar budget before (identities_given j cs) (report ∷ [])) (sym (accepted_next j (Ask ls) left.0 e)) (spends, bounded, tt);
       }
 
-  begins_refused : (c : Command) (r : Refusal) (left : Reading) → refusal_of j c ≡ Some r → BeginAnswers n j (onto_commands (c ∷ []) left) (refused_line n r)
+  begins_refused : (c : Command) (r : Refusal) (left : Reading) → refusal_of j c ≡ Some r → BeginAnswers budget before n j (onto_commands (c ∷ []) left) (refused_line n r)
   begins_refused c r left e =
       let later = accepted_of j left.0 in
       record {
-        outcomes = unknowns later;
+        told = [];
+        later = unknowns later;
         right = subst (λ cs. AreRight j cs (unknowns later)) (sym (accepted_refused j c r left.0 e)) (unknowns_right j later);
-        behind = answers_from (n + 1) j left.0 left.1 (unknowns later);
-        whole = rw e refl;
+        begins = λ others same. (answers_from (n + 1) j left.0 left.1 others, rw e refl);
+        reports = [];
+        kinds = refl;
+        spent = tt;
       }
 
-  begins_malformed : BeginAnswers n j ([], Malformed) (malformed_line n)
-  begins_malformed = record { outcomes = []; right = tt; behind = []; whole = sym (append-nil (malformed_line n)) }
+  begins_malformed : BeginAnswers budget before n j ([], Malformed) (malformed_line n)
+  begins_malformed = record {
+    told = [];
+    later = [];
+    right = tt;
+    begins = λ others e. ([], sym (append-nil (malformed_line n)));
+    reports = [];
+    kinds = refl;
+    spent = tt;
+  }
 
--- what was answered before, and a front behind it
+-- what was answered before, and a prefix after it
 begins_later : (budget : ℕ) (a b : RunPlace) (cs : List Command) (script : Reading) (text bytes : List ℕ) (rs : List AskReport) (k : ℕ)
-    → Serves budget a b cs text rs k → BeginAnswers b.number b.judge script bytes → BeginAnswers a.number a.judge (onto_commands cs script) (text ++ bytes)
-begins_later budget a b cs script text bytes rs k f g = record {
-  outcomes = f.outcomes ++ g.outcomes;
-  right = f.right script.0 g.outcomes g.right;
-  behind = g.behind;
-  whole = f.says script.0 script.1 g.outcomes ∙ ap (λ u. text ++ u) g.whole ∙ sym (append_assoc text bytes g.behind);
-}
+    → Serves budget a b cs text rs k → BeginAnswers budget b.rounds b.number b.judge script bytes → BeginAnswers budget a.rounds a.number a.judge (onto_commands cs script) (text ++ bytes)
+begins_later budget a b cs script text bytes rs k f g =
+    let whole = padded budget b.rounds (identities_given b.judge (accepted_of b.judge script.0)) g.reports g.spent in
+    let given = identities_given a.judge (accepted_of a.judge (cs ++ script.0)) in
+    let spent = f.spent script.0 (g.reports ++ whole.0) whole.1 in
+    record {
+      told = f.outcomes ++ g.told;
+      later = g.later;
+      right = subst (AreRight a.judge (accepted_of a.judge (cs ++ script.0))) (sym (append_assoc f.outcomes g.told g.later)) (f.right script.0 (g.told ++ g.later) g.right);
+      begins = λ others e.
+          let h = g.begins others e in
+          (h.0, ap (answers_from a.number a.judge (cs ++ script.0) script.1) (append_assoc f.outcomes g.told others) ∙ f.says script.0 script.1 (g.told ++ others) ∙ ap (λ u. text ++ u) h.1 ∙ sym (append_assoc text bytes h.0));
+      reports = rs ++ g.reports;
+      kinds =
+          map-append (λ (r : AskReport). r.answer) rs g.reports ∙ ap (λ ks. ks ++ map (λ (r : AskReport). r.answer) g.reports) f.kinds ∙ ap (λ ks. map answer_kind f.outcomes ++ ks) g.kinds
+          ∙ sym (map-append answer_kind f.outcomes g.told);
+      spent = spent_first budget a.rounds given (rs ++ g.reports) whole.0 (subst (AreSpent budget a.rounds given) (sym (append_assoc rs g.reports whole.0)) spent);
+    }
+
+none_left : (others : List Outcome) → length others ≡ 0 → others ≡ []
+none_left [] e = refl
+none_left (o ∷ os) e = absurd (cc)
 
 -- WHAT A WRITER TOOK
 
@@ -102,36 +174,37 @@ bytes_later u v w text bytes t b = record {
 
 -- BOTH
 
-module _ (n : ℕ) (j : Judge) where
+module _ (budget before n : ℕ) (j : Judge) where
   -- nothing was written
-  pub front_none : (script : Reading) (w : Writer) → TookAnswersFront n j script w w
-  front_none script w = record { bytes = []; took = bytes_none w; front = begins_none n j script }
+  pub front_none : (script : Reading) (w : Writer) → TookAnswersFront budget before n j script w w
+  front_none script w = record { bytes = []; took = bytes_none w; front = begins_none budget before n j script }
 
-  front_all : (script : Reading) (u v : Writer) (text : List ℕ) → BeginAnswers n j script text → WriterTakes u v text → TookAnswersFront n j script u v
+  front_all : (script : Reading) (u v : Writer) (text : List ℕ) → BeginAnswers budget before n j script text → WriterTakes u v text → TookAnswersFront budget before n j script u v
   front_all script u v text h t = record { bytes = text; took = bytes_taken u v text t; front = h }
 
-  front_broken : (script : Reading) (u v : Writer) (text : List ℕ) → BeginAnswers n j script text → WriterBreaks u v text → TookAnswersFront n j script u v
-  front_broken script u v text h b = record { bytes = b.front; took = bytes_broken u v text b; front = begins_less n j script b.front b.behind (subst (BeginAnswers n j script) b.whole h) }
+  front_broken : (script : Reading) (u v : Writer) (text : List ℕ) → BeginAnswers budget before n j script text → WriterBreaks u v text → TookAnswersFront budget before n j script u v
+  front_broken script u v text h b = record { bytes = b.front; took = bytes_broken u v text b; front = begins_less budget before n j script b.front b.behind (subst (BeginAnswers budget before n j script) b.whole h) }
 
   -- the line of a refusal
-  pub front_refused : (c : Command) (r : Refusal) (left : Reading) (u v : Writer) → refusal_of j c ≡ Some r → WriterBreaks u v (refused_line n r) → TookAnswersFront n j (onto_commands (c ∷ []) left) u v
-  front_refused c r left u v e b = front_broken (onto_commands (c ∷ []) left) u v (refused_line n r) (begins_refused n j c r left e) b
+  pub front_refused : (c : Command) (r : Refusal) (left : Reading) (u v : Writer) → refusal_of j c ≡ Some r → WriterBreaks u v (refused_line n r) → TookAnswersFront budget before n j (onto_commands (c ∷ []) left) u v
+  front_refused c r left u v e b = front_broken (onto_commands (c ∷ []) left) u v (refused_line n r) (begins_refused budget before n j c r left e) b
 
   -- that of a text that is malformed
-  pub front_malformed : (u v : Writer) → WriterBreaks u v (malformed_line n) → TookAnswersFront n j ([], Malformed) u v
-  front_malformed u v b = front_broken ([], Malformed) u v (malformed_line n) (begins_malformed n j) b
+  pub front_malformed : (u v : Writer) → WriterBreaks u v (malformed_line n) → TookAnswersFront budget before n j ([], Malformed) u v
+  front_malformed u v b = front_broken ([], Malformed) u v (malformed_line n) (begins_malformed budget before n j) b
 
   -- the answer to an ask, or a front of it
-  module _ (ls : List Literal) (o : Outcome) (left : Reading) (u v : Writer) (e : refusal_of j (Ask ls) ≡ None) (right : IsRight (accepted (Ask ls) j) ls o) where
-    pub front_answered : WriterTakes u v (outcome_text o) → TookAnswersFront n j (onto_commands (Ask ls ∷ []) left) u v
-    front_answered t = front_all (onto_commands (Ask ls ∷ []) left) u v (outcome_text o) (begins_ask n j ls o left e right) t
+  module _ (ls : List Literal) (o : Outcome) (report : AskReport) (left : Reading) (u v : Writer) (e : refusal_of j (Ask ls) ≡ None) (right : IsRight (accepted (Ask ls) j) ls o) (same : report.answer ≡ answer_kind o)
+      (spends : SpendsWithinBudget budget before report) (bounded : IsBounded (accepted (Ask ls) j).identity_count budget before report) where
+    pub front_answered : WriterTakes u v (outcome_text o) → TookAnswersFront budget before n j (onto_commands (Ask ls ∷ []) left) u v
+    front_answered t = front_all (onto_commands (Ask ls ∷ []) left) u v (outcome_text o) (begins_ask budget before n j ls o report left e right same spends bounded) t
 
-    pub front_cut : WriterBreaks u v (outcome_text o) → TookAnswersFront n j (onto_commands (Ask ls ∷ []) left) u v
-    front_cut b = front_broken (onto_commands (Ask ls ∷ []) left) u v (outcome_text o) (begins_ask n j ls o left e right) b
+    pub front_cut : WriterBreaks u v (outcome_text o) → TookAnswersFront budget before n j (onto_commands (Ask ls ∷ []) left) u v
+    front_cut b = front_broken (onto_commands (Ask ls ∷ []) left) u v (outcome_text o) (begins_ask budget before n j ls o report left e right same spends bounded) b
 
 -- behind commands that were served
 pub front_later : (budget : ℕ) (a b : RunPlace) (cs : List Command) (script : Reading) (text : List ℕ) (rs : List AskReport) (k : ℕ) (u v w : Writer)
-    → Serves budget a b cs text rs k → WriterTakes u v text → TookAnswersFront b.number b.judge script v w → TookAnswersFront a.number a.judge (onto_commands cs script) u w
+    → Serves budget a b cs text rs k → WriterTakes u v text → TookAnswersFront budget b.rounds b.number b.judge script v w → TookAnswersFront budget a.rounds a.number a.judge (onto_commands cs script) u w
 front_later budget a b cs script text rs k u v w f t g = record {
   bytes = text ++ g.bytes;
   took = bytes_later u v w text g.bytes t g.took;
@@ -140,16 +213,26 @@ front_later budget a b cs script text rs k u v w f t g = record {
 
 -- all that was answered to commands that were served
 pub front_served : (budget : ℕ) (a b : RunPlace) (cs : List Command) (script : Reading) (text : List ℕ) (rs : List AskReport) (k : ℕ) (u v : Writer)
-    → Serves budget a b cs text rs k → WriterTakes u v text → TookAnswersFront a.number a.judge (onto_commands cs script) u v
-front_served budget a b cs script text rs k u v f t = front_later budget a b cs script text rs k u v v f t (front_none b.number b.judge script v)
+    → Serves budget a b cs text rs k → WriterTakes u v text → TookAnswersFront budget a.rounds a.number a.judge (onto_commands cs script) u v
+front_served budget a b cs script text rs k u v f t = front_later budget a b cs script text rs k u v v f t (front_none budget b.rounds b.number b.judge script v)
 
 -- to the whole script, behind which nothing more was written
 pub front_whole : (budget : ℕ) (a : RunPlace) (script : Reading) (to : List Step) (text : List ℕ) (rs : List AskReport) (k : ℕ) (u v w : Writer)
-    → ServesTo budget a script to text rs k → WriterTakes u v text → TookBytes v w [] → TookAnswersFront a.number a.judge script u w
+    → ServesTo budget a script to text rs k → WriterTakes u v text → TookBytes v w [] → TookAnswersFront budget a.rounds a.number a.judge script u w
 front_whole budget a script to text rs k u v w f t b = record {
   bytes = text ++ [];
   took = bytes_later u v w text [] t b;
-  front = record { outcomes = f.outcomes; right = f.right; behind = []; whole = f.says ∙ sym (append-nil text) ∙ sym (append-nil (text ++ [])) };
+  front = record {
+    told = f.outcomes;
+    later = [];
+    right = subst (AreRight a.judge (accepted_of a.judge script.0)) (sym (append-nil f.outcomes)) f.right;
+    begins = λ others e.
+        let same = ap (λ os. f.outcomes ++ os) (none_left others e) ∙ append-nil f.outcomes in
+        ([], ap (answers_from a.number a.judge script.0 script.1) same ∙ f.says ∙ sym (append-nil text) ∙ sym (append-nil (text ++ [])));
+    reports = rs;
+    kinds = f.kinds;
+    spent = spent_first budget a.rounds (identities_given a.judge (accepted_of a.judge script.0)) rs [] (subst (AreSpent budget a.rounds (identities_given a.judge (accepted_of a.judge script.0))) (sym (append-nil rs)) f.spent);
+  };
 }
 
 keeps_appends : (a b : Option (List ℕ)) → Keeps a b → Appends a b []
