@@ -5,6 +5,7 @@ pub mod Learning
 pub mod FinishedRun
 pub mod Running
 pub mod Unfinished
+pub mod Lacking
 pub mod Asking
 pub mod SolverCalls
 pub mod Certifies

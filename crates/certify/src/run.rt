@@ -41,7 +41,8 @@ fn answer<S: CountedRead, A: CountedWrite, C: CountedWrite + Drop>(
     ensures unfinished { OnErr result.1
         (Unfinished budget (gave S.seen script.old script.new) (took A.seen answers.old answers.new)) }
     ensures steps { TookSteps (C.seen certificate, C.seen result.0) }
-    ensures counter_end { IsErrOf result.1 RunFault.CounterEnd → CounterEnds (gave S.seen script.old script.new) }
+    ensures counter_end { IsErrOf result.1 RunFault.CounterEnd → CounterEnds (gave S.seen script.old script.new)
+        (C.seen certificate, C.seen result.0) }
     ensures reads { ReadsFew (gave S.seen script.old script.new) }
 {
     let mut session = Session::new(alloc, certificate, budget);
@@ -63,7 +64,8 @@ fn answer_into<S: CountedRead, A: CountedWrite, C: CountedWrite>(
     ensures unfinished { OnErr result
         (Unfinished budget (gave S.seen script.old script.new) (took A.seen answers.old answers.new)) }
     ensures steps { TookSteps (took C.seen certificate.old certificate.new) }
-    ensures counter_end { IsErrOf result RunFault.CounterEnd → CounterEnds (gave S.seen script.old script.new) }
+    ensures counter_end { IsErrOf result RunFault.CounterEnd → CounterEnds (gave S.seen script.old script.new)
+        (took C.seen certificate.old certificate.new) }
     ensures reads { ReadsFew (gave S.seen script.old script.new) }
 {
     let (lent, result) = answer(alloc, script, answers, certificate, budget);
@@ -109,9 +111,10 @@ pub fn run<S: CountedRead, A: CountedWrite, C: CountedWrite>(
         → WriteFails (A.seen answers.old) (A.seen answers.new) }
     ensures certificate_write { IsErrOf result RunFault.CertificateWrite
         → WriteFails (C.seen certificate.old) (C.seen certificate.new) }
-    // A counter has ended only where the text that was given, whatever would follow, has 2^64-1 commands or brings more
-    // names in than there are variables.
-    ensures counter_end { IsErrOf result RunFault.CounterEnd → CounterEnds (gave S.seen script.old script.new) }
+    // A counter has ended only if the text that was given has 2^64-1 commands; or if one of them lacks variables for its
+    // names, after the steps of whose text the certificate's writer received a prefix.
+    ensures counter_end { IsErrOf result RunFault.CounterEnd → CounterEnds (gave S.seen script.old script.new)
+        (took C.seen certificate.old certificate.new) }
     // A call of a device has failed only where the answer is that.
     ensures kept_script { IsErrOf result RunFault.ScriptRead
         ⊎ ((S.seen script.new).failures ≡ (S.seen script.old).failures) }

@@ -23,6 +23,7 @@ use Rattle.certify.specs.declared.summary.Answer.{Answer}
 use Rattle.certify.specs.declared.summary.Answer.TheVariants as kind
 use Rattle.certify.specs.declared.summary.AskReport.{AskReport}
 use Rattle.certify.specs.run.FinishedRun.{SpendsWithinBudget}
+use Rattle.certify.specs.run.Lacking.{CommandLacks}
 use Rattle.certify.specs.run.Quiet.{Proof, Solver}
 
 -- what a solver that goes on, and isn't refused, may fail of
@@ -86,13 +87,19 @@ pub record IsReady {C : Type 0} (s : Solver C) : Type 0 where
 abbrev pub IsAllowed : {C : Type 0} → Solver C → List ℕ → Type 0
 IsAllowed s user = (j : Judge) × (live : Live) × Agree s.names (steps_in s) j live × (refused_literal j (names_in user) ≡ None)
 
--- a variable is lacking for a name that would come in with these
+-- a variable is lacking for a name that would be introduced with these
 abbrev pub LacksRoom : {C : Type 0} → Solver C → (users : List ℕ) → Type 0
 LacksRoom s users = HasRoom s.names users → ⊥
 
--- Once this command was carried out, the judge would have given out more identities than there are variables.
-abbrev pub NeedsMore : {C : Type 0} → Solver C → Command → Type 0
-NeedsMore s c = (j : Judge) (live : Live) → Agree s.names (steps_in s) j live → var_limit < (accepted c j).identity_count
+-- so it was refused
+abbrev pub RefusedForRoom : {C : Type 0} → Solver C → Solver C → (users : List ℕ) → Type 0
+RefusedForRoom old new users = LacksRoom old users × (new ≡ old)
+
+-- The command lacks variables for its names, after the steps that were made for it. With it, the judge would have given out more identities
+-- than there are variables.
+abbrev pub LacksFor : {C : Type 0} → Solver C → Solver C → Command → Type 0
+LacksFor old new c = (j : Judge) (live : Live) → Agree old.names (steps_in old) j live
+    → (var_limit < (accepted c j).identity_count) × CommandLacks j c (steps_in new)
 
 -- from here on a search makes at most so many rounds
 pub record Limited {C : Type 0} (budget : ℕ) (old new : Solver C) : Type 0 where

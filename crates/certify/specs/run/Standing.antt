@@ -20,7 +20,7 @@ use Rattle.sat_base.specs.script.JudgeLaws.{JudgeInvariant}
 use Rattle.certify.specs.script.Commands.{kind_of}
 use Rattle.sat_base.specs.script.Language.{Reading, command_of, onto_commands}
 use Rattle.certify.specs.run.Unfinished.{Exceeds, TookAnswersFront}
-use Rattle.certify.specs.run.SolverCalls.{FaultSays, IsCaused, IsReady, NeedsMore, proof_in}
+use Rattle.certify.specs.run.SolverCalls.{FaultSays, IsCaused, IsReady, LacksFor, proof_in}
 use Rattle.certify.specs.run.Serving.{RunPlace, Serves}
 use Rattle.certify.specs.run.Quiet.{Solver}
 
@@ -113,11 +113,12 @@ StopsOver r old script before after =
 
 -- why the last command, which isn't refused, wasn't carried out, but for devices and memory
 abbrev pub CausedBy : {T C : Type 0} → Result T RunFault → Session C → Session C → Command → Type 0
-CausedBy r old new c = IfErr r (λ e. IsCaused e (HasFullStore new.solver) (NeedsMore old.solver c))
+CausedBy r old new c = IfErr r (λ e. IsCaused e (HasFullStore new.solver) (LacksFor old.solver new.solver c))
 
 -- the same of a script that wasn't served from here on
 abbrev pub CausedOver : {T C : Type 0} → Result T RunFault → Session C → Session C → Reading → Type 0
-CausedOver r old new script = IfErr r (λ e. IsCaused e (HasFullStore new.solver) ((j : Judge) → JudgeIsAt old j → Exceeds old.commands j script))
+CausedOver r old new script =
+    IfErr r (λ e. IsCaused e (HasFullStore new.solver) ((j : Judge) → JudgeIsAt old j → Exceeds old.commands j script (steps_in new.solver)))
 
 -- what a part of a run did to the answers' writer and to the certificate: one call of one of them may have failed
 abbrev pub WritesBoth : {T C : Type 0} → Result T RunFault → (C → Writer) → Writer → Writer → Solver C → Solver C → Type 0

@@ -16,6 +16,7 @@ use Rattle.certify.specs.answers.Answers.{answers_from}
 use Rattle.certify.specs.answers.RightAnswers.{AreRight}
 use Rattle.certify.specs.declared.summary.AskReport.{AskReport}
 use Rattle.certify.specs.run.FinishedRun.{IsBounded, SpendsWithinBudget, answer_kind, identities_given}
+use Rattle.certify.specs.run.Lacking.{OneLacks}
 
 -- the writer took these bytes, whether or not a call failed then
 pub record TookBytes (old new : Writer) (bytes : List ℕ) : Type 0 where
@@ -58,14 +59,6 @@ pub record GaveFrontOf (old new : Reader) (P : List ℕ → Type 0) : Type 0 whe
 abbrev pub Unfinished : ℕ → Reader × Reader → Writer × Writer → Type 0
 Unfinished budget script answers = GaveFrontOf script.0 script.1 (λ text. TookAnswersFront budget 0 1 start (reading text) answers.0 answers.1)
 
--- Behind so many commands, these are more than are counted, or the judge gives out more identities than there are variables.
-abbrev pub Exceeds : (count : ℕ) → Judge → Reading → Type 0
-Exceeds count j script = (2 ^ 64 - 1 ≤ count + length script.0) ⊎ (var_limit < (after_script script.0 j).identity_count)
-
--- so, whatever follows what the reader gave of the script
-abbrev pub CounterEnds : Reader × Reader → Type 0
-CounterEnds script = GaveFrontOf script.0 script.1 (λ text. Exceeds 0 start (reading text))
-
 -- The writer took a front of the text of these steps, and nothing else. A checker accepts each of them in its turn. They are what is written
 -- for those that were made, with widths for their hashes. Lists have the newest first.
 pub record StepsFront (old new : Writer) : Type 0 where
@@ -82,3 +75,18 @@ pub record StepsFront (old new : Writer) : Type 0 where
 -- there are such steps
 abbrev pub TookSteps : Writer × Writer → Type 0
 TookSteps certificate = ∥ StepsFront certificate.0 certificate.1 ∥₁
+
+-- After so many commands, these are more than are counted; or one of them lacks variables for its names, after these steps. The judge gives
+-- out more identities then than there are variables.
+abbrev pub Exceeds : (count : ℕ) → Judge → Reading → List Step → Type 0
+Exceeds count j script steps =
+    (2 ^ 64 - 1 ≤ count + length script.0) ⊎ ((var_limit < (after_script script.0 j).identity_count) × OneLacks j script.0 steps)
+
+-- the same of a script, after the steps of whose text the writer took a prefix
+abbrev pub ExceedsWritten : Reading → Writer × Writer → Type 0
+ExceedsWritten script certificate = (2 ^ 64 - 1 ≤ length script.0)
+    ⊎ ∥ (k : StepsFront certificate.0 certificate.1) × (var_limit < (after_script script.0 start).identity_count) × OneLacks start script.0 k.made ∥₁
+
+-- so, whatever follows what the reader gave of the script
+abbrev pub CounterEnds : Reader × Reader → Writer × Writer → Type 0
+CounterEnds script certificate = GaveFrontOf script.0 script.1 (λ text. ExceedsWritten (reading text) certificate)

@@ -5,7 +5,7 @@ ghost use Rattle.sat_base.specs.script.Script.{Ask};
 ghost use Rattle.sat_solver.specs.solver.Whole.{HasFullStore};
 ghost use Rattle.certify.specs.answers.AnswerForms.{named_literals};
 ghost use Rattle.certify.specs.run.Asking.{AskEffect};
-ghost use Rattle.certify.specs.run.SolverCalls.{FailsIf, IsAllowed, IsCaused, IsReady, NeedsMore};
+ghost use Rattle.certify.specs.run.SolverCalls.{FailsIf, IsAllowed, IsCaused, IsReady, LacksFor};
 ghost use Rattle.certify.specs.run.Standing.{CarriedOut, CausedBy, StopsCarrying, WritesBoth};
 
 use super::page::Page;
@@ -33,7 +33,7 @@ fn ask<C: CountedWrite + Drop>(
     ensures allowed { OnOk result (IsAllowed solver.new []) }
     ensures fails { FailsIf result C.seen solver.old solver.new }
     ensures cause { IfErr result (λ e. IsCaused e (HasFullStore solver.new)
-        (NeedsMore solver.old (Ask (named_literals literals.now)))) }
+        (LacksFor solver.old solver.new (Ask (named_literals literals.now)))) }
 {
     assume(solver, literals)?;
     let report = search(solver, budget)?;

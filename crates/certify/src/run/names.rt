@@ -2,7 +2,7 @@
 ghost use Rattle.std.specs.Prelude.{◌≡◌, ◌+◌, [], ◌∷◌, IfErr, OnOk};
 ghost use Rattle.sat_solver.specs.variables.Refusing.{names_in};
 ghost use Rattle.sat_solver.specs.solver.Whole.{IsSolver};
-ghost use Rattle.certify.specs.run.SolverCalls.{FailsIf, IsCaused, IsReady, LacksRoom, NeedsMore};
+ghost use Rattle.certify.specs.run.SolverCalls.{FailsIf, IsCaused, IsReady, LacksFor, RefusedForRoom};
 ghost use Rattle.certify.specs.run.Obeying.{ChangesName, Obeyed, command_to};
 
 use super::faults::fault_of;
@@ -38,7 +38,7 @@ fn set_name<C: CountedWrite + Drop>(
     ensures obeyed { OnOk result (Obeyed C.seen (command_to state ((user + 1) ∷ [])) solver.old solver.new) }
     ensures fails { FailsIf result C.seen solver.old solver.new }
     // No clause is stored.
-    ensures cause { IfErr result (λ e. IsCaused e ⊥ (LacksRoom solver.old (user ∷ []))) }
+    ensures cause { IfErr result (λ e. IsCaused e ⊥ (RefusedForRoom solver.old solver.new (user ∷ []))) }
 {
     match change_name(solver, user, state) {
         Ok(()) => Ok(()),
@@ -57,7 +57,8 @@ pub(crate) fn set_names<C: CountedWrite + Drop>(
     ensures obeyed { OnOk result (Obeyed C.seen (command_to state (names_in literals.now)) solver.old solver.new) }
     ensures fails { FailsIf result C.seen solver.old solver.new }
     // No clause is stored.
-    ensures cause { IfErr result (λ e. IsCaused e ⊥ (NeedsMore solver.old (command_to state (names_in literals.now)))) }
+    ensures cause { IfErr result (λ e. IsCaused e ⊥ (LacksFor solver.old solver.new
+        (command_to state (names_in literals.now)))) }
 {
     for lit in literals {
         set_name(solver, lit.var(), state)?;

@@ -3,7 +3,7 @@ ghost use Rattle.std.specs.Prelude.{IfOk, IfErr, OnOk};
 ghost use Rattle.sat_solver.specs.variables.Room.{users_in};
 ghost use Rattle.sat_solver.specs.solver.Adding.{Added, ReplacesAssumptions};
 ghost use Rattle.sat_solver.specs.solver.Whole.{HasFullStore};
-ghost use Rattle.certify.specs.run.SolverCalls.{FailsIf, IsAllowed, IsCaused, IsReady, LacksRoom, Limited, Searched};
+ghost use Rattle.certify.specs.run.SolverCalls.{FailsIf, IsAllowed, IsCaused, IsReady, Limited, RefusedForRoom, Searched};
 ghost use Rattle.certify.specs.run.SolverCalls.{Solved};
 
 use super::faults::{fault_of, is_interrupted};
@@ -22,7 +22,7 @@ pub fn add_clause<C: CountedWrite + Drop>(
     ensures added { OnOk result (Added C.seen solver.old solver.new literals.now) }
     ensures fails { FailsIf result C.seen solver.old solver.new }
     ensures cause { IfErr result (λ e. IsCaused e (HasFullStore solver.new)
-        (LacksRoom solver.old (users_in literals.now))) }
+        (RefusedForRoom solver.old solver.new (users_in literals.now))) }
 {
     match solver.add_clause(literals) {
         Ok(()) => Ok(()),
@@ -40,7 +40,7 @@ pub fn assume<C: CountedWrite + Drop>(
     ensures assumed { OnOk result (ReplacesAssumptions C.seen solver.old solver.new literals.now) }
     ensures fails { FailsIf result C.seen solver.old solver.new }
     // No clause is stored.
-    ensures cause { IfErr result (λ e. IsCaused e ⊥ (LacksRoom solver.old (users_in literals.now))) }
+    ensures cause { IfErr result (λ e. IsCaused e ⊥ (RefusedForRoom solver.old solver.new (users_in literals.now))) }
 {
     match solver.assume(literals) {
         Ok(()) => Ok(()),

@@ -23,7 +23,7 @@ use Rattle.sat_solver.specs.proof.ProofView.{FailsCheck, is_checked}
 use Rattle.sat_solver.specs.solver.Whole.{HasFullStore}
 use Rattle.certify.specs.declared.fault.RunFault.{RunFault}
 use Rattle.certify.specs.declared.fault.RunFault.TheVariants as fault
-use Rattle.certify.specs.run.SolverCalls.{FailsSolver, IsAllowed, IsCaused, IsReady, IsSolverFault, LacksRoom, fault_for, proof_in}
+use Rattle.certify.specs.run.SolverCalls.{FailsSolver, IsAllowed, IsCaused, IsReady, IsSolverFault, RefusedForRoom, fault_for, proof_in}
 use Rattle.certify.proofs.lemmas.run.SessionCalls.{took_none}
 use Rattle.certify.specs.run.Quiet.{Solver}
 
@@ -101,19 +101,19 @@ module _ {C : Type 0} (seen : C → Writer) (a b : Solver C) where
     assume_fault errors.VariableLimit h = inr refl
     assume_fault e h = h.2.breaks.fault
 
-    pub clause_caused : (e : SolverError) → AddsClause seen (Err e) a b user → IsCaused (fault_for e) (HasFullStore b) (LacksRoom a (users_in user))
+    pub clause_caused : (e : SolverError) → AddsClause seen (Err e) a b user → IsCaused (fault_for e) (HasFullStore b) (RefusedForRoom a b (users_in user))
     clause_caused errors.WitnessVariable h = absurd (named h.cause.1)
     clause_caused errors.NotInDrat h = absurd (apart (sym h.cause.1.0 ∙ ready.no_lines seen))
     clause_caused errors.HasFailed h = absurd (apart (sym h.cause ∙ ready.going))
-    clause_caused errors.VariableLimit h = h.cause.1.2
-    clause_caused e h = ends_caused (HasFullStore b) (LacksRoom a (users_in user)) e ready h.2
+    clause_caused errors.VariableLimit h = (h.cause.1.2, h.same)
+    clause_caused e h = ends_caused (HasFullStore b) (RefusedForRoom a b (users_in user)) e ready h.2
 
-    pub assume_caused : (e : SolverError) → AssumesOrRefuses seen (Err e) a b user → IsCaused (fault_for e) ⊥ (LacksRoom a (users_in user))
+    pub assume_caused : (e : SolverError) → AssumesOrRefuses seen (Err e) a b user → IsCaused (fault_for e) ⊥ (RefusedForRoom a b (users_in user))
     assume_caused errors.WitnessVariable h = absurd (named h.cause.1)
     assume_caused errors.NotInDrat h = absurd (apart (sym h.cause.1 ∙ ready.no_lines seen))
     assume_caused errors.HasFailed h = absurd (apart (sym h.cause ∙ ready.going))
-    assume_caused errors.VariableLimit h = h.cause.2
-    assume_caused e h = ends_caused ⊥ (LacksRoom a (users_in user)) e ready h.2
+    assume_caused errors.VariableLimit h = (h.cause.2, h.same)
+    assume_caused e h = ends_caused ⊥ (RefusedForRoom a b (users_in user)) e ready h.2
 
   -- no name is assumed where nothing is
   none_asked : (user : ℕ) → a.assumed.items ≡ [] → IsAsked a user → ⊥
@@ -133,8 +133,8 @@ module _ {C : Type 0} (seen : C → Writer) (a b : Solver C) where
     name_fault errors.VariableLimit h = inr refl
     name_fault e h = h.2.breaks.fault
 
-    pub name_caused : (e : SolverError) → ChangesMode seen (Err e) a b user judge due May → IsCaused (fault_for e) ⊥ (LacksRoom a (user ∷ []))
+    pub name_caused : (e : SolverError) → ChangesMode seen (Err e) a b user judge due May → IsCaused (fault_for e) ⊥ (RefusedForRoom a b (user ∷ []))
     name_caused errors.AssumedVariable h = absurd (none_asked user free h.cause.1)
     name_caused errors.HasFailed h = absurd (apart (sym h.cause ∙ ready.going))
-    name_caused errors.VariableLimit h = h.cause.2
-    name_caused e h = ends_caused ⊥ (LacksRoom a (user ∷ [])) e ready h.2
+    name_caused errors.VariableLimit h = (h.cause.2, h.same)
+    name_caused e h = ends_caused ⊥ (RefusedForRoom a b (user ∷ [])) e ready h.2

@@ -8,7 +8,8 @@ use Rattle.sat_base.specs.script.Judge.{Judge, accepted, after_command, after_sc
 use Rattle.sat_base.specs.values.Literals.{var_limit, variable}
 use Rattle.sat_solver.specs.variables.Refusing.{names_in}
 use Rattle.sat_solver.specs.variables.Room.{users_in}
-use Rattle.sat_solver.specs.solver.Whole.{HasFullStore}
+use Rattle.sat_base.specs.steps.Steps.{Step}
+use Rattle.sat_solver.specs.solver.Whole.{HasFullStore, steps_in}
 use Rattle.certify.specs.answers.AnswerForms.{named_literals}
 use Rattle.certify.specs.declared.fault.RunFault.{RunFault}
 use Rattle.certify.specs.declared.fault.RunFault.TheVariants as fault
@@ -19,13 +20,14 @@ use Rattle.certify.specs.declared.run.session.Session.{Session}
 use Rattle.certify.specs.judge.Names.{TellsRefusal}
 use Rattle.certify.specs.script.Commands.{IsLent}
 use Rattle.certify.specs.run.Unfinished.{Exceeds}
-use Rattle.certify.specs.run.SolverCalls.{IsCaused, LacksRoom, NeedsMore}
+use Rattle.certify.specs.run.Lacking.{CommandLacks}
+use Rattle.certify.specs.run.SolverCalls.{IsCaused, LacksFor, RefusedForRoom}
 use Rattle.certify.specs.run.Obeying.{Obeyed, command_to}
 use Rattle.certify.specs.run.Quiet.{Solver}
 use Rattle.certify.specs.run.Standing.{CausedBy, CausedOver, JudgeIsAt, ServedNext, spelled_by}
 use Rattle.certify.proofs.lemmas.run.CallFaults.{caused_map}
 use Rattle.certify.proofs.lemmas.run.Lent.{lent_is, spelled_as}
-use Rattle.certify.proofs.lemmas.run.Needing.{clause_needs, name_needs, names_need_more, script_grows}
+use Rattle.certify.proofs.lemmas.run.Needing.{clause_needs, names_need_more, script_grows}
 use Rattle.certify.proofs.lemmas.run.Next.{after_accepted}
 use Rattle.certify.proofs.lemmas.run.Obeys.{name_more}
 
@@ -59,22 +61,22 @@ names_split codes k code user lt is at =
     sym (append_assoc (names_in (take k codes)) ((user + 1) ∷ []) (names_in (drop (k + 1) codes))) ∙ ap (λ ns. ns ++ names_in (drop (k + 1) codes)) (name_more codes k code user lt is at)
     ∙ sym (map-append (λ l. variable l + 1) (take (k + 1) codes) (drop (k + 1) codes)) ∙ ap names_in (take-append-drop (k + 1) codes)
 
-pub names_caused : {C : Type 0} (seen : C → Writer) (st : NameState) (codes : List ℕ) (k code user : ℕ) (a b : Solver C) (e : RunFault) → k < length codes → code ≡ get_or codes k code → user ≡ variable code
-    → Obeyed seen (command_to st (names_in (take k codes))) a b → IsCaused e ⊥ (LacksRoom b (user ∷ [])) → IsCaused e ⊥ (NeedsMore a (command_to st (names_in codes)))
-names_caused seen st codes k code user a b e lt is at done h =
-    caused_map e ⊥ (LacksRoom b (user ∷ [])) ⊥ (NeedsMore a (command_to st (names_in codes))) (λ x. x)
-    (λ lacks. subst (λ names. NeedsMore a (command_to st names)) (names_split codes k code user lt is at) (names_need_more seen st (names_in (take k codes)) ((user + 1) ∷ []) (names_in (drop (k + 1) codes)) a b done (name_needs b st user lacks))) h
+pub names_caused : {C : Type 0} (seen : C → Writer) (st : NameState) (codes : List ℕ) (k code user : ℕ) (a b c : Solver C) (e : RunFault) → k < length codes → code ≡ get_or codes k code → user ≡ variable code
+    → Obeyed seen (command_to st (names_in (take k codes))) a b → IsCaused e ⊥ (RefusedForRoom b c (user ∷ [])) → IsCaused e ⊥ (LacksFor a c (command_to st (names_in codes)))
+names_caused seen st codes k code user a b c e lt is at done h =
+    caused_map e ⊥ (RefusedForRoom b c (user ∷ [])) ⊥ (LacksFor a c (command_to st (names_in codes))) (λ x. x)
+    (λ lacks. subst (λ names. LacksFor a c (command_to st names)) (names_split codes k code user lt is at) (names_need_more seen st (names_in (take k codes)) (names_in (drop (k + 1) codes)) user a b c done lacks)) h
 
 -- COMMANDS
 
 module _ {C : Type 0} (lent : Lent) (old : Session C) (r : Result (Unit {0}) RunFault) (new : Solver C) where
-  pub clause_caused_by : lent.kind ≡ kind.Clause → IfErr r (λ e. IsCaused e (HasFullStore new) (LacksRoom old.solver (users_in lent.literals.now))) → CausedBy r old (record old { solver = new }) (spelled_by lent)
+  pub clause_caused_by : lent.kind ≡ kind.Clause → IfErr r (λ e. IsCaused e (HasFullStore new) (RefusedForRoom old.solver new (users_in lent.literals.now))) → CausedBy r old (record old { solver = new }) (spelled_by lent)
   clause_caused_by e h = subst (λ c. CausedBy r old (record old { solver = new }) c) (sym (spelled_as lent kind.Clause e))
-      (caused_if r (HasFullStore new) (LacksRoom old.solver (users_in lent.literals.now)) (HasFullStore new) (NeedsMore old.solver (Clause (named_literals lent.literals.now))) (λ x. x) (clause_needs old.solver lent.literals.now) h)
+      (caused_if r (HasFullStore new) (RefusedForRoom old.solver new (users_in lent.literals.now)) (HasFullStore new) (LacksFor old.solver new (Clause (named_literals lent.literals.now))) (λ x. x) (clause_needs old.solver new lent.literals.now) h)
 
-  pub names_caused_by : (c : Command) → spelled_by lent ≡ c → IfErr r (λ e. IsCaused e ⊥ (NeedsMore old.solver c)) → CausedBy r old (record old { solver = new }) (spelled_by lent)
+  pub names_caused_by : (c : Command) → spelled_by lent ≡ c → IfErr r (λ e. IsCaused e ⊥ (LacksFor old.solver new c)) → CausedBy r old (record old { solver = new }) (spelled_by lent)
   names_caused_by c e h = subst (λ d. CausedBy r old (record old { solver = new }) d) (sym e)
-      (caused_if r ⊥ (NeedsMore old.solver c) (HasFullStore new) (NeedsMore old.solver c) (λ x. absurd x) (λ x. x) h)
+      (caused_if r ⊥ (LacksFor old.solver new c) (HasFullStore new) (LacksFor old.solver new c) (λ x. absurd x) (λ x. x) h)
 
 pub ask_caused_by : {C : Type 0} (lent : Lent) (old new : Session C) (r : Result (Unit {0}) RunFault) → lent.kind ≡ kind.Ask → CausedBy r old new (Ask (named_literals lent.literals.now)) → CausedBy r old new (spelled_by lent)
 ask_caused_by lent old new r e h = subst (λ c. CausedBy r old new c) (sym (spelled_as lent kind.Ask e)) h
@@ -82,39 +84,54 @@ ask_caused_by lent old new r e h = subst (λ c. CausedBy r old new c) (sym (spel
 -- WHAT IS LEFT OF A SCRIPT
 
 -- what comes behind takes no identity back
-pub needs_exceed : {C : Type 0} (old : Session C) (c : Command) (left : Reading) (j : Judge) → JudgeIsAt old j → refusal_of j c ≡ None → NeedsMore old.solver c → Exceeds old.commands j (onto_commands (c ∷ []) left)
-needs_exceed old c left j at free needs =
-    let h = needs j at.live at.means.agree in
+pub needs_exceed : {C : Type 0} (old : Session C) (new : Solver C) (c : Command) (left : Reading) (j : Judge) → JudgeIsAt old j → refusal_of j c ≡ None → LacksFor old.solver new c
+    → Exceeds old.commands j (onto_commands (c ∷ []) left) (steps_in new)
+needs_exceed old new c left j at free needs =
+    let both = needs j at.live at.means.agree in
+    let h = both.0 in
     let g = script_grows left.0 (accepted c j) in
-    inr (subst (λ i. var_limit < (after_script left.0 i).identity_count) (sym (after_accepted j c free)) (omega arith))
+    inr (
+      subst (λ i. var_limit < (after_script left.0 i).identity_count) (sym (after_accepted j c free)) (omega arith),
+      record { before = []; command = c; behind = left.0; whole = refl; accepted_one = free; lacks = both.1 },
+    )
 
 module _ {C : Type 0} (old mid new : Session C) (lent : Lent) (r : Result (Unit {0}) RunFault) where
   pub taken_caused : lent.past_limit ≡ false → TellsRefusal None old.names lent → mid.solver ≡ old.solver → CausedBy r mid new (spelled_by lent) → (c : Command) → IsLent lent c → (left : Reading) → CausedOver r old new (onto_commands (c ∷ []) left)
   taken_caused within judges same h c l left =
-      caused_if r (HasFullStore new.solver) (NeedsMore mid.solver (spelled_by lent)) (HasFullStore new.solver) ((j : Judge) → JudgeIsAt old j → Exceeds old.commands j (onto_commands (c ∷ []) left)) (λ x. x)
-      (λ needs j at. needs_exceed old c left j at (sym (judges j c at.names l)) (subst (λ s. NeedsMore s c) same (subst (NeedsMore mid.solver) (sym (lent_is lent c l within)) needs))) h
+      caused_if r (HasFullStore new.solver) (LacksFor mid.solver new.solver (spelled_by lent)) (HasFullStore new.solver) ((j : Judge) → JudgeIsAt old j → Exceeds old.commands j (onto_commands (c ∷ []) left) (steps_in new.solver)) (λ x. x)
+      (λ needs j at. needs_exceed old new.solver c left j at (sym (judges j c at.names l)) (subst (λ s. LacksFor s new.solver c) same (subst (LacksFor mid.solver new.solver) (sym (lent_is lent c l within)) needs))) h
 
 -- nothing is to blame
 pub blameless : {T C : Type 0} (r : Result T RunFault) (old new : Session C) (script : Reading) → IfErr r (λ e. IsCaused e ⊥ ⊥) → CausedOver r old new script
-blameless r old new script h = caused_if r ⊥ ⊥ (HasFullStore new.solver) ((j : Judge) → JudgeIsAt old j → Exceeds old.commands j script) (λ x. absurd x) (λ x. absurd x) h
+blameless r old new script h = caused_if r ⊥ ⊥ (HasFullStore new.solver) ((j : Judge) → JudgeIsAt old j → Exceeds old.commands j script (steps_in new.solver)) (λ x. absurd x) (λ x. absurd x) h
 
 pub after_both : (xs ys : List Command) (i : Judge) → after_script (xs ++ ys) i ≡ after_script ys (after_script xs i)
 after_both [] ys i = refl
 after_both (x ∷ xs) ys i = after_both xs ys (after_command x i)
 
 -- commands that were served before
-pub exceeds_later : (n m : ℕ) (cs : List Command) (script : Reading) (j : Judge) → m ≡ n + length cs → Exceeds m (after_script cs j) script → Exceeds n j (onto_commands cs script)
-exceeds_later n m cs script j e (inl few) = inl (let l = length-append cs script.0 in omega arith)
-exceeds_later n m cs script j e (inr needs) = inr (subst (λ i. var_limit < i.identity_count) (sym (after_both cs script.0 j)) needs)
+pub exceeds_later : (n m : ℕ) (cs : List Command) (script : Reading) (j : Judge) (steps : List Step) → m ≡ n + length cs → Exceeds m (after_script cs j) script steps → Exceeds n j (onto_commands cs script) steps
+exceeds_later n m cs script j steps e (inl few) = inl (let l = length-append cs script.0 in omega arith)
+exceeds_later n m cs script j steps e (inr (needs, one)) = inr (
+  subst (λ i. var_limit < i.identity_count) (sym (after_both cs script.0 j)) needs,
+  record {
+    before = cs ++ one.before;
+    command = one.command;
+    behind = one.behind;
+    whole = ap (λ (xs : List Command). cs ++ xs) one.whole ∙ sym (append_assoc cs one.before (one.command ∷ one.behind));
+    accepted_one = subst (λ i. refusal_of i one.command ≡ None) (sym (after_both cs one.before j)) one.accepted_one;
+    lacks = subst (λ i. CommandLacks i one.command steps) (sym (after_both cs one.before j)) one.lacks;
+  },
+)
 
 -- one command, and what is left
 pub caused_behind : {T C : Type 0} (seen : C → Writer) (r : Result T RunFault) (c : Command) (script : Reading) (a b new : Session C) (u v : Writer) → ServedNext seen a b c u v → CausedOver r b new script → CausedOver r a new (onto_commands (c ∷ []) script)
 caused_behind seen r c script a b new u v f h =
-    caused_if r (HasFullStore new.solver) ((j : Judge) → JudgeIsAt b j → Exceeds b.commands j script) (HasFullStore new.solver) ((j : Judge) → JudgeIsAt a j → Exceeds a.commands j (onto_commands (c ∷ []) script)) (λ x. x)
-    (λ k j at. exceeds_later a.commands b.commands (c ∷ []) script j f.commands (k (after_command c j) (f.serves j at).0)) h
+    caused_if r (HasFullStore new.solver) ((j : Judge) → JudgeIsAt b j → Exceeds b.commands j script (steps_in new.solver)) (HasFullStore new.solver) ((j : Judge) → JudgeIsAt a j → Exceeds a.commands j (onto_commands (c ∷ []) script) (steps_in new.solver)) (λ x. x)
+    (λ k j at. exceeds_later a.commands b.commands (c ∷ []) script j (steps_in new.solver) f.commands (k (after_command c j) (f.serves j at).0)) h
 
 -- the ask that a header brings
 pub asked_caused : {T C : Type 0} (a new : Session C) (r : Result T RunFault) → CausedBy r a new (Ask []) → CausedOver r a new (Ask [] ∷ [], Clean)
 asked_caused a new r h =
-    caused_if r (HasFullStore new.solver) (NeedsMore a.solver (Ask [])) (HasFullStore new.solver) ((j : Judge) → JudgeIsAt a j → Exceeds a.commands j (Ask [] ∷ [], Clean)) (λ x. x)
-    (λ needs j at. needs_exceed a (Ask []) ([], Clean) j at refl needs) h
+    caused_if r (HasFullStore new.solver) (LacksFor a.solver new.solver (Ask [])) (HasFullStore new.solver) ((j : Judge) → JudgeIsAt a j → Exceeds a.commands j (Ask [] ∷ [], Clean) (steps_in new.solver)) (λ x. x)
+    (λ needs j at. needs_exceed a new.solver (Ask []) ([], Clean) j at refl needs) h

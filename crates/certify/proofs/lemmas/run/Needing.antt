@@ -1,5 +1,6 @@
--- Names for which no variable is left need more identities than there are variables.
-use Rattle.std.proofs.Common.{ℕ, zero, suc, ◌+◌, ◌-◌, ◌<◌, ◌≤◌, ◌≡◌, ◌≢◌, ◌∙◌, Bool, true, false, not, ◌&&◌, ◌||◌, cond, ltb, Option, Some, None, is_some, List, [], ◌∷◌, ◌++◌, map, inl, inr, refl, sym, ap, subst, arith}
+-- Names for which no variable is left: so many variables are in use, and more identities are needed than there are variables.
+use Rattle.std.proofs.Common.{ℕ, zero, suc, ◌+◌, ◌-◌, ◌<◌, ◌≤◌, ◌≡◌, ◌≢◌, ◌∙◌, Bool, true, false, not, ◌&&◌, ◌||◌, cond, ltb, Option, Some, None, is_some, List, [], ◌∷◌, ◌++◌, map, length, length-map, inl, inr, refl, sym, ap, subst, arith}
+use Rattle.std.specs.List.{AllByRecursion}
 use Rattle.std.proofs.lemmas.Bool.{eq-eqb, ne_eqb, cases_eq, cases_lt, ltb-true, ltb-false}
 use Rattle.sat_base.specs.device.Device.{Writer}
 use Rattle.sat_base.specs.values.Literals.{var_limit, variable}
@@ -7,23 +8,27 @@ use Rattle.sat_base.specs.script.Script.{Command, Clause, Ask, Hide, Witness, Sa
 use Rattle.sat_base.specs.script.Judge.{Judge, Mode, Sampled, Witnessed, accepted, after_command, after_script, bring_all, bring_in, hide_all, identity_of, names_from, new_names, refusal_of, set_all, with_mode, with_name, with_names, without_name}
 use Rattle.sat_base.proofs.lemmas.script.LiteralValues.{placed_found}
 use Rattle.sat_base.specs.steps.Steps.{Step}
-use Rattle.sat_checker.specs.matching.Bridge.{Live}
+use Rattle.sat_checker.specs.LiteralSets.{is_among}
+use Rattle.sat_checker.specs.SortedSets.{NoRepeats}
+use Rattle.sat_checker.specs.matching.Bridge.{Apart, Live}
+use Rattle.sat_checker.specs.matching.ProofChecking.{the_checking}
 use Rattle.sat_solver.specs.declared.variables.Variables.{Variables}
 use Rattle.sat_solver.specs.variables.Calls.{Agree}
 use Rattle.sat_solver.specs.variables.Counting.{count_to}
-use Rattle.sat_solver.specs.variables.Live.{given_of}
+use Rattle.sat_solver.specs.variables.Live.{given, given_of}
 use Rattle.sat_solver.specs.variables.Refusing.{names_in}
 use Rattle.sat_solver.specs.variables.Room.{HasRoom, coming, is_hidden_name, is_listed, live_count, reach, users_in}
 use Rattle.sat_solver.specs.variables.Variables.{global_of, names_used, variables_used}
 use Rattle.sat_solver.specs.solver.Adding.{ReplacesAssumptions}
 use Rattle.sat_solver.specs.solver.Whole.{steps_in}
-use Rattle.sat_solver.proofs.lemmas.variables.Counts.{count_le, count_longer, count_more, count_part, count_same}
+use Rattle.sat_solver.proofs.lemmas.variables.Counts.{count_le, count_longer, count_more, count_part, count_same, count_suc, count_zero}
 use Rattle.sat_solver.proofs.lemmas.variables.RoomLemmas.{is_live, reach_low}
 use Rattle.certify.specs.answers.AnswerForms.{named_literals}
 use Rattle.certify.specs.declared.judge.NameState.{NameState}
 use Rattle.certify.specs.declared.judge.NameState.TheVariants as state
 use Rattle.certify.specs.declared.summary.AskReport.{AskReport}
-use Rattle.certify.specs.run.SolverCalls.{LacksRoom, NeedsMore, Searched}
+use Rattle.certify.specs.run.Lacking.{CommandLacks, LacksVariables, introduced_for}
+use Rattle.certify.specs.run.SolverCalls.{LacksFor, RefusedForRoom, Searched}
 use Rattle.certify.specs.run.Obeying.{Obeyed, command_to}
 use Rattle.certify.specs.run.Quiet.{Solver}
 use Rattle.certify.proofs.lemmas.run.NamesIn.{names_same}
@@ -173,17 +178,15 @@ pub script_grows : (cs : List Command) (j : Judge) → j.identity_count ≤ (aft
 script_grows [] j = omega arith
 script_grows (c ∷ cs) j = let r = script_grows cs (after_command c j) in let q = after_grows c j in omega arith
 
--- VARIABLES THAT ARE LACKING
+-- NAMES THAT A SOLVER INTRODUCES
 
--- there are as many variables in use as identities, at most, and as many names come in
-all_need : (n : Variables) (steps : List Step) (j : Judge) (live : Live) (users : List ℕ) → Agree n steps j live → (HasRoom n users → ⊥) → var_limit < (bring_all (map (λ u. u + 1) users) j).identity_count
-all_need n steps j live users agree lacks =
+-- as many as the judge's
+introduced : (n : Variables) (steps : List Step) (j : Judge) (live : Live) (users : List ℕ) → Agree n steps j live → j.identity_count + coming n users ≤ (bring_all (map (λ u. u + 1) users) j).identity_count
+introduced n steps j live users agree =
     let used = names_used n in
     let h = brings users used j agree.judged.first_unused in
     let c = count_part used (is_hidden_name n users) (is_asked j users) hidden in
-    let l = count_le (variables_used n) (is_live n) in
-    let i = agree.judged.identities in
-    elim (cases_lt var_limit (live_count n + coming n users)) [ inl lt ↦ omega arith | inr le ↦ absurd (lacks le) ]
+    omega arith
   where
     at : (o : Option ℕ) (b : Bool) → (not (is_some o) && b) ≡ true → (not (is_some (given_of live o)) && b) ≡ true
     at None b h = h
@@ -192,39 +195,139 @@ all_need n steps j live users agree lacks =
     hidden : (k : ℕ) → is_hidden_name n users k ≡ true → is_asked j users k ≡ true
     hidden k h = ap (λ o. not (is_some o) && is_listed users k) (agree.judged.names k) ∙ at (global_of n k) (is_listed users k) h
 
+-- VARIABLES THAT ARE LACKING
+
+-- there are as many variables in use as identities, at most, and as many names are introduced
+all_need : (n : Variables) (steps : List Step) (j : Judge) (live : Live) (users : List ℕ) → Agree n steps j live → (HasRoom n users → ⊥) → var_limit < (bring_all (map (λ u. u + 1) users) j).identity_count
+all_need n steps j live users agree lacks =
+    let h = introduced n steps j live users agree in
+    let l = count_le (variables_used n) (is_live n) in
+    let i = agree.judged.identities in
+    let g = all_grow (map (λ u. u + 1) users) j in
+    elim (cases_lt var_limit (live_count n + coming n users)) [ inl lt ↦ omega arith | inr le ↦ absurd (lacks le) ]
+
+-- what is in use, as a checker knows it
+vars : Live → List ℕ
+vars live = map (λ (p : ℕ × ℕ). p.0) live
+
+other_in : (v : ℕ) (live : Live) → AllByRecursion (λ (q : ℕ × ℕ). q.0 ≡ v → ⊥) live → is_among (vars live) v ≡ false
+other_in v [] h = refl
+other_in v (q ∷ qs) h = ap (λ b. b || is_among (vars qs) v) (ne_eqb q.0 v h.0) ∙ other_in v qs h.1
+
+apart_once : (live : Live) → Apart live → NoRepeats (vars live)
+apart_once [] h = tt
+apart_once (p ∷ ps) h = (other_in p.0 ps h.0, apart_once ps h.1)
+
+known_vars : (steps : List Step) (live : Live) → AllByRecursion (λ (p : ℕ × ℕ). the_checking.knows steps p.0 ≡ true) live → AllByRecursion (λ v. the_checking.knows steps v ≡ true) (vars live)
+known_vars steps [] h = tt
+known_vars steps (p ∷ ps) h = (h.0, known_vars steps ps h.1)
+
+-- two tests that differ at one place at most
+differ_once : (m i : ℕ) (f g : ℕ → Bool) → ((k : ℕ) → k ≢ i → f k ≡ g k) → count_to m f ≤ count_to m g + 1
+differ_once zero i f g h = let e = count_zero f in omega arith
+differ_once (suc m) i f g h = elim (cases_eq m i) [
+  | inl e ↦
+      (let s = count_same m f g (λ k lt. h k (λ q. omega arith)) in
+      let a = count_suc m f in
+      let b = count_suc m g in
+      let c = one (f m) in
+      omega arith)
+  | inr ne ↦
+      (let r = differ_once m i f g h in
+      let a = count_suc m f ∙ ap (λ t. count_to m f + cond t 1 0) (h m ne) in
+      let b = count_suc m g in
+      omega arith)
+]
+  where
+    one : (b : Bool) → cond b 1 0 ≤ 1
+    one true = omega arith
+    one false = omega arith
+
+other_given : (p : ℕ × ℕ) (ps : Live) (v : ℕ) → v ≢ p.0 → is_some (given (p ∷ ps) v) ≡ is_some (given ps v)
+other_given p ps v ne = ap (λ b. is_some (cond b (Some p.1) (given ps v))) (ne_eqb p.0 v (λ e. ne (sym e)))
+
+given_few : (m : ℕ) (live : Live) → count_to m (λ v. is_some (given live v)) ≤ length live
+given_few m [] = let e = no_one m in omega arith
+given_few m (p ∷ ps) = let d = differ_once m p.0 (λ v. is_some (given (p ∷ ps) v)) (λ v. is_some (given ps v)) (other_given p ps) in let r = given_few m ps in omega arith
+
+-- so many proof variables are in use, and so many names are introduced
+lacks_variables : (n : Variables) (steps : List Step) (j : Judge) (live : Live) (users : List ℕ) → Agree n steps j live → (HasRoom n users → ⊥) → LacksVariables steps (introduced_for (map (λ u. u + 1) users) j)
+lacks_variables n steps j live users agree lacks = record {
+  in_use = vars live;
+  once = apart_once live agree.judged.once;
+  known = known_vars steps live agree.bridge.known;
+  more =
+      let h = introduced n steps j live users agree in
+      let s = count_same (variables_used n) (is_live n) (λ v. is_some (given live v)) (λ v lt. sym (agree.judged.in_use v)) in
+      let f = given_few (variables_used n) live in
+      let l : length (vars live) ≡ length live = length-map live (λ (p : ℕ × ℕ). p.0) in
+      elim (cases_lt var_limit (live_count n + coming n users)) [ inl lt ↦ omega arith | inr le ↦ absurd (lacks le) ];
+}
+
+lacks_more : (steps : List Step) (k l : ℕ) → k ≤ l → LacksVariables steps k → LacksVariables steps l
+lacks_more steps k l le h = record { in_use = h.in_use; once = h.once; known = h.known; more = let m = h.more in omega arith }
+
 users_names : (ls : List ℕ) → map (λ u. u + 1) (users_in ls) ≡ names_in ls
 users_names [] = refl
 users_names (l ∷ ls) = ap (λ xs. (variable l + 1) ∷ xs) (users_names ls)
 
--- literals whose names come in
-names_need : (n : Variables) (steps : List Step) (j : Judge) (live : Live) (ls : List ℕ) → Agree n steps j live → (HasRoom n (users_in ls) → ⊥) → var_limit < (bring_all (names_in ls) j).identity_count
-names_need n steps j live ls agree lacks = subst (λ names. var_limit < (bring_all names j).identity_count) (users_names ls) (all_need n steps j live (users_in ls) agree lacks)
+-- the names of literals, as scripts have them
+names_of_users : (ls : List ℕ) → map (λ u. u + 1) (users_in ls) ≡ names_of (named_literals ls)
+names_of_users ls = users_names ls ∙ sym (names_same ls)
 
 -- COMMANDS
 
-module _ {C : Type 0} (s : Solver C) where
-  pub clause_needs : (ls : List ℕ) → LacksRoom s (users_in ls) → NeedsMore s (Clause (named_literals ls))
-  clause_needs ls lacks j live agree = subst (λ names. var_limit < (bring_all names j).identity_count) (sym (names_same ls)) (names_need s.names (steps_in s) j live ls agree lacks)
+module _ {C : Type 0} (s t : Solver C) where
+  steps_same : t ≡ s → steps_in s ≡ steps_in t
+  steps_same e = ap (λ (x : Solver C). steps_in x) (sym e)
 
-  pub ask_needs : (ls : List ℕ) → LacksRoom s (users_in ls) → NeedsMore s (Ask (named_literals ls))
-  ask_needs ls lacks j live agree = subst (λ names. var_limit < (bring_all names j).identity_count) (sym (names_same ls)) (names_need s.names (steps_in s) j live ls agree lacks)
+  both_need : (users : List ℕ) → RefusedForRoom s t users → (j : Judge) (live : Live) → Agree s.names (steps_in s) j live
+      → (var_limit < (bring_all (map (λ u. u + 1) users) j).identity_count) × LacksVariables (steps_in t) (introduced_for (map (λ u. u + 1) users) j)
+  both_need users h j live agree = (
+    all_need s.names (steps_in s) j live users agree h.0,
+    subst (λ steps. LacksVariables steps (introduced_for (map (λ u. u + 1) users) j)) (steps_same h.1) (lacks_variables s.names (steps_in s) j live users agree h.0),
+  )
 
-  pub name_needs : (st : NameState) (user : ℕ) → LacksRoom s (user ∷ []) → NeedsMore s (command_to st ((user + 1) ∷ []))
-  name_needs state.Hidden user lacks j live agree = all_need s.names (steps_in s) j live (user ∷ []) agree lacks
-  name_needs state.Sampled user lacks j live agree = all_need s.names (steps_in s) j live (user ∷ []) agree lacks
-  name_needs state.Witnessed user lacks j live agree = all_need s.names (steps_in s) j live (user ∷ []) agree lacks
+  literals_need : (ls : List ℕ) → RefusedForRoom s t (users_in ls) → (j : Judge) (live : Live) → Agree s.names (steps_in s) j live
+      → (var_limit < (bring_all (names_of (named_literals ls)) j).identity_count) × LacksVariables (steps_in t) (introduced_for (names_of (named_literals ls)) j)
+  literals_need ls h j live agree = subst (λ names. (var_limit < (bring_all names j).identity_count) × LacksVariables (steps_in t) (introduced_for names j)) (names_of_users ls) (both_need (users_in ls) h j live agree)
 
--- behind names that came in, and before others
-pub names_need_more : {C : Type 0} (seen : C → Writer) (st : NameState) (xs ys zs : List ℕ) (a b : Solver C) → Obeyed seen (command_to st xs) a b → NeedsMore b (command_to st ys) → NeedsMore a (command_to st (xs ++ (ys ++ zs)))
-names_need_more seen st xs ys zs a b done needs j live agree =
+  pub clause_needs : (ls : List ℕ) → RefusedForRoom s t (users_in ls) → LacksFor s t (Clause (named_literals ls))
+  clause_needs ls h j live agree = literals_need ls h j live agree
+
+  pub ask_needs : (ls : List ℕ) → RefusedForRoom s t (users_in ls) → LacksFor s t (Ask (named_literals ls))
+  ask_needs ls h j live agree = literals_need ls h j live agree
+
+-- the identities that one name of a command needs
+one_needs : (st : NameState) (name : ℕ) (j : Judge) → var_limit < (bring_all (name ∷ []) j).identity_count → var_limit < (accepted (command_to st (name ∷ [])) j).identity_count
+one_needs state.Hidden name j h = h
+one_needs state.Sampled name j h = h
+one_needs state.Witnessed name j h = h
+
+next_lacks : (st : NameState) (names : List ℕ) (j : Judge) (steps : List Step) (first : List ℕ) (name : ℕ) (behind : List ℕ) → names ≡ first ++ (name ∷ behind)
+    → LacksVariables steps (introduced_for (name ∷ []) (accepted (command_to st first) j)) → CommandLacks j (command_to st names) steps
+next_lacks state.Hidden names j steps first name behind e h = record { first = first; name = name; behind = behind; whole = e; lacks = h }
+next_lacks state.Sampled names j steps first name behind e h = record { first = first; name = name; behind = behind; whole = e; lacks = h }
+next_lacks state.Witnessed names j steps first name behind e h = record { first = first; name = name; behind = behind; whole = e; lacks = h }
+
+-- after names that were introduced, and before others
+pub names_need_more : {C : Type 0} (seen : C → Writer) (st : NameState) (xs zs : List ℕ) (user : ℕ) (a b c : Solver C) → Obeyed seen (command_to st xs) a b → RefusedForRoom b c (user ∷ [])
+    → LacksFor a c (command_to st (xs ++ ((user + 1) ∷ zs)))
+names_need_more seen st xs zs user a b c done refused j live agree =
     let k = done.keeps j live agree in
     let mid = accepted (command_to st xs) j in
-    let h = needs mid k.0 k.1 in
-    let g = command_grows (command_to st zs) (accepted (command_to st ys) mid) in
-    subst (λ i. var_limit < i.identity_count) (sym (accepted_both st xs (ys ++ zs) j ∙ accepted_both st ys zs mid)) (omega arith)
+    let both = both_need b c (user ∷ []) refused mid k.0 k.1 in
+    let h = one_needs st (user + 1) mid both.0 in
+    let g = command_grows (command_to st zs) (accepted (command_to st ((user + 1) ∷ [])) mid) in (
+      subst (λ i. var_limit < i.identity_count) (sym (accepted_both st xs ((user + 1) ∷ zs) j ∙ accepted_both st ((user + 1) ∷ []) zs mid)) (omega arith),
+      next_lacks st (xs ++ ((user + 1) ∷ zs)) j (steps_in c) xs (user + 1) zs refl both.1,
+    )
 
--- behind an ask nothing is assumed, which brings no name in
-pub none_needs : {C : Type 0} (seen : C → Writer) (a b c : Solver C) (user : List ℕ) (budget : ℕ) (report : AskReport) → ReplacesAssumptions seen a b user → Searched seen budget report b c → LacksRoom c [] → NeedsMore a (Ask (named_literals user))
-none_needs seen a b c user budget report opened s lacks j live agree =
+-- after an ask nothing is assumed, which introduces no name
+pub none_needs : {C : Type 0} (seen : C → Writer) (a b c d : Solver C) (user : List ℕ) (budget : ℕ) (report : AskReport) → ReplacesAssumptions seen a b user → Searched seen budget report b c → RefusedForRoom c d []
+    → LacksFor a d (Ask (named_literals user))
+none_needs seen a b c d user budget report opened s refused j live agree =
     let n = agree_still seen a b c user budget report opened s j live agree in
-    subst (λ names. var_limit < (bring_all names j).identity_count) (sym (names_same user)) (all_need c.names (steps_in c) (bring_all (names_in user) j) n.0 [] n.1 lacks)
+    let both = both_need c d [] refused (bring_all (names_in user) j) n.0 n.1 in
+    subst (λ names. (var_limit < (bring_all names j).identity_count) × LacksVariables (steps_in d) (introduced_for names j)) (sym (names_same user))
+    (both.0, lacks_more (steps_in d) (introduced_for [] (bring_all (names_in user) j)) (introduced_for (names_in user) j) (omega arith) both.1)

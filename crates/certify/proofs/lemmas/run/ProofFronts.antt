@@ -1,7 +1,9 @@
 -- What the certificate's writer took, whatever call failed.
 use Rattle.std.proofs.Common.{◌≡◌, ◌∙◌, inl, inr, Some, Option, Ok, Err, List, [], ◌∷◌, ◌++◌, refl, sym, ap, subst, append-nil}
 use Rattle.std.proofs.Math.Logic.{∥∥₁_elim, ∥∥₁_prop}
+use Rattle.std.specs.Io.KnownBytes.{Appends}
 use Rattle.sat_base.specs.device.Device.{Writer}
+use Rattle.sat_base.specs.device.Sink.{empty_sink}
 use Rattle.sat_base.specs.steps.Steps.{Step, End}
 use Rattle.sat_solver.specs.declared.error.SolverError.{SolverError}
 use Rattle.sat_solver.specs.declared.proof.format.ProofFormat.TheVariants.{Varisat}
@@ -10,10 +12,14 @@ use Rattle.sat_solver.specs.proof.Fronts.{FrontText, TargetTakesFront}
 use Rattle.sat_solver.specs.session.Making.{ComesBySteps, BreaksEmitting}
 use Rattle.sat_solver.specs.proof.OutputView.{text_in}
 use Rattle.sat_solver.specs.proof.ProofTexts.{TookAcceptedSteps}
-use Rattle.sat_solver.specs.proof.ProofView.{Target, TakesAll, target_of}
+use Rattle.sat_solver.specs.proof.ProofView.{Open, Target, TargetTakes, TakesAll, GivesWriter, target_of}
+use Rattle.sat_solver.specs.proof.Counting.{start as uncounted}
+use Rattle.sat_solver.specs.session.Session.{MayAll}
 use Rattle.sat_solver.specs.solver.Fronts.{ReachesBySteps, HandsFront}
 use Rattle.sat_solver.specs.solver.Proving.{ClosesProof}
 use Rattle.sat_solver.specs.solver.Whole.{steps_in}
+use Rattle.sat_solver.proofs.lemmas.session.CutsLemmas.{cuts_are_free}
+use Rattle.sat_solver.proofs.lemmas.session.StepLemmas.{sessions_are_accepted}
 use Rattle.sat_solver.proofs.lemmas.session.FrontLemmas.{went_added, went_failed, went_more}
 use Rattle.sat_solver.proofs.lemmas.solver.FrontLemmas.{calls_go_on}
 use Rattle.certify.specs.run.Unfinished.{StepsFront}
@@ -49,6 +55,30 @@ whole_of from given now h = record {
   whole = sym (append-nil (text_in Varisat h.since.took.written));
   took = record { taken = h.since.took.takes.taken; told = h.since.took.takes.told };
 }
+
+-- of the text of steps that were carried, each of which may be made
+pub carried_front : (from given : Writer) (steps : List Step) (now : Target) → MayAll steps → TargetTakes (Open Varisat uncounted (empty_sink from)) steps now → GivesWriter now (Some given)
+    → (k : StepsFront from given) × (k.made ≡ steps)
+carried_front from given steps now may h g =
+    let q : Some given ≡ Some h.1.writer = subst (λ (z : Target). GivesWriter z (Some given)) h.2 g in
+    let same : h.1.writer ≡ given = cc in
+    let sent = h.3.wrote.sent in (
+      record {
+        made = steps;
+        steps = h.3.written;
+        counting = h.0;
+        cuts = h.3.cuts;
+        accepted = (sessions_are_accepted h.3.written (cuts_are_free steps h.3.written h.0 h.3.cuts may).may).0;
+        bytes = sent.fresh;
+        behind = h.1.waiting;
+        whole = sent.flows;
+        took = record {
+          taken = ap (λ (z : Writer). z.taken) (sym same) ∙ sent.takes.taken;
+          told = subst (λ (z : Writer). Appends from.contents z.contents sent.fresh) same sent.takes.told;
+        };
+      },
+      refl,
+    )
 
 module _ {C : Type 0} (seen : C → Writer) where
   -- WHERE A SOLVER WENT

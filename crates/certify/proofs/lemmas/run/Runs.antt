@@ -1,5 +1,5 @@
 -- What a run has done at its end.
-use Rattle.std.proofs.Common.{ℕ, ◌+◌, ◌≤◌, ◌≡◌, ◌∙◌, true, false, Option, Some, None, List, [], ◌∷◌, ◌++◌, map, length, Result, Ok, Err, OnErr, OnOk, IfOk, refl, sym, ap, subst, arith, append-nil}
+use Rattle.std.proofs.Common.{ℕ, ◌+◌, ◌≤◌, ◌≡◌, ◌∙◌, true, false, Option, Some, None, List, [], ◌∷◌, ◌++◌, map, length, Result, Ok, Err, OnErr, OnOk, IfOk, inl, inr, refl, sym, ap, subst, arith, append-nil}
 use Rattle.std.specs.Prelude.{IsErrOf}
 use Rattle.std.proofs.Math.Logic.{∥∥₁_elim, ∥∥₁_prop}
 use Rattle.sat_base.specs.device.Device.{Reader, Writer, GaveEnough, WriterTakes, lent_writer, most_reads}
@@ -32,11 +32,12 @@ use Rattle.certify.specs.declared.summary.AskReport.{AskReport}
 use Rattle.certify.specs.declared.summary.Summary.{Summary}
 use Rattle.certify.specs.declared.script.ahead.Ahead.{Ahead}
 use Rattle.certify.specs.script.Ahead.{source_in, waiting}
-use Rattle.sat_base.specs.script.Language.{reading, written}
+use Rattle.sat_base.specs.script.Language.{Reading, reading, written}
 use Rattle.certify.specs.run.FinishedRun.{WritesAnswers, AnswersRightly, CertificateGuarantee, TookCertificate, asked_steps, identities_given, malformed_at, AreSpent}
 use Rattle.certify.specs.run.Running.{ReadsFew, FinishesOrFaults, WritesRun}
-use Rattle.certify.specs.run.Unfinished.{CounterEnds, Exceeds, StepsFront, TookAnswersFront, TookSteps, Unfinished}
+use Rattle.certify.specs.run.Unfinished.{CounterEnds, Exceeds, ExceedsWritten, StepsFront, TookAnswersFront, TookSteps, Unfinished}
 use Rattle.certify.specs.run.SolverCalls.{IsCaused, FaultSays, IsReady, proof_in}
+use Rattle.certify.specs.run.Lacking.{OneLacks}
 use Rattle.certify.specs.run.Certifies.{Certifies, complete, ordered}
 use Rattle.certify.specs.run.Ending.{ClosedBy, EndsRun, GivenBack, GivesFront, HasTarget, HasOpenTarget, SumsUp}
 use Rattle.certify.specs.run.Standing.{place_in}
@@ -47,7 +48,7 @@ use Rattle.certify.proofs.lemmas.run.Learned.{asks_learn}
 use Rattle.certify.proofs.lemmas.confirm.Streams.{faulted_front, gave_enough, passed_front, read_fails}
 use Rattle.certify.proofs.lemmas.confirm.Joining.{covers_given, took_kept}
 use Rattle.certify.proofs.lemmas.run.MadeCertifies.{made_certifies}
-use Rattle.certify.proofs.lemmas.run.ProofFronts.{went_broke, went_took}
+use Rattle.certify.proofs.lemmas.run.ProofFronts.{carried_front, went_broke, went_took}
 use Rattle.certify.proofs.lemmas.run.SessionCalls.{broke_later, took_both}
 use Rattle.certify.proofs.lemmas.run.Stopping.{front_whole}
 use Rattle.certify.proofs.lemmas.run.Written.{written_certifies}
@@ -266,18 +267,31 @@ module _ {C : Type 0} (seen : C → Writer) (budget : ℕ) (w : Writer) (s t : S
   unfinished_so (Err e) r h f = subst (λ (q : Result Summary RunFault). OnErr q (Unfinished budget (x, b.reader) (u, z))) (sym f.0)
       (served_front e h.0 (λ total k. subst (λ (w : Writer). Front (rest_in total (unread x)) w) (sym f.1) (first_command (rest_in total (unread x)) v (h.1 total k))))
 
-  -- why a counter has ended
-  served_end : (e : RunFault) → e ≡ fault.CounterEnd → FailsWhole seen e (unread x) b s.solver t.solver u v
-      → IsCaused e (HasFullStore t.solver) ((total : List ℕ) → Covers b total → Exceeds s.commands start (reading (rest_in total (unread x)))) → CounterEnds (x, b.reader)
-  served_end fault.CounterEnd q h k =
-      passed_front 1 x b h.0.0 (λ text. Exceeds 0 start (reading text)) h.0.1
-      (λ total y. subst (λ n. Exceeds n start (reading (rest_in total (unread x)))) fresh.commands (k total y))
-  served_end e q h k = absurd (cc)
+  -- the certificate's writer took a prefix of the text of the steps that were made
+  made_front : ComesBySteps seen (proof_in s.solver) (proof_in t.solver) → GivesWriter (target_of seen (proof_in t.solver)) (Some (seen given)) → ∥ (k : StepsFront w (seen given)) × (k.made ≡ steps_in t.solver) ∥₁
+  made_front took gives =
+      let all : steps_in t.solver ≡ took.0 = took.1.history ∙ ap (λ xs. took.0 ++ xs) fresh.steps ∙ append-nil took.0 in
+      ∥∥₁_elim (proof_in t.solver).made.may ∥∥₁_prop (λ may.
+      let now = target_of seen (proof_in t.solver) in
+      ∣ (carried_front w (seen given) took.0 now (subst MayAll all may) (carried seen w (proof_in s.solver) (proof_in t.solver) fresh.target took) gives, sym all) ∣₁)
 
-  pub counter_so : (served : Result (Option ℕ) RunFault) (r : Result Summary RunFault) → ServesScript seen start reading written served (unread x) b s t u v → EndsRun seen served r t given v z → IsErrOf r fault.CounterEnd → CounterEnds (x, b.reader)
+  -- why a counter has ended
+  served_end : (e : RunFault) → e ≡ fault.CounterEnd → FailsWhole seen e (unread x) b s.solver t.solver u v → GivesWriter (target_of seen (proof_in t.solver)) (Some (seen given))
+      → IsCaused e (HasFullStore t.solver) ((total : List ℕ) → Covers b total → Exceeds s.commands start (reading (rest_in total (unread x))) (steps_in t.solver)) → CounterEnds (x, b.reader) (w, seen given)
+  served_end fault.CounterEnd q h gives k =
+      let front = made_front h.2 gives in
+      passed_front 1 x b h.0.0 (λ text. ExceedsWritten (reading text) (w, seen given)) h.0.1
+      (λ total y.
+      elim (subst (λ n. Exceeds n start (reading (rest_in total (unread x))) (steps_in t.solver)) fresh.commands (k total y)) [
+        | inl many ↦ inl many
+        | inr (needs, one) ↦ inr (∥∥₁_elim front ∥∥₁_prop (λ f. ∣ (f.0, needs, subst (OneLacks start (reading (rest_in total (unread x))).0) (sym f.1) one) ∣₁))
+      ])
+  served_end e q h gives k = absurd (cc)
+
+  pub counter_so : (served : Result (Option ℕ) RunFault) (r : Result Summary RunFault) → ServesScript seen start reading written served (unread x) b s t u v → EndsRun seen served r t given v z → IsErrOf r fault.CounterEnd → CounterEnds (x, b.reader) (w, seen given)
   counter_so (Ok at) (Ok summary) h f q = absurd (cc)
   counter_so (Ok at) (Err e) h f q = let k : e ≡ fault.CounterEnd = cc in absurd (subst (λ i. IsCaused i ⊥ ⊥) k f.2)
-  counter_so (Err e) r h f q = let k : ◌≡◌ {A = Result Summary RunFault} (Err e) (Err fault.CounterEnd) = sym f.0 ∙ q in served_end e (cc) h.0 h.2
+  counter_so (Err e) r h f q = let k : ◌≡◌ {A = Result Summary RunFault} (Err e) (Err fault.CounterEnd) = sym f.0 ∙ q in served_end e (cc) h.0 f.2 h.2
 
   -- what it has written of the certificate
   fails_went : (e : RunFault) → FailsWhole seen e (unread x) b s.solver t.solver u v → ReachesBySteps seen s.solver t.solver
@@ -373,8 +387,8 @@ runs_lent seen budget x y u z a c v given back same r h =
     let is_back : c ≡ v = same (unlent_names (seen a) (seen v) given back (loans_kept budget x y u z (seen a) (seen v) given back r h)) in
     subst (λ (k : _). FinishesOrFaults r budget (x, y) (u, z) (seen a, seen k)) (sym is_back) (unlent budget x y u z (seen a) (seen v) given back r h)
 
-unlent_steps : (a b : Writer) (given back : ℕ) → TookSteps (lent_writer given a, lent_writer back b) → TookSteps (a, b)
-unlent_steps a b given back h = ∥∥₁_elim h ∥∥₁_prop (λ (k : StepsFront (lent_writer given a) (lent_writer back b)). ∣ record {
+unlent_front : (a b : Writer) (given back : ℕ) → StepsFront (lent_writer given a) (lent_writer back b) → StepsFront a b
+unlent_front a b given back k = record {
   made = k.made;
   steps = k.steps;
   counting = k.counting;
@@ -384,7 +398,10 @@ unlent_steps a b given back h = ∥∥₁_elim h ∥∥₁_prop (λ (k : StepsFr
   behind = k.behind;
   whole = k.whole;
   took = record { taken = k.took.taken; told = k.took.told };
-} ∣₁)
+}
+
+unlent_steps : (a b : Writer) (given back : ℕ) → TookSteps (lent_writer given a, lent_writer back b) → TookSteps (a, b)
+unlent_steps a b given back h = ∥∥₁_elim h ∥∥₁_prop (λ (k : StepsFront (lent_writer given a) (lent_writer back b)). ∣ unlent_front a b given back k ∣₁)
 
 -- the same of what it took of the certificate
 pub steps_lent : {C : Type 0} (seen : C → Writer) (budget : ℕ) (x y : Reader) (u z : Writer) (a c v : C) (given back : ℕ) → (given ≡ back → c ≡ v) → (r : Result Summary RunFault)
@@ -392,6 +409,21 @@ pub steps_lent : {C : Type 0} (seen : C → Writer) (budget : ℕ) (x y : Reader
 steps_lent seen budget x y u z a c v given back same r h k =
     let is_back : c ≡ v = same (unlent_names (seen a) (seen v) given back (loans_kept budget x y u z (seen a) (seen v) given back r h)) in
     subst (λ (q : _). TookSteps (seen a, seen q)) (sym is_back) (unlent_steps (seen a) (seen v) given back k)
+
+unlent_exceeds : (script : Reading) (a b : Writer) (given back : ℕ) → ExceedsWritten script (lent_writer given a, lent_writer back b) → ExceedsWritten script (a, b)
+unlent_exceeds script a b given back (inl many) = inl many
+unlent_exceeds script a b given back (inr h) = inr (∥∥₁_elim h ∥∥₁_prop (λ k. ∣ (unlent_front a b given back k.0, k.1, k.2) ∣₁))
+
+-- and of why a counter has ended
+pub counter_lent : {C : Type 0} (seen : C → Writer) (budget : ℕ) (x y : Reader) (u z : Writer) (a c v : C) (given back : ℕ) → (given ≡ back → c ≡ v) → (r : Result Summary RunFault)
+    → FinishesOrFaults r budget (x, y) (u, z) (lent_writer given (seen a), lent_writer back (seen v)) → CounterEnds (x, y) (lent_writer given (seen a), lent_writer back (seen v)) → CounterEnds (x, y) (seen a, seen c)
+counter_lent seen budget x y u z a c v given back same r h k =
+    let is_back : c ≡ v = same (unlent_names (seen a) (seen v) given back (loans_kept budget x y u z (seen a) (seen v) given back r h)) in
+    record {
+      text = k.text;
+      front = k.front;
+      holds = λ rest f. subst (λ (q : _). ExceedsWritten (reading (k.text ++ rest)) (seen a, seen q)) (sym is_back) (unlent_exceeds (reading (k.text ++ rest)) (seen a) (seen v) given back (k.holds rest f));
+    }
 
 -- WHAT A RUN PROMISES
 

@@ -298,12 +298,12 @@ module _ {C : Type 0} (seen : C → Writer) (j : Judge) (text counted : List ℕ
 
   -- why no more was served, but for devices and memory
   caused : (e : RunFault) (c : Source) (new : Session C) (script : List ℕ → Reading) → ((total : List ℕ) → Covers c total → Covers b total) → ((total : List ℕ) → Covers c total → through.left (rest_in total b) ≡ script total)
-      → IsCaused e (HasFullStore new.solver) ((total : List ℕ) (i : Judge) → JudgeIsAt mid i → Exceeds mid.commands i (script total)) → IsCaused e (HasFullStore new.solver) ((total : List ℕ) → Covers c total → Exceeds old.commands j (text (rest_in total a)))
+      → IsCaused e (HasFullStore new.solver) ((total : List ℕ) (i : Judge) → JudgeIsAt mid i → Exceeds mid.commands i (script total) (steps_in new.solver)) → IsCaused e (HasFullStore new.solver) ((total : List ℕ) → Covers c total → Exceeds old.commands j (text (rest_in total a)) (steps_in new.solver))
   caused e c new script back is h =
       let f = through.served in
-      caused_map e (HasFullStore new.solver) ((total : List ℕ) (i : Judge) → JudgeIsAt mid i → Exceeds mid.commands i (script total)) (HasFullStore new.solver) ((total : List ℕ) → Covers c total → Exceeds old.commands j (text (rest_in total a))) (λ x. x)
-      (λ k total y. subst (λ s. Exceeds old.commands j s) (sym (through.reads total (back total y) ∙ ap (onto_commands through.commands) (is total y)))
-      (exceeds_later old.commands mid.commands through.commands (script total) j f.counted (subst (λ i. Exceeds mid.commands i (script total)) f.judges (k total f.judge f.at)))) h
+      caused_map e (HasFullStore new.solver) ((total : List ℕ) (i : Judge) → JudgeIsAt mid i → Exceeds mid.commands i (script total) (steps_in new.solver)) (HasFullStore new.solver) ((total : List ℕ) → Covers c total → Exceeds old.commands j (text (rest_in total a)) (steps_in new.solver)) (λ x. x)
+      (λ k total y. subst (λ s. Exceeds old.commands j s (steps_in new.solver)) (sym (through.reads total (back total y) ∙ ap (onto_commands through.commands) (is total y)))
+      (exceeds_later old.commands mid.commands through.commands (script total) j (steps_in new.solver) f.counted (subst (λ i. Exceeds mid.commands i (script total) (steps_in new.solver)) f.judges (k total f.judge f.at)))) h
 
   -- the script can't be read any more
   pub unread : (e : ReadError) (c : Source) → NextComes (Err e) b c reader after_reader → ServesScript seen j text counted (Err (run_fault e)) a c old mid u v
@@ -326,7 +326,7 @@ module _ {C : Type 0} (seen : C → Writer) (j : Judge) (text counted : List ℕ
     whole (Err e) ready serves both front cause = (
       fails_then seen e a c old.solver mid.solver new.solver u v w (took_passed false a c (took_then false a b c through.took took)) none_failed through.served.took both,
       behind c (λ total. left) w (λ total k. covers_took false b c total mid_open took k) is (λ total k. front through.served.judge through.served.at),
-      caused e c new (λ total. left) (λ total k. covers_took false b c total mid_open took k) is (caused_map e (HasFullStore new.solver) ((i : Judge) → JudgeIsAt mid i → Exceeds mid.commands i left) (HasFullStore new.solver) (List ℕ → (i : Judge) → JudgeIsAt mid i → Exceeds mid.commands i left) (λ x. x) (λ k total. k) cause),
+      caused e c new (λ total. left) (λ total k. covers_took false b c total mid_open took k) is (caused_map e (HasFullStore new.solver) ((i : Judge) → JudgeIsAt mid i → Exceeds mid.commands i left (steps_in new.solver)) (HasFullStore new.solver) (List ℕ → (i : Judge) → JudgeIsAt mid i → Exceeds mid.commands i left (steps_in new.solver)) (λ x. x) (λ k total. k) cause),
     )
 
   no_commands : (e : ScriptEnd) → length (end_if false e).0 ≡ 0
@@ -403,7 +403,7 @@ module _ {C : Type 0} (seen : C → Writer) (j : Judge) (text counted : List ℕ
           (λ total k. front reaches.command reaches.whole (reaches.after (rest_in total c)) through.served.judge through.served.at),
       caused e c new (λ total. onto_commands (reaches.command ∷ []) (reaches.after (rest_in total c))) (λ total k. covers_took true b c total mid_open took k)
           (λ total k. ap through.left (taken_front 0 b c came.0 total came.1 k) ∙ reaches.reads (rest_in total c))
-          (caused_map e (HasFullStore new.solver) ((left : Reading) (i : Judge) → JudgeIsAt mid i → Exceeds mid.commands i (onto_commands (reaches.command ∷ []) left)) (HasFullStore new.solver)
-          ((total : List ℕ) (i : Judge) → JudgeIsAt mid i → Exceeds mid.commands i (onto_commands (reaches.command ∷ []) (reaches.after (rest_in total c)))) (λ x. x) (λ k total. k (reaches.after (rest_in total c)))
-          (caused_all e (HasFullStore new.solver) Reading (λ left. (i : Judge) → JudgeIsAt mid i → Exceeds mid.commands i (onto_commands (reaches.command ∷ []) left)) ([], Clean) (cause reaches.command reaches.whole))),
+          (caused_map e (HasFullStore new.solver) ((left : Reading) (i : Judge) → JudgeIsAt mid i → Exceeds mid.commands i (onto_commands (reaches.command ∷ []) left) (steps_in new.solver)) (HasFullStore new.solver)
+          ((total : List ℕ) (i : Judge) → JudgeIsAt mid i → Exceeds mid.commands i (onto_commands (reaches.command ∷ []) (reaches.after (rest_in total c))) (steps_in new.solver)) (λ x. x) (λ k total. k (reaches.after (rest_in total c)))
+          (caused_all e (HasFullStore new.solver) Reading (λ left. (i : Judge) → JudgeIsAt mid i → Exceeds mid.commands i (onto_commands (reaches.command ∷ []) left) (steps_in new.solver)) ([], Clean) (cause reaches.command reaches.whole))),
     )

@@ -7,7 +7,7 @@ use Rattle.sat_checker.specs.matching.Expected.{Unknown}
 use Rattle.certify.proofs.lemmas.run.SessionCalls.{answers_say, ask_cut, ask_told, asked_of, memory_says, nothing_stops, solver_says, sought_writes, takes_none, took_both}
 use Rattle.certify.specs.run.SolverCalls.{proof_in}
 use Rattle.sat_solver.specs.solver.Whole.{HasFullStore}
-use Rattle.certify.specs.run.SolverCalls.{LacksRoom, NeedsMore}
+use Rattle.certify.specs.run.SolverCalls.{LacksFor, RefusedForRoom}
 use Rattle.certify.proofs.lemmas.run.CallFaults.{caused_map}
 use Rattle.certify.proofs.lemmas.run.Caused.{memory_caused, unwritten_caused}
 use Rattle.certify.proofs.lemmas.run.Needing.{none_needs}
@@ -77,7 +77,7 @@ returns-in_err-push-clause-stops g c left =
 pub returns-in_err-write_answer-clause-cause : goal.returns-in_err-write_answer-clause-cause
 returns-in_err-write_answer-clause-cause g c =
     let p = err_from_is_err_and c.from_residual-in_err-write_answer.result c.from_residual-in_err-write_answer.ensures.1 in
-    rw (p.1, p.2) (unwritten_caused c.in_err-write_answer.field-0.0 (HasFullStore c.ask.new.solver) (NeedsMore c.args.session.now.solver (Ask (named_literals c.args.literals.now))) c.in_err-write_answer.ensures.fails.0)
+    rw (p.1, p.2) (unwritten_caused c.in_err-write_answer.field-0.0 (HasFullStore c.ask.new.solver) (LacksFor c.args.session.now.solver c.ask.new.solver (Ask (named_literals c.args.literals.now))) c.in_err-write_answer.ensures.fails.0)
 
 pub returns-in_err-assume-clause-cause : goal.returns-in_err-assume-clause-cause
 returns-in_err-assume-clause-cause g c =
@@ -86,10 +86,10 @@ returns-in_err-assume-clause-cause g c =
     let t = c.ask.new.solver in
     let user = c.args.literals.now in
     let sought = c.in_ok-report.ensures.sought in
-    rw (p.1, p.2) (caused_map c.in_err-assume.field-0.0 ⊥ (LacksRoom t []) (HasFullStore c.assume.new.solver) (NeedsMore s.solver (Ask (named_literals user))) (λ x. absurd x)
-    (none_needs g.C.CountedWrite.seen s.solver sought.mid t user s.budget c.in_ok-report.report sought.opened sought.searched) c.in_err-assume.ensures.cause)
+    rw (p.1, p.2) (caused_map c.in_err-assume.field-0.0 ⊥ (RefusedForRoom t c.assume.new.solver []) (HasFullStore c.assume.new.solver) (LacksFor s.solver c.assume.new.solver (Ask (named_literals user))) (λ x. absurd x)
+    (none_needs g.C.CountedWrite.seen s.solver sought.mid t c.assume.new.solver user s.budget c.in_ok-report.report sought.opened sought.searched) c.in_err-assume.ensures.cause)
 
 pub returns-in_err-push-clause-cause : goal.returns-in_err-push-clause-cause
 returns-in_err-push-clause-cause g c =
     let p = err_from_is_err_and c.from_residual-in_err-push.result c.from_residual-in_err-push.ensures.1 in
-    rw p.1 (memory_caused _ (HasFullStore c.assume.new.solver) (NeedsMore c.args.session.now.solver (Ask (named_literals c.args.literals.now))) p.2)
+    rw p.1 (memory_caused _ (HasFullStore c.assume.new.solver) (LacksFor c.args.session.now.solver c.assume.new.solver (Ask (named_literals c.args.literals.now))) p.2)

@@ -5,7 +5,7 @@ use Rattle.sat_base.specs.script.Script.{Ask}
 use Rattle.sat_solver.specs.variables.Room.{users_in}
 use Rattle.sat_solver.specs.solver.Whole.{HasFullStore}
 use Rattle.certify.specs.answers.AnswerForms.{named_literals}
-use Rattle.certify.specs.run.SolverCalls.{LacksRoom, NeedsMore}
+use Rattle.certify.specs.run.SolverCalls.{LacksFor, RefusedForRoom}
 use Rattle.certify.proofs.lemmas.run.CallFaults.{caused_map}
 use Rattle.certify.proofs.lemmas.run.Caused.{memory_caused}
 use Rattle.certify.proofs.lemmas.run.Needing.{ask_needs}
@@ -40,14 +40,14 @@ returns-in_err-assume-clause-cause g c =
     let p = err_from_is_err_and c.from_residual.result c.from_residual.ensures.1 in
     let s = c.args.solver.now in
     let user = c.args.literals.now in
-    rw (p.1, p.2) (caused_map c.in_err-assume.field-0.0 ⊥ (LacksRoom s (users_in user)) (HasFullStore c.assume.new.solver) (NeedsMore s (Ask (named_literals user))) (λ x. absurd x) (ask_needs s user) c.in_err-assume.ensures.cause)
+    rw (p.1, p.2) (caused_map c.in_err-assume.field-0.0 ⊥ (RefusedForRoom s c.assume.new.solver (users_in user)) (HasFullStore c.assume.new.solver) (LacksFor s c.assume.new.solver (Ask (named_literals user))) (λ x. absurd x) (ask_needs s c.assume.new.solver user) c.in_err-assume.ensures.cause)
 
 pub returns-in_err-report-clause-cause : goal.returns-in_err-report-clause-cause
 returns-in_err-report-clause-cause g c =
     let p = err_from_is_err_and c.from_residual-in_err-report.result c.from_residual-in_err-report.ensures.1 in
-    rw (p.1, p.2) (caused_map c.in_err-report.field-0.0 (HasFullStore c.search.new.solver) ⊥ (HasFullStore c.search.new.solver) (NeedsMore c.args.solver.now (Ask (named_literals c.args.literals.now))) (λ x. x) (λ x. absurd x) c.in_err-report.ensures.cause)
+    rw (p.1, p.2) (caused_map c.in_err-report.field-0.0 (HasFullStore c.search.new.solver) ⊥ (HasFullStore c.search.new.solver) (LacksFor c.args.solver.now c.search.new.solver (Ask (named_literals c.args.literals.now))) (λ x. x) (λ x. absurd x) c.in_err-report.ensures.cause)
 
 pub returns-in_err-tell-clause-cause : goal.returns-in_err-tell-clause-cause
 returns-in_err-tell-clause-cause g c =
     let p = err_from_is_err_and c.from_residual-in_err-tell.result c.from_residual-in_err-tell.ensures.1 in
-    rw (p.1, p.2) (memory_caused c.in_err-tell.field-0.0 (HasFullStore c.search.new.solver) (NeedsMore c.args.solver.now (Ask (named_literals c.args.literals.now))) c.in_err-tell.ensures.memory)
+    rw (p.1, p.2) (memory_caused c.in_err-tell.field-0.0 (HasFullStore c.search.new.solver) (LacksFor c.args.solver.now c.search.new.solver (Ask (named_literals c.args.literals.now))) c.in_err-tell.ensures.memory)

@@ -5,7 +5,7 @@ use Rattle.certify.specs.judge.Names.{NamesStand}
 use Rattle.certify.proofs.lemmas.run.SessionCalls.{carried_stops, memory_says, on_err}
 use Rattle.certify.specs.run.Standing.{spelled_by}
 use Rattle.sat_solver.specs.solver.Whole.{HasFullStore}
-use Rattle.certify.specs.run.SolverCalls.{NeedsMore}
+use Rattle.certify.specs.run.SolverCalls.{LacksFor}
 use Rattle.certify.proofs.lemmas.run.Caused.{memory_caused}
 use Rattle.certify.proofs.run.commands.take_allowed.Goals as goal
 
@@ -28,7 +28,7 @@ returns-in_err-accept-clause-stops g c left =
 pub returns-in_err-accept-clause-cause : goal.returns-in_err-accept-clause-cause
 returns-in_err-accept-clause-cause g c =
     let p = err_from_is_err_and c.from_residual-in_err-accept.result c.from_residual-in_err-accept.ensures.1 in
-    rw p.1 (memory_caused _ (HasFullStore c.carry_out.new.session.solver) (NeedsMore c.args.session.now.solver (spelled_by c.args.command)) p.2)
+    rw p.1 (memory_caused _ (HasFullStore c.carry_out.new.session.solver) (LacksFor c.args.session.now.solver c.carry_out.new.session.solver (spelled_by c.args.command)) p.2)
 
 pub returns-in_err-carry_out-clause-cause : goal.returns-in_err-carry_out-clause-cause
 returns-in_err-carry_out-clause-cause g c =

@@ -36,4 +36,4 @@ returns-clause-obeyed g c =
 pub returns-in_err-set_name-clause-cause : goal.returns-in_err-set_name-clause-cause
 returns-in_err-set_name-clause-cause g c =
     let p = err_from_is_err_and c.from_residual.result c.from_residual.ensures.1 in
-    rw (p.1, p.2) (names_caused g.C.CountedWrite.seen c.args.state c.args.literals.now c.loop-lit.lit-index c.lit-item.result c.var.result c.args.solver.now c.loop-lit.solver c.in_err-set_name.field-0.0 (omega arith) c.lit-item.is c.var.ensures c.loop-lit.invariant c.in_err-set_name.ensures.cause)
+    rw (p.1, p.2) (names_caused g.C.CountedWrite.seen c.args.state c.args.literals.now c.loop-lit.lit-index c.lit-item.result c.var.result c.args.solver.now c.loop-lit.solver c.set_name.new.solver c.in_err-set_name.field-0.0 (omega arith) c.lit-item.is c.var.ensures c.loop-lit.invariant c.in_err-set_name.ensures.cause)
