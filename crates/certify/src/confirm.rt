@@ -1,4 +1,4 @@
-//! Confirms that script, answers and certificate belong together.
+//! Confirms that a script, answers and a certificate match.
 ghost use Rattle.std.specs.Prelude.{◌≡◌, ◌+◌, ◌≤◌, ◌⊎◌, IfOk, IsErrOf};
 ghost use Rattle.sat_base.specs.device.Device.{most_reads, ReadFails};
 ghost use Rattle.certify.specs.Devices.{gave};
@@ -28,7 +28,7 @@ use sat_checker::Looks;
 use std::alloc::Global;
 use stop::Stop;
 
-/// What is said where a confirmation ended so, behind so many asks that were confirmed wholly.
+/// Returns the verdict of a confirmation that ended so, after this number of completely confirmed asks.
 fn conclude(ended: Result<(), Stop>, asks: u64) -> Result<Verdict, ConfirmFault>
     ensures { result ≡ said_by ended asks }
 {
@@ -46,8 +46,8 @@ fn conclude(ended: Result<(), Stop>, asks: u64) -> Result<Verdict, ConfirmFault>
     }
 }
 
-/// Compares a script, answers and a certificate as far as they match. Gives how that ended, and how many asks were
-/// confirmed wholly.
+/// Compares a script, answers and a certificate as far as they match. Returns how that ended, and the number of
+/// completely confirmed asks.
 fn compare<S: CountedRead, A: CountedRead, C: CountedRead>(
     alloc: Global,
     script: &mut S,
@@ -71,9 +71,9 @@ fn compare<S: CountedRead, A: CountedRead, C: CountedRead>(
     (ended, asks)
 }
 
-/// Compares a script, answers and a certificate, and says yes exactly where they match. Each is read in pieces of at
-/// most 4,096 bytes, no further than the next decision needs, and none is held whole. The looks of the checker that the
-/// certificate's steps are fed to are added to `looks`, whatever is answered.
+/// Compares a script, answers and a certificate, and returns `Yes` exactly if they match. They are read in chunks of at
+/// most 4,096 bytes, no further than the next decision needs, and none is held completely. The looks of the checker
+/// that the certificate's steps are fed to are added to `looks`, whatever is returned.
 pub fn confirm<S: CountedRead, A: CountedRead, C: CountedRead>(
     alloc: Global,
     script: &mut S,
@@ -81,32 +81,32 @@ pub fn confirm<S: CountedRead, A: CountedRead, C: CountedRead>(
     certificate: &mut C,
     looks: &mut Looks,
 ) -> Result<Verdict, ConfirmFault>
-    // Yes means that the texts that the three readers gave match, whatever would follow, and that these match means
-    // yes.
+    // `Yes` means that the texts that the three readers gave match, whatever would follow; and if they match, it is
+    // `Yes`.
     ensures exact { IsExact result S.seen A.seen C.seen (script.old, answers.old, certificate.old)
         (script.new, answers.new, certificate.new) }
-    // A yes means right answers, whatever answers and certificate are.
+    // `Yes` means right answers, whatever answers and certificate are.
     ensures sound { IfOk result (IsSoundVerdict (gave S.seen script.old script.new)
         (gave A.seen answers.old answers.new)) }
 
-    // A fault is answered only where it happened: exactly one read failed, or there were 2^48 of which none did.
+    // A fault is returned only for its cause: exactly one read failed, or there were 2^48 of which none did.
     ensures script_read { IsErrOf result ConfirmFault.ScriptRead → ReadFails (S.seen script.old) (S.seen script.new) }
     ensures answers_read { IsErrOf result ConfirmFault.AnswersRead
         → ReadFails (A.seen answers.old) (A.seen answers.new) }
     ensures certificate_read { IsErrOf result ConfirmFault.CertificateRead
         → ReadFails (C.seen certificate.old) (C.seen certificate.new) }
-    // No number gets past 64 bits by the bytes that readers give, which are at most 2^60 of each text.
+    // No count exceeds 64 bits by the bytes that readers give, which are at most 2^60 of each text.
     ensures counter_end { IsErrOf result ConfirmFault.CounterEnd → ⊥ }
-    // The looks rise by at most 16 (n + 1)^2, n being the bytes that the certificate gave: by no more than the bounds
-    // of accepted steps from its front, and perhaps of one that isn't accepted.
+    // The looks rise by at most 16 (n + 1)^2 for n bytes that the certificate gave: at most by the bounds of its
+    // accepted steps so far, and perhaps of one that is not accepted.
     ensures looks { TakesLooks (C.seen certificate.old) (C.seen certificate.new) looks.old looks.new }
 
-    // A read of a text has failed only where the answer is that text's fault: neither yes nor no comes after one.
+    // A read of a text has failed only if that text's fault is returned: no verdict follows a failed read.
     ensures kept_script { IsErrOf result ConfirmFault.ScriptRead ⊎ ReadsKept S.seen script.old script.new }
     ensures kept_answers { IsErrOf result ConfirmFault.AnswersRead ⊎ ReadsKept A.seen answers.old answers.new }
     ensures kept_certificate { IsErrOf result ConfirmFault.CertificateRead
         ⊎ ReadsKept C.seen certificate.old certificate.new }
-    // Each is read at most 2^48 times.
+    // Every text is read at most 2^48 times.
     ensures script_reads { (S.seen script.new).calls ≤ (S.seen script.old).calls + most_reads }
     ensures answers_reads { (A.seen answers.new).calls ≤ (A.seen answers.old).calls + most_reads }
     ensures certificate_reads { (C.seen certificate.new).calls ≤ (C.seen certificate.old).calls + most_reads }

@@ -1,9 +1,9 @@
-//! Why a run wasn't finished.
+//! Why a run is not finished.
 
 use std::alloc::{AllocError, AllocFailed};
 use thiserror::Error;
 
-/// Why a run wasn't finished. What was written by then is unfinished too.
+/// Why a run is not finished. What was written so far is not finished, either.
 #[derive(Clone, Copy, Debug, Drop, PartialEq, Eq, Error)]
 pub enum RunFault {
     /// The script's reader failed, or was read 2^48 times.

@@ -36,7 +36,7 @@ pub enum HeadlineFault {
     Confirm(ConfirmFault),
 }
 
-/// Answers a script.
+/// Answers a script in memory.
 fn run_over(alloc: Global, script: &[u8], budget: u64) -> Result<Written, RunFault>
     ensures { IfOk result (λ w. CertificateGuarantee script.now budget w.summary w.answers.items w.certificate.items) }
 {
@@ -58,7 +58,7 @@ fn run_over(alloc: Global, script: &[u8], budget: u64) -> Result<Written, RunFau
     }
 }
 
-/// Compares a script, answers and a certificate.
+/// Compares a script, answers and a certificate in memory.
 fn confirm_over(
     alloc: Global,
     script: &[u8],
@@ -134,8 +134,8 @@ pub fn headline_over(
     shown: &[u8],
     looks: &mut Looks,
 ) -> Result<Verdicts, HeadlineFault>
-    // One answer for each accepted ask, right, and unknown only once its rounds are spent; a yes to what was written;
-    // right answers wherever a yes is said; and few looks.
+    // One right answer for every accepted ask, unknown only if its rounds are exhausted; a yes to what was written;
+    // right answers whenever there is a yes; and few looks.
     ensures headline { IfOk result (λ v. Headline script.now budget (asked_steps v.written.summary.asks.items)
         v.written.answers.items v.written.certificate.items v.own claimed.now shown.now v.other looks.old looks.new) }
 {

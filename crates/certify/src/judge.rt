@@ -1,6 +1,6 @@
-//! Which commands of a script are refused, by the names in use and their modes alone.
+//! Decides which commands of a script are refused, only by the names in use and their modes.
 //!
-//! A command is refused if a name of it is past the limit, or if it is a clause or an ask with a name in use of mode
+//! A command is refused if it has a name past the limit, or if it is a clause or an ask with a name in use of mode
 //! witness. The leftmost such name is the reason.
 
 mod names;
@@ -8,10 +8,10 @@ mod names;
 pub use names::{Names, NewNames};
 use sat_base::Var;
 
-/// What is known of a name that was used before.
+/// The state of a name that was used before.
 #[derive(Clone, Copy, Drop, PartialEq, Eq)]
 pub(crate) enum NameState {
-    /// It isn't in use.
+    /// Not in use.
     Hidden,
     /// In use, of mode sample.
     Sampled,

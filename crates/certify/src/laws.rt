@@ -1,4 +1,4 @@
-//! What holds of the answers, of matching and of the checker: each law is the contract of a function that does nothing.
+//! Laws of answers, of matching and of the checker: every law is the contract of a function that does nothing.
 ghost use Rattle.certify.specs.laws.Confirmed.{CertifiedMatches};
 ghost use Rattle.certify.specs.laws.EndToEnd.{FinishedIsConfirmed};
 ghost use Rattle.certify.specs.laws.HeadlineLaws.{CertifiedIsHeadline, RightByAsks, RightByOutcomes, SameAnswers};
@@ -22,7 +22,7 @@ ghost use Rattle.certify.specs.laws.Rows.{WitnessRefusesAsk};
 pub mod commands;
 pub mod names;
 
-/// Where script, answers and certificate match, the answers are right: by steps and outcomes, and by the three texts.
+/// If script, answers and certificate match, the answers are right: by steps and outcomes, and by the three texts.
 pub fn matching_is_right()
     ensures steps { MatchingIsRight }
     ensures texts { TextsThatMatchAreRight }
@@ -33,17 +33,17 @@ pub fn certified_is_confirmed()
     ensures { CertifiedMatches }
 {}
 
-/// What a finished run wrote is confirmed by whoever is given the three texts as they were written.
+/// What a finished run wrote is confirmed, if the three texts are read as they were written.
 pub fn finished_is_confirmed()
     ensures { FinishedIsConfirmed }
 {}
 
-/// What `certify_over` promises gives the headline.
+/// The promise of `certify_over` implies the headline.
 pub fn certified_is_headline()
     ensures { CertifiedIsHeadline }
 {}
 
-/// The short definitions that `confirm` speaks of say the same as those that matching and runs are proved against.
+/// The short definitions in the contract of `confirm` equal those that matching and runs are proved against.
 pub fn short_says_the_same()
     ensures script { SaysTheSame }
     ensures answers { SameAnswers }
@@ -51,12 +51,12 @@ pub fn short_says_the_same()
     ensures right { RightByOutcomes }
 {}
 
-/// The certificate of a finished run has a hint text, which is proved: `convert` doesn't refuse it.
+/// The certificate of a finished run has a hint text, which is proved: `convert` does not refuse it.
 pub fn runs_have_hints()
     ensures { RunsHaveHints }
 {}
 
-/// What the checker of proofs accepts means what matching takes it to mean.
+/// The checker of proofs has the seven properties that matching needs.
 pub fn checking_is_sound()
     ensures { IsSound the_checking }
 {}
@@ -72,18 +72,18 @@ pub fn clauses_as_sets()
     ensures tautology { TautologyChangesNothing }
 {}
 
-/// The literals of an ask bind no later one: only the names that they brought in stay.
+/// The literals of an ask do not bind a later one: only the names that they introduced remain.
 pub fn ask_binds_nothing()
     ensures clauses { AskBindsNothing }
     ensures names { AskLeavesNames }
 {}
 
-/// Different outcomes give different texts.
+/// Different outcomes have different texts.
 pub fn texts_tell_outcomes()
     ensures { TextsTellOutcomes }
 {}
 
-/// Worked rows of texts: what is answered, refused and malformed.
+/// Examples of texts: what is answered, refused and malformed.
 pub fn rows_of_text()
     ensures empty { EmptyText }
     ensures ask_alone { AskAloneText }
@@ -94,7 +94,7 @@ pub fn rows_of_text()
     ensures malformed { MalformedText }
 {}
 
-/// Worked rows of names: identities, and the steps that are expected.
+/// Examples of names: identities, and the expected steps.
 pub fn rows_of_names()
     ensures hidden { HiddenAtOnceState }
     ensures back { HiddenAndBackState }
@@ -102,7 +102,7 @@ pub fn rows_of_names()
     ensures expected { ClauseAndAskExpected }
 {}
 
-/// Worked rows that match, by steps and by bytes, and their answers are right.
+/// Examples that match, by steps and by bytes, with right answers.
 pub fn rows_that_match()
     ensures empty { EmptyMatches }
     ensures model_bytes { ClauseAndAskMatches }
@@ -113,8 +113,8 @@ pub fn rows_that_match()
     ensures core_steps { TwoUnitsSteps }
 {}
 
-/// Worked rows that don't match: a name put again on its old variable, a certificate of `End` alone, answers that are
-/// missing, and answers that stand twice.
+/// Examples that do not match: a name that gets its old variable again, a certificate with only `End`, missing answers,
+/// and answers written twice.
 pub fn rows_that_fail()
     ensures old_variable { NameOnOldVariable }
     ensures end_alone { EndAlone }
@@ -122,8 +122,7 @@ pub fn rows_that_fail()
     ensures extra { AnswersTwice }
 {}
 
-/// Worked rows of a run's certificate: steps that it may have, and such that leave out what is needed, or have more
-/// behind `End`.
+/// Examples of a run's certificate: steps that it can have, and steps that lack something, or have more after `End`.
 pub fn rows_of_certificates()
     ensures model { ClauseAndAskCertified }
     ensures left_out { LeftOutCertified }

@@ -1,5 +1,4 @@
-//! Answers a script as it is read, with a certificate: what a run does for each command and at its end, over its
-//! solver.
+//! Answers a script as it is read, and writes a certificate.
 ghost use Rattle.std.specs.Prelude.{◌≡◌, ◌+◌, ◌≤◌, ◌⊎◌, true, IfOk, OnErr, OnOk, IsErrOf};
 ghost use Rattle.sat_base.specs.device.Device.{most_reads, ReadFails};
 ghost use Rattle.certify.specs.Devices.{gave, took};
@@ -28,7 +27,7 @@ use serve::serve_all;
 use session::Session;
 use std::alloc::Global;
 
-/// Answers a script. Gives the certificate's writer back.
+/// Answers a script. Returns the certificate's writer, too.
 fn answer<S: CountedRead, A: CountedWrite, C: CountedWrite + Drop>(
     alloc: Global,
     script: &mut S,
@@ -51,7 +50,7 @@ fn answer<S: CountedRead, A: CountedWrite, C: CountedWrite + Drop>(
     end_run(session, answers, served)
 }
 
-/// Answers a script, with the certificate's writer lent.
+/// Answers a script, with a borrowed writer of the certificate.
 fn answer_into<S: CountedRead, A: CountedWrite, C: CountedWrite>(
     alloc: Global,
     script: &mut S,
@@ -73,11 +72,11 @@ fn answer_into<S: CountedRead, A: CountedWrite, C: CountedWrite>(
     result
 }
 
-/// Answers each ask of a script, with at most `budget` steps of search for each, and writes the answers and a
-/// certificate behind what the writers hold.
+/// Answers every ask of a script, with at most `budget` rounds of search each. Writes the answers and a certificate
+/// after what the writers hold.
 ///
-/// A command is served as soon as it is read, of which at most 4,096 bytes are read at a time. Both writers are flushed
-/// before a summary is answered.
+/// A command is served as soon as it is read; at most 4,096 bytes are read at a time. Both writers are flushed before a
+/// summary is returned.
 pub fn run<S: CountedRead, A: CountedWrite, C: CountedWrite>(
     alloc: Global,
     script: &mut S,
@@ -85,14 +84,13 @@ pub fn run<S: CountedRead, A: CountedWrite, C: CountedWrite>(
     certificate: &mut C,
     budget: u64,
 ) -> Result<Summary, RunFault>
-    // The answers' writer took the answers to the text that was given, whatever would follow, and each of them is
-    // right.
+    // The answers' writer received right answers to the text that was given, whatever would follow.
     ensures answered { IfOk result
         (λ s. WritesAnswers budget s (gave S.seen script.old script.new) (took A.seen answers.old answers.new)) }
-    // The certificate's writer took the steps of the accepted commands and of these answers, each accepted in its turn.
-    // Once it has recorded that the clauses are unsatisfiable, an ask is answered so without a round of search; each
-    // round of another ask has derived a clause that advances, but for the one that answered, and no other clause of it
-    // does. Where no command hides a name, no variable is deleted.
+    // The certificate's writer received the steps of the accepted commands and of these answers, each accepted in its
+    // turn. Once they record that the clauses are unsatisfiable, an ask is answered so without a round of search. Every
+    // round of another ask derived a clause that advances, except the one that answered, and no other clause of it
+    // advances. If no command hides a name, no variable is deleted.
     ensures backed { Backed result budget S.seen A.seen C.seen (script.old, answers.old, certificate.old)
         (script.new, answers.new, certificate.new) }
     ensures flushed { OnOk result (((A.seen answers.new).flushed ≡ true) × ((C.seen certificate.new).flushed ≡ true)) }
@@ -100,12 +98,12 @@ pub fn run<S: CountedRead, A: CountedWrite, C: CountedWrite>(
     // would follow. An unknown one among them has exhausted its rounds.
     ensures unfinished { OnErr result
         (Unfinished budget (gave S.seen script.old script.new) (took A.seen answers.old answers.new)) }
-    // Whatever is answered, the certificate's writer took a front of the text of steps that a checker accepts, and
+    // Whatever is returned, the certificate's writer received a prefix of the text of steps that a checker accepts, and
     // nothing else.
     ensures steps { TookSteps (took C.seen certificate.old certificate.new) }
 
-    // A fault is answered only where it happened: exactly one call of the device failed, or there were 2^48 reads and
-    // none did.
+    // A fault is returned only for its cause: exactly one call of the device failed, or there were 2^48 reads and none
+    // did.
     ensures script_read { IsErrOf result RunFault.ScriptRead → ReadFails (S.seen script.old) (S.seen script.new) }
     ensures answers_write { IsErrOf result RunFault.AnswersWrite
         → WriteFails (A.seen answers.old) (A.seen answers.new) }
@@ -115,7 +113,7 @@ pub fn run<S: CountedRead, A: CountedWrite, C: CountedWrite>(
     // names, after the steps of whose text the certificate's writer received a prefix.
     ensures counter_end { IsErrOf result RunFault.CounterEnd → CounterEnds (gave S.seen script.old script.new)
         (took C.seen certificate.old certificate.new) }
-    // A call of a device has failed only where the answer is that.
+    // A call of a device has failed only if that fault is returned.
     ensures kept_script { IsErrOf result RunFault.ScriptRead
         ⊎ ((S.seen script.new).failures ≡ (S.seen script.old).failures) }
     ensures kept_answers { IsErrOf result RunFault.AnswersWrite ⊎ WritesKept A.seen answers.old answers.new }

@@ -1,4 +1,4 @@
-//! Scripts that are read as they come: each command is lent as soon as it is complete.
+//! Reads scripts, and lends every command as soon as it is complete.
 
 pub(crate) mod ahead;
 mod commands;
@@ -11,15 +11,15 @@ use sat_base::Lit;
 
 #[derive(Clone, Copy, Debug, Drop, PartialEq, Eq)]
 pub enum CommandKind {
-    /// The literals are a clause; without one it is false.
+    /// A clause of the literals; without literals it is false.
     Clause,
-    /// The clauses so far are asked, under the literals.
+    /// An ask about the clauses so far, under the literals.
     Ask,
-    /// The names are hidden.
+    /// Hides the names.
     Hide,
-    /// The names get mode witness.
+    /// Gives the names mode witness.
     Witness,
-    /// The names get mode sample.
+    /// Gives the names mode sample.
     Sample,
 }
 
@@ -27,20 +27,20 @@ pub enum CommandKind {
 #[derive(Clone, Copy, Debug)]
 pub struct Command<'a> {
     pub kind: CommandKind,
-    /// The literals, of which a name is the positive one, up to the first whose name is past 2^28.
+    /// The literals, up to the first one whose name is past 2^28. A name is a positive literal.
     pub literals: &'a [Lit],
-    /// Whether a name is past 2^28.
+    /// Whether a name is past 2^28, and the literals end before it.
     pub past_limit: bool,
 }
 
-/// What a reader of scripts came to.
+/// What a reader of scripts reached.
 #[derive(Clone, Copy, Debug, Drop, PartialEq, Eq)]
 pub enum Reached {
-    /// All bytes were taken.
+    /// The end of the bytes.
     More,
-    /// A command is complete.
+    /// The end of a command.
     Command,
-    /// The text is malformed where the next command would stand.
+    /// A byte that makes the text malformed, where the next command would be.
     Malformed,
 }
 
@@ -48,7 +48,7 @@ pub enum Reached {
 #[derive(Clone, Copy, Debug, Drop, PartialEq, Eq)]
 pub enum ScriptEnd {
     Clean,
-    /// Cleanly, and behind a header that no ask followed: an ask under no literals is due.
+    /// Cleanly, after a header that no ask followed: an ask under no literals is due.
     Asked,
     Malformed,
 }

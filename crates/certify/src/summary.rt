@@ -1,19 +1,19 @@
-//! What a run says of itself.
+//! The summary of a run.
 
 use sat_solver::Progress;
 
-/// What was answered to an ask.
+/// The kind of an answer.
 #[derive(Clone, Copy, Debug, Drop, PartialEq, Eq)]
 pub enum Answer {
-    /// Some valuation satisfies the clauses, and the answers list one.
+    /// Some valuation satisfies the clauses, and the answer lists one.
     Sat,
-    /// None does.
+    /// No valuation does.
     Unsat,
-    /// The steps of search were spent before either was known.
+    /// The rounds were exhausted before either was known.
     Unknown,
 }
 
-/// How an ask went.
+/// An answer, and the rounds that it took.
 #[derive(Clone, Copy, Debug, Drop, PartialEq, Eq)]
 pub struct AskReport {
     pub answer: Answer,
@@ -21,17 +21,17 @@ pub struct AskReport {
     pub steps: u64,
 }
 
-/// How a script went.
+/// What a finished run did.
 #[derive(Debug, Drop)]
 pub struct Summary {
-    /// Those of the text, refused ones too.
+    /// The number of commands in the text, with the refused ones.
     pub commands: u64,
-    /// Those that were refused.
+    /// The number of refused commands.
     pub refused: u64,
-    /// The number that the command would have had at which the text is malformed, counted from 1.
+    /// The number of the command at which the text is malformed, counted from 1.
     pub malformed: Option<u64>,
-    /// One for each accepted ask, in order.
+    /// One report for every accepted ask, in order.
     pub asks: Vec<AskReport>,
-    /// How far the solver came.
+    /// The counts of the solver at the end.
     pub progress: Progress,
 }

@@ -1,4 +1,4 @@
-//! What confirming answers.
+//! The verdict of `confirm`.
 ghost use Rattle.std.specs.Prelude.{◌≡◌};
 ghost use Rattle.certify.specs.program.Printing.{why_text};
 
@@ -6,44 +6,44 @@ use std::alloc::AllocError;
 use std::fmt;
 use thiserror::Error;
 
-/// What `confirm` says of a script, answers and a certificate.
+/// The verdict on a script, answers and a certificate.
 #[derive(Clone, Copy, Debug, Drop, PartialEq, Eq)]
 pub enum Verdict {
-    /// They match.
+    /// The three texts match.
     Yes,
-    /// They don't. `ask` is one more than the number of accepted asks that were confirmed wholly.
+    /// They do not match. `ask` is one more than the number of accepted asks that are confirmed completely.
     No { ask: u64, why: Why },
 }
 
-/// What was met first that doesn't match.
+/// The first mismatch.
 #[derive(Clone, Copy, Debug, Drop, PartialEq, Eq)]
 pub enum Why {
-    /// The answers are over where a line is due.
+    /// The answers end where a line is expected.
     AnswerMissing,
-    /// The answers go on behind the last line that is due.
+    /// The answers go on after the last expected line.
     AnswerExtra,
-    /// The answers' bytes aren't a line that may stand there.
+    /// The answers' bytes are not a line that is allowed there.
     AnswerText,
-    /// An added clause isn't the script's.
+    /// A clause is not the script's.
     ClauseDiffers,
-    /// Another name comes in than the script's next one.
+    /// A name is not the script's next one.
     NameDiffers,
-    /// A name is put on a variable that the checker knows.
+    /// A name gets a variable that the checker knows already.
     NameNotFresh,
-    /// What is assumed isn't what the script asks.
+    /// The assumptions are not those of the script's ask.
     AskDiffers,
-    /// An answer isn't the one that the certificate shows.
+    /// An answer is not the one that the certificate shows.
     AnswerDiffers,
-    /// The checker refuses a step, or the bytes are none.
+    /// The checker refuses a step, or the bytes are no step.
     StepRefused,
-    /// The certificate is over where a step is expected.
+    /// The certificate ends where a step is expected.
     CertificateEnds,
-    /// A step of another kind than the expected one.
+    /// A step is of another kind than the expected one.
     StepOutOfPlace,
 }
 
 impl Why {
-    /// The variant's name, by which a no is printed.
+    /// Returns the variant's name, which is printed for a no.
     pub fn word(self) -> &'static str
         ensures { result.now ≡ why_text self }
     {
@@ -69,7 +69,7 @@ impl fmt::Display for Why {
     }
 }
 
-/// Why nothing is said.
+/// Why there is no verdict.
 #[derive(Clone, Copy, Debug, Drop, PartialEq, Eq, Error)]
 pub enum ConfirmFault {
     /// The script's reader failed, or was read 2^48 times.
@@ -83,7 +83,7 @@ pub enum ConfirmFault {
     CertificateRead,
     #[error("OutOfMemory")]
     OutOfMemory,
-    /// A number is past 64 bits. It never comes, since each reader gives at most 2^60 bytes.
+    /// A count exceeds 64 bits. It is never returned, since a reader gives at most 2^60 bytes.
     #[error("CounterEnd")]
     CounterEnd,
 }

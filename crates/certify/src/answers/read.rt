@@ -1,5 +1,5 @@
-//! Reads answers, line by line, from the front of their bytes. What isn't in form to the byte is refused:
-//! single spaces, no leading zeros, each line ended by LF, names from 1 to 2^28 in their order.
+//! Reads answers line by line, from the beginning of their bytes. Bytes that are not exactly in form are refused:
+//! single spaces, no leading zeros, every line ends with LF, names are from 1 to 2^28 and in order.
 ghost use Rattle.std.specs.Prelude.{◌≡◌, ◌++◌, ◌∷◌, [], false, ◌*◌, ◌<◌, ◌≤◌, decimal, MatchOption, MatchResult, List};
 ghost use Rattle.std.specs.Prelude.{ℕ};
 ghost use Rattle.certify.specs.answers.AnswerForms.{IsName};
@@ -14,12 +14,12 @@ use sat_base::{Lit, Var};
 use std::alloc::AllocFailed;
 use thiserror::Error;
 
-/// What an answer says of its ask.
+/// What an answer says about its ask.
 #[derive(Clone, Copy, Debug, Drop, PartialEq, Eq)]
 pub enum AnswerKind {
-    /// With the line of a model.
+    /// Has a `v` line, with a model.
     Sat,
-    /// With the line of a core.
+    /// Has an `f` line, with a core.
     Unsat,
     Unknown,
 }
@@ -27,10 +27,10 @@ pub enum AnswerKind {
 /// Why no answer was read.
 #[derive(Clone, Copy, Debug, Drop, PartialEq, Eq, Error)]
 pub enum AnswerFault {
-    /// The bytes are over where a line is due.
+    /// The bytes end where a line is expected.
     #[error("a line of the answers is missing")]
     Missing,
-    /// The bytes aren't a line of an answer, in form.
+    /// The bytes are not a line of an answer.
     #[error("the answers have a line that isn't in form")]
     Text,
     #[error("out of memory")]
@@ -48,7 +48,7 @@ impl<T: Drop> From<AllocFailed<T>> for AnswerFault {
     }
 }
 
-/// What is behind the text, where the bytes begin with it.
+/// Returns the bytes after a text, if they begin with it.
 pub fn take_text<'a>(bytes: &'a [u8], text: &[u8]) -> Option<&'a [u8]>
     ensures { MatchOption result ((tail : List ℕ) → bytes.now ≡ text.now ++ tail → ⊥)
         (λ rest. bytes.now ≡ text.now ++ rest.now) }
@@ -66,8 +66,8 @@ pub fn is_front(bytes: &[u8], text: &[u8]) -> bool
     }
 }
 
-/// The name with one more digit, or the first digit where it is still 0.
-/// `None` for another byte, a leading zero, and a name past the limit.
+/// Returns a name with one more digit; 0 has no digit yet. `None` for another byte, a leading zero, or a name past the
+/// limit.
 fn with_digit(name: usize, byte: u8) -> Option<usize>
     requires { name ≤ var_limit }
     ensures { MatchOption result (NoNameDigit name byte)
@@ -83,7 +83,7 @@ fn with_digit(name: usize, byte: u8) -> Option<usize>
     Some(more)
 }
 
-/// The name in front of a space, and what is behind the space.
+/// Returns the name before a space, and the bytes after the space.
 fn read_name(bytes: &[u8]) -> Option<(usize, &[u8])>
     ensures { MatchOption result (NoName bytes.now) (λ x. IsName x.0 × (bytes.now ≡ decimal x.0 ++ (32 ∷ x.1.now))) }
 {
@@ -98,7 +98,7 @@ fn read_name(bytes: &[u8]) -> Option<(usize, &[u8])>
     None
 }
 
-/// Whether a name in front of a space may begin with these bytes.
+/// Whether a name and a space can begin with these bytes.
 fn begins_name(bytes: &[u8]) -> bool
     ensures { result ≡ false → StartsNoName bytes.now }
 {
@@ -116,7 +116,7 @@ fn begins_name(bytes: &[u8]) -> bool
     true
 }
 
-/// The literal in front of a space, and what is behind the space.
+/// Returns the literal before a space, and the bytes after the space.
 fn read_literal(bytes: &[u8]) -> Option<(Lit, &[u8])>
     ensures { MatchOption result (NoLiteral bytes.now) (λ x. BeginsWithLiteral bytes.now x.0 x.1.now) }
 {
@@ -132,7 +132,7 @@ fn read_literal(bytes: &[u8]) -> Option<(Lit, &[u8])>
     }
 }
 
-/// Whether a literal in front of a space may begin with these bytes.
+/// Whether a literal and a space can begin with these bytes.
 fn begins_literal(bytes: &[u8]) -> bool
     ensures { result ≡ false → StartsNoLiteral bytes.now }
 {
@@ -142,7 +142,7 @@ fn begins_literal(bytes: &[u8]) -> bool
     }
 }
 
-/// Where the literal stands in a line of this kind.
+/// Returns the place of a literal in the order of a line of this kind.
 fn literal_place(kind: AnswerKind, lit: Lit) -> usize
     ensures value { result ≡ literal_place kind lit }
     ensures bound { result < 2 * var_limit }
@@ -153,8 +153,8 @@ fn literal_place(kind: AnswerKind, lit: Lit) -> usize
     }
 }
 
-/// Reads the literals of a line of this kind up to `0` and LF, leaves them in the line, and answers what is behind
-/// them. A literal out of its order is refused before memory is asked for it.
+/// Reads the literals of a line of this kind up to `0` and LF into `line`. Returns the bytes after them. A literal out
+/// of order is refused before memory is allocated for it.
 fn read_literals<'a>(
     kind: AnswerKind,
     bytes: &'a [u8],
@@ -180,7 +180,7 @@ fn read_literals<'a>(
     take_text(rest, b"0\n").ok_or(AnswerFault::Text)
 }
 
-/// Whether the literals of a line of this kind, up to `0` and LF, may begin with these bytes.
+/// Whether the literals of a line of this kind, with `0` and LF, can begin with these bytes.
 fn begins_literals(kind: AnswerKind, bytes: &[u8]) -> bool
     requires { HasLine kind }
     ensures { result ≡ false → StartsNoLiterals kind bytes.now }
@@ -202,7 +202,7 @@ fn begins_literals(kind: AnswerKind, bytes: &[u8]) -> bool
     begins_literal(rest)
 }
 
-/// Whether the first line of an answer may begin with these bytes.
+/// Whether the first line of an answer can begin with these bytes.
 pub fn begins_kind(bytes: &[u8]) -> bool
     ensures { result ≡ false → StartsNoKind bytes.now }
 {
@@ -215,7 +215,7 @@ pub fn begins_kind(bytes: &[u8]) -> bool
     is_front(bytes, b"s UNKNOWN\n")
 }
 
-/// Reads the first line of an answer, and answers its kind and what is behind the line.
+/// Reads the first line of an answer. Returns its kind and the bytes after the line.
 pub fn read_kind(bytes: &[u8]) -> Result<(AnswerKind, &[u8]), AnswerFault>
     ensures { MatchResult result (λ x. bytes.now ≡ first_line x.0 ++ x.1.now) (NoKind bytes.now) }
 {
@@ -234,7 +234,7 @@ pub fn read_kind(bytes: &[u8]) -> Result<(AnswerKind, &[u8]), AnswerFault>
     }
 }
 
-/// Reads the line that begins with this text, for an answer of this kind.
+/// Reads the line with this head, for an answer of this kind.
 fn read_list<'a>(
     kind: AnswerKind,
     head: &[u8],
@@ -252,7 +252,7 @@ fn read_list<'a>(
     read_literals(kind, behind, line)
 }
 
-/// Whether the line with this head, for an answer of this kind, may begin with these bytes.
+/// Whether the line with this head, for an answer of this kind, can begin with these bytes.
 fn begins_list(kind: AnswerKind, head: &[u8], bytes: &[u8]) -> bool
     requires { IsHead kind head.now }
     ensures { result ≡ false → StartsNoLine kind bytes.now }
@@ -266,7 +266,7 @@ fn begins_list(kind: AnswerKind, head: &[u8], bytes: &[u8]) -> bool
     }
 }
 
-/// Whether the second line of an answer of this kind may begin with these bytes.
+/// Whether the second line of an answer of this kind can begin with these bytes.
 pub fn begins_line(kind: AnswerKind, bytes: &[u8]) -> bool
     ensures { result ≡ false → StartsNoLine kind bytes.now }
 {
@@ -277,9 +277,8 @@ pub fn begins_line(kind: AnswerKind, bytes: &[u8]) -> bool
     }
 }
 
-/// Reads the second line of an answer of this kind, leaves its literals in `line`, and answers what is behind it. An
-/// unknown answer has no second line: nothing is read, and `line` is left empty. After a fault `line` may hold
-/// anything.
+/// Reads the second line of an answer of this kind into `line`. Returns the bytes after it. An unknown answer has no
+/// second line: nothing is read, and `line` is empty. After a fault `line` can hold anything.
 pub fn read_line<'a>(
     kind: AnswerKind,
     bytes: &'a [u8],
@@ -298,8 +297,8 @@ pub fn read_line<'a>(
     }
 }
 
-/// Reads an answer, leaves the literals of its `v` or `f` line in `line`, and answers its kind and what is behind it.
-/// The memory of `line` is used again from answer to answer. After a fault it may hold anything.
+/// Reads an answer, with the literals of its `v` or `f` line into `line`. Returns its kind and the bytes after it. The
+/// memory of `line` is reused for every answer. After a fault it can hold anything.
 pub fn read_outcome<'a>(
     bytes: &'a [u8],
     line: &mut Vec<Lit>,

@@ -10,7 +10,7 @@ use crate::judge::Refusal;
 use sat_base::Var;
 use std::alloc::AllocError;
 
-/// Appends the line that refuses the command of this number for a name in use of mode witness.
+/// Appends the line that refuses the command with this number, for a name in use of mode witness.
 fn push_refused_witness(out: &mut Vec<u8>, command: u64, name: Var) -> Result<(), AllocError>
     ensures text { OnOk result (out.new.items ≡ out.old.items ++ refused_line command (WitnessName (name + 1))) }
     ensures line { OnOk result (IsOneLine (refused_line command (WitnessName (name + 1)))) }
@@ -24,7 +24,7 @@ fn push_refused_witness(out: &mut Vec<u8>, command: u64, name: Var) -> Result<()
     Ok(())
 }
 
-/// Appends the line that refuses the command of this number.
+/// Appends the line that refuses the command with this number.
 pub(crate) fn push_refused(
     out: &mut Vec<u8>,
     command: u64,

@@ -1,5 +1,5 @@
-//! Writes answers, line by line, behind the bytes of a buffer. Where there is no memory a part of a line may stand
-//! there. A name is written as its number, which is one more than the index of its variable.
+//! Writes answers line by line, after the bytes of a buffer. If memory runs out, a part of a line may be there. A name
+//! is written as its number, one more than the index of its variable.
 ghost use Rattle.std.specs.Prelude.{◌≡◌, ◌<◌, ◌≤◌, ◌^◌, ◌++◌, decimal, drop, OnOk};
 ghost use Rattle.certify.specs.answers.Answers.{literals_text, malformed_line, outcome_text, refused_line, word_of};
 ghost use Rattle.sat_checker.specs.matching.Expected.{Sat, Unsat, Unknown};
@@ -9,7 +9,7 @@ ghost use Rattle.sat_base.specs.script.Judge.{PastLimit};
 use sat_base::Lit;
 use std::alloc::AllocError;
 
-/// Appends the number in decimal.
+/// Appends a number in decimal.
 pub(crate) fn push_number(out: &mut Vec<u8>, number: u64) -> Result<(), AllocError>
     ensures { OnOk result (out.new.items ≡ out.old.items ++ decimal number) }
 {
@@ -20,7 +20,7 @@ pub(crate) fn push_number(out: &mut Vec<u8>, number: u64) -> Result<(), AllocErr
     Ok(())
 }
 
-/// Writes the number in decimal at the end of the bytes. Returns where it begins.
+/// Writes a number in decimal at the end of the bytes. Returns where it begins.
 fn spell_number(bytes: &mut [u8; 10], number: u32) -> usize
     requires some { 1 ≤ number }
     requires low { number < 10 ^ 9 }
@@ -39,7 +39,7 @@ fn spell_number(bytes: &mut [u8; 10], number: u32) -> usize
     at
 }
 
-/// Appends the literal as DIMACS writes it.
+/// Appends a literal as DIMACS writes it.
 pub fn push_literal(out: &mut Vec<u8>, lit: Lit) -> Result<(), AllocError>
     ensures { OnOk result (out.new.items ≡ out.old.items ++ word_of (named_literal lit)) }
 {
@@ -52,7 +52,7 @@ pub fn push_literal(out: &mut Vec<u8>, lit: Lit) -> Result<(), AllocError>
     out.extend_from_slice(&bytes[at..])
 }
 
-/// Appends each literal and a space, then `0` and LF.
+/// Appends every literal and a space, then `0` and LF.
 fn push_literals(out: &mut Vec<u8>, lits: &[Lit]) -> Result<(), AllocError>
     ensures { OnOk result (out.new.items ≡ out.old.items ++ literals_text (named_literals lits.now)) }
 {
@@ -86,7 +86,7 @@ pub fn push_unknown(out: &mut Vec<u8>) -> Result<(), AllocError>
     out.extend_from_slice(b"s UNKNOWN\n")
 }
 
-/// Appends the line that refuses the command of this number, which has a name past the limit.
+/// Appends the line that refuses the command with this number, for a name past the limit.
 pub fn push_refused_limit(out: &mut Vec<u8>, command: u64) -> Result<(), AllocError>
     ensures { OnOk result (out.new.items ≡ out.old.items ++ refused_line command PastLimit) }
 {
@@ -95,7 +95,7 @@ pub fn push_refused_limit(out: &mut Vec<u8>, command: u64) -> Result<(), AllocEr
     out.extend_from_slice(b" limit\n")
 }
 
-/// Appends the last line of the answers to a text that is malformed where the command of this number would stand.
+/// Appends the last line of the answers to a text that is malformed where the command with this number would be.
 pub fn push_malformed(out: &mut Vec<u8>, command: u64) -> Result<(), AllocError>
     ensures { OnOk result (out.new.items ≡ out.old.items ++ malformed_line command) }
 {

@@ -1,4 +1,4 @@
-//! The answers to a script, as they are due.
+//! Reads the answers to a script as they are expected.
 ghost use Rattle.std.specs.Prelude.{◌≡◌, [], true, false};
 ghost use Rattle.std.specs.Bool.{MatchBool};
 ghost use Rattle.certify.specs.answers.Answers.{malformed_line, refused_line};
@@ -21,37 +21,37 @@ use crate::verdict::Why;
 use sat_base::{CountedRead, Lit};
 use std::alloc::Global;
 
-/// An answer, and the literals of its line by the indices of their names.
+/// An answer, and the literals of its line. The index of a literal is that of its name.
 #[derive(Drop)]
 pub(crate) struct Reply {
     pub kind: AnswerKind,
     pub lits: Vec<Lit>,
 }
 
-/// The answers, of which the line in hand is held.
+/// The answers, of which the current line is held.
 #[derive(Drop)]
 pub(crate) struct Answers {
     lines: Lines,
     pub reply: Reply,
-    /// A line that is due.
+    /// An expected line.
     due: Vec<u8>,
 }
 
-/// Whether the line that was read is the one that is due.
+/// Whether the line that was read is the expected one.
 fn is_same(line: &[u8], due: &[u8]) -> bool
     ensures { MatchBool result (line.now ≡ due.now) (line.now ≡ due.now → ⊥) }
 {
     line == due
 }
 
-/// Whether the line that was read is empty, as it is where the answers are over.
+/// Whether the line that was read is empty, because the answers have ended.
 fn is_none(line: &[u8]) -> bool
     ensures { MatchBool result (line.now ≡ []) (line.now ≡ [] → ⊥) }
 {
     line.is_empty()
 }
 
-/// Whether only one answer may stand where another kind does.
+/// Checks whether an answer of this kind is allowed, if only one answer is.
 fn is_other(settled: bool, kind: AnswerKind) -> bool
     ensures { MatchBool result ((settled ≡ true) × (kind ≡ AnswerKind.Unsat → ⊥))
         (settled ≡ true → kind ≡ AnswerKind.Unsat) }
@@ -66,7 +66,7 @@ fn is_other(settled: bool, kind: AnswerKind) -> bool
     }
 }
 
-/// Whether only an answer without literals may stand where there are some.
+/// Checks whether these literals are allowed, if only an answer without literals is.
 fn has_more(settled: bool, lits: &[Lit]) -> bool
     ensures { MatchBool result ((settled ≡ true) × (lits.now ≡ [] → ⊥)) (settled ≡ true → lits.now ≡ []) }
 {
@@ -76,7 +76,7 @@ fn has_more(settled: bool, lits: &[Lit]) -> bool
     !lits.is_empty()
 }
 
-/// No answer was read.
+/// Returns why no answer was read.
 fn unanswered(fault: AnswerFault) -> Stop
     ensures { result ≡ stop_after fault }
 {
@@ -88,7 +88,7 @@ fn unanswered(fault: AnswerFault) -> Stop
 }
 
 impl Answers {
-    /// Before the first line.
+    /// Returns the state before the first line.
     pub fn new(alloc: Global) -> Answers
         ensures waiting { waiting result.lines.ahead ≡ [] }
         ensures reads { result.lines.ahead.reads ≡ 0 }
@@ -103,7 +103,7 @@ impl Answers {
         }
     }
 
-    /// Reads the next line of the answers, of those that are wanted.
+    /// Reads the next line of the answers, which is one of the allowed lines.
     fn next_line<A: CountedRead>(&mut self, answers: &mut A, wanted: Wanted) -> Result<(), Stop>
         ensures line { NextLine (IsWantedLine wanted self.old.due.items) result
             (answers_source A.seen answers.old self.old) (answers_source A.seen answers.new self.new)
@@ -116,7 +116,7 @@ impl Answers {
         }
     }
 
-    /// Reads a line, which has to be the one that is due.
+    /// Reads a line, which has to be the expected one.
     fn take_due<A: CountedRead>(&mut self, answers: &mut A) -> Result<(), Stop>
         requires open_yet { IsNotAtEnd (answers_source A.seen answers.old self.old) }
         requires line { IsOneLine self.old.due.items }
@@ -134,7 +134,7 @@ impl Answers {
         Err(Stop::No(Why::AnswerText))
     }
 
-    /// Expects the line that refuses the command of this number.
+    /// Expects the line that refuses the command with this number.
     pub fn refuse<A: CountedRead>(
         &mut self,
         answers: &mut A,
@@ -163,7 +163,7 @@ impl Answers {
         self.take_due(answers)
     }
 
-    /// Reads the first line of an answer, which tells its kind.
+    /// Reads the first line of an answer, which has its kind.
     fn read_first<A: CountedRead>(&mut self, answers: &mut A) -> Result<AnswerKind, Stop>
         requires open_yet { IsNotAtEnd (answers_source A.seen answers.old self.old) }
         ensures { Replies true result (answers_source A.seen answers.old self.old)
@@ -193,7 +193,7 @@ impl Answers {
         }
     }
 
-    /// Reads an answer, with its line. Where `unsat` is recorded there is only one.
+    /// Reads an answer, with its line. Once `unsat` is recorded, only one answer is allowed.
     pub fn read<A: CountedRead>(&mut self, answers: &mut A, settled: bool) -> Result<(), Stop>
         requires open_yet { IsNotAtEnd (answers_source A.seen answers.old self.old) }
         ensures { Replies true result (answers_source A.seen answers.old self.old)
@@ -213,7 +213,7 @@ impl Answers {
         Ok(())
     }
 
-    /// Expects that nothing is left.
+    /// Expects the end of the answers.
     pub fn expect_over<A: CountedRead>(&mut self, answers: &mut A) -> Result<(), Stop>
         requires open_yet { IsNotAtEnd (answers_source A.seen answers.old self.old) }
         ensures { Replies false result (answers_source A.seen answers.old self.old)

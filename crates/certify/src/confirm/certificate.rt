@@ -1,4 +1,4 @@
-//! A certificate that is matched with what a script and its answers expect, step by step.
+//! Matches a certificate step by step with what a script and its answers expect.
 ghost use Rattle.std.specs.Prelude.{◌≡◌, []};
 ghost use Rattle.sat_checker.specs.CheckerView.{kernel_of};
 ghost use Rattle.sat_checker.specs.KernelView.{looks_of};
@@ -17,7 +17,7 @@ use sat_base::{CountedRead, StepReader};
 use sat_checker::Checker;
 use std::alloc::Global;
 
-/// The checker that a certificate's steps are fed to, and what the names stand for.
+/// The checker that a certificate's steps are fed to, and the variables of the names.
 #[derive(Drop)]
 pub(crate) struct Certificate {
     pub checker: Checker,
@@ -25,7 +25,7 @@ pub(crate) struct Certificate {
     room: Room,
 }
 
-/// Stops unless what is expected may stay unmet once `unsat` is recorded.
+/// Returns an error unless the expected step can be missing once `unsat` is recorded.
 fn excuse_unmet(expected: &Expected<'_>) -> Result<(), Stop>
     ensures { SaysUnmet (due_of expected.now) result }
 {
@@ -38,7 +38,7 @@ fn excuse_unmet(expected: &Expected<'_>) -> Result<(), Stop>
 impl Certificate {
     ghost use Rattle.certify.specs.confirm.Awaiting.{CheckerIsAt};
 
-    /// Before the first step.
+    /// Returns the state before the first step.
     pub fn new(alloc: Global) -> Certificate
         ensures stands { CheckerIsAt (kernel_of result.checker) result.names [] }
         ensures looks { looks_of (kernel_of result.checker) ≡ 0 }

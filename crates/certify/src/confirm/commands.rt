@@ -1,4 +1,4 @@
-//! Confirms commands, one after another.
+//! Confirms commands one by one.
 ghost use Rattle.std.specs.Prelude.{◌≡◌, ◌+◌, ◌^◌, ◌<◌, ℕ, List, [], true, false};
 ghost use Rattle.sat_base.specs.script.Script.{Clean, Command as Spelled};
 ghost use Rattle.sat_base.specs.script.Judge.{start};
@@ -26,18 +26,18 @@ use crate::script::{Command, CommandKind, ScriptEnd};
 use sat_base::{CountedRead, Lit, StepReader};
 use std::alloc::Global;
 
-/// What the certificate's steps and the script's names have made so far, and the answers' line in hand.
+/// The state after the certificate's steps and the script's names so far, and the current line of the answers.
 #[derive(Drop)]
 pub(crate) struct Session {
     pub matching: Matching,
     answers: Answers,
-    /// The number of the last command that came.
+    /// The number of the last command.
     pub number: u64,
-    /// The accepted asks that were confirmed wholly.
+    /// The number of accepted asks that are confirmed completely.
     pub asks: u64,
 }
 
-/// Expects what shows the answer to an ask.
+/// Expects the step that shows the answer to an ask.
 fn show<C: CountedRead>(
     matching: &mut Matching,
     steps: &mut StepReader<'_, C>,
@@ -66,7 +66,7 @@ fn show<C: CountedRead>(
     }
 }
 
-/// Expects what shows the answer to an ask, and the end of the ask.
+/// Expects the step that shows the answer to an ask, and the end of the ask.
 fn close<C: CountedRead>(
     matching: &mut Matching,
     steps: &mut StepReader<'_, C>,
@@ -87,7 +87,7 @@ fn close<C: CountedRead>(
     matching.certificate.expect(steps, &Expected::Close)
 }
 
-/// Expects what a command adds or asks behind its names.
+/// Expects what a command adds or asks, after its names.
 fn expect_content<C: CountedRead>(
     certificate: &mut Certificate,
     steps: &mut StepReader<'_, C>,
@@ -112,7 +112,7 @@ fn expect_content<C: CountedRead>(
 }
 
 impl Session {
-    /// Before the first command.
+    /// Returns the state before the first command.
     pub fn new(alloc: Global) -> Session
         ensures stands { (rest : List ℕ) (step : Step) → HoldsAt (table_of result.matching)
             (record { checker = kernel_of result.matching.certificate.checker; step = step; rest = rest }) start [] }
@@ -132,7 +132,7 @@ impl Session {
         }
     }
 
-    /// Expects an answer behind the assumptions of its ask, what shows it, and the end of the ask.
+    /// Expects an answer after the assumptions of its ask, the step that shows it, and the end of the ask.
     fn confirm_answer<A: CountedRead, C: CountedRead>(
         &mut self,
         answers: &mut A,
@@ -153,7 +153,7 @@ impl Session {
         Ok(())
     }
 
-    /// Confirms what a command adds or asks behind its names.
+    /// Confirms what a command adds or asks, after its names.
     fn confirm_content<A: CountedRead, C: CountedRead>(
         &mut self,
         answers: &mut A,
@@ -196,7 +196,7 @@ impl Session {
         self.confirm_content(answers, steps, command)
     }
 
-    /// Confirms that nothing is left but the end of the certificate.
+    /// Confirms that only the end of the certificate is left.
     fn confirm_over<A: CountedRead, C: CountedRead>(
         &mut self,
         answers: &mut A,
@@ -212,7 +212,7 @@ impl Session {
         self.answers.expect_over(answers)
     }
 
-    /// Confirms the ask under no literals that stands behind the last command, and the end.
+    /// Confirms the ask under no literals after the last command, and the end.
     fn confirm_asked<A: CountedRead, C: CountedRead>(
         &mut self,
         answers: &mut A,
@@ -238,7 +238,7 @@ impl Session {
         self.confirm_over(answers, steps)
     }
 
-    /// Confirms that the answers' last line tells of the malformed command, and the end.
+    /// Confirms that the answers' last line reports the malformed command, and the end.
     fn confirm_malformed<A: CountedRead, C: CountedRead>(
         &mut self,
         answers: &mut A,
@@ -258,7 +258,7 @@ impl Session {
         self.confirm_over(answers, steps)
     }
 
-    /// Confirms what is left where the text ends so.
+    /// Confirms what is left, if the text ends so.
     pub fn confirm_end<A: CountedRead, C: CountedRead>(
         &mut self,
         answers: &mut A,

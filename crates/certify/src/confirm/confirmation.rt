@@ -1,4 +1,4 @@
-//! Confirms the commands of a script as they come, and then its end.
+//! Confirms the commands of a script as they are read, and then its end.
 ghost use Rattle.std.specs.Prelude.{◌≡◌, ◌+◌, ◌^◌, ◌<◌, ◌≤◌, [], ◌∷◌, true, false, OnOk};
 ghost use Rattle.sat_base.specs.script.Script.{Command as Spelled};
 ghost use Rattle.certify.specs.confirm.Streams.{StepsGoOn, IsReadFew, SameLoan};
@@ -17,7 +17,7 @@ use crate::script::stream::{CommandStream, Next};
 use sat_base::{CountedRead, StepReader};
 use std::alloc::Global;
 
-/// A script that is read as its commands are wanted, and what was confirmed of it.
+/// A script that is read when its commands are needed, and what is confirmed of it.
 #[derive(Drop)]
 pub(crate) struct Confirmation {
     pub script: CommandStream,
@@ -25,7 +25,7 @@ pub(crate) struct Confirmation {
 }
 
 impl Confirmation {
-    /// Counts the command that came, and confirms it.
+    /// Counts the last command, and confirms it.
     fn confirm_next<A: CountedRead, C: CountedRead>(
         &mut self,
         answers: &mut A,

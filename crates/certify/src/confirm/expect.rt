@@ -1,4 +1,4 @@
-//! What a script and its answers ask of the next ordered step of a certificate.
+//! What a script and its answers expect of the next ordered step of a certificate.
 ghost use Rattle.std.specs.Prelude.{◌≡◌, ◌+◌, Some, None, IfOk, if◌then◌else◌};
 ghost use Rattle.sat_base.specs.steps.StepViews.{step_of};
 ghost use Rattle.sat_checker.specs.matching.Expected.{NewName, NoName, Adds, Opens, Fails, Closes, Finish};
@@ -15,24 +15,24 @@ use sat_base::{Lit, ProofStep, Var};
 use sat_checker::Checker;
 use std::alloc::AllocError;
 
-/// What the next ordered step has to be, by names. A literal is one of the name of its index.
+/// The next ordered step, in names. The index of a literal is that of its name.
 #[derive(Clone, Copy)]
 pub(crate) enum Expected<'a> {
-    /// The name is put on a variable that the checker doesn't know.
+    /// The name gets a variable that the checker does not know.
     NewName(Var),
-    /// The name's variable loses it.
+    /// The name's variable loses its name.
     NoName(Var),
-    /// A clause of these literals.
+    /// A clause with these literals.
     Clause(&'a [Lit]),
     /// The assumptions of an ask.
     Ask(&'a [Lit]),
-    /// A model, which the line of an answer shows for the names in use.
+    /// A model with the values of an answer's line, which lists the names in use.
     Model {
         names: &'a Names,
         ask: &'a [Lit],
         line: &'a [Lit],
     },
-    /// That this core fails.
+    /// This core.
     Core(&'a [Lit]),
     /// The end of an ask: assumptions without literals.
     Close,
@@ -40,14 +40,14 @@ pub(crate) enum Expected<'a> {
     End,
 }
 
-/// What a step is compared by: the checker that was fed those before it, and the variables of the names.
+/// What a step is compared with: the checker that was fed the steps before it, and the variables of the names.
 #[derive(Clone, Copy)]
 pub(crate) struct Known<'a> {
     pub checker: &'a Checker,
     pub variables: &'a NamedVars,
 }
 
-/// Nothing, or why not.
+/// Returns `Ok` if this is so, else `why`.
 fn unless(holds: bool, why: Why) -> Option<Why>
     ensures { result ≡ (if holds then None else Some why) }
 {
@@ -57,7 +57,7 @@ fn unless(holds: bool, why: Why) -> Option<Why>
     Some(why)
 }
 
-/// Whether the step puts the name on a variable that the checker doesn't know yet: nothing, or why not.
+/// Checks whether the step gives the name a variable that the checker does not know yet.
 fn compare_new_name(known: Known<'_>, step: &ProofStep<'_>, name: Var) -> Option<Why>
     ensures { Compares (λ o ask. NewName (name + 1)) known.entry (step_of step.now) result }
 {
@@ -77,7 +77,7 @@ fn compare_new_name(known: Known<'_>, step: &ProofStep<'_>, name: Var) -> Option
     None
 }
 
-/// Whether the step takes the name off the variable that it stands for: nothing, or why not.
+/// Checks whether the step removes the name of the name's variable.
 fn compare_no_name(known: Known<'_>, step: &ProofStep<'_>, name: Var) -> Option<Why>
     ensures { Compares (λ o ask. NoName (name + 1)) known.entry (step_of step.now) result }
 {
@@ -96,8 +96,7 @@ fn compare_no_name(known: Known<'_>, step: &ProofStep<'_>, name: Var) -> Option<
     None
 }
 
-/// Whether the step adds a clause with the literals of the script's, in whatever order and however often: nothing, or
-/// why not.
+/// Checks whether the step adds a clause with the same literals as the script's, in any order and with any repeats.
 fn compare_clause(
     known: Known<'_>,
     step: &ProofStep<'_>,
@@ -113,8 +112,7 @@ fn compare_clause(
     Ok(unless(same, Why::ClauseDiffers))
 }
 
-/// Whether the step sets the literals of the ask as assumptions, in whatever order and however often: nothing, or why
-/// not.
+/// Checks whether the step assumes the literals of the ask, in any order and with any repeats.
 fn compare_ask(
     known: Known<'_>,
     step: &ProofStep<'_>,
@@ -130,7 +128,7 @@ fn compare_ask(
     Ok(unless(same, Why::AskDiffers))
 }
 
-/// Whether the step says that the core of the answer fails: nothing, or why not. Its hashes are the checker's concern.
+/// Checks whether the step has the core of the answer. Its hashes are for the checker.
 fn compare_core(
     known: Known<'_>,
     step: &ProofStep<'_>,
@@ -160,7 +158,7 @@ fn is_line(names: &Names, ask: &[Lit], line: &[Lit], room: &mut Room) -> Result<
     Ok(false)
 }
 
-/// Compares the literals of a model with a line that lists the names in use and has an ask's literals.
+/// Checks whether the step is a model with the values of a line that lists the names in use and has the ask's literals.
 fn compare_line(
     known: Known<'_>,
     step: &ProofStep<'_>,
@@ -176,7 +174,7 @@ fn compare_line(
     Ok(unless(shown, Why::AnswerDiffers))
 }
 
-/// Whether the step sets no literal as assumptions, which ends an ask: nothing, or why not.
+/// Checks whether the step assumes no literals, which ends an ask.
 fn compare_close(known: Known<'_>, step: &ProofStep<'_>) -> Option<Why>
     ensures { Compares (λ o ask. Closes) known.entry (step_of step.now) result }
 {
@@ -189,7 +187,7 @@ fn compare_close(known: Known<'_>, step: &ProofStep<'_>) -> Option<Why>
     Some(Why::AskDiffers)
 }
 
-/// Whether the step is the end of the certificate, behind which nothing matters: nothing, or why not.
+/// Checks whether the step is the end of the certificate, after which nothing matters.
 fn compare_end(known: Known<'_>, step: &ProofStep<'_>) -> Option<Why>
     ensures { Compares (λ o ask. Finish) known.entry (step_of step.now) result }
 {
@@ -199,7 +197,7 @@ fn compare_end(known: Known<'_>, step: &ProofStep<'_>) -> Option<Why>
     None
 }
 
-/// Compares a step with what is expected, by the variables of the names.
+/// Compares a step with the expected one, by the variables of the names.
 pub(crate) fn fits(
     known: Known<'_>,
     step: &ProofStep<'_>,
@@ -228,7 +226,7 @@ pub(crate) fn fits(
     }
 }
 
-/// What may stay unmet once `unsat` is recorded: all but a model, and but a core that isn't empty.
+/// Whether this step can be missing once `unsat` is recorded: any but a model and a core that is not empty.
 pub(crate) fn excuse(expected: &Expected<'_>) -> Option<Why>
     ensures { Excuses (due_of expected.now) result }
 {

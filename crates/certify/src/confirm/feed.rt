@@ -1,4 +1,4 @@
-//! A certificate's steps, read and fed to a checker.
+//! Reads a certificate's steps, and feeds them to a checker.
 ghost use Rattle.std.specs.Prelude.{◌≡◌, ◌<◌, OnOk, false};
 ghost use Rattle.sat_base.specs.steps.StepReading.{reader_source};
 ghost use Rattle.sat_base.specs.steps.StepViews.{step_of};
@@ -14,14 +14,14 @@ use crate::confirm::stop::{Stop, refused, refused_step, unread};
 use sat_base::{CountedRead, ProofStep, StepReader};
 use sat_checker::{Checker, SelfChecker};
 
-/// The tags of steps that a script and its answers ask for; the others are fed wherever they stand.
+/// The tags of ordered steps, which a script and its answers expect; the others are fed wherever they are.
 pub(crate) fn is_ordered(tag: u8) -> bool
     ensures { result ≡ is_ordered_tag tag }
 {
     tag == 2 || tag == 5 || tag == 10 || tag == 11 || tag == 12 || tag == 13
 }
 
-/// Reads the next step, which is still to be fed.
+/// Reads the next step, which is not fed yet.
 pub(crate) fn read_next<R: CountedRead>(steps: &mut StepReader<'_, R>) -> Result<(), Stop>
     requires { StepsGoOn R.seen steps.old }
     ensures same { SameLoan steps.old steps.new }
@@ -54,7 +54,7 @@ pub(crate) fn feed(checker: &mut Checker, step: &ProofStep<'_>) -> Result<(), St
 pub(crate) fn settle(checker: &mut Checker) -> Result<(), Stop>
     ensures { SettlesConflict result (kernel_of checker.old) (kernel_of checker.new) }
 {
-    // Mostly none is pending, and then nothing is cleared for what the call may answer, which is large.
+    // Mostly none is pending. Then no room is cleared for the call's result, which is large.
     if checker.is_settled() {
         return Ok(());
     }

@@ -1,4 +1,4 @@
-//! What names stand for behind a step that was expected.
+//! Updates the variables of names after an expected step.
 ghost use Rattle.std.specs.Prelude.{◌+◌, OnOk};
 ghost use Rattle.sat_base.specs.steps.StepViews.{step_of};
 ghost use Rattle.sat_checker.specs.matching.Expected.{NewName, NoName};
@@ -10,7 +10,7 @@ use crate::confirm::variables::NamedVars;
 use sat_base::{ProofStep, Var};
 use std::alloc::AllocError;
 
-/// The name stands for the variable that the step puts it on.
+/// Gives the name the step's variable.
 fn follow_new_name(
     variables: &mut NamedVars,
     name: Var,
@@ -28,14 +28,14 @@ fn follow_new_name(
     variables.put(name, global)
 }
 
-/// The name stands for no variable any more.
+/// Removes the name's variable.
 fn follow_no_name(variables: &mut NamedVars, name: Var, step: &ProofStep<'_>)
     ensures { NamesFollow (λ o ask. NoName (name + 1)) variables.old (step_of step.now) variables.new }
 {
     variables.remove(name);
 }
 
-/// What the names stand for behind a step that was expected.
+/// Updates the variables of names after an expected step.
 pub(crate) fn follow(
     variables: &mut NamedVars,
     expected: &Expected<'_>,

@@ -1,4 +1,4 @@
-//! Answers that are read line by line.
+//! Reads answers line by line.
 ghost use Rattle.std.specs.Prelude.{◌≡◌, ◌<◌, [], false, MatchOption};
 ghost use Rattle.certify.specs.confirm.Lines.{GoesUpToLine, IsWantedLine, IsWrong, MovesFront, ReadsLine, StartsNone};
 ghost use Rattle.certify.specs.script.Ahead.{source_in, waiting};
@@ -8,14 +8,13 @@ use crate::script::ahead::Ahead;
 use sat_base::{CountedRead, ReadError};
 use std::alloc::{AllocError, Global};
 
-/// So many bytes without LF are looked at whenever more of them have come, and more than those whenever they have
-/// doubled.
+/// Up to so many bytes without LF are looked at whenever more are read; more than that, whenever they have doubled.
 const HELD: usize = 1024;
 
-/// Which lines may stand where the next one is read.
+/// Which lines are allowed as the next one.
 #[derive(Clone, Copy, Drop)]
 pub(crate) enum Wanted {
-    /// The line that is due.
+    /// The expected line.
     Due,
     /// The first line of an answer.
     First,
@@ -25,15 +24,15 @@ pub(crate) enum Wanted {
     Nothing,
 }
 
-/// The line in hand of a text that is read in pieces of at most 4,096 bytes.
+/// The current line of a text that is read in chunks of at most 4,096 bytes.
 #[derive(Drop)]
 pub(crate) struct Lines {
     ahead: Ahead,
-    /// With its LF, or without one at the end of the text.
+    /// With its LF; at the end of the text there may be none.
     pub line: Vec<u8>,
 }
 
-/// How many of the bytes go up to the first LF and with it, or all; and whether there is one.
+/// Returns the number of bytes up to and with the first LF, or of all bytes; and whether there is an LF.
 fn up_to_line(bytes: &[u8]) -> (usize, bool)
     ensures { GoesUpToLine result.1 bytes.now result.0 }
 {
@@ -46,7 +45,7 @@ fn up_to_line(bytes: &[u8]) -> (usize, bool)
     (bytes.len(), false)
 }
 
-/// Whether a line that may stand there begins with these bytes.
+/// Whether an allowed line begins with these bytes.
 fn may_begin(wanted: Wanted, due: &[u8], bytes: &[u8]) -> bool
     ensures { result ≡ false → StartsNone (IsWantedLine wanted due.now) bytes.now }
 {
@@ -58,7 +57,7 @@ fn may_begin(wanted: Wanted, due: &[u8], bytes: &[u8]) -> bool
     }
 }
 
-/// How many bytes are held before they are looked at again. `None` where no line that may stand there begins with them.
+/// Returns how many bytes are held before they are looked at again, or `None` if no allowed line begins with them.
 fn look(wanted: Wanted, due: &[u8], bytes: &[u8], limit: usize) -> Option<usize>
     requires { 0 < limit }
     ensures { MatchOption result (IsWrong (IsWantedLine wanted due.now) bytes.now) (λ next. 0 < next) }
@@ -76,7 +75,7 @@ fn look(wanted: Wanted, due: &[u8], bytes: &[u8], limit: usize) -> Option<usize>
 }
 
 impl Lines {
-    /// Before the first line.
+    /// Returns the state before the first line.
     pub fn new(alloc: Global) -> Lines
         ensures waiting { waiting result.ahead ≡ [] }
         ensures reads { result.ahead.reads ≡ 0 }
@@ -87,7 +86,7 @@ impl Lines {
         }
     }
 
-    /// Takes bytes that wait, up to the end of the line. Says whether it came.
+    /// Consumes bytes up to the end of the line. Returns whether it was reached.
     fn take(&mut self) -> Result<bool, AllocError>
         ensures { MovesFront result self.old.ahead self.new.ahead self.old.line.items self.new.line.items }
     {
@@ -98,8 +97,8 @@ impl Lines {
         Ok(whole)
     }
 
-    /// Reads the next line, or what is left of the text where no LF comes. Bytes without LF that begin no line which
-    /// may stand there are as good as a line: a line that is due, or in form, is held, and at most as much again.
+    /// Reads the next line, or the rest of the text if it has no LF. Bytes that begin no allowed line count as a line,
+    /// so at most twice the bytes of an allowed line are held.
     pub fn next<A: CountedRead>(
         &mut self,
         answers: &mut A,

@@ -1,4 +1,4 @@
-//! Lists of literals, compared as sets; those of names by the names' variables.
+//! Compares lists of literals as sets; those of names by the names' variables.
 ghost use Rattle.std.specs.Prelude.{IfOk, ◌≡◌, [], true};
 ghost use Rattle.sat_checker.specs.matching.Expected.{EachSpelt, SameSet, Spells};
 ghost use Rattle.certify.specs.answers.AnswerForms.{named_literal, named_literals};
@@ -10,7 +10,7 @@ use sat_base::Lit;
 use sat_checker::sorted_lits::{copy_canonical, is_subset};
 use std::alloc::{AllocError, Global};
 
-/// Room for comparisons; nothing is kept in it between them.
+/// Buffers for comparisons, which are empty between them.
 #[derive(Drop)]
 pub(crate) struct Room {
     spelt: Vec<Lit>,
@@ -25,7 +25,7 @@ pub(crate) struct Sets {
 }
 
 impl Room {
-    /// Lists without literals. Takes no memory.
+    /// Returns empty buffers. Never allocates.
     pub fn new(alloc: Global) -> Room
         ensures spelt { result.spelt.items ≡ [] }
         ensures first { result.sets.first.items ≡ [] }
@@ -41,7 +41,7 @@ impl Room {
     }
 }
 
-/// Whether each of the literals is one of the others.
+/// Whether every one of the literals is among the others.
 fn are_among(literals: &[Lit], others: &[Lit], sets: &mut Sets) -> Result<bool, AllocError>
     ensures { IfOk result (λ yes. AnswersWhether yes (AllAmong literals.now others.now)) }
 {
@@ -62,14 +62,14 @@ fn are_same(xs: &[Lit], ys: &[Lit], sets: &mut Sets) -> Result<bool, AllocError>
     Ok(is_subset(&sets.second, &sets.first, false))
 }
 
-/// Whether all of the literals stand in the line.
+/// Whether all of the literals are in the line.
 pub(crate) fn has_all(line: &[Lit], literals: &[Lit], room: &mut Room) -> Result<bool, AllocError>
     ensures { IfOk result (λ yes. AnswersWhether yes (AllAmong literals.now line.now)) }
 {
     are_among(literals, line, &mut room.sets)
 }
 
-/// Spells the literals by the names' variables. The answer is whether each name has one.
+/// Spells the literals by the names' variables. Returns whether every name has one.
 fn spell(variables: &NamedVars, literals: &[Lit], spelt: &mut Vec<Lit>) -> Result<bool, AllocError>
     ensures { IfOk result
         (λ yes. SpellsAll yes (variable_in variables.now) (named_literals literals.now) spelt.new.items) }
@@ -84,7 +84,7 @@ fn spell(variables: &NamedVars, literals: &[Lit], spelt: &mut Vec<Lit>) -> Resul
     Ok(true)
 }
 
-/// Whether the literal is spelt so by its name's variable.
+/// Whether this is the code of the literal by its name's variable.
 fn is_spelt(variables: &NamedVars, literal: Lit, code: Lit) -> bool
     ensures { result ≡ true → Spells (variable_in variables.now) (named_literal literal) code }
 {
@@ -94,7 +94,7 @@ fn is_spelt(variables: &NamedVars, literal: Lit, code: Lit) -> bool
     }
 }
 
-/// Whether the codes spell the names' literals one by one, in order.
+/// Whether the codes are those of the names' literals, one by one.
 fn are_spelt(variables: &NamedVars, literals: &[Lit], codes: &[Lit]) -> bool
     ensures { result ≡ true → AreSpelt (variable_in variables.now) (named_literals literals.now) codes.now }
 {
@@ -109,7 +109,7 @@ fn are_spelt(variables: &NamedVars, literals: &[Lit], codes: &[Lit]) -> bool
     true
 }
 
-/// Whether all of the names' literals stand among the codes.
+/// Whether all of the names' literals are among the codes.
 pub(crate) fn are_spelt_in(
     variables: &NamedVars,
     literals: &[Lit],

@@ -1,4 +1,4 @@
-//! The names of a script's commands, as a certificate puts and takes them.
+//! Confirms how a certificate introduces and hides the names of a script's commands.
 ghost use Rattle.std.specs.Prelude.{◌+◌, ◌≤◌, map, OnOk};
 ghost use Rattle.sat_base.specs.script.Judge.{names_from};
 ghost use Rattle.sat_base.specs.script.Script.{names_of};
@@ -72,7 +72,7 @@ fn expect_hidden<R: CountedRead>(
 }
 
 impl Matching {
-    /// Expects what a command of this kind, which isn't refused, makes of one of its names.
+    /// Expects the effect of an accepted command of this kind on one of its names.
     pub fn take_name<R: CountedRead>(
         &mut self,
         steps: &mut StepReader<'_, R>,
@@ -95,7 +95,7 @@ impl Matching {
         Ok(())
     }
 
-    /// Expects what a command of this kind, which isn't refused, makes of all its names, from left to right.
+    /// Expects the effect of an accepted command of this kind on all of its names, from left to right.
     pub fn take_names<R: CountedRead>(
         &mut self,
         steps: &mut StepReader<'_, R>,

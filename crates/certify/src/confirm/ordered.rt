@@ -1,4 +1,4 @@
-//! The next ordered step of a certificate, behind others that are fed.
+//! Finds the next ordered step of a certificate, and feeds the steps before it.
 ghost use Rattle.std.specs.Prelude.{◌<◌, IfNone, IfOk};
 ghost use Rattle.sat_base.specs.steps.StepReading.{reader_source};
 ghost use Rattle.sat_checker.specs.CheckerView.{kernel_of};
@@ -13,16 +13,16 @@ use crate::confirm::stop::Stop;
 use sat_base::{CountedRead, StepReader};
 use sat_checker::Checker;
 
-/// What came where an ordered step is awaited.
+/// What was found instead of, or as, an ordered step.
 #[derive(Clone, Copy)]
 pub(crate) enum Awaited {
-    /// The step that was read, which is not yet fed.
+    /// The step that was read, which is not fed yet.
     Step,
     /// `unsat` is recorded, and nothing more is read.
     Cut,
 }
 
-/// One more step, unless `unsat` is recorded. `None`: it was another than an ordered one, and is fed.
+/// Reads one more step, unless `unsat` is recorded. Returns `None` if it is not an ordered one, and then feeds it.
 fn advance<R: CountedRead>(
     checker: &mut Checker,
     steps: &mut StepReader<'_, R>,
@@ -49,7 +49,7 @@ fn advance<R: CountedRead>(
     Ok(None)
 }
 
-/// Feeds the other steps, up to the next ordered one.
+/// Feeds the steps before the next ordered one.
 fn find_ordered<R: CountedRead>(
     checker: &mut Checker,
     steps: &mut StepReader<'_, R>,
@@ -69,7 +69,7 @@ fn find_ordered<R: CountedRead>(
     }
 }
 
-/// Feeds the other steps, up to the next ordered one, and settles a unit conflict that they left pending.
+/// Feeds the steps before the next ordered one, and settles a unit conflict that is then pending.
 pub(crate) fn await_ordered<R: CountedRead>(
     checker: &mut Checker,
     steps: &mut StepReader<'_, R>,

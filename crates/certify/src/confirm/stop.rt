@@ -1,4 +1,4 @@
-//! What ends a confirmation.
+//! Why a confirmation ends.
 ghost use Rattle.std.specs.Prelude.{◌≡◌};
 ghost use Rattle.sat_checker.specs.KernelView.{error_of};
 ghost use Rattle.certify.specs.confirm.Feeding.{stop_by};
@@ -10,10 +10,10 @@ use sat_base::{ReadError, StepError};
 use sat_checker::{CheckerError, StepRefusal};
 use std::alloc::{AllocError, AllocFailed};
 
-/// Why nothing more is confirmed, whichever of the three texts it is about.
+/// Why a confirmation ends before the texts do.
 #[derive(Clone, Copy, Drop)]
 pub(crate) enum Stop {
-    /// What was met first that doesn't match.
+    /// The first mismatch.
     No(Why),
     /// The script's reader failed, or was read 2^48 times.
     ScriptRead,
@@ -22,9 +22,9 @@ pub(crate) enum Stop {
     /// The certificate's reader failed, or was read 2^48 times.
     CertificateRead,
     OutOfMemory,
-    /// A number of the checker's would be past 64 bits.
+    /// A count of the checker would exceed 64 bits.
     CounterEnd,
-    /// A command's number would be past 64 bits.
+    /// A command's number would exceed 64 bits.
     TooMany,
 }
 
@@ -50,7 +50,7 @@ impl<T: Drop> From<AllocFailed<T>> for Stop {
     }
 }
 
-/// The script can't be read.
+/// Returns why the script can't be read.
 pub(crate) fn unread_script(error: ReadError) -> Stop
     ensures { result ≡ script_stop error }
 {
@@ -60,7 +60,7 @@ pub(crate) fn unread_script(error: ReadError) -> Stop
     }
 }
 
-/// The answers can't be read.
+/// Returns why the answers can't be read.
 pub(crate) fn unread_answers(error: ReadError) -> Stop
     ensures { result ≡ answers_stop error }
 {
@@ -70,7 +70,7 @@ pub(crate) fn unread_answers(error: ReadError) -> Stop
     }
 }
 
-/// Why no step was read. A reader of steps that has failed isn't asked again.
+/// Returns why no step was read. A reader of steps that has failed is not called again.
 pub(crate) fn unread(error: StepError) -> Stop
     ensures { result ≡ stop_of error }
 {
@@ -84,7 +84,7 @@ pub(crate) fn unread(error: StepError) -> Stop
     }
 }
 
-/// Why a step is not accepted. A checker that goes on never answers `HasFailed`.
+/// Returns why a step is not accepted. A checker that has not failed never returns `HasFailed`.
 pub(crate) fn refused_step(refusal: StepRefusal) -> Stop
     ensures { result ≡ stop_by (error_of refusal) }
 {
@@ -96,8 +96,8 @@ pub(crate) fn refused_step(refusal: StepRefusal) -> Stop
     }
 }
 
-/// Why a pending conflict is not settled. A checker that goes on answers one of the first three; this one has no
-/// listener, so the last never comes.
+/// Returns why a pending conflict is not settled. A checker that has not failed returns one of the first three; this
+/// one has no listener, so never the last.
 pub(crate) fn refused(error: CheckerError) -> Stop
     ensures { result ≡ stop_by error }
 {

@@ -1,4 +1,4 @@
-//! The variables that names stand for.
+//! The variables of names.
 ghost use Rattle.std.specs.Prelude.{ℕ, ◌≡◌, ◌+◌, ◌<◌, None, Some, OnOk};
 ghost use Rattle.sat_base.specs.values.Literals.{var_limit};
 ghost use Rattle.certify.specs.confirm.Variables.{PutsVariable, variable_in};
@@ -6,14 +6,14 @@ ghost use Rattle.certify.specs.confirm.Variables.{PutsVariable, variable_in};
 use sat_base::{Table, Var};
 use std::alloc::{AllocError, Global};
 
-/// The variable of each name that has one. They take memory by how many were put, whatever the names are.
+/// The variable of every name that has one. The memory depends on how many names have one, not on the names.
 #[derive(Drop)]
 pub(crate) struct NamedVars {
     variables: Table<Option<Var>>,
 }
 
 impl NamedVars {
-    /// No name stands for a variable. Takes no memory.
+    /// Returns a map in which no name has a variable. Never allocates.
     pub fn new(alloc: Global) -> NamedVars
         ensures { (name : ℕ) → variable_in result name ≡ None }
     {
@@ -22,7 +22,7 @@ impl NamedVars {
         }
     }
 
-    /// The variable of a name.
+    /// Returns the variable of a name.
     #[inline]
     pub fn get(&self, name: Var) -> Option<Var>
         ensures { result ≡ variable_in self.now (name + 1) }
@@ -30,7 +30,7 @@ impl NamedVars {
         self.variables.get(name.index(), None)
     }
 
-    /// Puts a name on a variable.
+    /// Sets the variable of a name.
     pub fn put(&mut self, name: Var, variable: Var) -> Result<(), AllocError>
         ensures put { OnOk result (PutsVariable self.old self.new (name + 1) (Some variable)) }
         ensures within { name < var_limit }
@@ -38,7 +38,7 @@ impl NamedVars {
         self.variables.set(name.index(), Some(variable), None)
     }
 
-    /// Takes the variable from a name.
+    /// Removes the variable of a name.
     pub fn remove(&mut self, name: Var)
         ensures { PutsVariable self.old self.new (name + 1) None }
     {

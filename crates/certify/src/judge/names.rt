@@ -15,23 +15,23 @@ use crate::script::{Command, CommandKind};
 use sat_base::{Lit, Table, Var};
 use std::alloc::{AllocError, Global};
 
-/// The names that were ever used, and their states. Names that no command hid or gave a mode take no memory.
+/// The names that were ever used, and their states. Names that no command hid or gave a mode need no memory.
 #[derive(Drop)]
 pub struct Names {
-    /// All names up to this one were used.
+    /// The largest name that was used.
     used: usize,
-    /// The states of names that a command hid or gave a mode, from name 1 on. The others are sampled.
+    /// The states of names that a command hid or gave a mode, from name 1 on. Later names have mode sample.
     states: Table<NameState>,
 }
 
-/// New names: so many, from the name of this index.
+/// New names: the index of the first, and how many.
 #[derive(Clone, Copy, Debug, Drop, PartialEq, Eq)]
 pub struct NewNames {
     pub first: usize,
     pub count: usize,
 }
 
-/// Why a name past the limit is refused, if there is one.
+/// Returns the refusal of a command that has a name past the limit.
 fn limit_refusal(past_limit: bool) -> Option<Refusal>
     ensures { result ≡ limit_refusal past_limit }
 {
@@ -42,7 +42,7 @@ fn limit_refusal(past_limit: bool) -> Option<Refusal>
     }
 }
 
-/// Whether it is a clause or an ask, which only introduces names.
+/// Whether the command is a clause or an ask, which only introduces names.
 fn is_of_literals(kind: CommandKind) -> bool
     ensures { result ≡ is_of_literals (kind_of kind) }
 {
@@ -56,7 +56,7 @@ fn is_of_literals(kind: CommandKind) -> bool
 }
 
 impl Names {
-    /// Before the first command.
+    /// Returns the names before the first command.
     pub fn new(alloc: Global) -> Names
         ensures { NamesStand result start }
     {
@@ -66,7 +66,7 @@ impl Names {
         }
     }
 
-    /// The state of a name. One that was never used counts as hidden.
+    /// Returns the state of a name. One that was never used counts as hidden.
     fn state(&self, var: Var) -> NameState
         ensures { result ≡ state_in (states_of self.now) (var + 1) }
     {
@@ -77,7 +77,7 @@ impl Names {
         NameState::Hidden
     }
 
-    /// Whether the name is in use, and of mode witness.
+    /// Whether the name is in use and has mode witness.
     fn is_witness(&self, var: Var) -> bool
         ensures witness { result ≡ is_witnessed (state_in (states_of self.now) (var + 1)) }
         ensures bound { var < var_limit }
@@ -99,7 +99,7 @@ impl Names {
         true
     }
 
-    /// Whether this is a clause or an ask over names in use: such a command introduces no name, and changes none.
+    /// Whether the command is a clause or an ask over names in use: it introduces no name, and changes none.
     pub(crate) fn are_known(&self, kind: CommandKind, literals: &[Lit]) -> bool
         ensures { result ≡ true → BringsNothing (kind_of kind) (names_of (named_literals literals.now)) self.now }
     {
@@ -114,7 +114,7 @@ impl Names {
         true
     }
 
-    /// Why a clause or an ask is refused, if it is.
+    /// Returns why a clause or an ask is refused, or `None`.
     fn literal_refusal(&self, literals: &[Lit], past_limit: bool) -> Option<Refusal>
         ensures judges { (j : Judge) (ls : List Literal) → NamesStand self.now j → IsFront literals.now past_limit ls
             → refusal_said result ≡ refused_literal j (names_of ls) }
@@ -129,7 +129,7 @@ impl Names {
         limit_refusal(past_limit)
     }
 
-    /// Why the command is refused, if it is.
+    /// Returns why a command is refused, or `None`.
     pub fn refusal(&self, command: Command<'_>) -> Option<Refusal>
         ensures judges { TellsRefusal result self.now command.entry }
         ensures within { result ≡ None → command.entry.past_limit ≡ false }
@@ -143,8 +143,8 @@ impl Names {
         }
     }
 
-    /// The names that become new variables where this one is brought in, in order: all from the first never used up to
-    /// it, or a hidden one itself.
+    /// Returns the names that become new variables when a name is introduced, in order: all from the first one that was
+    /// never used up to this name, or only the name itself if it is hidden.
     pub fn new_names(&self, var: Var) -> NewNames
         ensures told { (j : Judge) → NamesStand self.now j
             → new_names (var + 1) j ≡ names_from result.count (result.first + 1) }
@@ -193,7 +193,7 @@ impl Names {
         at == line.len()
     }
 
-    /// All names from the first never used up to this one become new variables.
+    /// Makes all names from the first one that was never used up to this name new variables.
     fn grow(&mut self, index: usize)
         requires fresh { self.old.used ≤ index }
         requires within { index < var_limit }
@@ -203,7 +203,7 @@ impl Names {
         self.used = index + 1;
     }
 
-    /// Brings the name in, and with one that was never used all those below it that weren't.
+    /// Introduces a name. If it was never used, so are all names below it that were never used.
     pub fn bring_in(&mut self, var: Var)
         ensures changes { Changes self.old self.new (bring_in (var + 1)) }
         ensures in_use { ComesInUse self.old self.new (var + 1) }
@@ -229,7 +229,7 @@ impl Names {
         self.states.set(index, state, NameState::Sampled)
     }
 
-    /// What a command of this kind, which isn't refused, makes of a name that is in use.
+    /// Applies an accepted command of this kind to a name in use.
     fn change(&mut self, kind: CommandKind, var: Var) -> Result<(), AllocError>
         ensures { OnOk result (IsInUse self.old (var + 1)
             → Changes self.old self.new (changed (kind_of kind) (var + 1))) }
@@ -243,7 +243,7 @@ impl Names {
         }
     }
 
-    /// What a command of this kind, which isn't refused, makes of one of its names.
+    /// Applies an accepted command of this kind to one of its names.
     pub fn take(&mut self, kind: CommandKind, var: Var) -> Result<(), AllocError>
         ensures { OnOk result (Changes self.old self.new (taken (kind_of kind) (var + 1))) }
     {
@@ -251,7 +251,7 @@ impl Names {
         self.change(kind, var)
     }
 
-    /// What a command that isn't refused makes of all its names.
+    /// Applies an accepted command to all of its names.
     pub fn accept(&mut self, command: Command<'_>) -> Result<(), AllocError>
         requires { command.past_limit ≡ false }
         ensures { OnOk result ((j : Judge) (c : Spelled) → NamesStand self.old j → IsLent command.entry c

@@ -1,13 +1,13 @@
-//! Laws of names in a certificate, for proofs alone.
+//! Laws of names in a certificate, only for proofs.
 ghost use Rattle.certify.specs.confirm.Following.{OthersPass};
 ghost use Rattle.certify.specs.confirm.Naming.{NamesAreExpected};
 
-/// Steps that nobody expects change nothing of what names stand for. It does nothing.
+/// Steps that are not ordered leave the variables of names as they are.
 pub fn others_pass()
     ensures { OthersPass }
 {}
 
-/// What a command's names expect one by one is what the command expects before what it adds or asks. It does nothing.
+/// The steps that a command expects for its names, one by one, are those before the step for what it adds or asks.
 pub fn names_expected()
     ensures { NamesAreExpected }
 {}

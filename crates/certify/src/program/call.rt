@@ -1,4 +1,4 @@
-//! What the arguments of the program ask for.
+//! Reads the arguments of the program.
 ghost use Rattle.std.specs.Prelude.{ℕ, [], ◌∷◌, map, MatchOption};
 ghost use Rattle.std.specs.String.{string_bytes};
 ghost use Rattle.certify.specs.program.Calls.{AllowsRequest, IsCallOf, IsSteps, running};
@@ -11,7 +11,7 @@ pub(super) struct RunFiles<'a> {
     pub(super) certificate: &'a str,
 }
 
-/// A call with files.
+/// A call over files.
 #[derive(Clone, Copy)]
 pub(super) enum Call<'a> {
     /// `run S A C [STEPS]`
@@ -34,7 +34,7 @@ pub(super) enum Call<'a> {
     },
 }
 
-/// The number that a word of digits spells, where it is below 2^64.
+/// Returns the number that a word of digits spells, if it is below 2^64.
 fn steps_of(word: &str) -> Option<u64>
     ensures { MatchOption result ((n : ℕ) → IsSteps word.now n → ⊥) (IsSteps word.now) }
 {
@@ -46,7 +46,7 @@ fn steps_of(word: &str) -> Option<u64>
     word.parse::<u64>().ok()
 }
 
-/// A run that doesn't write over its script.
+/// Returns a run, unless it writes over its script.
 fn run_of(files: RunFiles<'_>, budget: u64) -> Option<Call<'_>>
     ensures { AllowsRequest result (running files.entry budget) }
 {
@@ -56,7 +56,7 @@ fn run_of(files: RunFiles<'_>, budget: u64) -> Option<Call<'_>>
     Some(Call::Run { files, budget })
 }
 
-/// `check H`
+/// Reads `check H`.
 fn check_of<'a>(name: &str, hints: &'a str) -> Option<Call<'a>>
     ensures { IsCallOf (name.now ∷ hints.now ∷ []) result }
 {
@@ -66,7 +66,7 @@ fn check_of<'a>(name: &str, hints: &'a str) -> Option<Call<'a>>
     Some(Call::Check { hints })
 }
 
-/// `hints C H`, which doesn't write over the certificate.
+/// Reads `hints C H`, unless it writes over the certificate.
 fn hints_of<'a>(name: &str, certificate: &'a str, hints: &'a str) -> Option<Call<'a>>
     ensures { IsCallOf (name.now ∷ certificate.now ∷ hints.now ∷ []) result }
 {
@@ -76,7 +76,7 @@ fn hints_of<'a>(name: &str, certificate: &'a str, hints: &'a str) -> Option<Call
     Some(Call::Hints { certificate, hints })
 }
 
-/// `run S A C` or `confirm S A C`.
+/// Reads `run S A C` or `confirm S A C`.
 fn call_on<'a>(name: &str, files: RunFiles<'a>) -> Option<Call<'a>>
     ensures { IsCallOf (name.now ∷ files.entry.script.now ∷ files.entry.answers.now ∷ files.entry.certificate.now ∷ [])
         result }
@@ -88,7 +88,7 @@ fn call_on<'a>(name: &str, files: RunFiles<'a>) -> Option<Call<'a>>
     }
 }
 
-/// `run S A C STEPS`
+/// Reads `run S A C STEPS`.
 fn limited_run<'a>(name: &str, files: RunFiles<'a>, steps: &str) -> Option<Call<'a>>
     ensures { IsCallOf (name.now ∷ files.entry.script.now ∷ files.entry.answers.now ∷ files.entry.certificate.now
         ∷ steps.now ∷ []) result }
@@ -102,8 +102,8 @@ fn limited_run<'a>(name: &str, files: RunFiles<'a>, steps: &str) -> Option<Call<
     }
 }
 
-/// The call that these words are, if they are one with files. None writes over what it reads: an output with the word
-/// of its input is no call.
+/// Returns the call over files that these words are, if they are one. An output with the same word as the input is no
+/// call.
 pub(super) fn call_of(words: &[String]) -> Option<Call<'_>>
     ensures { IsCallOf (map string_bytes words.now) result }
 {

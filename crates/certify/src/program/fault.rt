@@ -16,7 +16,7 @@ pub(super) enum Fault {
     Hints(HintsFault),
 }
 
-/// Why hints were not written or checked.
+/// Why a hint text was not written or checked.
 #[derive(Clone, Copy, Drop)]
 pub(super) enum HintsFault {
     /// The certificate or the hint text can't be read.
@@ -27,7 +27,7 @@ pub(super) enum HintsFault {
 }
 
 impl Fault {
-    /// The word that standard error has for it.
+    /// Returns its name on standard error.
     pub(super) fn name(&self) -> &'static str
         ensures { result.now ≡ fault_text self.now }
     {
@@ -39,7 +39,7 @@ impl Fault {
     }
 }
 
-/// The variant's name.
+/// Returns the variant's name.
 fn run_fault_name(fault: RunFault) -> &'static str
     ensures { result.now ≡ run_fault_text fault }
 {
@@ -53,7 +53,7 @@ fn run_fault_name(fault: RunFault) -> &'static str
     }
 }
 
-/// The variant's name.
+/// Returns the variant's name.
 fn confirm_fault_name(fault: ConfirmFault) -> &'static str
     ensures { result.now ≡ confirm_fault_text fault }
 {
@@ -66,7 +66,7 @@ fn confirm_fault_name(fault: ConfirmFault) -> &'static str
     }
 }
 
-/// The variant's name.
+/// Returns the variant's name.
 fn hints_fault_name(fault: HintsFault) -> &'static str
     ensures { result.now ≡ hints_fault_text fault }
 {

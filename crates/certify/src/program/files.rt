@@ -1,4 +1,4 @@
-//! Calls over files, which are opened in the order of the arguments.
+//! Does calls over files, which are opened in the order of the arguments.
 ghost use Rattle.std.specs.Prelude.{◌≡◌, ◌⊎◌, IfOk, IfSome};
 ghost use Rattle.certify.specs.Devices.{took};
 ghost use Rattle.certify.specs.program.FileCalls.{ChecksFile, ConfirmsFiles, HintsFiles, IsMade, IsOpened, RunsFiles};
@@ -14,7 +14,7 @@ use crate::verdict::ConfirmFault;
 use sat_base::{Counted, CountedWrite};
 use std::fs::{File, Files};
 
-/// Opens a text to be read. If it can't be opened, that is this fault.
+/// Opens a file to be read, or returns `fault`.
 fn open<R: Files>(rt: &R, path: &str, fault: Fault) -> Result<Counted<R::File>, Fault>
     ensures { IfOk result (IsOpened R.File.remaining) }
 {
@@ -24,7 +24,7 @@ fn open<R: Files>(rt: &R, path: &str, fault: Fault) -> Result<Counted<R::File>, 
     }
 }
 
-/// Makes an empty text to be written. If it can't be made, that is this fault.
+/// Makes an empty file to be written, or returns `fault`.
 fn make<R: Files>(rt: &R, path: &str, fault: Fault) -> Result<Counted<R::File>, Fault>
     ensures { IfOk result (IsMade R.File.contents) }
 {
@@ -37,7 +37,7 @@ fn make<R: Files>(rt: &R, path: &str, fault: Fault) -> Result<Counted<R::File>, 
 /// The outputs of a run.
 type Outputs<F> = (Counted<F>, Counted<F>);
 
-/// Makes the outputs of a run. `None`: the first, which is made only now, has the name of the second, too.
+/// Makes the outputs of a run. Returns `None` if both are one file, which may show only once the first is made.
 fn make_outputs<R: Files>(
     rt: &R,
     files: RunFiles<'_>,

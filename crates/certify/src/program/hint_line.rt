@@ -1,4 +1,4 @@
-//! The line that is printed of a hint text, and the status behind it.
+//! The line of a hint text's verdict, and its status.
 ghost use Rattle.std.specs.Prelude.{◌≡◌, ◌≤◌, ◌↔◌, ◌++◌, OnOk, true};
 ghost use Rattle.certify.specs.program.HintPrinting.{bad_text, digit_of, hint_verdict_text, hint_why_text, is_proved};
 ghost use Rattle.certify.specs.program.HintPrinting.{proved_text};
@@ -8,7 +8,7 @@ use crate::program::printing::{DONE, REFUSED};
 use sat_hints::{HintVerdict, HintWhy};
 use std::alloc::AllocError;
 
-/// The variant's name.
+/// Returns the variant's name.
 fn word(why: HintWhy) -> &'static str
     ensures { result.now ≡ hint_why_text why }
 {
@@ -22,7 +22,7 @@ fn word(why: HintWhy) -> &'static str
     }
 }
 
-/// `1` or `0`.
+/// Returns `1` or `0`.
 fn digit(empty: bool) -> &'static [u8]
     ensures { result.now ≡ digit_of empty }
 {
@@ -56,7 +56,7 @@ fn push_bad(out: &mut Vec<u8>, line: u64, why: HintWhy) -> Result<(), AllocError
     out.extend_from_slice(b"\n")
 }
 
-/// Appends what a hint text is.
+/// Appends the line of a verdict.
 pub(super) fn push_hint_verdict(out: &mut Vec<u8>, verdict: HintVerdict) -> Result<(), AllocError>
     ensures { OnOk result (out.new.items ≡ out.old.items ++ hint_verdict_text verdict) }
 {
@@ -70,7 +70,7 @@ pub(super) fn push_hint_verdict(out: &mut Vec<u8>, verdict: HintVerdict) -> Resu
     }
 }
 
-/// The status behind it.
+/// Returns the status of a verdict.
 pub(super) fn hint_status(verdict: HintVerdict) -> u8
     ensures small { result ≤ 1 }
     ensures done { (result ≡ 0) ↔ (is_proved verdict ≡ true) }

@@ -1,4 +1,4 @@
-//! What the calls with files do, over any readers and writers. The answer of each is the status.
+//! What the calls over files do, over any readers and writers. They return the status.
 ghost use Rattle.std.specs.Prelude.{◌≡◌, ◌≤◌, ◌↔◌, None, [], IfOk, OnOk, true};
 ghost use Rattle.sat_base.specs.device.Device.{WriterTakes};
 ghost use Rattle.certify.specs.Devices.{gave, took};
@@ -21,7 +21,7 @@ use sat_hints::{HintError, HintFault, HintVerdict, check, convert};
 use sat_solver::Progress;
 use std::alloc::Global;
 
-/// The status behind a finished run.
+/// Returns the status of a finished run.
 fn run_status(summary: &Summary) -> u8
     ensures small { result ≤ 1 }
     ensures done { (result ≡ 0) ↔ (summary.now.malformed ≡ None) }
@@ -32,7 +32,7 @@ fn run_status(summary: &Summary) -> u8
     }
 }
 
-/// Answers a script. Says how far its solver came, beside the status.
+/// Answers a script. Returns the status and the solver's counts.
 pub(super) fn run_text<S: CountedRead, A: CountedWrite, C: CountedWrite>(
     alloc: Global,
     script: &mut S,
@@ -84,7 +84,7 @@ pub(super) fn confirm_given<S: CountedRead, A: CountedRead, C: CountedRead, O: C
     print_yes_or_no(alloc, verdict, output)
 }
 
-/// Writes the hint text of a certificate. Where it has none, the name of the cause goes to `errors`.
+/// Writes the hint text of a certificate. If it has none, writes the name of the cause to `errors`.
 pub(super) fn write_hints<C: CountedRead, H: CountedWrite, E: CountedWrite>(
     alloc: Global,
     certificate: &mut C,
@@ -123,7 +123,7 @@ fn finish_hints<H: CountedWrite>(hints: &mut H) -> Result<u8, Fault>
     }
 }
 
-/// Prints the line that says what a hint text is.
+/// Prints the line of a hint text's verdict.
 fn print_hint_verdict<O: CountedWrite>(
     alloc: Global,
     verdict: HintVerdict,
@@ -141,7 +141,7 @@ fn print_hint_verdict<O: CountedWrite>(
     Ok(hint_status(verdict))
 }
 
-/// Checks a hint text, and prints what it is.
+/// Checks a hint text, and prints the verdict.
 pub(super) fn check_text<H: CountedRead, O: CountedWrite>(
     alloc: Global,
     text: &mut H,

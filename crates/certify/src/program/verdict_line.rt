@@ -1,4 +1,4 @@
-//! The verdict on three texts, its line, and the status behind it.
+//! The verdict on three texts, its line, and its status.
 ghost use Rattle.std.specs.Prelude.{◌≡◌, ◌≤◌, ◌↔◌, ◌++◌, IfOk, OnOk, false};
 ghost use Rattle.certify.specs.declared.verdict.Verdict.TheVariants.{Yes};
 ghost use Rattle.certify.specs.program.Printing.{SaysExactly, no_text, verdict_text, yes_or_no_text};
@@ -47,7 +47,7 @@ pub(super) fn push_yes_or_no(out: &mut Vec<u8>, verdict: Verdict) -> Result<(), 
     }
 }
 
-/// The status behind a verdict.
+/// Returns the status of a verdict.
 pub(super) fn status(verdict: Verdict, malformed: bool) -> u8
     ensures small { result ≤ 1 }
     ensures done { (result ≡ 0) ↔ ((verdict ≡ Yes) × (malformed ≡ false)) }
@@ -80,7 +80,7 @@ fn confirm_slices(
     )
 }
 
-/// Confirms three texts, and puts the last line of the output behind what `line` holds.
+/// Confirms three texts, and appends the last line of the output to `line`.
 pub(super) fn confirm_texts(
     alloc: Global,
     script: &[u8],

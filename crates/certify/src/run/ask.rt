@@ -1,4 +1,4 @@
-//! Answers an ask.
+//! Answers asks.
 ghost use Rattle.std.specs.Prelude.{◌≡◌, [], IfErr, IfOk, OnOk};
 ghost use Rattle.sat_base.specs.script.Language.{Reading};
 ghost use Rattle.sat_base.specs.script.Script.{Ask};
@@ -17,7 +17,7 @@ use crate::summary::AskReport;
 use sat_base::{CountedWrite, Lit};
 use sat_solver::Solver;
 
-/// Looks for the answer of an ask, and leaves its text on the page.
+/// Searches for the answer of an ask, and puts its text on the page.
 fn ask<C: CountedWrite + Drop>(
     solver: &mut Solver<C>,
     literals: &[Lit],
@@ -29,7 +29,7 @@ fn ask<C: CountedWrite + Drop>(
     ensures sought { IfOk result (λ report. AskEffect C.seen budget report literals.now page.new.text.items solver.old
         solver.new) }
     ensures ready { OnOk result (IsReady solver.new) }
-    // No name is refused where there is none.
+    // Without names, none is refused.
     ensures allowed { OnOk result (IsAllowed solver.new []) }
     ensures fails { FailsIf result C.seen solver.old solver.new }
     ensures cause { IfErr result (λ e. IsCaused e (HasFullStore solver.new)
@@ -41,7 +41,7 @@ fn ask<C: CountedWrite + Drop>(
     Ok(report)
 }
 
-/// Answers the last command that came, an ask under these literals, of whose names none is refused.
+/// Answers the last command, an ask under these literals, none of whose names is refused.
 pub fn answer_ask<A: CountedWrite, C: CountedWrite + Drop>(
     session: &mut Session<C>,
     answers: &mut A,

@@ -1,4 +1,4 @@
-//! Takes commands of the whole language.
+//! Serves commands.
 ghost use Rattle.std.specs.Prelude.{◌≡◌, ◌<◌, ◌-◌, ◌^◌, ◌∷◌, [], false, OnOk};
 ghost use Rattle.sat_base.specs.script.Language.{Reading, onto_commands};
 ghost use Rattle.sat_base.specs.script.Script.{Command as Spelled};
@@ -18,7 +18,7 @@ use crate::judge::NameState;
 use crate::script::{Command, CommandKind};
 use sat_base::CountedWrite;
 
-/// Has the last command that came, which isn't refused, carried out by the solver, and an ask answered.
+/// Has the solver carry out the last command, which is not refused, and answers an ask.
 fn carry_out<A: CountedWrite, C: CountedWrite + Drop>(
     session: &mut Session<C>,
     answers: &mut A,
@@ -46,7 +46,7 @@ fn carry_out<A: CountedWrite, C: CountedWrite + Drop>(
     }
 }
 
-/// Takes the last command that came, which isn't refused.
+/// Serves the last command, which is not refused.
 fn take_allowed<A: CountedWrite, C: CountedWrite + Drop>(
     session: &mut Session<C>,
     answers: &mut A,
@@ -70,7 +70,7 @@ fn take_allowed<A: CountedWrite, C: CountedWrite + Drop>(
     Ok(())
 }
 
-/// Serves a command: it is refused, or taken, and an ask is answered.
+/// Serves a command: refuses it, or has it carried out, and answers an ask.
 pub fn take_command<A: CountedWrite, C: CountedWrite + Drop>(
     session: &mut Session<C>,
     answers: &mut A,

@@ -14,7 +14,7 @@ use crate::summary::Summary;
 use sat_base::CountedWrite;
 use sat_solver::Solver;
 
-/// The certificate's writer, behind a fault. What waits for it is lost.
+/// Returns the certificate's writer after a fault. Steps that are not written yet are lost.
 fn give_back<C: CountedWrite + Drop>(solver: Solver<C>) -> C
     requires { HasTarget C.seen solver }
     ensures gives { GivesWriter (target_of C.seen (proof_in solver)) (Some (C.seen result)) }
@@ -26,7 +26,7 @@ fn give_back<C: CountedWrite + Drop>(solver: Solver<C>) -> C
     }
 }
 
-/// Writes the certificate's last step and all that waits, and flushes its writer.
+/// Writes the certificate's last step, with all steps that are not written yet, and flushes its writer.
 fn close_certificate<C: CountedWrite + Drop>(solver: Solver<C>) -> (C, Result<(), RunFault>)
     requires ready { IsReady solver }
     requires target { HasOpenTarget C.seen solver }
@@ -58,7 +58,7 @@ fn flush_answers<A: CountedWrite>(answers: &mut A) -> Result<(), RunFault>
     }
 }
 
-/// Ends the certificate, and then the answers.
+/// Ends the certificate, and then flushes the answers.
 fn finish<A: CountedWrite, C: CountedWrite + Drop>(
     solver: Solver<C>,
     answers: &mut A,
@@ -75,7 +75,7 @@ fn finish<A: CountedWrite, C: CountedWrite + Drop>(
     }
 }
 
-/// Ends a run whose script was served so, and sums it up. Gives the certificate's writer back.
+/// Ends a run whose script was served so. Returns the certificate's writer and a summary.
 pub(crate) fn end_run<A: CountedWrite, C: CountedWrite + Drop>(
     session: Session<C>,
     answers: &mut A,

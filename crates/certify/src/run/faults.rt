@@ -1,11 +1,11 @@
-//! Faults of a run that are its solver's.
+//! Faults of a run for its solver's errors.
 ghost use Rattle.std.specs.Prelude.{◌≡◌};
 ghost use Rattle.certify.specs.run.SolverCalls.{IsSolverFault, fault_for, is_interrupted};
 
 use crate::fault::RunFault;
 use sat_solver::SolverError;
 
-/// The fault of a run for what its solver fails of.
+/// Returns the fault of a run for an error of its solver.
 pub fn fault_of(error: SolverError) -> RunFault
     requires { IsSolverFault error }
     ensures { result ≡ fault_for error }
@@ -19,7 +19,7 @@ pub fn fault_of(error: SolverError) -> RunFault
     }
 }
 
-/// Whether the rounds were spent.
+/// Whether the rounds were exhausted.
 pub fn is_interrupted(error: &SolverError) -> bool
     ensures { result ≡ is_interrupted error.now }
 {

@@ -1,4 +1,4 @@
-//! Names of a run's solver that are hidden, or get a mode.
+//! Hides names, and sets their modes.
 ghost use Rattle.std.specs.Prelude.{◌≡◌, ◌+◌, [], ◌∷◌, IfErr, OnOk};
 ghost use Rattle.sat_solver.specs.variables.Refusing.{names_in};
 ghost use Rattle.sat_solver.specs.solver.Whole.{IsSolver};
@@ -11,7 +11,7 @@ use crate::judge::NameState;
 use sat_base::{CountedWrite, Lit, Var};
 use sat_solver::{Solver, SolverError};
 
-/// Brings a name in, which gets this state.
+/// Introduces a name, and gives it this state.
 fn change_name<C: CountedWrite + Drop>(
     solver: &mut Solver<C>,
     user: Var,
@@ -27,7 +27,7 @@ fn change_name<C: CountedWrite + Drop>(
     }
 }
 
-/// Brings a name in, which gets this state, where nothing is assumed.
+/// Introduces a name, and gives it this state, while nothing is assumed.
 fn set_name<C: CountedWrite + Drop>(
     solver: &mut Solver<C>,
     user: Var,
@@ -46,7 +46,7 @@ fn set_name<C: CountedWrite + Drop>(
     }
 }
 
-/// Brings the names of literals in, which get this state, where nothing is assumed.
+/// Introduces the names of literals, and gives them this state, while nothing is assumed.
 pub(crate) fn set_names<C: CountedWrite + Drop>(
     solver: &mut Solver<C>,
     literals: &[Lit],

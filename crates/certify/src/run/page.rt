@@ -1,4 +1,4 @@
-//! The text of an answer that a run's solver found.
+//! Makes the text of an answer that a run's solver found.
 ghost use Rattle.std.specs.Prelude.{◌≡◌, ◌++◌, IfErr, OnOk, []};
 ghost use Rattle.certify.specs.answers.Answers.{outcome_text};
 ghost use Rattle.certify.specs.run.SolverCalls.{AnswerIs, IsReady};
@@ -12,7 +12,7 @@ use sat_checker::sorted_lits::copy_canonical;
 use sat_solver::Solver;
 use std::alloc::{AllocError, Global};
 
-/// Appends the text of a model that was found.
+/// Appends the text of the solver's model.
 fn push_model<C: CountedWrite + Drop>(
     text: &mut Vec<u8>,
     solver: &Solver<C>,
@@ -31,7 +31,7 @@ fn push_model<C: CountedWrite + Drop>(
     }
 }
 
-/// Appends the text of a core that was found, whose literals are put in order.
+/// Appends the text of the solver's core, with the literals in order.
 fn push_core<C: CountedWrite + Drop>(
     text: &mut Vec<u8>,
     solver: &Solver<C>,
@@ -51,7 +51,7 @@ fn push_core<C: CountedWrite + Drop>(
     }
 }
 
-/// Where the texts of answers are put together.
+/// A buffer for the texts of answers.
 #[derive(Drop)]
 pub struct Page {
     alloc: Global,
@@ -62,7 +62,7 @@ pub struct Page {
 }
 
 impl Page {
-    /// No answer. Takes no memory.
+    /// Returns an empty page. Never allocates.
     pub fn new(alloc: Global) -> Page
         ensures core { result.core.items ≡ [] }
         ensures text { result.text.items ≡ [] }
@@ -74,7 +74,7 @@ impl Page {
         }
     }
 
-    /// Puts the text of an answer in place of what was there.
+    /// Replaces the text by that of an answer.
     pub fn tell<C: CountedWrite + Drop>(
         &mut self,
         solver: &Solver<C>,

@@ -1,4 +1,4 @@
-//! Serves the commands of a script as they come, and then its end.
+//! Serves the commands of a script as they are read, and then its end.
 ghost use Rattle.std.specs.Prelude.{◌≡◌, ◌+◌, ◌∷◌, [], false, IfErr, IfOk, OnErr, OnOk};
 ghost use Rattle.sat_base.specs.device.Device.{WriterTakes};
 ghost use Rattle.sat_base.specs.script.Judge.{Judge, start};
@@ -22,7 +22,7 @@ use crate::script::stream::{CommandStream, Next};
 use crate::script::{Command, ScriptEnd};
 use sat_base::{CountedRead, CountedWrite, ReadError};
 
-/// The fault of a run whose script can't be read.
+/// Returns the fault of a run whose script can't be read.
 fn unread_script(error: ReadError) -> RunFault
     ensures { result ≡ run_fault error }
 {
@@ -32,7 +32,7 @@ fn unread_script(error: ReadError) -> RunFault
     }
 }
 
-/// Serves the command that came, if it can still be counted.
+/// Serves the last command, if it can be counted.
 fn serve_next<A: CountedWrite, C: CountedWrite + Drop>(
     session: &mut Session<C>,
     answers: &mut A,
@@ -55,7 +55,7 @@ fn serve_next<A: CountedWrite, C: CountedWrite + Drop>(
     take_command(session, answers, command)
 }
 
-/// Tells that the text is malformed at the command that would have this number.
+/// Writes that the text is malformed at the command that would have this number.
 fn tell_malformed<A: CountedWrite, C: CountedWrite + Drop>(
     session: &mut Session<C>,
     answers: &mut A,
@@ -75,7 +75,7 @@ fn tell_malformed<A: CountedWrite, C: CountedWrite + Drop>(
     write_answer(answers, &session.page.text)
 }
 
-/// Serves the end of a script. The answer is the number at which the text is malformed.
+/// Serves the end of a script. Returns the number of the command at which it is malformed, or `None`.
 fn serve_end<A: CountedWrite, C: CountedWrite + Drop>(
     session: &mut Session<C>,
     answers: &mut A,
@@ -132,7 +132,7 @@ fn serve_last<A: CountedWrite, C: CountedWrite + Drop>(
     serve_end(session, answers, end)
 }
 
-/// Serves all commands, and the end. The answer is the number at which the text is malformed.
+/// Serves all commands, and the end. Returns the number of the command at which the script is malformed, or `None`.
 pub(crate) fn serve_all<S: CountedRead, A: CountedWrite, C: CountedWrite + Drop>(
     session: &mut Session<C>,
     stream: &mut CommandStream,

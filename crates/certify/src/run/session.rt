@@ -1,4 +1,4 @@
-//! What a run holds between commands.
+//! The state of a run between commands.
 ghost use Rattle.std.specs.Prelude.{◌≡◌, [], ◌+◌};
 ghost use Rattle.sat_base.specs.device.Sink.{empty_sink};
 ghost use Rattle.sat_base.specs.script.Judge.{start};
@@ -16,27 +16,27 @@ use sat_base::CountedWrite;
 use sat_solver::{ProofFormat, Solver, SolverConfigUpdate};
 use std::alloc::Global;
 
-/// Rounds between reductions of the clauses of tier Local, and of those of tier Mid. A solver's defaults are 15,000 and
-/// 10,000: with fewer rounds, fewer clauses are watched.
+/// Rounds between reductions of the learned clauses of tier Local. A solver's default is 15,000, and 10,000 for tier
+/// Mid: with fewer rounds, fewer clauses are watched.
 const REDUCE_LOCALS_INTERVAL: u64 = 1_000;
 
 const REDUCE_MIDS_INTERVAL: u64 = 1_000;
 
-/// What a run holds between commands.
+/// The state of a run between commands.
 #[derive(Drop)]
 pub struct Session<C: CountedWrite + Drop> {
     pub(crate) names: Names,
     pub(crate) solver: Solver<C>,
-    /// The most rounds of search for an ask.
+    /// The largest number of rounds for an ask.
     pub(crate) budget: u64,
     pub(crate) page: Page,
-    /// How many commands came, those that were refused too.
+    /// The number of commands so far, with the refused ones.
     pub(crate) commands: u64,
     pub(crate) refused: u64,
     pub(crate) asks: Vec<AskReport>,
 }
 
-/// A solver that writes its steps to this writer.
+/// Returns a solver that writes its steps to this writer.
 fn solver_into<C: CountedWrite + Drop>(alloc: Global, certificate: C) -> Solver<C>
     ensures ready { IsReady result }
     ensures agree { Agree result.names [] start [] }
@@ -58,7 +58,7 @@ fn solver_into<C: CountedWrite + Drop>(alloc: Global, certificate: C) -> Solver<
 }
 
 impl<C: CountedWrite + Drop> Session<C> {
-    /// Before the first command, with a certificate that is written to this writer.
+    /// Returns the state before the first command, with a certificate that is written to this writer.
     pub fn new(alloc: Global, certificate: C, budget: u64) -> Session<C>
         ensures goes_on { RunGoesOn result }
         ensures at { JudgeIsAt result start }

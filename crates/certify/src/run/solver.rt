@@ -1,4 +1,4 @@
-//! Calls of a run's solver.
+//! Calls the solver of a run.
 ghost use Rattle.std.specs.Prelude.{IfOk, IfErr, OnOk};
 ghost use Rattle.sat_solver.specs.variables.Room.{users_in};
 ghost use Rattle.sat_solver.specs.solver.Adding.{Added, ReplacesAssumptions};
@@ -12,7 +12,7 @@ use crate::summary::{Answer, AskReport};
 use sat_base::{CountedWrite, Lit};
 use sat_solver::{Solver, SolverConfigUpdate};
 
-/// Adds a clause, of which no name is refused.
+/// Adds a clause, none of whose names is refused.
 pub fn add_clause<C: CountedWrite + Drop>(
     solver: &mut Solver<C>,
     literals: &[Lit],
@@ -30,7 +30,7 @@ pub fn add_clause<C: CountedWrite + Drop>(
     }
 }
 
-/// Assumes literals in place of those before; none of their names is refused.
+/// Assumes literals instead of the earlier ones; none of their names is refused.
 pub fn assume<C: CountedWrite + Drop>(
     solver: &mut Solver<C>,
     literals: &[Lit],
@@ -48,7 +48,7 @@ pub fn assume<C: CountedWrite + Drop>(
     }
 }
 
-/// From here on a search makes at most so many rounds.
+/// Limits every search from now on to `budget` rounds.
 fn limit_rounds<C: CountedWrite + Drop>(solver: &mut Solver<C>, budget: u64)
     requires { IsReady solver.old }
     ensures { Limited budget solver.old solver.new }
@@ -58,7 +58,7 @@ fn limit_rounds<C: CountedWrite + Drop>(solver: &mut Solver<C>, budget: u64)
     solver.config(&update).unwrap();
 }
 
-/// Searches for an answer, which is unknown where the rounds are spent.
+/// Searches for an answer, which is unknown if the rounds are exhausted.
 fn solve<C: CountedWrite + Drop>(solver: &mut Solver<C>) -> Result<Answer, RunFault>
     requires { IsReady solver.old }
     ensures solved { IfOk result (λ answer. Solved C.seen answer solver.old solver.new) }
@@ -77,7 +77,7 @@ fn solve<C: CountedWrite + Drop>(solver: &mut Solver<C>) -> Result<Answer, RunFa
     }
 }
 
-/// Searches for an answer, with at most so many rounds.
+/// Searches for an answer, with at most `budget` rounds.
 pub fn search<C: CountedWrite + Drop>(
     solver: &mut Solver<C>,
     budget: u64,

@@ -1,4 +1,4 @@
-//! What a reader of scripts keeps between two words, and what each makes of it.
+//! What a reader of scripts holds between two words, and the effect of a word.
 ghost use Rattle.std.specs.Prelude.{◌≡◌, ◌<◌, ◌&&◌, ◌||◌, ℕ, [], ◌∷◌, Bool, false, not, IfOk};
 ghost use Rattle.sat_base.specs.text.Text.{Token as Spelled, Letter, Number};
 ghost use Rattle.sat_base.specs.text.Tokenizing.{held, held_token};
@@ -11,17 +11,17 @@ use super::{CommandKind, Reached, ScriptEnd};
 use sat_base::Token;
 use std::alloc::{AllocError, Global};
 
-/// The command in hand, and what was read before it.
+/// The command that is being read, and what was read before it.
 #[derive(Drop)]
 pub(crate) struct Commands {
     pub draft: Draft,
-    /// Whether a header came.
+    /// Whether a header was read.
     headed: bool,
-    /// Whether an ask came.
+    /// Whether an ask was read.
     asked: bool,
 }
 
-/// What a letter begins.
+/// Returns the kind of command that a letter begins.
 fn kind_of_letter(letter: u8) -> Option<CommandKind>
     ensures { BeginsKind result letter }
 {
@@ -34,7 +34,7 @@ fn kind_of_letter(letter: u8) -> Option<CommandKind>
     }
 }
 
-/// Whether a literal of this sign may stand in such a command: a name has no minus sign.
+/// Whether a command of this kind can have a literal of this sign: a name has no minus sign.
 #[inline(always)]
 fn may_stand(kind: CommandKind, positive: bool) -> bool
     ensures { result ≡ may_stand (kind_of kind) positive }
@@ -56,7 +56,7 @@ fn is_ask(kind: CommandKind) -> bool
 }
 
 impl Commands {
-    /// Before the first token.
+    /// Returns the state before the first token.
     pub fn new(alloc: Global) -> Commands
         ensures draft { HoldsHand result.draft Nothing }
         ensures headed { result.headed ≡ false }
@@ -69,14 +69,14 @@ impl Commands {
         }
     }
 
-    /// Whether an ask came, the command in hand among them.
+    /// Whether an ask was read, or is being read.
     fn has_asked(&self) -> bool
         ensures { result ≡ (self.now.asked || is_ask_kind (kind_of self.now.draft.kind)) }
     {
         self.asked || is_ask(self.draft.kind)
     }
 
-    /// A zero: the command in hand is whole.
+    /// Completes the command, at a zero.
     #[inline(always)]
     fn end_command(&mut self)
         ensures { (negative : Bool) → TakesToken Reached.Command self.old (Number negative 0) self.new }
@@ -85,7 +85,7 @@ impl Commands {
         self.asked = self.has_asked();
     }
 
-    /// A literal, whose name isn't 0.
+    /// Adds a literal, whose name is not 0.
     #[inline(always)]
     fn add_literal(&mut self, name: u64, negative: bool) -> Result<Reached, AllocError>
         requires { 0 < name }
@@ -100,7 +100,7 @@ impl Commands {
         Ok(Reached::More)
     }
 
-    /// A letter, with which a command begins if none is in hand.
+    /// Begins a command at a letter, if none is being read.
     fn begin(&mut self, letter: u8) -> Reached
         ensures { TakesToken result self.old (Letter letter) self.new }
     {
@@ -114,7 +114,7 @@ impl Commands {
         Reached::More
     }
 
-    /// The next token.
+    /// Consumes the next token.
     #[inline(always)]
     pub fn take(&mut self, token: Token) -> Result<Reached, AllocError>
         ensures { IfOk result (λ reached. (t : Spelled) → token ≡ held_token t
@@ -137,14 +137,14 @@ impl Commands {
         }
     }
 
-    /// Whether a header came, and no ask.
+    /// Whether a header was read, and no ask.
     fn is_unasked(&self) -> bool
         ensures { result ≡ (self.now.headed && not self.now.asked) }
     {
         self.headed && !self.asked
     }
 
-    /// How a script ends behind a whole command, or with one in hand.
+    /// Returns how a script ends here, after a complete command or within one.
     pub fn ending(&self) -> ScriptEnd
         ensures { (asks : Bool) (hand : CommandHand) → HoldsHand self.now.draft hand
             → end_if asks result ≡ meaning asks self.now hand [] }
@@ -158,7 +158,7 @@ impl Commands {
         ScriptEnd::Clean
     }
 
-    /// The last token, which the end of the text ended. It may be a zero, which completes a command.
+    /// Consumes the last token, which the end of the text ended. A zero completes a command.
     pub fn finish_with(&mut self, token: Token) -> (bool, ScriptEnd)
         ensures { (t : Spelled) → token ≡ held_token t → (asks : Bool) (hand : CommandHand)
             → HoldsHand self.old.draft hand

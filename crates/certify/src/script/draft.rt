@@ -1,4 +1,4 @@
-//! The command in hand.
+//! The command that is being read.
 ghost use Rattle.std.specs.Prelude.{◌<◌, ◌++◌, ◌∷◌, [], List, true, false, OnOk};
 ghost use Rattle.sat_base.specs.script.Script.{Literal};
 ghost use Rattle.sat_base.specs.script.Language.{CommandHand, Kind, Nothing, Within, command_in};
@@ -8,19 +8,19 @@ use super::CommandKind;
 use sat_base::{Lit, Var};
 use std::alloc::{AllocError, Global};
 
-/// The literals of a command so far, or those of the last one that was complete.
+/// The literals of a command so far, or of the last one that was completed.
 #[derive(Drop)]
 pub(crate) struct Draft {
     pub kind: CommandKind,
-    /// Those in front of the first past the limit.
+    /// Those before the first one past the limit.
     pub literals: Vec<Lit>,
     pub past_limit: bool,
-    /// Whether the command goes on.
+    /// Whether the command is not complete yet.
     pub is_open: bool,
 }
 
 impl Draft {
-    /// No command is in hand. Takes no memory.
+    /// Returns a draft without a command. Never allocates.
     pub fn new(alloc: Global) -> Draft
         ensures { HoldsHand result Nothing }
     {
@@ -32,7 +32,7 @@ impl Draft {
         }
     }
 
-    /// A command begins.
+    /// Begins a command.
     #[inline(always)]
     pub fn begin(&mut self, kind: CommandKind)
         ensures { HoldsHand self.new (Within (kind_of kind) []) }
@@ -43,7 +43,7 @@ impl Draft {
         self.is_open = true;
     }
 
-    /// A literal more, of a name that isn't 0, in a command that goes on.
+    /// Adds a literal, whose name is not 0, to a command that is not complete.
     #[inline(always)]
     pub fn add(&mut self, name: u64, positive: bool) -> Result<(), AllocError>
         requires { 0 < name }
@@ -62,7 +62,7 @@ impl Draft {
         Ok(())
     }
 
-    /// Where nothing is in hand, a clause begins.
+    /// Begins a clause, if no command is being read.
     #[inline(always)]
     pub fn open(&mut self)
         ensures { (hand : CommandHand) → HoldsHand self.old hand → HoldsHand self.new (opened hand) }
@@ -72,7 +72,7 @@ impl Draft {
         }
     }
 
-    /// A zero ends the command. Without one in hand it is the clause of no literals.
+    /// Completes the command, at a zero. If none is being read, it is the clause without literals.
     #[inline(always)]
     pub fn end(&mut self)
         ensures none { HoldsHand self.new Nothing }

@@ -1,4 +1,4 @@
-//! The reader of scripts.
+//! Reads scripts.
 ghost use Rattle.std.specs.Prelude.{◌≡◌, ◌<◌, ◌≤◌, ℕ, Bool, false, List, [], None, length, take, IfOk};
 ghost use Rattle.sat_base.specs.script.Script.{Command as SpelledCommand};
 ghost use Rattle.sat_base.specs.script.Language.{Reading, reading, written};
@@ -12,16 +12,16 @@ use super::{Command, Reached, ScriptEnd};
 use sat_base::{Token, Tokenizer};
 use std::alloc::{AllocError, Global};
 
-/// Takes the bytes of a script in any pieces, and lends each command as soon as it is complete. It holds no bytes, and
-/// of the commands only the one in hand. Behind malformed text it isn't asked again.
+/// Receives the bytes of a script in any chunking, and lends every command as soon as it is complete. It holds no
+/// bytes, and only the command that is being read. It must not be called again after malformed text.
 #[derive(Drop)]
 pub struct ScriptReader {
     tokenizer: Tokenizer,
     commands: Commands,
 }
 
-/// Takes one byte or more, of which only the last may end a token. Returns how many, and the token. A number and the
-/// space or LF after it are mostly taken at once.
+/// Consumes one byte or more, of which only the last one can end a token. Returns how many, and the token. A number and
+/// the space or LF after it are mostly consumed at once.
 #[inline(always)]
 fn take_token(tokenizer: &mut Tokenizer, bytes: &[u8]) -> (usize, Option<Token>)
     requires { 0 < length bytes.now }
@@ -38,7 +38,7 @@ fn take_token(tokenizer: &mut Tokenizer, bytes: &[u8]) -> (usize, Option<Token>)
 }
 
 impl ScriptReader {
-    /// A reader before the first byte of a script.
+    /// Returns a reader before the first byte of a script.
     pub fn new(alloc: Global) -> ScriptReader
         ensures means { ReaderMeans result reading }
         ensures counts { MeansIf false result written }
@@ -49,7 +49,7 @@ impl ScriptReader {
         }
     }
 
-    /// The command that was reached.
+    /// Returns the command that was completed last.
     pub fn command(&self) -> Command<'_>
         ensures { (c : SpelledCommand) → HasWhole self.now c → IsLent result c }
     {
@@ -60,14 +60,14 @@ impl ScriptReader {
         }
     }
 
-    /// Takes bytes up to the one that completes a command or makes the text malformed, or all. Says how many, and what
-    /// it came to.
+    /// Consumes bytes up to the one that completes a command or makes the text malformed, or all bytes. Returns how
+    /// many, and which of these it was.
     pub fn push(&mut self, bytes: &[u8]) -> Result<(usize, Reached), AllocError>
         ensures within { IfOk result (λ r. r.0 ≤ length bytes.now) }
         ensures some { IfOk result (λ r. 0 < length bytes.now → 0 < r.0) }
-        // Where it came to neither, all were taken.
+        // If it was neither, all bytes were consumed.
         ensures all { IfOk result (λ r. r.1 ≡ Reached.More → r.0 ≡ length bytes.now) }
-        // A wrong word is told at the first byte behind which no right one goes on.
+        // A wrong word is reported at the first byte after which no right one continues.
         ensures right { IfOk result (λ r. 0 < length bytes.now → r.1 ≡ Reached.More → MayGoOn self.new) }
         ensures takes { IfOk result (λ r. TakesBytes r.1 self.old (take r.0 bytes.now) self.new) }
     {
@@ -90,7 +90,7 @@ impl ScriptReader {
         Ok((at, Reached::More))
     }
 
-    /// The text ends here. Says whether that completes a command, and how the script ends.
+    /// Ends the text. Returns whether that completes a command, and how the script ends.
     pub fn finish(&mut self) -> (bool, ScriptEnd)
         ensures { (asks : Bool) (before : List ℕ → Reading) → MeansIf asks self.old before
             → EndsLast asks result.0 result.1 self.new (before []) }

@@ -1,4 +1,4 @@
-//! Scripts that are read command by command.
+//! Reads scripts command by command.
 ghost use Rattle.std.specs.Prelude.{◌≡◌, [], false};
 ghost use Rattle.sat_base.specs.script.Script.{Command as SpelledCommand};
 ghost use Rattle.certify.specs.script.Ahead.{IsNotAtEnd, source_in, waiting};
@@ -17,13 +17,13 @@ use std::alloc::{AllocError, Global};
 pub(crate) enum Next {
     /// A command.
     Command,
-    /// The last command, behind which the text ends so.
+    /// The last command, and how the text ends after it.
     Last(ScriptEnd),
-    /// No command: the text ends so.
+    /// No command, and how the text ends.
     End(ScriptEnd),
 }
 
-/// A script that is read as its commands are wanted, in pieces of at most 4,096 bytes.
+/// A script that is read when its commands are needed, in chunks of at most 4,096 bytes.
 #[derive(Drop)]
 pub(crate) struct CommandStream {
     reader: ScriptReader,
@@ -31,7 +31,7 @@ pub(crate) struct CommandStream {
 }
 
 impl CommandStream {
-    /// Before the first byte.
+    /// Returns a stream before the first byte.
     pub fn new(alloc: Global) -> CommandStream
         ensures means { ReaderMeans result.reader reading }
         ensures counts { MeansIf false result.reader written }
@@ -44,14 +44,14 @@ impl CommandStream {
         }
     }
 
-    /// The command that came.
+    /// Returns the last command.
     pub fn command(&self) -> Command<'_>
         ensures { (c : SpelledCommand) → HasWhole self.now.reader c → IsLent result c }
     {
         self.reader.command()
     }
 
-    /// Takes bytes that wait.
+    /// Consumes bytes that were read before.
     fn take(&mut self) -> Result<Reached, AllocError>
         ensures { TakesWaiting result self.old self.new }
     {
@@ -60,7 +60,7 @@ impl CommandStream {
         Ok(reached)
     }
 
-    /// The text is over.
+    /// Ends the text.
     fn finish(&mut self) -> Next
         ensures finishes { FinishesText result self.old.reader self.new.reader }
         ensures ahead { self.new.ahead ≡ self.old.ahead }
@@ -72,7 +72,7 @@ impl CommandStream {
         Next::End(end)
     }
 
-    /// Reads the next bytes, where none wait. `None`: some came.
+    /// Reads more bytes, if all are consumed. Returns `None` if there are some.
     fn refill<S: CountedRead>(&mut self, script: &mut S) -> Result<Option<Next>, ReadError>
         requires { waiting self.old.ahead ≡ [] }
         ensures brings { Brings result (source_in S.seen script.old self.old.ahead)
@@ -85,7 +85,8 @@ impl CommandStream {
         Ok(None)
     }
 
-    /// Takes bytes that wait, or reads the next ones. `None`: nothing came of them yet.
+    /// Consumes bytes, or reads more if all are consumed. Returns `None` if no command is complete yet and the text
+    /// goes on.
     fn advance<S: CountedRead>(&mut self, script: &mut S) -> Result<Option<Next>, ReadError>
         requires { IsNotAtEnd (source_in S.seen script.old self.old.ahead) }
         ensures brings { Brings result (source_in S.seen script.old self.old.ahead)
@@ -102,7 +103,7 @@ impl CommandStream {
         }
     }
 
-    /// Reads on to the next command, or to the end.
+    /// Reads up to the next command, or to the end.
     pub fn next<S: CountedRead>(&mut self, script: &mut S) -> Result<Next, ReadError>
         requires { IsNotAtEnd (source_in S.seen script.old self.old.ahead) }
         ensures { NextComes result (source_in S.seen script.old self.old.ahead)

@@ -1,18 +1,21 @@
 -- What is printed of texts in memory.
-use Rattle.std.proofs.Common.{ℕ, ◌≡◌, List, [], ◌++◌, Some, Result, Ok, Err, IfOk, OnOk, refl, ◌∙◌, ap, append_assoc}
+use Rattle.std.proofs.Common.{ℕ, ◌≡◌, List, [], ◌++◌, Some, Result, Ok, Err, IfOk, OnOk, inr, refl, sym, ◌∙◌, ap, append_assoc, append-nil}
 use Rattle.std.specs.Prelude.{◌+◌, is_ok, is_some, length, if◌then◌else◌}
-use Rattle.sat_base.specs.device.Device.{Reader, Writer, GaveAll, GaveEnough}
+use Rattle.sat_base.specs.device.Device.{Reader, Writer, GaveAll, GaveEnough, WriterBreaks, WriterTakes}
 use Rattle.sat_base.proofs.lemmas.device.Given.{enough_all}
 use Rattle.sat_base.specs.script.Script.{ScriptEnding, Clean, Malformed}
 use Rattle.sat_checker.specs.matching.ProofChecking.{the_checking}
 use Rattle.certify.specs.confirm.Matches.{Matches}
 use Rattle.certify.specs.confirm.VerdictPromises.{Exact, GaveTextWith}
-use Rattle.certify.specs.program.Printing.{IsAnswered, Prints, PrintsVerdict, SaysExactly, is_malformed}
+use Rattle.certify.specs.program.Printing.{IsAnswered, Prints, PrintsAtMost, PrintsPrefix, PrintsVerdict, SaysExactly, is_malformed, verdict_text}
 use Rattle.sat_base.specs.script.Language.{reading}
 use Rattle.certify.specs.run.StepsLeft.{largest_count}
 use Rattle.certify.specs.run.FinishedRun.{TookCertificate, malformed_at}
 use Rattle.certify.specs.declared.summary.Summary.{Summary}
 use Rattle.certify.specs.declared.verdict.Verdict.{Verdict}
+use Rattle.certify.specs.declared.verdict.Verdict.TheVariants.{Yes}
+use Rattle.certify.specs.run.Unfinished.{TookBytes}
+use Rattle.certify.proofs.lemmas.run.Stopping.{bytes_broken, bytes_later, bytes_taken}
 use Rattle.certify.proofs.lemmas.laws.FinishedTexts.{backed_matches, run_finished, told}
 
 -- WHAT IS APPENDED PIECE BY PIECE
@@ -38,6 +41,53 @@ exactly_told (Err e) a x b y c z s t u d f g h = tt
 pub prints_given : {E : Type 0} (r : Result ℕ E) (x y : Reader) (a b : Writer) (text : List ℕ) → GaveAll x y text → IfOk r (λ s. Prints s text a b) → IfOk r (λ s. PrintsVerdict s (x, y) (a, b))
 prints_given (Ok s) x y a b text g p = enough_all x y (λ k. Prints s k a b) text g p
 prints_given (Err e) x y a b text g p = tt
+
+-- PREFIXES OF WHAT IS PRINTED
+
+module _ (text answers : List ℕ) (is : IsAnswered text answers) where
+  line : List ℕ
+  line = verdict_text Yes
+
+  -- a part of the answers
+  pub prefix_cut : (a b : Writer) → WriterBreaks a b answers → PrintsPrefix text a b
+  prefix_cut a b t = record {
+    answers = answers;
+    answered = is;
+    bytes = t.front;
+    behind = t.behind ++ line;
+    whole = ap (λ (xs : List ℕ). xs ++ line) t.whole ∙ append_assoc t.front t.behind line;
+    took = bytes_broken a b answers t;
+  }
+
+  -- the answers
+  pub prefix_told : (a b : Writer) → WriterTakes a b answers → PrintsPrefix text a b
+  prefix_told a b t = record { answers = answers; answered = is; bytes = answers; behind = line; whole = refl; took = bytes_taken a b answers t }
+
+  -- and a part of the last line
+  pub prefix_line : (a b d : Writer) → WriterTakes a b answers → WriterBreaks b d line → PrintsPrefix text a d
+  prefix_line a b d t k = record {
+    answers = answers;
+    answered = is;
+    bytes = answers ++ k.front;
+    behind = k.behind;
+    whole = ap (λ (xs : List ℕ). answers ++ xs) k.whole ∙ sym (append_assoc answers k.front k.behind);
+    took = bytes_later a b d answers k.front t (bytes_broken b d line k);
+  }
+
+  -- all of it
+  pub prefix_whole : (a b d f : Writer) → WriterTakes a b answers → WriterTakes b d line → TookBytes d f [] → PrintsPrefix text a f
+  prefix_whole a b d f t k e = record {
+    answers = answers;
+    answered = is;
+    bytes = answers ++ (line ++ []);
+    behind = [];
+    whole = ap (λ (xs : List ℕ). answers ++ xs) (sym (append-nil line)) ∙ sym (append-nil (answers ++ (line ++ [])));
+    took = bytes_later a b f answers (line ++ []) t (bytes_later b d f line [] k e);
+  }
+
+-- of a text that was read
+pub prefix_given : (x y : Reader) (a b : Writer) (text : List ℕ) → GaveAll x y text → PrintsPrefix text a b → PrintsAtMost (x, y) (a, b)
+prefix_given x y a b text g p = inr (enough_all x y (λ k. PrintsPrefix k a b) text g p)
 
 malformed_is : (n : ℕ) (ending : ScriptEnding) → is_some (malformed_at n ending) ≡ is_malformed ending
 malformed_is n Clean = refl

@@ -272,8 +272,8 @@ module _ {C : Type 0} (seen : C → Writer) (budget : ℕ) (w : Writer) (s t : S
   made_front took gives =
       let all : steps_in t.solver ≡ took.0 = took.1.history ∙ ap (λ xs. took.0 ++ xs) fresh.steps ∙ append-nil took.0 in
       ∥∥₁_elim (proof_in t.solver).made.may ∥∥₁_prop (λ may.
-      let now = target_of seen (proof_in t.solver) in
-      ∣ (carried_front w (seen given) took.0 now (subst MayAll all may) (carried seen w (proof_in s.solver) (proof_in t.solver) fresh.target took) gives, sym all) ∣₁)
+      let front = carried_front w (seen given) took.0 (target_of seen (proof_in t.solver)) (subst MayAll all may) (carried seen w (proof_in s.solver) (proof_in t.solver) fresh.target took) gives in
+      ∣ (front.0, front.1 ∙ sym all) ∣₁)
 
   -- why a counter has ended
   served_end : (e : RunFault) → e ≡ fault.CounterEnd → FailsWhole seen e (unread x) b s.solver t.solver u v → GivesWriter (target_of seen (proof_in t.solver)) (Some (seen given))

@@ -1,15 +1,15 @@
-//! Taking bytes that were read ahead.
+//! Consumes bytes that were read before they are needed.
 ghost use Rattle.std.specs.Prelude.{◌≡◌, ◌+◌, ◌≤◌, [], length, drop, OnOk};
 ghost use Rattle.certify.specs.script.Ahead.{Refills, source_in, waiting};
 
 use super::{Ahead, PIECE};
 use sat_base::{CountedRead, ReadError};
 
-/// A reader is read at most so often.
+/// The largest number of reads.
 const MAX_READS: u64 = 1 << 48;
 
 impl Ahead {
-    /// Before the first read.
+    /// Returns a buffer before the first read.
     pub fn new() -> Ahead
         ensures waiting { waiting result ≡ [] }
         ensures reads { result.reads ≡ 0 }
@@ -22,14 +22,14 @@ impl Ahead {
         }
     }
 
-    /// The bytes read and not yet taken.
+    /// Returns the bytes that are not consumed yet.
     pub fn waiting(&self) -> &[u8]
         ensures { result.now ≡ waiting self.now }
     {
         &self.piece[self.at..self.end]
     }
 
-    /// Takes so many of them.
+    /// Consumes `count` of these bytes.
     pub fn take(&mut self, count: usize)
         requires { count ≤ length (waiting self.old) }
         ensures waiting { waiting self.new ≡ drop count (waiting self.old) }
@@ -38,7 +38,7 @@ impl Ahead {
         self.at += count;
     }
 
-    /// Reads the next piece, where all of the last one was taken. Says how many bytes came: none only at the reader's
+    /// Reads the next chunk, if all of the last one is consumed. Returns its length, which is 0 only at the reader's
     /// end.
     pub fn refill<R: CountedRead>(&mut self, reader: &mut R) -> Result<usize, ReadError>
         requires { waiting self.old ≡ [] }
