@@ -1,5 +1,5 @@
-//! Texts that never end: a line of answers is refused once no line that may stand there begins with its bytes, and a
-//! script is malformed at the first byte behind which no right word goes on.
+//! Texts that never end: a line of answers is refused once no allowed line begins with its bytes, a script is malformed
+//! at the first byte after which no right word continues, and it ends at a line that begins with `%`.
 
 use crate::confirm::said_at;
 use crate::devices::fails_at;
@@ -155,4 +155,50 @@ fn is_read_once(alloc: Global, again: &[u8]) -> bool {
 #[test]
 fn a_script_that_never_ends_is_read_once(rt: HostRuntime) {
     assert!(rt; is_read_once(rt.alloc(), &[0; 64]));
+}
+
+/// Scripts that end at a line that begins with `%`, and the answers.
+static ENDED: [(&[u8], &[u8]); 4] = [
+    (b"1 0\na 0\n%", b"s SATISFIABLE\nv 1 0\n"),
+    (b"1 0\na 0\n \t%\n", b"s SATISFIABLE\nv 1 0\n"),
+    (b"p cnf 1 1\n1 0\n%", b"s SATISFIABLE\nv 1 0\n"),
+    (b"a 0\n1\n%0\n", b"s SATISFIABLE\nv 0\nc malformed 2\n"),
+];
+
+fn ended() -> &'static [(&'static [u8], &'static [u8])] {
+    &ENDED
+}
+
+/// Returns a reader that gives zeros without end after a script.
+fn with_zeros(text: &[u8]) -> Counted<Endless<'_>> {
+    Counted::new(Endless {
+        text,
+        again: b"0 ",
+        reads: 0,
+    })
+}
+
+/// Tests whether a script with zeros after it has these answers, and they are confirmed, in one read each.
+fn is_ended(alloc: Global, text: &[u8], answers: &[u8]) -> bool {
+    let mut script = with_zeros(text);
+    let written = run_on(alloc, &mut script, AMPLE);
+    let mut again = with_zeros(text);
+    let said = confirm(
+        alloc,
+        &mut again,
+        &mut Counted::new(written.answers.as_slice()),
+        &mut Counted::new(written.certificate.as_slice()),
+        &mut Looks::new(),
+    );
+    written.has_answers(answers)
+        && said == Ok(Verdict::Yes)
+        && script.into_inner().reads == 1
+        && again.into_inner().reads == 1
+}
+
+#[test]
+fn nothing_is_read_after_a_percent_line(rt: HostRuntime) {
+    for &(text, answers) in ended() {
+        assert!(rt; is_ended(rt.alloc(), text, answers), "{text:?}");
+    }
 }

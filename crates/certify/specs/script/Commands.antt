@@ -3,7 +3,7 @@ use Rattle.std.specs.Prelude.{ℕ, ◌≡◌, ◌<◌, ◌*◌, Bool, true, fals
 use Rattle.std.specs.List.{AllByRecursion}
 use Rattle.sat_base.specs.values.Literals.{var_limit}
 use Rattle.sat_base.specs.text.Text.{Token, Number, Letter, Header, Wrong, Scan}
-use Rattle.sat_base.specs.text.Chunks.{Follows}
+use Rattle.sat_base.specs.text.Chunks.{Follows, IgnoresRest}
 use Rattle.sat_base.specs.text.WrongWords.{RightAhead}
 use Rattle.sat_base.specs.text.Tokenizing.{StandsBefore, held}
 use Rattle.sat_base.specs.script.Script.{Literal, Command, Ask, Clean, Malformed}
@@ -123,6 +123,10 @@ ReaderMeans = MeansIf true
 abbrev pub MayGoOn : ScriptReader → Type 0
 MayGoOn reader = (scan_of : List ℕ → Scan) → StandsBefore reader.tokenizer scan_of → RightAhead scan_of
 
+-- no line has begun with `%`: what follows is looked at
+abbrev pub LooksOn : ScriptReader → Type 0
+LooksOn reader = (scan_of : List ℕ → Scan) → StandsBefore reader.tokenizer scan_of → IgnoresRest scan_of → ⊥
+
 -- a command was read, and is to be lent
 pub record HasWhole (reader : ScriptReader) (c : Command) : Type 0 where
   pub whole : IsWholeCommand reader.commands.draft c
@@ -155,6 +159,10 @@ end_if true e = end_reading e
 end_if false ends.Clean = ([], Clean)
 end_if false ends.Asked = ([], Clean)
 end_if false ends.Malformed = ([], Malformed)
+
+-- a line has begun with `%`, and the script ends so, whatever follows
+abbrev pub EndsWhateverFollows : ScriptReader → ScriptEnd → Type 0
+EndsWhateverFollows reader e = (asks : Bool) (before : List ℕ → Reading) → MeansIf asks reader before → (rest : List ℕ) → before rest ≡ end_if asks e
 
 -- what is left where the text ends: perhaps a command, and the end
 abbrev pub EndsSo : Bool → Bool → ScriptEnd → Commands → Reading → Type 0

@@ -1,11 +1,12 @@
 //! Reads scripts.
-ghost use Rattle.std.specs.Prelude.{◌≡◌, ◌<◌, ◌≤◌, ℕ, Bool, false, List, [], None, length, take, IfOk};
+ghost use Rattle.std.specs.Prelude.{◌≡◌, ◌<◌, ◌≤◌, ℕ, Bool, false, List, [], None, length, take, IfOk, MatchOption};
 ghost use Rattle.sat_base.specs.script.Script.{Command as SpelledCommand};
 ghost use Rattle.sat_base.specs.script.Language.{Reading, reading, written};
 ghost use Rattle.sat_base.specs.text.Text.{Scan};
 ghost use Rattle.sat_base.specs.text.Tokenizing.{StandsBefore, TakesFront};
 ghost use Rattle.sat_base.specs.text.WrongWords.{RightAhead};
-ghost use Rattle.certify.specs.script.Commands.{EndsLast, HasWhole, IsLent, MayGoOn, ReaderMeans, MeansIf, TakesBytes};
+ghost use Rattle.certify.specs.script.Commands.{EndsLast, EndsWhateverFollows, HasWhole, IsLent, LooksOn, MayGoOn};
+ghost use Rattle.certify.specs.script.Commands.{MeansIf, ReaderMeans, TakesBytes};
 
 use super::commands::Commands;
 use super::{Command, Reached, ScriptEnd};
@@ -88,6 +89,16 @@ impl ScriptReader {
             }
         }
         Ok((at, Reached::More))
+    }
+
+    /// Returns how the script ends, if a line has begun with `%`, so that nothing that follows is looked at.
+    pub fn end_if_over(&self) -> Option<ScriptEnd>
+        ensures { MatchOption result (LooksOn self.now) (EndsWhateverFollows self.now) }
+    {
+        if self.tokenizer.is_over() {
+            return Some(self.commands.ending());
+        }
+        None
     }
 
     /// Ends the text. Returns whether that completes a command, and how the script ends.

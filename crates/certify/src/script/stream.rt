@@ -2,7 +2,7 @@
 ghost use Rattle.std.specs.Prelude.{◌≡◌, [], false};
 ghost use Rattle.sat_base.specs.script.Script.{Command as SpelledCommand};
 ghost use Rattle.certify.specs.script.Ahead.{IsNotAtEnd, source_in, waiting};
-ghost use Rattle.certify.specs.script.Commands.{HasWhole, IsLent, ReaderMeans, MeansIf};
+ghost use Rattle.certify.specs.script.Commands.{HasWhole, IsLent, LooksOn, MeansIf, ReaderMeans};
 ghost use Rattle.sat_base.specs.script.Language.{reading, written};
 ghost use Rattle.certify.specs.script.Streaming.{Brings, NextComes, LeavesFewerRounds, FinishesText, TakesWaiting};
 
@@ -72,9 +72,10 @@ impl CommandStream {
         Next::End(end)
     }
 
-    /// Reads more bytes, if all are consumed. Returns `None` if there are some.
+    /// Reads more bytes, if all are consumed and what follows is looked at. Returns `None` if there are some.
     fn refill<S: CountedRead>(&mut self, script: &mut S) -> Result<Option<Next>, ReadError>
-        requires { waiting self.old.ahead ≡ [] }
+        requires waiting { waiting self.old.ahead ≡ [] }
+        requires looks_on { LooksOn self.old.reader }
         ensures brings { Brings result (source_in S.seen script.old self.old.ahead)
             (source_in S.seen script.new self.new.ahead) self.old.reader self.new.reader }
         ensures falls { LeavesFewerRounds result self.old.ahead self.new.ahead }
@@ -83,6 +84,20 @@ impl CommandStream {
             return Ok(Some(self.finish()));
         }
         Ok(None)
+    }
+
+    /// Reads more bytes, if all are consumed, unless the text has ended. Returns `None` if there are some.
+    fn read_on<S: CountedRead>(&mut self, script: &mut S) -> Result<Option<Next>, ReadError>
+        requires open_yet { IsNotAtEnd (source_in S.seen script.old self.old.ahead) }
+        requires waiting { waiting self.old.ahead ≡ [] }
+        ensures brings { Brings result (source_in S.seen script.old self.old.ahead)
+            (source_in S.seen script.new self.new.ahead) self.old.reader self.new.reader }
+        ensures falls { LeavesFewerRounds result self.old.ahead self.new.ahead }
+    {
+        match self.reader.end_if_over() {
+            Some(end) => Ok(Some(Next::End(end))),
+            None => self.refill(script),
+        }
     }
 
     /// Consumes bytes, or reads more if all are consumed. Returns `None` if no command is complete yet and the text
@@ -94,7 +109,7 @@ impl CommandStream {
         ensures falls { LeavesFewerRounds result self.old.ahead self.new.ahead }
     {
         if self.ahead.waiting().is_empty() {
-            return self.refill(script);
+            return self.read_on(script);
         }
         match self.take()? {
             Reached::More => Ok(None),

@@ -8,7 +8,7 @@ use Rattle.sat_base.specs.declared.text.Tokenizer.{Tokenizer}
 use Rattle.sat_base.specs.text.Text.{Token, Number, Letter, Header, Wrong, Scan, scan, tokens, header_first, header_from, dimacs_header}
 use Rattle.sat_base.specs.text.Tokenizing.{TakesFront, StandsBefore, GivesLast, held_token}
 use Rattle.sat_base.specs.text.WrongWords.{WrongAhead}
-use Rattle.sat_base.specs.text.Chunks.{Follows}
+use Rattle.sat_base.specs.text.Chunks.{Follows, IgnoresRest}
 use Rattle.sat_base.proofs.lemmas.text.HeaderFirst.{IsWord, AreWords, AreScript, text_is}
 use Rattle.sat_base.specs.script.Language.{Reading, spoken, CommandHand, Nothing, commands_of, with_ask, written, reading}
 use Rattle.certify.specs.script.Commands.{HoldsHand, any_header, meaning, TakesToken, ReaderMeans, MeansIf, TakesBytes, EndsSo, EndsLast}
@@ -103,6 +103,14 @@ followed_front r a b c xs n k h i f t =
 pub ends_none : (asks : Bool) (old : ScriptReader) (before : List ℕ → Reading) (r : Reading) → ((scan_of : List ℕ → Scan) → StandsBefore old.tokenizer scan_of → GivesLast None (scan_of [])) → MeansIf asks old before
     → ((hand : CommandHand) → HoldsHand old.commands.draft hand → r ≡ meaning asks old.commands hand []) → before [] ≡ r
 ends_none asks old before r k m e = m.reads [] ∙ ap (λ (ts : List (ℕ × Token)). meaning asks old.commands m.hand (spoken ts)) (k m.scan_of m.stands) ∙ sym (e m.hand m.holds)
+
+-- where what follows is ignored, and no token is in hand
+pub ends_over : (asks : Bool) (old : ScriptReader) (before : List ℕ → Reading) (r : Reading) → ((scan_of : List ℕ → Scan) → StandsBefore old.tokenizer scan_of → IgnoresRest scan_of)
+    → ((scan_of : List ℕ → Scan) → StandsBefore old.tokenizer scan_of → (scan_of []).tokens ≡ []) → MeansIf asks old before
+    → ((hand : CommandHand) → HoldsHand old.commands.draft hand → r ≡ meaning asks old.commands hand []) → (rest : List ℕ) → before rest ≡ r
+ends_over asks old before r over none m e rest =
+    m.reads rest ∙ ap (λ (s : Scan). meaning asks old.commands m.hand (spoken s.tokens)) (over m.scan_of m.stands rest)
+    ∙ ap (λ (ts : List (ℕ × Token)). meaning asks old.commands m.hand (spoken ts)) (none m.scan_of m.stands) ∙ sym (e m.hand m.holds)
 
 lasts : (asks completes : Bool) (e : ScriptEnd) (new : ScriptReader) (r : Reading) → EndsSo asks completes e new.commands r → EndsLast asks completes e new r
 lasts asks true e new r h = (h.0, record { whole = h.1 }, h.2)

@@ -11,7 +11,7 @@ use Rattle.sat_base.specs.declared.device.whole.ReadError.TheVariants as errors
 use Rattle.sat_base.proofs.lemmas.device.ReadLemmas.{gave_some, gave_nothing, passes_more}
 use Rattle.certify.specs.confirm.Streams.{rest_in}
 use Rattle.certify.specs.script.Ahead.{Refills, TakesSome, source_in, waiting}
-use Rattle.certify.specs.script.Commands.{EndsLast, MeansIf, TakesBytes, end_if}
+use Rattle.certify.specs.script.Commands.{EndsLast, EndsWhateverFollows, MeansIf, TakesBytes, end_if}
 use Rattle.certify.specs.script.Streaming.{Arrives, Brings, NextComes, FinishesText, TakesWaiting}
 use Rattle.certify.specs.declared.script.ahead.Ahead.{Ahead}
 use Rattle.certify.specs.declared.script.Reached.{Reached}
@@ -87,6 +87,10 @@ refill_ends n (next.Last e) a b old new none h f = ([], (gave_nothing n a b none
 refill_ends n (next.End e) a b old new none h f =
     let ends : PassesToEnd a b [] = (gave_nothing n a b none h.0, h.1 none) in
     ((([], ends.0), λ x. all_over b ends.1), λ asks before m total c. ap before (nothing_behind a b [] total ends c) ∙ f asks before m)
+
+-- THE TEXT HAS ENDED, AND IS NOT READ ON
+pub brings_over : (a : Source) (reader : ScriptReader) (e : ScriptEnd) → (AtEnd a → ⊥) → EndsWhateverFollows reader e → Brings (Ok (Some (next.End e))) a a reader reader
+brings_over a reader e open_yet ends = (took_halted a a open_yet (took_none a), λ asks before m total c. ends asks before m (rest_in total a))
 
 -- ONE AFTER ANOTHER
 

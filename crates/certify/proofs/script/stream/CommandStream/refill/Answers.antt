@@ -13,4 +13,4 @@ returns-clause-brings g c =
     refill_goes c.in_ok-refill.field-0 (source_in S c.args.script.now c.args.self.now.ahead) (source_in S c.refill.new.reader c.refill.new.self) c.args.self.now.reader c.if-branch-eq0.false c.in_ok-refill.ensures.bytes
 
 pub returns-clause-falls : goal.returns-clause-falls
-returns-clause-falls g c = refilled_fewer c.args.self.now.ahead c.refill.new.self c.requires c.in_ok-refill.ensures.reads
+returns-clause-falls g c = refilled_fewer c.args.self.now.ahead c.refill.new.self c.requires.waiting c.in_ok-refill.ensures.reads
