@@ -25,6 +25,7 @@ CHAPTERS = [
 COUNTED = [
     ('clause', 'certify', 'confirm', 'confirm', ['exact']),
     ('clause', 'certify', 'confirm', 'confirm', ['looks']),
+    ('clause', 'certify', 'headline', 'headline_over', ['verdicts']),
     ('clause', 'certify', 'run', 'run', ['answered']),
     ('clause', 'certify', 'run', 'run', ['backed']),
     ('clause', 'certify', 'run', 'run', ['unfinished']),

@@ -125,7 +125,8 @@ pub fn certify_over(
     }
 }
 
-/// Does what `certify_over` does, and promises it in the words of the headline.
+/// Runs `script` with `budget` rounds for each ask, and confirms what that wrote. Then confirms the answers `claimed`
+/// with the certificate `shown`, whoever made them. Returns what was written, and both verdicts.
 pub fn headline_over(
     alloc: Global,
     script: &[u8],
@@ -138,6 +139,10 @@ pub fn headline_over(
     // right answers whenever there is a yes; and few looks.
     ensures headline { IfOk result (λ v. Headline script.now budget (asked_steps v.written.summary.asks.items)
         v.written.answers.items v.written.certificate.items v.own claimed.now shown.now v.other looks.old looks.new) }
+    // Both verdicts are those of `confirm`: yes exactly if the three texts match.
+    ensures verdicts { IfOk result (λ v.
+        VerdictSays script.now v.written.answers.items v.written.certificate.items v.own
+        × VerdictSays script.now claimed.now shown.now v.other) }
 {
     certify_over(alloc, script, budget, claimed, shown, looks)
 }

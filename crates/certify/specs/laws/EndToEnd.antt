@@ -44,6 +44,7 @@ pub record Certified (script : List ℕ) (budget : ℕ) (claimed shown : List �
   pub answered : CertificateGuarantee script budget summary answers certificate
   -- what a run wrote is confirmed
   pub confirmed : own ≡ Yes
-  -- yes to any answers and certificate says that those answers are right
+  -- both verdicts are those of `confirm`: a yes to any answers and certificate says that those answers are right
+  pub checked : VerdictSays script answers certificate own
   pub any : VerdictSays script claimed shown other
   pub looks : after ≤ before + most_looks_over script answers certificate + most_looks_over script claimed shown

@@ -38,10 +38,7 @@ fn make<R: Files>(rt: &R, path: &str, fault: Fault) -> Result<Counted<R::File>, 
 type Outputs<F> = (Counted<F>, Counted<F>);
 
 /// Makes the outputs of a run. Returns `None` if both are one file, which may show only once the first is made.
-fn make_outputs<R: Files>(
-    rt: &R,
-    files: RunFiles<'_>,
-) -> Result<Option<Outputs<R::File>>, Fault>
+fn make_outputs<R: Files>(rt: &R, files: RunFiles<'_>) -> Result<Option<Outputs<R::File>>, Fault>
     ensures { IfOk result (λ made. IfSome made (λ outputs. IsMade R.File.contents outputs.0
         × IsMade R.File.contents outputs.1)) }
 {

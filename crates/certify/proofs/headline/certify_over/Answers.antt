@@ -8,6 +8,7 @@ returns-in-Ok-verdicts_over c =
     record {
       answered = c.in-Ok.ensures;
       confirmed = backed_yes c.args.budget w.summary c.args.script.now w.answers.items w.certificate.items v.own c.in-Ok.ensures v.ensures.own;
+      checked = v.ensures.own;
       any = v.ensures.other;
       looks = v.ensures.looks;
     }

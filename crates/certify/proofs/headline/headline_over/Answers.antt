@@ -12,4 +12,5 @@ returns c = record {
   headline = ok_as c.certify_over.result _ _
       (λ v h. certified_headline c.args.script.now c.args.budget c.args.claimed.now c.args.shown.now v.written.summary v.written.answers.items v.written.certificate.items v.own v.other c.args.looks.now c.certify_over.new.looks h)
       c.certify_over.ensures;
+  verdicts = ok_as c.certify_over.result _ _ (λ v h. (h.checked, h.any)) c.certify_over.ensures;
 }
