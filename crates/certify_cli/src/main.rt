@@ -71,7 +71,8 @@ fn call(rt: &HostRuntime) -> io::Result<u8> {
     Ok(program(rt, arguments, &mut input, &mut output, &mut errors))
 }
 
+/// Ends with the program's status. Does nothing, and ends with that of a fault, if the descriptor of a closed standard
+/// stream cannot be held.
 fn main(rt: HostRuntime) -> ExitCode {
-    // Without `/dev/null` there is nothing to hold a closed stream's descriptor, and nothing is done.
     ExitCode::from(call(&rt).unwrap_or(FAILED))
 }

@@ -371,7 +371,21 @@ const OVERLAPPING: &[&[Action<'static>]] = &[
     ],
 ];
 
-const TABLES: &[&[&[Action<'static>]]] = &[HINTED, CHECKED, RUN, UNOPENED, OVERLAPPING];
+/// Outputs of a run that cannot be written.
+const FULL: &[&[Action<'static>]] = &[&[
+    Action::Put("s", b"1 0\na 0\n"),
+    Action::Link("/dev/full", "full"),
+    Action::Does(
+        ("run", &["s", "full", "c"], ""),
+        (3, "", "certify: AnswersWrite\n"),
+    ),
+    Action::Does(
+        ("run", &["s", "a", "full"], ""),
+        (3, "", "certify: CertificateWrite\n"),
+    ),
+]];
+
+const TABLES: &[&[&[Action<'static>]]] = &[HINTED, CHECKED, RUN, UNOPENED, OVERLAPPING, FULL];
 
 /// Tests whether each row of a table is so, in a folder of its own.
 fn are_so(rt: &HostRuntime, name: &str, rows: &[&[Action<'_>]]) -> bool {

@@ -85,7 +85,7 @@ Exceeds count j script steps =
 -- the same of a script, after the steps of whose text the writer took a prefix
 abbrev pub ExceedsWritten : Reading → Writer × Writer → Type 0
 ExceedsWritten script certificate = (2 ^ 64 - 1 ≤ length script.0)
-    ⊎ ∥ (k : StepsFront certificate.0 certificate.1) × (var_limit < (after_script script.0 start).identity_count) × OneLacks start script.0 k.made ∥₁
+    ⊎ ∥ ((k : StepsFront certificate.0 certificate.1) × (var_limit < (after_script script.0 start).identity_count) × OneLacks start script.0 k.made) ∥₁
 
 -- so, whatever follows what the reader gave of the script
 abbrev pub CounterEnds : Reader × Reader → Writer × Writer → Type 0

@@ -1,5 +1,5 @@
 -- What is printed of texts in memory.
-use Rattle.std.proofs.Common.{ℕ, ◌≡◌, List, [], ◌++◌, Some, Result, Ok, Err, IfOk, OnOk, inr, refl, sym, ◌∙◌, ap, append_assoc, append-nil}
+use Rattle.std.proofs.Common.{ℕ, ◌≡◌, List, [], ◌++◌, Some, Result, Ok, Err, IfOk, OnOk, inl, inr, refl, sym, ◌∙◌, ap, append_assoc, append-nil}
 use Rattle.std.specs.Prelude.{◌+◌, is_ok, is_some, length, if◌then◌else◌}
 use Rattle.sat_base.specs.device.Device.{Reader, Writer, GaveAll, GaveEnough, WriterBreaks, WriterTakes}
 use Rattle.sat_base.proofs.lemmas.device.Given.{enough_all}
@@ -15,7 +15,7 @@ use Rattle.certify.specs.declared.summary.Summary.{Summary}
 use Rattle.certify.specs.declared.verdict.Verdict.{Verdict}
 use Rattle.certify.specs.declared.verdict.Verdict.TheVariants.{Yes}
 use Rattle.certify.specs.run.Unfinished.{TookBytes}
-use Rattle.certify.proofs.lemmas.run.Stopping.{bytes_broken, bytes_later, bytes_taken}
+use Rattle.certify.proofs.lemmas.run.Stopping.{bytes_broken, bytes_later, bytes_none, bytes_taken}
 use Rattle.certify.proofs.lemmas.laws.FinishedTexts.{backed_matches, run_finished, told}
 
 -- WHAT IS APPENDED PIECE BY PIECE
@@ -45,7 +45,7 @@ prints_given (Err e) x y a b text g p = tt
 -- PREFIXES OF WHAT IS PRINTED
 
 module _ (text answers : List ℕ) (is : IsAnswered text answers) where
-  line : List ℕ
+  abbrev line : List ℕ
   line = verdict_text Yes
 
   -- a part of the answers
@@ -85,6 +85,10 @@ module _ (text answers : List ℕ) (is : IsAnswered text answers) where
     took = bytes_later a b f answers (line ++ []) t (bytes_later b d f line [] k e);
   }
 
+-- nothing was printed
+pub prints_nothing : (input : Reader × Reader) (w : Writer) → PrintsAtMost input (w, w)
+prints_nothing input w = inl (bytes_none w)
+
 -- of a text that was read
 pub prefix_given : (x y : Reader) (a b : Writer) (text : List ℕ) → GaveAll x y text → PrintsPrefix text a b → PrintsAtMost (x, y) (a, b)
 prefix_given x y a b text g p = inr (enough_all x y (λ k. PrintsPrefix k a b) text g p)
@@ -108,3 +112,9 @@ pub run_written : (summary : Summary) (x y : Reader) (a b c d : Writer) (text an
 run_written summary x y a b c d text answers certificate e f g h i took =
     let backs = run_finished largest_count summary x y a b c d text answers certificate e f g h i took in
     ((summary, backs.is_answered), backed_matches largest_count summary text answers certificate backs)
+
+-- CALLS OVER FILES
+-- two facts of a value give a third
+pub ok_both : {A E : Type 0} (r : Result A E) (P Q R : A → Type 0) → ((a : A) → P a → Q a → R a) → IfOk r P → IfOk r Q → IfOk r R
+ok_both (Ok a) P Q R f p q = f a p q
+ok_both (Err e) P Q R f p q = tt

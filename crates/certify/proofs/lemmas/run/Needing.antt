@@ -1,6 +1,7 @@
 -- Names for which no variable is left: so many variables are in use, and more identities are needed than there are variables.
-use Rattle.std.proofs.Common.{ℕ, zero, suc, ◌+◌, ◌-◌, ◌<◌, ◌≤◌, ◌≡◌, ◌≢◌, ◌∙◌, Bool, true, false, not, ◌&&◌, ◌||◌, cond, ltb, Option, Some, None, is_some, List, [], ◌∷◌, ◌++◌, map, length, length-map, inl, inr, refl, sym, ap, subst, arith}
+use Rattle.std.proofs.Common.{ℕ, zero, suc, ◌+◌, ◌-◌, ◌<◌, ◌≤◌, ◌≡◌, ◌≢◌, ◌∙◌, Bool, true, false, not, ◌&&◌, ◌||◌, cond, ltb, Option, Some, None, is_some, List, [], ◌∷◌, ◌++◌, map, length, inl, inr, refl, sym, ap, subst, arith}
 use Rattle.std.specs.List.{AllByRecursion}
+use Rattle.std.proofs.lemmas.List.{length-map}
 use Rattle.std.proofs.lemmas.Bool.{eq-eqb, ne_eqb, cases_eq, cases_lt, ltb-true, ltb-false}
 use Rattle.sat_base.specs.device.Device.{Writer}
 use Rattle.sat_base.specs.values.Literals.{var_limit, variable}
@@ -207,7 +208,7 @@ all_need n steps j live users agree lacks =
     elim (cases_lt var_limit (live_count n + coming n users)) [ inl lt ↦ omega arith | inr le ↦ absurd (lacks le) ]
 
 -- what is in use, as a checker knows it
-vars : Live → List ℕ
+abbrev vars : Live → List ℕ
 vars live = map (λ (p : ℕ × ℕ). p.0) live
 
 other_in : (v : ℕ) (live : Live) → AllByRecursion (λ (q : ℕ × ℕ). q.0 ≡ v → ⊥) live → is_among (vars live) v ≡ false

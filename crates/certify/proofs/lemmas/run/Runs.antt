@@ -268,7 +268,7 @@ module _ {C : Type 0} (seen : C → Writer) (budget : ℕ) (w : Writer) (s t : S
       (served_front e h.0 (λ total k. subst (λ (w : Writer). Front (rest_in total (unread x)) w) (sym f.1) (first_command (rest_in total (unread x)) v (h.1 total k))))
 
   -- the certificate's writer took a prefix of the text of the steps that were made
-  made_front : ComesBySteps seen (proof_in s.solver) (proof_in t.solver) → GivesWriter (target_of seen (proof_in t.solver)) (Some (seen given)) → ∥ (k : StepsFront w (seen given)) × (k.made ≡ steps_in t.solver) ∥₁
+  made_front : ComesBySteps seen (proof_in s.solver) (proof_in t.solver) → GivesWriter (target_of seen (proof_in t.solver)) (Some (seen given)) → ∥ ((k : StepsFront w (seen given)) × (k.made ≡ steps_in t.solver)) ∥₁
   made_front took gives =
       let all : steps_in t.solver ≡ took.0 = took.1.history ∙ ap (λ xs. took.0 ++ xs) fresh.steps ∙ append-nil took.0 in
       ∥∥₁_elim (proof_in t.solver).made.may ∥∥₁_prop (λ may.
@@ -283,7 +283,7 @@ module _ {C : Type 0} (seen : C → Writer) (budget : ℕ) (w : Writer) (s t : S
       passed_front 1 x b h.0.0 (λ text. ExceedsWritten (reading text) (w, seen given)) h.0.1
       (λ total y.
       elim (subst (λ n. Exceeds n start (reading (rest_in total (unread x))) (steps_in t.solver)) fresh.commands (k total y)) [
-        | inl many ↦ inl many
+        | inl many ↦ inl (omega arith)
         | inr (needs, one) ↦ inr (∥∥₁_elim front ∥∥₁_prop (λ f. ∣ (f.0, needs, subst (OneLacks start (reading (rest_in total (unread x))).0) (sym f.1) one) ∣₁))
       ])
   served_end e q h gives k = absurd (cc)
@@ -411,6 +411,7 @@ steps_lent seen budget x y u z a c v given back same r h k =
     subst (λ (q : _). TookSteps (seen a, seen q)) (sym is_back) (unlent_steps (seen a) (seen v) given back k)
 
 unlent_exceeds : (script : Reading) (a b : Writer) (given back : ℕ) → ExceedsWritten script (lent_writer given a, lent_writer back b) → ExceedsWritten script (a, b)
+unfolding unlent_front
 unlent_exceeds script a b given back (inl many) = inl many
 unlent_exceeds script a b given back (inr h) = inr (∥∥₁_elim h ∥∥₁_prop (λ k. ∣ (unlent_front a b given back k.0, k.1, k.2) ∣₁))
 

@@ -160,13 +160,13 @@ none_left (o ∷ os) e = absurd (cc)
 pub bytes_none : (w : Writer) → TookBytes w w []
 bytes_none w = record { taken = sym (append-nil w.taken); told = appends_none w.contents }
 
-bytes_taken : (u v : Writer) (text : List ℕ) → WriterTakes u v text → TookBytes u v text
+pub bytes_taken : (u v : Writer) (text : List ℕ) → WriterTakes u v text → TookBytes u v text
 bytes_taken u v text t = record { taken = t.taken; told = t.told }
 
-bytes_broken : (u v : Writer) (text : List ℕ) → (b : WriterBreaks u v text) → TookBytes u v b.front
+pub bytes_broken : (u v : Writer) (text : List ℕ) → (b : WriterBreaks u v text) → TookBytes u v b.front
 bytes_broken u v text b = record { taken = b.taken; told = b.told }
 
-bytes_later : (u v w : Writer) (text bytes : List ℕ) → WriterTakes u v text → TookBytes v w bytes → TookBytes u w (text ++ bytes)
+pub bytes_later : (u v w : Writer) (text bytes : List ℕ) → WriterTakes u v text → TookBytes v w bytes → TookBytes u w (text ++ bytes)
 bytes_later u v w text bytes t b = record {
   taken = b.taken ∙ ap (λ (z : List ℕ). z ++ bytes) t.taken ∙ append_assoc u.taken text bytes;
   told = appends_more u.contents v.contents w.contents text bytes t.told b.told;

@@ -1,6 +1,6 @@
 use Rattle.std.proofs.Common.{ℕ, ◌∙◌, List, IfOk, sym, subst}
-use Rattle.certify.specs.program.Printing.{IsWritten, Prints}
-use Rattle.certify.proofs.lemmas.program.PrintedVerdicts.{prints_given}
+use Rattle.certify.specs.program.Printing.{IsWritten, Prints, PrintsPrefix}
+use Rattle.certify.proofs.lemmas.program.PrintedVerdicts.{prefix_given, prints_given, prints_nothing}
 use Rattle.certify.proofs.program.standard.answer.Goals as goal
 
 pub returns-clause-printed : goal.returns-clause-printed
@@ -15,3 +15,18 @@ returns-clause-printed g c =
 pub print_confirmed-requires : goal.print_confirmed-requires
 print_confirmed-requires g c =
     subst (λ (text : List ℕ). IsWritten text c.in_ok-written.written) (c.deref.ensures.value ∙ sym c.deref-2.ensures.value) c.in_ok-written.ensures
+
+pub returns-clause-prefix : goal.returns-clause-prefix
+returns-clause-prefix g c =
+    let x = g.I.CountedRead.seen c.args.input.now in
+    let y = g.I.CountedRead.seen c.read_whole.new.reader in
+    let a = g.O.CountedWrite.seen c.args.output.now in
+    let b = g.O.CountedWrite.seen c.print_confirmed.new.output in
+    prefix_given x y a b c.in_ok-script.script.items c.in_ok-script.ensures.gave
+    (subst (λ (text : List ℕ). PrintsPrefix text a b) c.deref-2.ensures.value c.print_confirmed.ensures.prefix)
+
+pub returns-in_err-script-clause-prefix : goal.returns-in_err-script-clause-prefix
+returns-in_err-script-clause-prefix g c = prints_nothing (g.I.CountedRead.seen c.args.input.now, g.I.CountedRead.seen c.read_whole.new.reader) (g.O.CountedWrite.seen c.args.output.now)
+
+pub returns-in_err-written-clause-prefix : goal.returns-in_err-written-clause-prefix
+returns-in_err-written-clause-prefix g c = prints_nothing (g.I.CountedRead.seen c.args.input.now, g.I.CountedRead.seen c.read_whole.new.reader) (g.O.CountedWrite.seen c.args.output.now)
