@@ -40,7 +40,7 @@ SUBJECTS = [
     ('Bytes and words', ['sat_base.specs.text.*']),
     ('The grammar of scripts', ['sat_base.specs.script.Script', 'sat_base.specs.script.Language', 'certify.specs.answers.ScriptText']),
     ('Clauses and valuations', ['sat_base.specs.values.*']),
-    ('What commands leave', ['sat_base.specs.script.Judge']),
+    ('What commands leave', ['sat_base.specs.script.ScriptState']),
     ('Answers', ['sat_checker.specs.matching.Expected', 'certify.specs.answers.RightAnswers', 'certify.specs.answers.Asks',
                  'certify.specs.answers.Answers', 'certify.specs.answers.AnswersText']),
     ('Steps and their bytes', ['sat_base.specs.steps.*']),

@@ -17,5 +17,5 @@ pub mod Naming
 pub mod Confirming
 pub mod Stopping
 pub mod Lines
-pub mod Sessions
+pub mod ConfirmStates
 pub mod ConfirmedScript

@@ -1,4 +1,4 @@
-pub mod StepsLeft
+pub mod RoundsLeft
 pub mod Hiding
 pub mod Advancing
 pub mod Learning
@@ -16,5 +16,5 @@ pub mod Serving
 pub mod ServingLaws
 pub mod Standing
 pub mod Stretches
-pub mod Telling
+pub mod Reporting
 pub mod ServedScript

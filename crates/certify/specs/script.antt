@@ -1,3 +1,3 @@
 pub mod Commands
-pub mod Ahead
+pub mod LastPiece
 pub mod Streaming

@@ -21,7 +21,7 @@ pub(crate) mod variables;
 
 use crate::script::stream::CommandStream;
 use crate::verdict::{ConfirmFault, Verdict};
-use commands::Session;
+use commands::ConfirmState;
 use confirmation::Confirmation;
 use sat_base::{CountedRead, StepReader};
 use sat_checker::Looks;
@@ -61,7 +61,7 @@ fn compare<S: CountedRead, A: CountedRead, C: CountedRead>(
 {
     let mut confirmation = Confirmation {
         script: CommandStream::new(alloc),
-        session: Session::new(alloc),
+        session: ConfirmState::new(alloc),
     };
     let mut steps = StepReader::new(alloc, certificate);
     let ended = confirmation.confirm_all(script, answers, &mut steps);

@@ -2,7 +2,7 @@
 ghost use Rattle.std.specs.Prelude.{◌≤◌, ◌+◌, IfOk, OnOk};
 ghost use Rattle.certify.specs.laws.EndToEnd.{Certified, VerdictSays, most_looks_over};
 ghost use Rattle.certify.specs.laws.Headline.{Headline};
-ghost use Rattle.certify.specs.run.FinishedRun.{CertificateGuarantee, asked_steps};
+ghost use Rattle.certify.specs.run.FinishedRun.{CertificateGuarantee, rounds_of_asks};
 
 use crate::confirm::confirm;
 use crate::fault::RunFault;
@@ -137,7 +137,7 @@ pub fn headline_over(
 ) -> Result<Verdicts, HeadlineFault>
     // One right answer for every accepted ask, unknown only if its rounds are exhausted; a yes to what was written;
     // right answers whenever there is a yes; and few looks.
-    ensures headline { IfOk result (λ v. Headline script.now budget (asked_steps v.written.summary.asks.items)
+    ensures headline { IfOk result (λ v. Headline script.now budget (rounds_of_asks v.written.summary.asks.items)
         v.written.answers.items v.written.certificate.items v.own claimed.now shown.now v.other looks.old looks.new) }
     // Both verdicts are those of `confirm`: yes exactly if the three texts match.
     ensures verdicts { IfOk result (λ v.

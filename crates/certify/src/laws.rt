@@ -5,15 +5,15 @@ ghost use Rattle.certify.specs.laws.HeadlineLaws.{CertifiedIsHeadline, RightByAs
 ghost use Rattle.certify.specs.laws.HeadlineLaws.{SaysTheSame};
 ghost use Rattle.certify.specs.laws.HintTexts.{RunsHaveHints};
 ghost use Rattle.certify.specs.laws.Laws.{AskBindsNothing, AskLeavesNames, MatchingIsRight, NotBoth};
-ghost use Rattle.certify.specs.laws.Laws.{RepeatChangesNothing, TautologyChangesNothing, TextsTellOutcomes};
+ghost use Rattle.certify.specs.laws.Laws.{RepeatChangesNothing, TautologyChangesNothing, TextsDetermineOutcomes};
 ghost use Rattle.certify.specs.laws.Laws.{TextsThatMatchAreRight};
 ghost use Rattle.sat_checker.specs.matching.Checking.{IsSound};
-ghost use Rattle.sat_checker.specs.matching.ProofChecking.{the_checking};
+ghost use Rattle.sat_checker.specs.matching.ProofChecking.{checker_rules};
 ghost use Rattle.certify.specs.laws.Rows.{AnswersTwice, AskAloneText, BehindEndUncertified, ChainCertified};
 ghost use Rattle.certify.specs.laws.Rows.{UnknownUncertified, ClauseAndAskCertified, ClauseAndAskExpected};
 ghost use Rattle.certify.specs.laws.Rows.{ClauseAndAskMatches, ClauseAndAskRight, ClauseAndAskSteps, ClauseAndAskText};
 ghost use Rattle.certify.specs.laws.Rows.{ClauseUncertified, CoreUncertified, EarlyUncertified, EmptyMatches};
-ghost use Rattle.certify.specs.laws.Rows.{EmptyText, EndAlone, EndAloneUncertified, HiddenAndBackExpected};
+ghost use Rattle.certify.specs.laws.Rows.{EmptyText, EndAloneMatches, EndAloneUncertified, HiddenAndBackExpected};
 ghost use Rattle.certify.specs.laws.Rows.{HiddenAndBackState, HiddenAtOnceState, KnownWithoutRounds, LeftOutCertified};
 ghost use Rattle.certify.specs.laws.Rows.{LeftmostRefuses, MalformedText, ModelUncertified, NameOnOldVariable};
 ghost use Rattle.certify.specs.laws.Rows.{NoAnswers, TwoUnitsMatches, TwoUnitsRight, TwoUnitsSteps, WitnessRefusedText};
@@ -58,7 +58,7 @@ pub fn runs_have_hints()
 
 /// The checker of proofs has the seven properties that matching needs.
 pub fn checking_is_sound()
-    ensures { IsSound the_checking }
+    ensures { IsSound checker_rules }
 {}
 
 /// No ask has both a right model and a right core.
@@ -79,8 +79,8 @@ pub fn ask_binds_nothing()
 {}
 
 /// Different outcomes have different texts.
-pub fn texts_tell_outcomes()
-    ensures { TextsTellOutcomes }
+pub fn texts_determine_outcomes()
+    ensures { TextsDetermineOutcomes }
 {}
 
 /// Examples of texts: what is answered, refused and malformed.
@@ -117,7 +117,7 @@ pub fn rows_that_match()
 /// and answers written twice.
 pub fn rows_that_fail()
     ensures old_variable { NameOnOldVariable }
-    ensures end_alone { EndAlone }
+    ensures end_alone { EndAloneMatches }
     ensures missing { NoAnswers }
     ensures extra { AnswersTwice }
 {}

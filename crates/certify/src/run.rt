@@ -2,7 +2,7 @@
 ghost use Rattle.std.specs.Prelude.{◌≡◌, ◌+◌, ◌≤◌, ◌⊎◌, true, IfOk, OnErr, OnOk, IsErrOf};
 ghost use Rattle.sat_base.specs.device.Device.{most_reads, ReadFails};
 ghost use Rattle.certify.specs.Devices.{gave, took};
-ghost use Rattle.certify.specs.run.FinishedRun.{WritesAnswers, Backed, WriteFails, WritesKept};
+ghost use Rattle.certify.specs.run.FinishedRun.{WritesAnswers, CertificateIsGuaranteed, WriteFails, WritesKept};
 ghost use Rattle.certify.specs.run.Running.{ReadsFew, FinishesOrFaults};
 ghost use Rattle.certify.specs.run.Unfinished.{CounterEnds, TookSteps, Unfinished};
 
@@ -24,7 +24,7 @@ use crate::summary::Summary;
 use end::end_run;
 use sat_base::{CountedRead, CountedWrite};
 use serve::serve_all;
-use session::Session;
+use session::RunState;
 use std::alloc::Global;
 
 /// Answers a script. Returns the certificate's writer, too.
@@ -44,7 +44,7 @@ fn answer<S: CountedRead, A: CountedWrite, C: CountedWrite + Drop>(
         (C.seen certificate, C.seen result.0) }
     ensures reads { ReadsFew (gave S.seen script.old script.new) }
 {
-    let mut session = Session::new(alloc, certificate, budget);
+    let mut session = RunState::new(alloc, certificate, budget);
     let mut stream = CommandStream::new(alloc);
     let served = serve_all(&mut session, &mut stream, script, answers);
     end_run(session, answers, served)
@@ -91,7 +91,7 @@ pub fn run<S: CountedRead, A: CountedWrite, C: CountedWrite>(
     // turn. Once they record that the clauses are unsatisfiable, an ask is answered so without a round of search. Every
     // round of another ask derived a clause that advances, except the one that answered, and no other clause of it
     // advances. If no command hides a name, no variable is deleted.
-    ensures backed { Backed result budget S.seen A.seen C.seen (script.old, answers.old, certificate.old)
+    ensures backed { CertificateIsGuaranteed result budget S.seen A.seen C.seen (script.old, answers.old, certificate.old)
         (script.new, answers.new, certificate.new) }
     ensures flushed { OnOk result (((A.seen answers.new).flushed ≡ true) × ((C.seen certificate.new).flushed ≡ true)) }
     // If it is not finished, the answers' writer received a prefix of right answers to the text that was given, whatever

@@ -43,7 +43,7 @@ fn answers_are_denied(
 
 /// Tests whether there is a verdict wherever one bit of a certificate is turned: the answers are right, whatever shows
 /// it.
-fn certificates_are_told(
+fn certificates_are_reported(
     alloc: Global,
     script: &[u8],
     answers: &[u8],
@@ -63,10 +63,10 @@ fn certificates_are_told(
 }
 
 /// Tests both over what a run writes.
-fn are_told(alloc: Global, script: &[u8]) -> bool {
+fn are_reported(alloc: Global, script: &[u8]) -> bool {
     let mut written = run_on(alloc, &mut Counted::new(script), AMPLE);
     answers_are_denied(alloc, script, &mut written.answers, &written.certificate)
-        && certificates_are_told(alloc, script, &written.answers, &mut written.certificate)
+        && certificates_are_reported(alloc, script, &written.answers, &mut written.certificate)
 }
 
 /// A variable is deleted; asks with cores and a model; a name comes again; a refutation.
@@ -78,8 +78,8 @@ static SCRIPTS: [&[u8]; 4] = [
 ];
 
 #[test]
-fn turned_bits_are_told(rt: HostRuntime) {
+fn turned_bits_are_reported(rt: HostRuntime) {
     for &script in &SCRIPTS {
-        assert!(rt; are_told(rt.alloc(), script), "{script:?}");
+        assert!(rt; are_reported(rt.alloc(), script), "{script:?}");
     }
 }

@@ -101,7 +101,7 @@ impl Folder<'_> {
     }
 
     /// Tests whether a call ends with a fault of its output where that fails at one of its calls.
-    fn tells_fault(&self, call: Words<'_>, failing: u64) -> bool {
+    fn reports_fault(&self, call: Words<'_>, failing: u64) -> bool {
         let (found, errors) = self.call_failing(call, failing);
         found == 3 && errors.as_slice() == b"certify: AnswersWrite\n".as_slice()
     }
@@ -115,7 +115,7 @@ impl Folder<'_> {
             Action::Holds(name, bytes) => self.holds(name, bytes),
             Action::Does(call, end) => self.does(*call, *end),
             Action::Ends(call, status) => self.ends(*call, *status),
-            Action::Fails(call, failing) => self.tells_fault(*call, *failing),
+            Action::Fails(call, failing) => self.reports_fault(*call, *failing),
         }
     }
 

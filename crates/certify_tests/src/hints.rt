@@ -195,7 +195,7 @@ fn each_read_fails(alloc: Global, text: &[u8]) -> bool {
 }
 
 /// Tests whether each call fails in turn over what a run writes for a script, and over its hint text.
-fn are_told(alloc: Global, script: &[u8]) -> bool {
+fn are_reported(alloc: Global, script: &[u8]) -> bool {
     let certificate = certificate_of(alloc, script);
     let (done, text) = text_of(alloc, &mut Counted::new(certificate.as_slice()));
     done && each_call_fails(alloc, certificate.as_slice())
@@ -203,6 +203,6 @@ fn are_told(alloc: Global, script: &[u8]) -> bool {
 }
 
 #[test]
-fn faults_of_devices_are_told(rt: HostRuntime) {
-    assert!(rt; are_told(rt.alloc(), b"1 2 0\n1 -2 0\n-1 2 0\n-1 -2 0\na 0\n"));
+fn faults_of_devices_are_reported(rt: HostRuntime) {
+    assert!(rt; are_reported(rt.alloc(), b"1 2 0\n1 -2 0\n-1 2 0\n-1 -2 0\na 0\n"));
 }

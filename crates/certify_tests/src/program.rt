@@ -137,7 +137,7 @@ fn words(alloc: Global, words: &[&str]) -> Result<Vec<String>, AllocError> {
 }
 
 /// Tests whether arguments end the program with this status and these words on its errors.
-fn is_told(rt: &HostRuntime, words: Words, status: u8, told: &str) -> bool {
+fn is_reported(rt: &HostRuntime, words: Words, status: u8, told: &str) -> bool {
     let mut input = Counted::new("a 0\n".as_bytes());
     does(rt, words, &mut input, (status, "", told))
 }
@@ -167,7 +167,7 @@ fn misuses() -> &'static [&'static [&'static str]] {
 /// Tests whether these arguments give the usage.
 fn is_misuse(rt: &HostRuntime, list: &[&str]) -> bool {
     match words(rt.alloc(), list) {
-        Ok(words) => is_told(rt, Ok(words), 2, USAGE),
+        Ok(words) => is_reported(rt, Ok(words), 2, USAGE),
         Err(_) => false,
     }
 }
@@ -178,13 +178,13 @@ fn other_arguments_give_the_usage(rt: HostRuntime) {
         assert!(rt; is_misuse(&rt, list), "{list:?}");
     }
     let no_text = Err(io::Error::from(ErrorKind::InvalidData));
-    assert!(rt; is_told(&rt, no_text, 2, USAGE));
+    assert!(rt; is_reported(&rt, no_text, 2, USAGE));
 }
 
 #[test]
 fn arguments_want_memory(rt: HostRuntime) {
     let no_memory = Err(io::Error::from(ErrorKind::OutOfMemory));
-    assert!(rt; is_told(&rt, no_memory, 3, "certify: OutOfMemory\n"));
+    assert!(rt; is_reported(&rt, no_memory, 3, "certify: OutOfMemory\n"));
 }
 
 /// Each read fails in turn, the one that finds the end too.

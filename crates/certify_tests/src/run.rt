@@ -501,7 +501,7 @@ fn fault_of_short(alloc: Global, answers: &mut [u8], certificate: &mut [u8]) -> 
 
 /// Each writer in turn is too short by a byte.
 #[test]
-fn short_writers_are_told(rt: HostRuntime) {
+fn short_writers_are_reported(rt: HostRuntime) {
     assert!(rt; fault_of_short(rt.alloc(), &mut [0; 18], &mut [0; 9]) == None);
     assert!(rt;
         fault_of_short(rt.alloc(), &mut [0; 17], &mut [0; 9]) == Some(RunFault::AnswersWrite)

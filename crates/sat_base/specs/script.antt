@@ -2,5 +2,5 @@ pub mod Script
 pub mod Language
 pub mod ScriptSpelling
 pub mod ScriptRows
-pub mod Judge
-pub mod JudgeLaws
+pub mod ScriptState
+pub mod ScriptStateLaws

@@ -1,5 +1,5 @@
 pub mod Text
-pub mod Spot
+pub mod Position
 pub mod WrongWords
 pub mod Tokenizing
 pub mod Chunks

@@ -1,7 +1,7 @@
 //! Readers and writers whose contracts see what was read and written, and how many calls failed.
 ghost use Rattle.std.specs.Prelude.{◌≡◌};
 ghost use Rattle.std.specs.Io.{ReadsAtMost, WritesAtMost};
-ghost use Rattle.sat_base.specs.device.Device.{Reader, Writer, ReadsOnce, WritesOnce, FlushesOnce, Puts, lent_reader};
+ghost use Rattle.sat_base.specs.device.Device.{Reader, Writer, ReadsOnce, WritesOnce, FlushesOnce, WritesText, lent_reader};
 ghost use Rattle.sat_base.specs.device.Device.{lent_writer};
 
 pub(crate) mod ahead;
@@ -50,7 +50,7 @@ pub trait CountedWrite: Write {
     /// Writes the complete piece, in as many writes as are needed, up to the first that fails. Then a prefix of the
     /// piece may have been written.
     fn write_all_counted(&mut self, piece: &[u8]) -> io::Result<()>
-        ensures { Puts piece.now result (seen self.old) (seen self.new) }
+        ensures { WritesText piece.now result (seen self.old) (seen self.new) }
     {
         let mut written = 0;
         while written < piece.len() {

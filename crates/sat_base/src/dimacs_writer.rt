@@ -1,8 +1,8 @@
 //! Writing formulas as DIMACS CNF.
 ghost use Rattle.std.specs.Prelude.{◌≡◌, decimal, OnOk, []};
 ghost use Rattle.sat_base.specs.dimacs.DimacsText.{clause_line, clause_lines, dimacs_text, header_line, number_text};
-ghost use Rattle.sat_base.specs.device.Device.{Puts};
-ghost use Rattle.sat_base.specs.device.Sink.{Sends, sink_of};
+ghost use Rattle.sat_base.specs.device.Device.{WritesText};
+ghost use Rattle.sat_base.specs.device.Sink.{SendsText, sink_of};
 
 use crate::decimal::{MOST_DIGITS, write_decimal};
 use crate::device::ahead::PIECE;
@@ -16,7 +16,7 @@ use std::io;
 impl<W: CountedWrite, P: Room> Output<W, P> {
     /// Puts a number in decimal.
     fn put_decimal(&mut self, number: u64) -> Result<(), WriteFailed>
-        ensures { Sends (decimal number) result (sink_of W.seen P.waiting self.old)
+        ensures { SendsText (decimal number) result (sink_of W.seen P.waiting self.old)
             (sink_of W.seen P.waiting self.new) }
     {
         let mut digits = [0; MOST_DIGITS];
@@ -26,7 +26,7 @@ impl<W: CountedWrite, P: Room> Output<W, P> {
 
     /// Puts the number of a literal, after `-` if it is negative.
     fn put_literal(&mut self, lit: Lit) -> Result<(), WriteFailed>
-        ensures { Sends (number_text lit) result (sink_of W.seen P.waiting self.old)
+        ensures { SendsText (number_text lit) result (sink_of W.seen P.waiting self.old)
             (sink_of W.seen P.waiting self.new) }
     {
         let number = lit.index() as u64 + 1;
@@ -39,7 +39,7 @@ impl<W: CountedWrite, P: Room> Output<W, P> {
 
     /// Puts the line of a clause.
     fn put_clause(&mut self, lits: &[Lit]) -> Result<(), WriteFailed>
-        ensures { Sends (clause_line lits.now) result (sink_of W.seen P.waiting self.old)
+        ensures { SendsText (clause_line lits.now) result (sink_of W.seen P.waiting self.old)
             (sink_of W.seen P.waiting self.new) }
     {
         for lit in lits {
@@ -51,7 +51,7 @@ impl<W: CountedWrite, P: Room> Output<W, P> {
 
     /// Puts the lines of all clauses.
     fn put_clauses(&mut self, formula: &CnfFormula) -> Result<(), WriteFailed>
-        ensures { Sends (clause_lines formula.now.clauses) result (sink_of W.seen P.waiting self.old)
+        ensures { SendsText (clause_lines formula.now.clauses) result (sink_of W.seen P.waiting self.old)
             (sink_of W.seen P.waiting self.new) }
     {
         for clause in formula {
@@ -62,7 +62,7 @@ impl<W: CountedWrite, P: Room> Output<W, P> {
 
     /// Puts the line `p cnf V C`.
     fn put_header(&mut self, vars: u64, clauses: u64) -> Result<(), WriteFailed>
-        ensures { Sends (header_line vars clauses) result (sink_of W.seen P.waiting self.old)
+        ensures { SendsText (header_line vars clauses) result (sink_of W.seen P.waiting self.old)
             (sink_of W.seen P.waiting self.new) }
     {
         self.put_all(b"p cnf ")?;
@@ -74,7 +74,7 @@ impl<W: CountedWrite, P: Room> Output<W, P> {
 
     /// Writes out the text of a formula.
     fn write_formula(&mut self, formula: &CnfFormula) -> Result<(), WriteFailed>
-        ensures sends { Sends (dimacs_text formula.now) result (sink_of W.seen P.waiting self.old)
+        ensures sends { SendsText (dimacs_text formula.now) result (sink_of W.seen P.waiting self.old)
             (sink_of W.seen P.waiting self.new) }
         ensures none { OnOk result (P.waiting self.new.pending ≡ []) }
     {
@@ -88,7 +88,7 @@ impl<W: CountedWrite, P: Room> Output<W, P> {
 /// every clause, with its numbers and `0`. It writes in pieces of 4,096 bytes, and does not allocate. After an error, a
 /// prefix of the text may have been written.
 pub fn write_dimacs<W: CountedWrite>(writer: &mut W, formula: &CnfFormula) -> io::Result<()>
-    ensures { Puts (dimacs_text formula.now) result (W.seen writer.old) (W.seen writer.new) }
+    ensures { WritesText (dimacs_text formula.now) result (W.seen writer.old) (W.seen writer.new) }
 {
     let mut output: Output<&mut W, Pending<PIECE>> = Output::new(writer, Pending::new());
     let written = output.write_formula(formula);

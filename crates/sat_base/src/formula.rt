@@ -2,7 +2,7 @@
 ghost use Rattle.std.specs.Prelude.{◌≡◌, ◌≤◌, ◌<◌, [], length, ℕ, List, IsTrue, ◌↔◌};
 ghost use Rattle.std.specs.Map.Iter.{ShowsInOrder, deref};
 ghost use Rattle.sat_base.specs.values.Literals.{var_limit};
-ghost use Rattle.sat_base.specs.values.Formulas.{no_formula, vars_in, vars_of, with_count, with_clause};
+ghost use Rattle.sat_base.specs.values.Formulas.{no_formula, vars_in, vars_of, with_at_least_vars, with_formula_clause};
 ghost use Rattle.sat_base.specs.values.Formulas.{with_next_variable};
 ghost use Rattle.sat_base.specs.declared.formula.error.FormulaError.TheVariants.{OutOfMemory, VariableLimit};
 
@@ -61,7 +61,7 @@ impl CnfFormula {
     /// Raises the number of variables to this count. A lower count changes nothing.
     pub fn set_var_count(&mut self, count: usize)
         requires { count ≤ var_limit }
-        ensures { self.new ≡ with_count count self.old }
+        ensures { self.new ≡ with_at_least_vars count self.old }
     {
         self.var_count = self.var_count.max(count);
     }
@@ -107,7 +107,7 @@ impl ExtendFormula for CnfFormula {
 
     ghost ready = { λ _. Unit {0} };
 
-    ghost adds = { λ f clause g. g ≡ with_clause clause f };
+    ghost adds = { λ f clause g. g ≡ with_formula_clause clause f };
 
     ghost refuses_clause = { λ f clause e g. (e ≡ OutOfMemory) × (g ≡ f) };
 

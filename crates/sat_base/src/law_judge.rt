@@ -1,11 +1,11 @@
 //! Laws of the state that a script's commands leave.
-ghost use Rattle.sat_base.specs.script.JudgeLaws.{GivenIdentitiesSuffice, JudgeIsKept, NamesAreListed};
+ghost use Rattle.sat_base.specs.script.ScriptStateLaws.{GivenIdentitiesSuffice, ScriptStateInvariantHolds, NamesAreListed};
 
 /// After every script, names in use increase and stay within the limit, and every identity has a mode. Identities that
 /// were not given out do not matter for the clauses and the names in use. An increasing list of exactly the names in
 /// use is the list of them. The call does nothing.
 pub fn judge_laws()
-    ensures kept { JudgeIsKept }
+    ensures kept { ScriptStateInvariantHolds }
     ensures given { GivenIdentitiesSuffice }
     ensures listed { NamesAreListed }
 {}

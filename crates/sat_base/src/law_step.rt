@@ -1,5 +1,5 @@
 //! Laws of the steps' bytes.
-ghost use Rattle.sat_base.specs.steps.Formats.{OneForm};
+ghost use Rattle.sat_base.specs.steps.Formats.{IsUniquelyDecodable};
 ghost use Rattle.std.specs.Prelude.{◌≡◌, ℕ, List};
 ghost use Rattle.sat_base.specs.steps.Steps.{Step};
 ghost use Rattle.sat_base.specs.steps.StepBytes.{step_bytes};
@@ -7,7 +7,7 @@ ghost use Rattle.sat_base.specs.steps.StepText.{SpellsStep, SpellsSteps};
 
 /// No step's text is a prefix of another's, and no text spells two steps.
 pub fn steps_have_one_form()
-    ensures { OneForm SpellsStep }
+    ensures { IsUniquelyDecodable SpellsStep }
 {}
 
 /// A text of steps is that of one list of steps.

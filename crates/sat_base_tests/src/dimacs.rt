@@ -441,7 +441,7 @@ fn first_wrong() -> &'static [(&'static [u8], u64, u64)] {
 
 /// Nothing is read behind the first byte of a wrong word behind which no right one goes on.
 #[test]
-fn wrong_words_are_told_at_once(rt: HostRuntime) {
+fn wrong_words_are_reported_at_once(rt: HostRuntime) {
     for &(text, line, reads) in first_wrong() {
         let found = reads_and_fault(rt.alloc(), text);
         assert!(rt;

@@ -273,7 +273,7 @@ fn lines_that_begin_with_p_or_percent(rt: HostRuntime) {
 }
 
 /// Tests whether a word on the first line gives its token once the text ends, and nothing before.
-fn is_told_at_the_end(word: &[u8], token: Option<Token>) -> bool {
+fn is_reported_at_the_end(word: &[u8], token: Option<Token>) -> bool {
     let mut tokenizer = Tokenizer::new();
     give_nothing(&mut tokenizer, word) && tokenizer.line() == 1 && tokenizer.finish() == token
 }
@@ -302,7 +302,7 @@ fn words() -> &'static [(&'static [u8], Option<Token>)] {
 /// The first word that doesn't give its token at the end of the text.
 fn wrong_word() -> Option<&'static [u8]> {
     for row in words() {
-        if !is_told_at_the_end(row.0, row.1) {
+        if !is_reported_at_the_end(row.0, row.1) {
             return Some(row.0);
         }
     }
@@ -310,7 +310,7 @@ fn wrong_word() -> Option<&'static [u8]> {
 }
 
 #[test]
-fn tells_numbers_from_wrong_words(rt: HostRuntime) {
+fn reports_numbers_from_wrong_words(rt: HostRuntime) {
     let wrong = wrong_word();
     assert!(rt; wrong == None, "{wrong:?}");
 }
@@ -378,7 +378,7 @@ fn turns() -> &'static [(&'static [u8], Option<u64>)] {
 }
 
 #[test]
-fn wrong_words_are_told_at_their_first_wrong_byte(rt: HostRuntime) {
+fn wrong_words_are_reported_at_their_first_wrong_byte(rt: HostRuntime) {
     for &(text, count) in turns() {
         let found = wrong_behind(text);
         assert!(rt; found == count, "{text:?} {found:?}");

@@ -4,7 +4,7 @@ pub mod propagation
 pub mod meaning
 pub mod pairs
 pub mod store
-pub mod telling
+pub mod listeners
 pub mod variables
 pub mod rows
 pub mod formula

@@ -4,9 +4,9 @@ use Rattle.sat_base.specs.steps.Steps.{Step, AddClause}
 use Rattle.sat_checker.specs.Spent.{IsSpent, SpentBy}
 use Rattle.sat_checker.specs.Accepts.{Accepts, stored_after, ready_after}
 use Rattle.sat_checker.specs.KernelView as kernels
-use Rattle.sat_checker.specs.announcements.Announcements.{Told, told_after, all_told_after}
-use Rattle.sat_checker.specs.telling.Hearing.{Hearers, hearers, HearsSince, HearsSinceUpTo, told_by}
-use Rattle.sat_checker.specs.telling.ProcessingView.{FaultOfSomebody}
+use Rattle.sat_checker.specs.announcements.Announcements.{Notice, notices_after, all_notices_after}
+use Rattle.sat_checker.specs.listeners.Hearing.{Hearers, hearers, HearsSince, HearsSinceUpTo, notices_by}
+use Rattle.sat_checker.specs.listeners.ProcessingView.{IsListenerFault}
 use Rattle.sat_checker.specs.declared.kernel.Kernel.{Kernel}
 use Rattle.sat_checker.specs.declared.checker.Checker.{Checker}
 use Rattle.sat_checker.specs.declared.processing.Processing.{Processing}
@@ -16,12 +16,12 @@ use Rattle.sat_checker.specs.declared.processing.ProcessingError.{ProcessingErro
 use Rattle.sat_checker.specs.declared.processing.ProcessingError.TheVariants as faults
 
 -- what judges the steps, and the listeners
-pub record Seen (L : Type 0) : Type 0 where
+pub record CheckerView (L : Type 0) : Type 0 where
   pub kernel : Kernel
   pub listeners : L
 
 -- this kernel, with these listeners
-abbrev pub seen : {L : Type 0} → Kernel → L → Seen L
+abbrev pub seen : {L : Type 0} → Kernel → L → CheckerView L
 seen kernel listeners = record { kernel = kernel; listeners = listeners }
 
 -- the part that judges steps
@@ -29,38 +29,38 @@ abbrev pub kernel_of : {P T : Type 0} → Checker P T → Kernel
 kernel_of c = c.kernel
 
 -- with the processors and transcripts that were added
-abbrev pub seen_of : {P T : Type 0} → Checker P T → Seen (Processing P T)
+abbrev pub seen_of : {P T : Type 0} → Checker P T → CheckerView (Processing P T)
 seen_of c = seen c.kernel c.processing
 
 -- and with one that a single call lends
-abbrev pub seen_with : {V P T : Type 0} → V → Checker P T → Seen (Hearers V (Processing P T))
+abbrev pub seen_with : {V P T : Type 0} → V → Checker P T → CheckerView (Hearers V (Processing P T))
 seen_with own c = seen c.kernel (hearers own c.processing)
 
 -- whether it only returns HasFailed from now on
-abbrev pub has_failed : {L : Type 0} → Seen L → Bool
+abbrev pub has_failed : {L : Type 0} → CheckerView L → Bool
 has_failed c = c.kernel.failed
 
 -- how many literals it has looked at
-abbrev pub looks_of : {L : Type 0} → Seen L → ℕ
+abbrev pub looks_of : {L : Type 0} → CheckerView L → ℕ
 looks_of c = c.kernel.looks
 
 -- no unit conflict waits for the id of its empty clause
-abbrev pub IsSettled : {L : Type 0} → Seen L → Type 0
-IsSettled c = kernels.IsSettled c.kernel
+abbrev pub IsSettled : {L : Type 0} → CheckerView L → Type 0
+IsSettled c = kernels.KernelIsSettled c.kernel
 
 -- If the result is a listener's fault, a listener that was added returned it.
-abbrev pub FaultsOfSomebody : {P T : Type 0} → Result Unit CheckerError → Checker P T → Type 0
-FaultsOfSomebody result old = (steps : List Step) → kernels.HasAccepted (kernel_of old) steps → IfErr result (FaultOfSomebody old.processing)
+abbrev pub FaultIsFromListener : {P T : Type 0} → Result Unit CheckerError → Checker P T → Type 0
+FaultIsFromListener result old = (steps : List Step) → kernels.HasAccepted (kernel_of old) steps → IfErr result (IsListenerFault old.processing)
 
 -- once it has failed, it returns only that, and does not change
 abbrev pub FailsAgain : {E P T : Type 0} → E → Result Unit E → Checker P T → Checker P T → Type 0
-FailsAgain fault result old new = kernels.has_failed (kernel_of old) ≡ true → (result ≡ Err fault) × (new ≡ old)
+FailsAgain fault result old new = kernels.kernel_has_failed (kernel_of old) ≡ true → (result ≡ Err fault) × (new ≡ old)
 
 -- What the result means when a listener is added: the listeners are then those before and the new one.
 abbrev pub AddsListener : {L : Type 0} → Result Unit CheckerError → Kernel → Kernel → L → L → L → Type 0
-AddsListener (Ok x) old new listened listen more = (kernels.has_failed old ≡ false) × (new ≡ old) × (listen ≡ more)
-AddsListener (Err errors.OutOfMemory) old new listened listen more = (kernels.has_failed old ≡ false) × (new ≡ record old { failed = true }) × (listen ≡ listened)
-AddsListener (Err errors.HasFailed) old new listened listen more = (kernels.has_failed old ≡ true) × (new ≡ old) × (listen ≡ listened)
+AddsListener (Ok x) old new listened listen more = (kernels.kernel_has_failed old ≡ false) × (new ≡ old) × (listen ≡ more)
+AddsListener (Err errors.OutOfMemory) old new listened listen more = (kernels.kernel_has_failed old ≡ false) × (new ≡ record old { failed = true }) × (listen ≡ listened)
+AddsListener (Err errors.HasFailed) old new listened listen more = (kernels.kernel_has_failed old ≡ true) × (new ≡ old) × (listen ≡ listened)
 AddsListener (Err errors.CheckFailed) old new listened listen more = ⊥
 AddsListener (Err errors.CounterEnd) old new listened listen more = ⊥
 AddsListener (Err (errors.ProofProcessorError cause)) old new listened listen more = ⊥
@@ -69,50 +69,50 @@ AddsListener (Err errors.IoError) old new listened listen more = ⊥
 AddsListener (Err errors.ParseError) old new listened listen more = ⊥
 
 -- How listeners change when they hear something, what was announced earlier, and what the listeners were then.
-module _ {L : Type 0} (Hears : L → Told → Result Unit ProcessingError → L → Type 0) (before : List Told) (begun : L) where
+module _ {L : Type 0} (Hears : L → Notice → Result Unit ProcessingError → L → Type 0) (before : List Notice) (begun : L) where
   -- It has accepted these steps, the newest first, and stores what they leave unless it has failed. The listeners have heard all that these steps announced after what was announced earlier.
-  pub record HasAccepted (checker : Seen L) (steps : List Step) : Type 0 where
+  pub record HasAccepted (checker : CheckerView L) (steps : List Step) : Type 0 where
     pub kernel : kernels.HasAccepted checker.kernel steps
-    pub heard : has_failed checker ≡ false → HearsSince Hears before (told_by checker.kernel.state.formula.status.conflict steps) begun checker.listeners
+    pub heard : has_failed checker ≡ false → HearsSince Hears before (notices_by checker.kernel.state.formula.status.conflict steps) begun checker.listeners
 
   -- it is where it was, and only returns HasFailed from then on
-  pub record Fails (new : Seen L) (steps : List Step) : Type 0 where
+  pub record Fails (new : CheckerView L) (steps : List Step) : Type 0 where
     pub stands : HasAccepted new steps
     pub failed : has_failed new ≡ true
 
   -- what waited was announced, and no more
-  pub record FailsRefusing (new : Seen L) (steps : List Step) : Type 0 where
+  pub record FailsRefusing (new : CheckerView L) (steps : List Step) : Type 0 where
     pub fails : Fails new steps
-    pub heard : HearsSince Hears before (all_told_after steps) begun new.listeners
+    pub heard : HearsSince Hears before (all_notices_after steps) begun new.listeners
 
   -- nothing more was announced, or only what waited
-  pub record FailsBeforeStep (new : Seen L) (steps : List Step) : Type 0 where
+  pub record FailsBeforeStep (new : CheckerView L) (steps : List Step) : Type 0 where
     pub fails : Fails new steps
-    pub heard : HearsSince Hears before (told_after steps) begun new.listeners ⊎ HearsSince Hears before (all_told_after steps) begun new.listeners
+    pub heard : HearsSince Hears before (notices_after steps) begun new.listeners ⊎ HearsSince Hears before (all_notices_after steps) begun new.listeners
 
   -- a listener returned a fault for some of this
-  pub record FailsAtListener (e : ProcessingError) (told : List Told) (new : Seen L) (steps : List Step) : Type 0 where
+  pub record FailsAtListener (e : ProcessingError) (told : List Notice) (new : CheckerView L) (steps : List Step) : Type 0 where
     pub fails : Fails new steps
     pub heard : HearsSinceUpTo Hears e before told begun new.listeners
 
   -- for a pending unit conflict, or for what an accepted step announces; that step then counts as accepted
-  abbrev pub BreaksAt : ProcessingError → Seen L → Step → List Step → Type 0
+  abbrev pub BreaksAt : ProcessingError → CheckerView L → Step → List Step → Type 0
   BreaksAt e new step steps =
-      (kernels.LeavesConflict steps × FailsAtListener e (all_told_after steps) new steps)
-      ⊎ (Accepts (ready_after steps) step × FailsAtListener e (told_after (step ∷ steps)) new (step ∷ steps))
+      (kernels.LeavesConflict steps × FailsAtListener e (all_notices_after steps) new steps)
+      ⊎ (Accepts (ready_after steps) step × FailsAtListener e (notices_after (step ∷ steps)) new (step ∷ steps))
 
   -- Memory ran out for the step, which would be accepted, or while something was announced.
-  abbrev pub StarvesAt : Seen L → Step → List Step → Type 0
+  abbrev pub StarvesAt : CheckerView L → Step → List Step → Type 0
   StarvesAt new step steps = (Accepts (ready_after steps) step × FailsBeforeStep new steps) ⊎ BreaksAt faults.OutOfMemory new step steps
 
   -- the step was accepted, in agreement with the definition
-  pub record Takes (new : Seen L) (step : Step) (steps : List Step) : Type 0 where
+  pub record Takes (new : CheckerView L) (step : Step) (steps : List Step) : Type 0 where
     pub accepts : Accepts (ready_after steps) step
     pub stands : HasAccepted new (step ∷ steps)
     pub goes_on : has_failed new ≡ false
 
   -- What the result for a step means after these accepted steps. A refused step is one that the definition refuses; `CounterEnd` is returned only if the last id or count was given.
-  abbrev pub AnswersStep : Result Unit CheckerError → Seen L → Step → Seen L → List Step → Type 0
+  abbrev pub AnswersStep : Result Unit CheckerError → CheckerView L → Step → CheckerView L → List Step → Type 0
   AnswersStep (Ok x) old step new steps = (has_failed old ≡ false) × Takes new step steps
   AnswersStep (Err errors.CheckFailed) old step new steps = (has_failed old ≡ false) × (Accepts (ready_after steps) step → ⊥) × FailsRefusing new steps
   AnswersStep (Err errors.CounterEnd) old step new steps = (has_failed old ≡ false) × SpentBy step (stored_after steps) × FailsBeforeStep new steps
@@ -124,13 +124,13 @@ module _ {L : Type 0} (Hears : L → Told → Result Unit ProcessingError → L 
   AnswersStep (Err errors.ParseError) old step new steps = ⊥
 
   -- What the result means when a pending unit conflict is settled after these steps. The empty clause gets no id only if the last one was given.
-  abbrev pub AnswersDelayed : Result Unit CheckerError → Seen L → Seen L → List Step → Type 0
+  abbrev pub AnswersDelayed : Result Unit CheckerError → CheckerView L → CheckerView L → List Step → Type 0
   AnswersDelayed (Ok x) old new steps = (has_failed old ≡ false) × (looks_of new ≡ looks_of old) × HasAccepted new steps × (has_failed new ≡ false) × IsSettled new
   AnswersDelayed (Err errors.CounterEnd) old new steps = (has_failed old ≡ false) × (looks_of new ≡ looks_of old) × IsSpent (ready_after steps) × FailsBeforeStep new steps
   AnswersDelayed (Err errors.OutOfMemory) old new steps =
-      (has_failed old ≡ false) × (looks_of new ≡ looks_of old) × kernels.LeavesConflict steps × FailsAtListener faults.OutOfMemory (all_told_after steps) new steps
+      (has_failed old ≡ false) × (looks_of new ≡ looks_of old) × kernels.LeavesConflict steps × FailsAtListener faults.OutOfMemory (all_notices_after steps) new steps
   AnswersDelayed (Err (errors.ProofProcessorError cause)) old new steps =
-      (has_failed old ≡ false) × (looks_of new ≡ looks_of old) × kernels.LeavesConflict steps × FailsAtListener (faults.ProofProcessorError cause) (all_told_after steps) new steps
+      (has_failed old ≡ false) × (looks_of new ≡ looks_of old) × kernels.LeavesConflict steps × FailsAtListener (faults.ProofProcessorError cause) (all_notices_after steps) new steps
   AnswersDelayed (Err errors.HasFailed) old new steps = (has_failed old ≡ true) × (new ≡ old)
   AnswersDelayed (Err errors.CheckFailed) old new steps = ⊥
   AnswersDelayed (Err errors.ProofIncomplete) old new steps = ⊥
@@ -138,7 +138,7 @@ module _ {L : Type 0} (Hears : L → Told → Result Unit ProcessingError → L 
   AnswersDelayed (Err errors.ParseError) old new steps = ⊥
 
   -- What the result for a clause of the formula means. A refused one does not change the checker.
-  abbrev pub AnswersClause : Result Unit CheckerError → Seen L → List ℕ → Seen L → List Step → Type 0
+  abbrev pub AnswersClause : Result Unit CheckerError → CheckerView L → List ℕ → CheckerView L → List Step → Type 0
   AnswersClause (Ok x) old clause new steps = AnswersStep (Ok x) old (AddClause clause) new steps
   AnswersClause (Err errors.CheckFailed) old clause new steps = (has_failed old ≡ false) × (Accepts (ready_after steps) (AddClause clause) → ⊥) × (new ≡ old)
   AnswersClause (Err errors.CounterEnd) old clause new steps = AnswersStep (Err errors.CounterEnd) old (AddClause clause) new steps
@@ -149,15 +149,15 @@ module _ {L : Type 0} (Hears : L → Told → Result Unit ProcessingError → L 
   AnswersClause (Err errors.IoError) old clause new steps = ⊥
   AnswersClause (Err errors.ParseError) old clause new steps = ⊥
 
-module _ {L : Type 0} (Hears : L → Told → Result Unit ProcessingError → L → Type 0) where
+module _ {L : Type 0} (Hears : L → Notice → Result Unit ProcessingError → L → Type 0) where
   -- the result for a step means this, whatever was accepted and announced earlier
-  abbrev pub ChecksStep : Result Unit CheckerError → Seen L → Step → Seen L → Type 0
-  ChecksStep result old step new = (before : List Told) (begun : L) (steps : List Step) → HasAccepted Hears before begun old steps → AnswersStep Hears before begun result old step new steps
+  abbrev pub ChecksStep : Result Unit CheckerError → CheckerView L → Step → CheckerView L → Type 0
+  ChecksStep result old step new = (before : List Notice) (begun : L) (steps : List Step) → HasAccepted Hears before begun old steps → AnswersStep Hears before begun result old step new steps
 
   -- so does the result when a pending unit conflict is settled
-  abbrev pub ChecksDelayed : Result Unit CheckerError → Seen L → Seen L → Type 0
-  ChecksDelayed result old new = (before : List Told) (begun : L) (steps : List Step) → HasAccepted Hears before begun old steps → AnswersDelayed Hears before begun result old new steps
+  abbrev pub ChecksDelayed : Result Unit CheckerError → CheckerView L → CheckerView L → Type 0
+  ChecksDelayed result old new = (before : List Notice) (begun : L) (steps : List Step) → HasAccepted Hears before begun old steps → AnswersDelayed Hears before begun result old new steps
 
   -- and the result for a clause of the formula
-  abbrev pub ChecksClause : Result Unit CheckerError → Seen L → List ℕ → Seen L → Type 0
-  ChecksClause result old clause new = (before : List Told) (begun : L) (steps : List Step) → HasAccepted Hears before begun old steps → AnswersClause Hears before begun result old clause new steps
+  abbrev pub ChecksClause : Result Unit CheckerError → CheckerView L → List ℕ → CheckerView L → Type 0
+  ChecksClause result old clause new = (before : List Notice) (begun : L) (steps : List Step) → HasAccepted Hears before begun old steps → AnswersClause Hears before begun result old clause new steps

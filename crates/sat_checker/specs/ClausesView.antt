@@ -2,8 +2,8 @@
 use Rattle.std.specs.Prelude.{ℕ, ◌≡◌, ◌+◌, ◌≤◌, true, false, List, [], ◌∷◌, ◌++◌, map, Result, Ok, Err}
 use Rattle.sat_base.specs.steps.Steps.{Step, AddClause}
 use Rattle.sat_checker.specs.Accepts.{Accepts, stored_after, ready_after}
-use Rattle.sat_checker.specs.CheckerView.{Seen, has_failed, looks_of, HasAccepted, FailsBeforeStep, BreaksAt, StarvesAt}
-use Rattle.sat_checker.specs.announcements.Announcements.{Told}
+use Rattle.sat_checker.specs.CheckerView.{CheckerView, has_failed, looks_of, HasAccepted, FailsBeforeStep, BreaksAt, StarvesAt}
+use Rattle.sat_checker.specs.announcements.Announcements.{Notice}
 use Rattle.sat_checker.specs.ProofView.{taken_after, most_looks_behind, StandsUnfailed}
 use Rattle.sat_checker.specs.Spent.{SpentBy}
 use Rattle.sat_checker.specs.declared.error.CheckerError.{CheckerError}
@@ -16,7 +16,7 @@ abbrev pub additions : List (List ℕ) → List Step
 additions = map AddClause
 
 -- The first of the clauses were added, and these were tried.
-pub record AddsFirstClauses {L : Type 0} (old new : Seen L) (clauses added tried : List (List ℕ)) (earlier : List Step) : Type 0 where
+pub record AddsFirstClauses {L : Type 0} (old new : CheckerView L) (clauses added tried : List (List ℕ)) (earlier : List Step) : Type 0 where
   pub well : has_failed old ≡ false
   pub left : List (List ℕ)
   pub split : clauses ≡ (added ++ tried) ++ left
@@ -26,9 +26,9 @@ pub record AddsFirstClauses {L : Type 0} (old new : Seen L) (clauses added tried
 abbrev pub after_additions : List (List ℕ) → List Step → List Step
 after_additions clauses earlier = taken_after (additions clauses) earlier
 
-module _ {L : Type 0} (Hears : L → Told → Result Unit ProcessingError → L → Type 0) (before : List Told) (begun : L) where
+module _ {L : Type 0} (Hears : L → Notice → Result Unit ProcessingError → L → Type 0) (before : List Notice) (begun : L) where
   -- What the result for clauses means: they are added as if by calls of their own, up to the first that isn't accepted. A refused one does not change the checker.
-  abbrev pub AnswersClauses : Result Unit CheckerError → Seen L → Seen L → List (List ℕ) → List Step → Type 0
+  abbrev pub AnswersClauses : Result Unit CheckerError → CheckerView L → CheckerView L → List (List ℕ) → List Step → Type 0
   AnswersClauses (Ok x) old new clauses earlier = AddsFirstClauses old new clauses clauses [] earlier × StandsUnfailed Hears before begun new (after_additions clauses earlier)
   AnswersClauses (Err errors.CheckFailed) old new clauses earlier =
       (added : List (List ℕ)) × (clause : List ℕ) × AddsFirstClauses old new clauses added (clause ∷ []) earlier
@@ -47,7 +47,7 @@ module _ {L : Type 0} (Hears : L → Told → Result Unit ProcessingError → L 
   AnswersClauses (Err errors.IoError) old new clauses earlier = ⊥
   AnswersClauses (Err errors.ParseError) old new clauses earlier = ⊥
 
-module _ {L : Type 0} (Hears : L → Told → Result Unit ProcessingError → L → Type 0) where
+module _ {L : Type 0} (Hears : L → Notice → Result Unit ProcessingError → L → Type 0) where
   -- the result for clauses means this, whatever was accepted and announced earlier
-  abbrev pub AddsClauses : Result Unit CheckerError → Seen L → Seen L → List (List ℕ) → Type 0
-  AddsClauses result old new clauses = (before : List Told) (begun : L) (steps : List Step) → HasAccepted Hears before begun old steps → AnswersClauses Hears before begun result old new clauses steps
+  abbrev pub AddsClauses : Result Unit CheckerError → CheckerView L → CheckerView L → List (List ℕ) → Type 0
+  AddsClauses result old new clauses = (before : List Notice) (begun : L) (steps : List Step) → HasAccepted Hears before begun old steps → AnswersClauses Hears before begun result old new clauses steps

@@ -2,17 +2,17 @@
 use Rattle.std.specs.Prelude.{ℕ, ◌≡◌, ◌⊎◌, true, List, [], ◌++◌, Result, Ok, Err, IfErr}
 use Rattle.sat_base.specs.device.Device.{Reader, GaveFront, GaveEnough, ReadFails}
 use Rattle.sat_base.specs.text.Tokenizing.{held}
-use Rattle.sat_base.specs.dimacs.Dimacs.{Clean, Malformed, Limit, dimacs, settled, IsDimacs}
+use Rattle.sat_base.specs.dimacs.Dimacs.{Clean, Malformed, Limit, dimacs, up_to_last_blank, IsDimacs}
 use Rattle.sat_base.specs.dimacs.Parsing.{IsSoundText, ParsesShort}
 use Rattle.sat_base.specs.declared.dimacs.error.DimacsError.{DimacsError}
 use Rattle.sat_base.specs.declared.dimacs.error.DimacsError.TheVariants as texts
 use Rattle.sat_base.specs.steps.Steps.{Step}
 use Rattle.sat_checker.specs.KernelView as kernels
-use Rattle.sat_checker.specs.CheckerView.{Seen, kernel_of, has_failed, HasAccepted, FailsBeforeStep}
-use Rattle.sat_checker.specs.announcements.Announcements.{Told}
+use Rattle.sat_checker.specs.CheckerView.{CheckerView, kernel_of, has_failed, HasAccepted, FailsBeforeStep}
+use Rattle.sat_checker.specs.announcements.Announcements.{Notice}
 use Rattle.sat_checker.specs.ProofView.{NoReadFailed, StandsUnfailed}
 use Rattle.sat_checker.specs.ClausesView.{AddsFirstClauses, after_additions, AnswersClauses}
-use Rattle.sat_checker.specs.telling.ProcessingView.{FaultOfSomebody}
+use Rattle.sat_checker.specs.listeners.ProcessingView.{IsListenerFault}
 use Rattle.sat_checker.specs.declared.checker.Checker.{Checker}
 use Rattle.sat_checker.specs.declared.processing.Processing.{Processing}
 use Rattle.sat_checker.specs.declared.processing.ProcessingError.{ProcessingError}
@@ -22,7 +22,7 @@ use Rattle.sat_checker.specs.declared.error.CheckerDimacsError.TheVariants as re
 
 -- the clauses of the words that have ended in a prefix of the text
 abbrev pub AreOfFront : List ℕ → List (List ℕ) → Type 0
-AreOfFront text clauses = (front : List ℕ) × (left : List ℕ) × (text ≡ front ++ left) × (clauses ≡ (dimacs (settled front)).clauses)
+AreOfFront text clauses = (front : List ℕ) × (left : List ℕ) × (text ≡ front ++ left) × (clauses ≡ (dimacs (up_to_last_blank front)).clauses)
 
 -- those, or all of the text
 abbrev pub AreRead : List ℕ → List (List ℕ) → Type 0
@@ -42,17 +42,17 @@ FaultBehind texts.HasFailed text clauses = ⊥
 
 -- A text was read up to its fault, or to a read that failed. This holds whatever would follow.
 abbrev pub FailsBehind : DimacsError → Reader → Reader → List (List ℕ) → Type 0
-FailsBehind texts.Read from to clauses = ReadFails from to × (text : List ℕ) × GaveFront from to text × IsSoundText text × (clauses ≡ (dimacs (settled text)).clauses)
+FailsBehind texts.Read from to clauses = ReadFails from to × (text : List ℕ) × GaveFront from to text × IsSoundText text × (clauses ≡ (dimacs (up_to_last_blank text)).clauses)
 FailsBehind error from to clauses = NoReadFailed from to × GaveEnough from to (λ text. FaultBehind error text clauses)
 
-module _ {L : Type 0} (Hears : L → Told → Result Unit ProcessingError → L → Type 0) (before : List Told) (begun : L) where
+module _ {L : Type 0} (Hears : L → Notice → Result Unit ProcessingError → L → Type 0) (before : List Notice) (begun : L) where
   -- the checker continues, unless memory ran out
-  abbrev pub StandsBehind : DimacsError → Seen L → List Step → Type 0
+  abbrev pub StandsBehind : DimacsError → CheckerView L → List Step → Type 0
   StandsBehind texts.OutOfMemory new steps = FailsBeforeStep Hears before begun new steps
   StandsBehind error new steps = StandsUnfailed Hears before begun new steps
 
   -- What the result for a text means after these accepted steps. It is `Ok` if all clauses of the text were added. If the text has a fault, those before the fault were added; if a clause isn't accepted, those before it.
-  abbrev pub AnswersDimacs : Result Unit CheckerDimacsError → Seen L → Seen L → Reader → Reader → List Step → Type 0
+  abbrev pub AnswersDimacs : Result Unit CheckerDimacsError → CheckerView L → CheckerView L → Reader → Reader → List Step → Type 0
   AnswersDimacs (Ok x) old new from to earlier =
       NoReadFailed from to × (clauses : List (List ℕ)) × GaveEnough from to (λ text. IsDimacs text clauses Clean) × AnswersClauses Hears before begun (Ok tt) old new clauses earlier
   AnswersDimacs (Err (refused.Dimacs error)) old new from to earlier =
@@ -61,23 +61,23 @@ module _ {L : Type 0} (Hears : L → Told → Result Unit ProcessingError → L 
   AnswersDimacs (Err (refused.Checker error)) old new from to earlier =
       NoReadFailed from to × (clauses : List (List ℕ)) × GaveEnough from to (λ text. AreRead text clauses) × AnswersClauses Hears before begun (Err error) old new clauses earlier
 
-module _ {L : Type 0} (Hears : L → Told → Result Unit ProcessingError → L → Type 0) where
+module _ {L : Type 0} (Hears : L → Notice → Result Unit ProcessingError → L → Type 0) where
   -- the result for a formula's text means this, whatever was accepted and announced earlier
-  abbrev pub AddsDimacs : Result Unit CheckerDimacsError → Seen L → Seen L → Reader → Reader → Type 0
-  AddsDimacs result old new from to = (before : List Told) (begun : L) (steps : List Step) → HasAccepted Hears before begun old steps → AnswersDimacs Hears before begun result old new from to steps
+  abbrev pub AddsDimacs : Result Unit CheckerDimacsError → CheckerView L → CheckerView L → Reader → Reader → Type 0
+  AddsDimacs result old new from to = (before : List Notice) (begun : L) (steps : List Step) → HasAccepted Hears before begun old steps → AnswersDimacs Hears before begun result old new from to steps
 
 -- if the result is a listener's fault, a listener that was added returned it
-abbrev pub DimacsFaultOfSomebody : {P T : Type 0} → Processing P T → CheckerDimacsError → Type 0
-DimacsFaultOfSomebody old (refused.Checker error) = FaultOfSomebody old error
-DimacsFaultOfSomebody old (refused.Dimacs error) = Unit {0}
+abbrev pub DimacsFaultIsFromListener : {P T : Type 0} → Processing P T → CheckerDimacsError → Type 0
+DimacsFaultIsFromListener old (refused.Checker error) = IsListenerFault old error
+DimacsFaultIsFromListener old (refused.Dimacs error) = Unit {0}
 
 -- the result is a listener's fault only if a listener was added
-abbrev pub DimacsFaultsOfSomebody : {P T : Type 0} → Result Unit CheckerDimacsError → Checker P T → Type 0
-DimacsFaultsOfSomebody result old = (steps : List Step) → kernels.HasAccepted (kernel_of old) steps → IfErr result (DimacsFaultOfSomebody old.processing)
+abbrev pub DimacsFaultNeedsListener : {P T : Type 0} → Result Unit CheckerDimacsError → Checker P T → Type 0
+DimacsFaultNeedsListener result old = (steps : List Step) → kernels.HasAccepted (kernel_of old) steps → IfErr result (DimacsFaultIsFromListener old.processing)
 
 -- the clauses of the words that have ended in a text stay the first, whatever follows
 abbrev pub EndedStayFirst : Type 0
-EndedStayFirst = (text rest : List ℕ) → AreFirst (dimacs (settled text)).clauses (text ++ rest)
+EndedStayFirst = (text rest : List ℕ) → AreFirst (dimacs (up_to_last_blank text)).clauses (text ++ rest)
 
 -- and so do those that are read
 abbrev pub ReadAreFirst : Type 0

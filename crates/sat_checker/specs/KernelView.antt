@@ -15,16 +15,16 @@ use Rattle.sat_checker.specs.declared.kernel.StepRefusal.{StepRefusal}
 use Rattle.sat_checker.specs.declared.kernel.StepRefusal.TheVariants as refusals
 
 -- whether it only returns HasFailed from now on
-abbrev pub has_failed : Kernel → Bool
-has_failed k = k.failed
+abbrev pub kernel_has_failed : Kernel → Bool
+kernel_has_failed k = k.failed
 
 -- how many literals it has looked at
-abbrev pub looks_of : Kernel → ℕ
-looks_of k = k.looks
+abbrev pub kernel_looks : Kernel → ℕ
+kernel_looks k = k.looks
 
 -- no unit conflict waits for the id of its empty clause
-abbrev pub IsSettled : Kernel → Type 0
-IsSettled k = k.state.formula.status.conflict ≡ None
+abbrev pub KernelIsSettled : Kernel → Type 0
+KernelIsSettled k = k.state.formula.status.conflict ≡ None
 
 -- It stores what these steps leave. A unit conflict that they left pending may have been settled since.
 pub record KeepsAfter (state : State) (steps : List Step) : Type 0 where
@@ -45,48 +45,48 @@ pub record HasAccepted (kernel : Kernel) (steps : List Step) : Type 0 where
 -- it is where it was, and only returns HasFailed from then on
 pub record Fails (new : Kernel) (steps : List Step) : Type 0 where
   pub stands : HasAccepted new steps
-  pub failed : has_failed new ≡ true
+  pub failed : kernel_has_failed new ≡ true
 
 -- a unit conflict that these steps left is pending, and is announced before the next step is judged
 abbrev pub LeavesConflict : List Step → Type 0
 LeavesConflict steps = (stored_after steps).conflict ≢ None
 
 -- the step was accepted, in agreement with the definition
-pub record Takes (new : Kernel) (step : Step) (steps : List Step) : Type 0 where
+pub record AcceptsStep (new : Kernel) (step : Step) (steps : List Step) : Type 0 where
   pub accepts : Accepts (ready_after steps) step
   pub stands : HasAccepted new (step ∷ steps)
-  pub goes_on : has_failed new ≡ false
+  pub goes_on : kernel_has_failed new ≡ false
 
 -- What the result for a step means after these accepted steps. A refused step is one that the definition refuses; `CounterEnd` is returned only if the last id or count was given.
 abbrev pub AnswersStep : Result Unit CheckerError → Kernel → Step → Kernel → List Step → Type 0
-AnswersStep (Ok x) old step new steps = (has_failed old ≡ false) × Takes new step steps
-AnswersStep (Err errors.CheckFailed) old step new steps = (has_failed old ≡ false) × (Accepts (ready_after steps) step → ⊥) × Fails new steps
-AnswersStep (Err errors.CounterEnd) old step new steps = (has_failed old ≡ false) × SpentBy step (stored_after steps) × Fails new steps
+AnswersStep (Ok x) old step new steps = (kernel_has_failed old ≡ false) × AcceptsStep new step steps
+AnswersStep (Err errors.CheckFailed) old step new steps = (kernel_has_failed old ≡ false) × (Accepts (ready_after steps) step → ⊥) × Fails new steps
+AnswersStep (Err errors.CounterEnd) old step new steps = (kernel_has_failed old ≡ false) × SpentBy step (stored_after steps) × Fails new steps
 -- for the step, which would be accepted; while a pending conflict was announced; or while the step was, which then counts as accepted
 AnswersStep (Err errors.OutOfMemory) old step new steps =
-    (has_failed old ≡ false)
+    (kernel_has_failed old ≡ false)
     × ((Accepts (ready_after steps) step × Fails new steps)
     ⊎ ((LeavesConflict steps × Fails new steps)
     ⊎ (Accepts (ready_after steps) step × Fails new (step ∷ steps))))
-AnswersStep (Err errors.HasFailed) old step new steps = (has_failed old ≡ true) × Fails new steps
+AnswersStep (Err errors.HasFailed) old step new steps = (kernel_has_failed old ≡ true) × Fails new steps
 AnswersStep (Err errors.ProofIncomplete) old step new steps = ⊥
 AnswersStep (Err errors.IoError) old step new steps = ⊥
 AnswersStep (Err errors.ParseError) old step new steps = ⊥
 -- a listener returned a fault, for a pending conflict or for the step
 AnswersStep (Err (errors.ProofProcessorError cause)) old step new steps =
-    (has_failed old ≡ false) × ((LeavesConflict steps × Fails new steps) ⊎ (Accepts (ready_after steps) step × Fails new (step ∷ steps)))
+    (kernel_has_failed old ≡ false) × ((LeavesConflict steps × Fails new steps) ⊎ (Accepts (ready_after steps) step × Fails new (step ∷ steps)))
 
 -- why a step is not accepted, as a checker's error
-abbrev pub error_of : StepRefusal → CheckerError
-error_of refusals.HasFailed = errors.HasFailed
-error_of refusals.CheckFailed = errors.CheckFailed
-error_of refusals.OutOfMemory = errors.OutOfMemory
-error_of refusals.CounterEnd = errors.CounterEnd
+abbrev pub step_error : StepRefusal → CheckerError
+step_error refusals.HasFailed = errors.HasFailed
+step_error refusals.CheckFailed = errors.CheckFailed
+step_error refusals.OutOfMemory = errors.OutOfMemory
+step_error refusals.CounterEnd = errors.CounterEnd
 
 -- the result for a step of which no listener is notified, as a checker's result
 abbrev pub answer_of : Result Unit StepRefusal → Result Unit CheckerError
 answer_of (Ok x) = Ok x
-answer_of (Err refusal) = Err (error_of refusal)
+answer_of (Err refusal) = Err (step_error refusal)
 
 -- the result for a step means this, whatever steps were accepted before
 abbrev pub ChecksStep : Result Unit CheckerError → Kernel → Step → Kernel → Type 0
@@ -94,17 +94,17 @@ ChecksStep result old step new = (steps : List Step) → HasAccepted old steps �
 
 -- the step needs no more looks than its bound
 abbrev pub LooksAtMost : Kernel → Step → Kernel → Type 0
-LooksAtMost old step new = (steps : List Step) → HasAccepted old steps → looks_of new ≤ looks_of old + most_looks (ready_after steps) step
+LooksAtMost old step new = (steps : List Step) → HasAccepted old steps → kernel_looks new ≤ kernel_looks old + most_looks (ready_after steps) step
 
 -- What the result means when a pending unit conflict is settled after these steps. The empty clause gets no id only if the last one was given.
 abbrev pub AnswersDelayed : Result Unit CheckerError → Kernel → Kernel → List Step → Type 0
-AnswersDelayed (Ok x) old new steps = (has_failed old ≡ false) × (looks_of new ≡ looks_of old) × HasAccepted new steps × (has_failed new ≡ false) × IsSettled new
-AnswersDelayed (Err errors.CounterEnd) old new steps = (has_failed old ≡ false) × (looks_of new ≡ looks_of old) × IsSpent (ready_after steps) × Fails new steps
-AnswersDelayed (Err errors.HasFailed) old new steps = (has_failed old ≡ true) × Fails new steps
+AnswersDelayed (Ok x) old new steps = (kernel_has_failed old ≡ false) × (kernel_looks new ≡ kernel_looks old) × HasAccepted new steps × (kernel_has_failed new ≡ false) × KernelIsSettled new
+AnswersDelayed (Err errors.CounterEnd) old new steps = (kernel_has_failed old ≡ false) × (kernel_looks new ≡ kernel_looks old) × IsSpent (ready_after steps) × Fails new steps
+AnswersDelayed (Err errors.HasFailed) old new steps = (kernel_has_failed old ≡ true) × Fails new steps
 AnswersDelayed (Err errors.CheckFailed) old new steps = ⊥
 -- while it is announced
-AnswersDelayed (Err errors.OutOfMemory) old new steps = (has_failed old ≡ false) × (looks_of new ≡ looks_of old) × LeavesConflict steps × Fails new steps
-AnswersDelayed (Err (errors.ProofProcessorError cause)) old new steps = (has_failed old ≡ false) × (looks_of new ≡ looks_of old) × LeavesConflict steps × Fails new steps
+AnswersDelayed (Err errors.OutOfMemory) old new steps = (kernel_has_failed old ≡ false) × (kernel_looks new ≡ kernel_looks old) × LeavesConflict steps × Fails new steps
+AnswersDelayed (Err (errors.ProofProcessorError cause)) old new steps = (kernel_has_failed old ≡ false) × (kernel_looks new ≡ kernel_looks old) × LeavesConflict steps × Fails new steps
 AnswersDelayed (Err errors.ProofIncomplete) old new steps = ⊥
 AnswersDelayed (Err errors.IoError) old new steps = ⊥
 AnswersDelayed (Err errors.ParseError) old new steps = ⊥

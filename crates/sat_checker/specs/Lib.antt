@@ -23,5 +23,5 @@ pub mod Laws
 pub mod Rows
 pub mod MeaningRows
 pub mod announcements
-pub mod telling
+pub mod listeners
 pub mod matching

@@ -2,13 +2,13 @@
 use Rattle.std.specs.Prelude.{ℕ, ◌≡◌, ◌≢◌, ◌+◌, ◌*◌, ◌≤◌, ◌<◌, ◌⊎◌, false, true, List, [], ◌∷◌, ◌++◌, length, Result, Ok, Err}
 use Rattle.std.specs.List.{AllByRecursion}
 use Rattle.sat_base.specs.device.Device.{Reader, GaveFront, FewReads, IsOver, ReadFails, most_reads, piece_size}
-use Rattle.sat_base.specs.steps.Formats.{IsProperFront, Open, Spoilt}
+use Rattle.sat_base.specs.steps.Formats.{IsProperFront, BeginsText, IsFirstBadByte}
 use Rattle.sat_base.specs.steps.Steps.{Step, End}
 use Rattle.sat_base.specs.steps.StepText.{SpellsStep, SpellsSteps}
 use Rattle.sat_checker.specs.Accepts.{Accepts, stored_after, ready_after}
 use Rattle.sat_checker.specs.Looks.{most_looks}
-use Rattle.sat_checker.specs.CheckerView.{Seen, has_failed, looks_of, IsSettled, HasAccepted, FailsRefusing, FailsBeforeStep, BreaksAt, StarvesAt}
-use Rattle.sat_checker.specs.announcements.Announcements.{Told}
+use Rattle.sat_checker.specs.CheckerView.{CheckerView, has_failed, looks_of, IsSettled, HasAccepted, FailsRefusing, FailsBeforeStep, BreaksAt, StarvesAt}
+use Rattle.sat_checker.specs.announcements.Announcements.{Notice}
 use Rattle.sat_checker.specs.Spent.{SpentBy}
 use Rattle.sat_checker.specs.declared.error.CheckerError.{CheckerError}
 use Rattle.sat_checker.specs.declared.error.CheckerError.TheVariants as errors
@@ -44,10 +44,10 @@ pub record BeginsWithStep (bytes : List ℕ) : Type 0 where
   pub more : List ℕ
   pub behind : List ℕ
   pub whole : bytes ≡ (tag ∷ more) ++ behind
-  pub begins : Open SpellsStep (tag ∷ more)
+  pub begins : BeginsText SpellsStep (tag ∷ more)
 
 -- A proof was read so far: steps that were accepted, none of them an end, then the last step read or none, and the bytes after them.
-pub record ReadsProofPart {L : Type 0} (old new : Seen L) (from to : Reader) (earlier passed last : List Step) (rest : List ℕ) : Type 0 where
+pub record ReadsProofPart {L : Type 0} (old new : CheckerView L) (from to : Reader) (earlier passed last : List Step) (rest : List ℕ) : Type 0 where
   pub well : has_failed old ≡ false
   pub steps : GaveSteps from to (passed ++ last) rest
   pub unended : AllByRecursion (λ step. step ≢ End) passed
@@ -61,13 +61,13 @@ NoReadFailed from to = to.failures ≡ from.failures
 abbrev pub FoundNoEnd : Reader → Reader → Type 0
 FoundNoEnd from to = from.calls < to.calls → to.ended ≡ true → ⊥
 
-module _ {L : Type 0} (Hears : L → Told → Result Unit ProcessingError → L → Type 0) (before : List Told) (begun : L) where
+module _ {L : Type 0} (Hears : L → Notice → Result Unit ProcessingError → L → Type 0) (before : List Notice) (begun : L) where
   -- these steps were accepted, and it continues
-  abbrev pub StandsUnfailed : Seen L → List Step → Type 0
+  abbrev pub StandsUnfailed : CheckerView L → List Step → Type 0
   StandsUnfailed new steps = HasAccepted Hears before begun new steps × (has_failed new ≡ false)
 
   -- What the result for a proof means after these accepted steps. It is `Ok` exactly if what was read are accepted steps up to the first end; nothing after that is looked at.
-  abbrev pub AnswersProof : Result Unit CheckerError → Seen L → Seen L → Reader → Reader → List Step → Type 0
+  abbrev pub AnswersProof : Result Unit CheckerError → CheckerView L → CheckerView L → Reader → Reader → List Step → Type 0
   AnswersProof (Ok x) old new from to earlier =
       (passed : List Step) × (rest : List ℕ) × ReadsProofPart old new from to earlier passed (End ∷ []) rest × NoReadFailed from to × StandsUnfailed new (End ∷ taken_after passed earlier) × IsSettled new
   -- the last step read is refused
@@ -81,7 +81,7 @@ module _ {L : Type 0} (Hears : L → Told → Result Unit ProcessingError → L 
   -- no step can continue after a byte
   AnswersProof (Err errors.ParseError) old new from to earlier =
       (passed : List Step) × (rest : List ℕ) × ReadsProofPart old new from to earlier passed [] rest × NoReadFailed from to
-      × Spoilt SpellsStep rest × StandsUnfailed new (taken_after passed earlier)
+      × IsFirstBadByte SpellsStep rest × StandsUnfailed new (taken_after passed earlier)
   -- exactly one read failed, the last, or the limit of reads was reached and none failed
   AnswersProof (Err errors.IoError) old new from to earlier =
       (passed : List Step) × (rest : List ℕ) × ReadsProofPart old new from to earlier passed [] rest × ReadFails from to
@@ -101,7 +101,7 @@ module _ {L : Type 0} (Hears : L → Told → Result Unit ProcessingError → L 
       × BreaksAt Hears before begun (faults.ProofProcessorError cause) new step (taken_after passed earlier)
   AnswersProof (Err errors.HasFailed) old new from to earlier = (has_failed old ≡ true) × (to ≡ from) × (new ≡ old)
 
-module _ {L : Type 0} (Hears : L → Told → Result Unit ProcessingError → L → Type 0) where
+module _ {L : Type 0} (Hears : L → Notice → Result Unit ProcessingError → L → Type 0) where
   -- the result for a proof means this, whatever was accepted and announced earlier
-  abbrev pub ChecksProof : Result Unit CheckerError → Seen L → Seen L → Reader → Reader → Type 0
-  ChecksProof result old new from to = (before : List Told) (begun : L) (steps : List Step) → HasAccepted Hears before begun old steps → AnswersProof Hears before begun result old new from to steps
+  abbrev pub ChecksProof : Result Unit CheckerError → CheckerView L → CheckerView L → Reader → Reader → Type 0
+  ChecksProof result old new from to = (before : List Notice) (begun : L) (steps : List Step) → HasAccepted Hears before begun old steps → AnswersProof Hears before begun result old new from to steps

@@ -35,8 +35,8 @@ abbrev pub HashesOfOneTwo : Type 0
 HashesOfOneTwo = map (λ width. hash_by no_names width (0 ∷ 2 ∷ [])) (64 ∷ 8 ∷ 6 ∷ 0 ∷ []) ≡ 0x449114950295082a ∷ 0x44 ∷ 17 ∷ 0 ∷ []
 
 -- only the end
-abbrev pub EndAlone : Type 0
-EndAlone = AllAccepted (End ∷ []) × ((left_by (End ∷ [])).ended ≡ true) × ((left_by (End ∷ [])).unsat ≡ false)
+abbrev pub EndAloneAccepted : Type 0
+EndAloneAccepted = AllAccepted (End ∷ []) × ((left_by (End ∷ [])).ended ≡ true) × ((left_by (End ∷ [])).unsat ≡ false)
 
 -- a name is put on a variable again, which is still known and so keeps its unit
 abbrev pub named_again : List Step
@@ -156,8 +156,8 @@ abbrev pub WithName : Type 0
 WithName = LastRefused (UserVarName 0 (Some 7) ∷ []) (DeleteVar 0)
 
 -- nor is one that the last assumptions mention
-abbrev pub Assumed : Type 0
-Assumed = LastRefused (Assumptions (1 ∷ []) ∷ []) (DeleteVar 0)
+abbrev pub DeletesAssumed : Type 0
+DeletesAssumed = LastRefused (Assumptions (1 ∷ []) ∷ []) (DeleteVar 0)
 
 -- nor one that no step has made known
 abbrev pub Unknown : Type 0

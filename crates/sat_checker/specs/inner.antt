@@ -1,5 +1,5 @@
 pub mod Marks
-pub mod Room
+pub mod AssumedRoom
 pub mod Walk
 pub mod Look
 pub mod Looking
@@ -22,4 +22,4 @@ pub mod DimacsPieces
 pub mod WalkNotes
 pub mod Reasons
 pub mod NeededView
-pub mod TellingSteps
+pub mod NotifyingSteps

@@ -5,11 +5,11 @@ ghost use Rattle.sat_base.specs.steps.StepViews.{step_of};
 ghost use Rattle.sat_checker.specs.Stored.{is_known, name_of};
 ghost use Rattle.sat_checker.specs.Accepts.{ready_after};
 ghost use Rattle.sat_checker.specs.KernelView as kernels;
-ghost use Rattle.sat_checker.specs.KernelView.{has_failed, looks_of, LooksAtMost, HasAccepted};
+ghost use Rattle.sat_checker.specs.KernelView.{kernel_has_failed, kernel_looks, LooksAtMost, HasAccepted};
 ghost use Rattle.sat_checker.specs.CheckerView.{kernel_of, seen_of, AddsListener, ChecksStep, ChecksDelayed};
-ghost use Rattle.sat_checker.specs.CheckerView.{ChecksClause, FaultsOfSomebody, FailsAgain};
+ghost use Rattle.sat_checker.specs.CheckerView.{ChecksClause, FaultIsFromListener, FailsAgain};
 ghost use Rattle.sat_checker.specs.declared.error.CheckerError.TheVariants.{HasFailed};
-ghost use Rattle.sat_checker.specs.telling.ProcessingView.{listeners_of, HearsEach};
+ghost use Rattle.sat_checker.specs.listeners.ProcessingView.{listeners_of, HearsEach};
 
 mod dimacs;
 mod formula;
@@ -37,12 +37,12 @@ impl Checker<Nobody, Nobody> {
     /// Makes a checker without listeners, which has accepted nothing yet. It does not allocate.
     pub fn new(alloc: Global) -> Checker<Nobody, Nobody>
         ensures stands { HasAccepted (kernel_of result) [] }
-        ensures goes_on { has_failed (kernel_of result) ≡ false }
-        ensures settled { kernels.IsSettled (kernel_of result) }
-        ensures looks { looks_of (kernel_of result) ≡ 0 }
+        ensures goes_on { kernel_has_failed (kernel_of result) ≡ false }
+        ensures settled { kernels.KernelIsSettled (kernel_of result) }
+        ensures looks { kernel_looks (kernel_of result) ≡ 0 }
         ensures listeners { listeners_of result.processing ≡ record { processors = []; transcripts = [] } }
     {
-        Checker::telling(alloc)
+        Checker::notifying(alloc)
     }
 
     /// Checks the next step, and accepts it if it passes. It judges as `self_check_step` does, notifies no listener,
@@ -51,7 +51,7 @@ impl Checker<Nobody, Nobody> {
         ensures judges { kernels.ChecksStep (kernels.answer_of result)
             (kernel_of self.old) (step_of step.now) (kernel_of self.new) }
         ensures looks { LooksAtMost (kernel_of self.old) (step_of step.now) (kernel_of self.new) }
-        ensures rise { looks_of (kernel_of self.old) ≤ looks_of (kernel_of self.new) }
+        ensures rise { kernel_looks (kernel_of self.old) ≤ kernel_looks (kernel_of self.new) }
         ensures failed { FailsAgain StepRefusal.HasFailed result self.old self.new }
     {
         self.kernel.accept_step(step)
@@ -60,11 +60,11 @@ impl Checker<Nobody, Nobody> {
 
 impl<P: ProofProcessor, T: ProofTranscriptProcessor> Checker<P, T> {
     /// Makes a checker like `new`, for processors and transcripts of these types. It has no listener yet.
-    pub fn telling(alloc: Global) -> Checker<P, T>
+    pub fn notifying(alloc: Global) -> Checker<P, T>
         ensures stands { HasAccepted (kernel_of result) [] }
-        ensures goes_on { has_failed (kernel_of result) ≡ false }
-        ensures settled { kernels.IsSettled (kernel_of result) }
-        ensures looks { looks_of (kernel_of result) ≡ 0 }
+        ensures goes_on { kernel_has_failed (kernel_of result) ≡ false }
+        ensures settled { kernels.KernelIsSettled (kernel_of result) }
+        ensures looks { kernel_looks (kernel_of result) ≡ 0 }
         ensures listeners { listeners_of result.processing ≡ record { processors = []; transcripts = [] } }
     {
         Checker {
@@ -73,12 +73,12 @@ impl<P: ProofProcessor, T: ProofTranscriptProcessor> Checker<P, T> {
         }
     }
 
-    /// Makes a checker like `telling`, with the listeners that another checker returned. Both lists keep their order.
-    pub fn telling_again(alloc: Global, listeners: Processors<P, T>) -> Checker<P, T>
+    /// Makes a checker like `notifying`, with the listeners that another checker returned. Both lists keep their order.
+    pub fn with_listeners(alloc: Global, listeners: Processors<P, T>) -> Checker<P, T>
         ensures stands { HasAccepted (kernel_of result) [] }
-        ensures goes_on { has_failed (kernel_of result) ≡ false }
-        ensures settled { kernels.IsSettled (kernel_of result) }
-        ensures looks { looks_of (kernel_of result) ≡ 0 }
+        ensures goes_on { kernel_has_failed (kernel_of result) ≡ false }
+        ensures settled { kernels.KernelIsSettled (kernel_of result) }
+        ensures looks { kernel_looks (kernel_of result) ≡ 0 }
         ensures listeners { listeners_of result.processing
             ≡ record { processors = listeners.processors.items; transcripts = listeners.transcripts.items } }
     {
@@ -142,8 +142,8 @@ impl<P: ProofProcessor, T: ProofTranscriptProcessor> Checker<P, T> {
         ensures checks { ChecksClause (HearsEach P.takes T.reads)
             result (seen_of self.old) clause.now (seen_of self.new) }
         ensures looks { LooksAtMost (kernel_of self.old) (AddClause clause.now) (kernel_of self.new) }
-        ensures rise { looks_of (kernel_of self.old) ≤ looks_of (kernel_of self.new) }
-        ensures faults { FaultsOfSomebody result self.old }
+        ensures rise { kernel_looks (kernel_of self.old) ≤ kernel_looks (kernel_of self.new) }
+        ensures faults { FaultIsFromListener result self.old }
         ensures failed { FailsAgain HasFailed result self.old self.new }
     {
         if self.kernel.failed {
@@ -161,8 +161,8 @@ impl<P: ProofProcessor, T: ProofTranscriptProcessor> Checker<P, T> {
         ensures tells { ChecksStep (HearsEach P.takes T.reads)
             result (seen_of self.old) (step_of step.now) (seen_of self.new) }
         ensures looks { LooksAtMost (kernel_of self.old) (step_of step.now) (kernel_of self.new) }
-        ensures rise { looks_of (kernel_of self.old) ≤ looks_of (kernel_of self.new) }
-        ensures faults { FaultsOfSomebody result self.old }
+        ensures rise { kernel_looks (kernel_of self.old) ≤ kernel_looks (kernel_of self.new) }
+        ensures faults { FaultIsFromListener result self.old }
         ensures failed { FailsAgain HasFailed result self.old self.new }
     {
         let mut nobody = Nobody {};
@@ -179,7 +179,7 @@ impl<P: ProofProcessor, T: ProofTranscriptProcessor> Checker<P, T> {
 
     /// Whether no unit conflict waits for its id. `self_check_delayed_steps` gives it one.
     pub fn is_settled(&self) -> bool
-        ensures { IsTrue result ↔ kernels.IsSettled (kernel_of self.now) }
+        ensures { IsTrue result ↔ kernels.KernelIsSettled (kernel_of self.now) }
     {
         self.kernel.state.formula.status.conflict.is_none()
     }
@@ -200,7 +200,7 @@ impl<P: ProofProcessor, T: ProofTranscriptProcessor> Checker<P, T> {
 
     /// Returns the user's name of a variable, unless the checker has failed.
     pub fn user_name(&self, var: Var) -> Option<Var>
-        ensures { has_failed (kernel_of self.now) ≡ false
+        ensures { kernel_has_failed (kernel_of self.now) ≡ false
             → (steps : List Step) → HasAccepted (kernel_of self.now) steps → result ≡ name_of var (ready_after steps) }
     {
         self.kernel.state.variables.data(var).name
@@ -208,7 +208,7 @@ impl<P: ProofProcessor, T: ProofTranscriptProcessor> Checker<P, T> {
 
     /// Whether the variable is known, unless the checker has failed.
     pub fn knows(&self, var: Var) -> bool
-        ensures { has_failed (kernel_of self.now) ≡ false
+        ensures { kernel_has_failed (kernel_of self.now) ≡ false
             → (steps : List Step) → HasAccepted (kernel_of self.now) steps → result ≡ is_known var (ready_after steps) }
     {
         self.kernel.state.variables.data(var).known
@@ -216,7 +216,7 @@ impl<P: ProofProcessor, T: ProofTranscriptProcessor> Checker<P, T> {
 
     /// Returns the number of literals of stored clauses that were looked at, at most 2^64-1.
     pub fn looks(&self) -> u64
-        ensures { result ≡ min (looks_of (kernel_of self.now)) (2 ^ 64 - 1) }
+        ensures { result ≡ min (kernel_looks (kernel_of self.now)) (2 ^ 64 - 1) }
     {
         self.kernel.looks.get()
     }
@@ -233,10 +233,10 @@ impl<P: ProofProcessor, T: ProofTranscriptProcessor> SelfChecker for Checker<P, 
     fn self_check_step(&mut self, step: &ProofStep<'_>) -> Result<(), CheckerError>
         ensures judges { kernels.ChecksStep result (kernel_of self.old) (step_of step.now) (kernel_of self.new) }
         ensures looks { LooksAtMost (kernel_of self.old) (step_of step.now) (kernel_of self.new) }
-        ensures rise { looks_of (kernel_of self.old) ≤ looks_of (kernel_of self.new) }
+        ensures rise { kernel_looks (kernel_of self.old) ≤ kernel_looks (kernel_of self.new) }
         ensures tells { ChecksStep (HearsEach P.takes T.reads)
             result (seen_of self.old) (step_of step.now) (seen_of self.new) }
-        ensures faults { FaultsOfSomebody result self.old }
+        ensures faults { FaultIsFromListener result self.old }
         ensures failed { FailsAgain HasFailed result self.old self.new }
     {
         self.check_step(step)
@@ -246,7 +246,7 @@ impl<P: ProofProcessor, T: ProofTranscriptProcessor> SelfChecker for Checker<P, 
         ensures judges { kernels.ChecksDelayed result (kernel_of self.old) (kernel_of self.new) }
         ensures tells { ChecksDelayed (HearsEach P.takes T.reads)
             result (seen_of self.old) (seen_of self.new) }
-        ensures faults { FaultsOfSomebody result self.old }
+        ensures faults { FaultIsFromListener result self.old }
         ensures failed { FailsAgain HasFailed result self.old self.new }
     {
         if self.kernel.failed {

@@ -35,7 +35,7 @@ pub enum CheckerError {
 
 impl From<StoreError> for CheckerError {
     ghost use Rattle.std.specs.Prelude.{◌≡◌};
-    ghost use Rattle.sat_checker.specs.inner.TellingSteps.{failure_of};
+    ghost use Rattle.sat_checker.specs.inner.NotifyingSteps.{failure_of};
 
     ghost from_gives = { λ s e. e ≡ failure_of s };
 

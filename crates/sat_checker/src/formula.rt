@@ -20,12 +20,12 @@ ghost use Rattle.sat_checker.specs.inner.Reasons.{noted_length};
 ghost use Rattle.sat_checker.specs.inner.StoreView.{TakesCount, with_less};
 ghost use Rattle.sat_checker.specs.inner.Marks.{IsIncreasing};
 ghost use Rattle.sat_checker.specs.declared.store.StoreError.TheVariants.{CounterEnd};
-ghost use Rattle.sat_checker.specs.inner.FormulaView.{KeepsFormula, refiled_in, ChecksAs, ChecksBeside, Becomes};
-ghost use Rattle.sat_checker.specs.inner.FormulaView.{TurnsIf, Deletes, Explained};
+ghost use Rattle.sat_checker.specs.inner.FormulaView.{KeepsFormula, refiled_in, ChecksAs, ChecksBeside, FormulaEffect};
+ghost use Rattle.sat_checker.specs.inner.FormulaView.{FormulaEffectIf, DeletionEffect, Explained};
 ghost use Rattle.sat_checker.specs.inner.InTurn.{PassBehind};
-ghost use Rattle.sat_checker.specs.inner.Room.{signed, HasRoomFor};
-ghost use Rattle.sat_checker.specs.telling.AnnouncingView.{stored_as, AreLong};
-ghost use Rattle.sat_checker.specs.telling.NotedView.{AppendsNews, ChangesSet};
+ghost use Rattle.sat_checker.specs.inner.AssumedRoom.{signed, HasClauseRoom};
+ghost use Rattle.sat_checker.specs.listeners.AnnouncingView.{stored_as, AreLong};
+ghost use Rattle.sat_checker.specs.listeners.NotedView.{AppendsNews, ChangesSet};
 
 pub(crate) mod in_room;
 
@@ -109,7 +109,7 @@ impl Formula {
 
     /// Gives the empty clause of a pending unit conflict the next id.
     pub fn settle(&mut self) -> Result<(), StoreError>
-        ensures settles { Becomes result (refiled_in self.old) settled (refiled_in self.new) }
+        ensures settles { FormulaEffect result (refiled_in self.old) settled (refiled_in self.new) }
         ensures none { OnOk result (self.new.status.conflict ≡ None) }
         ensures spent { OnErr result (IsErrOf result CounterEnd) }
     {
@@ -122,7 +122,7 @@ impl Formula {
 
     /// Stores a unit. If that fails, the units stay.
     pub fn store_unit(&mut self, lit: Lit) -> Result<(), StoreError>
-        ensures stored { Becomes result self.old (with_unit lit) self.new }
+        ensures stored { FormulaEffect result self.old (with_unit lit) self.new }
         ensures kept { OnErr result ((f : Stored) → ChecksAs self.old f → ChecksAs self.new f) }
     {
         if self.units.is_unit(lit) {
@@ -138,7 +138,7 @@ impl Formula {
 
     /// Gives an id to a unit whose negation is stored, and records unsat and a unit conflict.
     fn store_contradiction(&mut self, lit: Lit) -> Result<(), StoreError>
-        ensures stored { Becomes result self.old (with_contradiction lit) self.new }
+        ensures stored { FormulaEffect result self.old (with_contradiction lit) self.new }
         ensures kept { OnErr result ((f : Stored) → ChecksAs self.old f → ChecksAs self.new f) }
     {
         let stored = self.units.id(!lit);
@@ -150,7 +150,7 @@ impl Formula {
 
     /// Stores an empty clause, which is new every time.
     fn store_empty(&mut self, redundant: bool) -> Result<Change, StoreError>
-        ensures stored { Becomes result self.old (with_canonical redundant []) self.new }
+        ensures stored { FormulaEffect result self.old (with_canonical redundant []) self.new }
         ensures change { ChangesSet result redundant [] self.old }
     {
         let id = self.status.take_id()?;
@@ -161,7 +161,7 @@ impl Formula {
 
     /// Stores a clause of one literal.
     fn store_single(&mut self, redundant: bool, lit: Lit) -> Result<Change, StoreError>
-        ensures stored { Becomes result self.old (with_canonical redundant (lit ∷ [])) self.new }
+        ensures stored { FormulaEffect result self.old (with_canonical redundant (lit ∷ [])) self.new }
         ensures change { ChangesSet result redundant (lit ∷ []) self.old }
     {
         let change = self.unit_change(lit);
@@ -178,7 +178,7 @@ impl Formula {
     /// Makes room for all that is assumed of a clause.
     fn make_room(&mut self, literals: &[Lit]) -> Result<(), AllocError>
         ensures room { OnOk result
-            (HasRoomFor self.new.units.room literals.now × HasRoomFor self.new.marks.room literals.now) }
+            (HasClauseRoom self.new.units.room literals.now × HasClauseRoom self.new.marks.room literals.now) }
         ensures rest { ChecksBeside self.old self.new }
     {
         self.units.make_room_for(literals)?;
@@ -194,7 +194,7 @@ impl Formula {
     ) -> Result<Change, StoreError>
         requires increasing { IsIncreasing literals.now }
         requires long { 2 ≤ length literals.now }
-        ensures stored { Becomes result self.old (with_canonical redundant literals.now) self.new }
+        ensures stored { FormulaEffect result self.old (with_canonical redundant literals.now) self.new }
         ensures change { ChangesSet result redundant literals.now self.old }
         ensures looks { LooksOver (KeepsFormula self.old) literal_count looks.old looks.new }
     {
@@ -217,7 +217,7 @@ impl Formula {
         looks: &mut Looks,
     ) -> Result<Change, StoreError>
         requires { IsIncreasing literals.now }
-        ensures stored { Becomes result self.old (with_canonical redundant literals.now) self.new }
+        ensures stored { FormulaEffect result self.old (with_canonical redundant literals.now) self.new }
         ensures change { ChangesSet result redundant literals.now self.old }
         ensures looks { LooksOver (KeepsFormula self.old) literal_count looks.old looks.new }
     {
@@ -239,7 +239,7 @@ impl Formula {
     ) -> Result<Change, StoreError>
         requires { IsIncreasing literals.now }
         ensures stored { (clause : List ℕ) → literals.now ≡ canonical clause
-            → Becomes result self.old (with_stored redundant clause) self.new }
+            → FormulaEffect result self.old (with_stored redundant clause) self.new }
         ensures change { IfOk result (λ change. (f : Stored) → KeepsFormula self.old f → AreLong f → (ids : List ℕ)
             → stored_as change f.next_id redundant literals.now ids ≡ (if is_tautology literals.now then []
             else derived_set redundant literals.now ids f (id_of_set literals.now f))) }
@@ -255,7 +255,7 @@ impl Formula {
     pub fn store_input(&mut self, literals: &[Lit], looks: &mut Looks) -> Result<(), StoreError>
         requires { IsIncreasing literals.now }
         ensures stored { (clause : List ℕ) → literals.now ≡ canonical clause
-            → Becomes result self.old (with_input clause) self.new }
+            → FormulaEffect result self.old (with_input clause) self.new }
         ensures looks { LooksOver (KeepsFormula self.old) literal_count looks.old looks.new }
     {
         let id = self.status.next_id;
@@ -275,7 +275,7 @@ impl Formula {
     ) -> Result<(), StoreError>
         requires { IsIncreasing literals.now }
         ensures stored { (clause : List ℕ) → literals.now ≡ canonical clause
-            → Becomes result self.old (with_stored redundant clause) self.new }
+            → FormulaEffect result self.old (with_stored redundant clause) self.new }
         ensures noted { OnOk result ((f : Stored) (clause hashes : List ℕ) → KeepsFormula self.old f → AreLong f
             → literals.now ≡ canonical clause
             → (IsTrue notes.old.hears → notes.old.rests_on.ids.items ≡ propagations f clause hashes)
@@ -298,7 +298,7 @@ impl Formula {
         looks: &mut Looks,
     ) -> Result<bool, StoreError>
         ensures decides { (f : Stored) → KeepsFormula self.old f
-            → TurnsIf result (PassesByHashes f (lit ∷ []) (hash ∷ [])) (KeepsFormula self.new (with_unit lit f))
+            → FormulaEffectIf result (PassesByHashes f (lit ∷ []) (hash ∷ [])) (KeepsFormula self.new (with_unit lit f))
             (with_unit lit f) }
         ensures kept { OnErr result ((f : Stored) → ChecksAs self.old f → ChecksAs self.new f) }
         ensures noted { IfOk result (λ passes. IsTrue passes → (f : Stored) → KeepsFormula self.old f → AreLong f
@@ -358,7 +358,7 @@ impl Formula {
         looks: &mut Looks,
     ) -> Result<bool, StoreError>
         ensures decides { (f : Stored) → KeepsFormula self.old f
-            → TurnsIf result (PassInTurn f units.now) (KeepsFormula self.new (with_units (map (λ u. u.0) units.now) f))
+            → FormulaEffectIf result (PassInTurn f units.now) (KeepsFormula self.new (with_units (map (λ u. u.0) units.now) f))
             (with_units (map (λ u. u.0) units.now) f) }
         ensures noted { IfOk result (λ passes. IsTrue passes → (f : Stored) → KeepsFormula self.old f → AreLong f
             → AppendsNews notes.old (derived_units units.now f) notes.new) }
@@ -404,7 +404,7 @@ impl Formula {
         looks: &mut Looks,
     ) -> bool
         requires { literals.now ≡ canonical clause.now }
-        ensures decides { Deletes result self.old (DeleteClause clause.now (deletion_of proof)) self.new }
+        ensures decides { DeletionEffect result self.old (DeleteClause clause.now (deletion_of proof)) self.new }
         ensures looks { LooksOver (KeepsFormula self.old) (λ f. 2 * literal_count f) looks.old looks.new }
     {
         match proof {
@@ -417,7 +417,7 @@ impl Formula {
     /// Deletes a redundant clause, which has these sorted literals.
     fn delete_redundant(&mut self, clause: &[Lit], literals: &[Lit], looks: &mut Looks) -> bool
         requires { literals.now ≡ canonical clause.now }
-        ensures decides { Deletes result self.old (DeleteClause clause.now Redundant) self.new }
+        ensures decides { DeletionEffect result self.old (DeleteClause clause.now Redundant) self.new }
         ensures looks { LooksOver (KeepsFormula self.old) literal_count looks.old looks.new }
     {
         self.take_count(true, literals, looks)
@@ -426,7 +426,7 @@ impl Formula {
     /// Deletes an irredundant clause that a unit satisfies.
     fn delete_satisfied(&mut self, clause: &[Lit], literals: &[Lit], looks: &mut Looks) -> bool
         requires { literals.now ≡ canonical clause.now }
-        ensures decides { Deletes result self.old (DeleteClause clause.now Satisfied) self.new }
+        ensures decides { DeletionEffect result self.old (DeleteClause clause.now Satisfied) self.new }
         ensures looks { LooksOver (KeepsFormula self.old) literal_count looks.old looks.new }
     {
         if !self.units.has_any(clause) {
@@ -460,7 +460,7 @@ impl Formula {
     /// Deletes an irredundant clause that the last irredundant clause stored is a part of.
     fn delete_simplified(&mut self, clause: &[Lit], literals: &[Lit], looks: &mut Looks) -> bool
         requires { literals.now ≡ canonical clause.now }
-        ensures decides { Deletes result self.old (DeleteClause clause.now Simplified) self.new }
+        ensures decides { DeletionEffect result self.old (DeleteClause clause.now Simplified) self.new }
         ensures looks { LooksOver (KeepsFormula self.old) (λ f. 2 * literal_count f) looks.old looks.new }
     {
         if !self.has_last_within(literals, looks) {

@@ -2,15 +2,15 @@
 ghost use Rattle.std.specs.Prelude.{List, ◌≤◌, ◌≡◌, true, false, [], None, Ok, Err, OnOk, IsTrue, MatchResult};
 ghost use Rattle.sat_base.specs.steps.StepViews.{step_of};
 ghost use Rattle.sat_checker.specs.KernelView as kernels;
-ghost use Rattle.sat_checker.specs.KernelView.{error_of, has_failed, looks_of, HasAccepted};
+ghost use Rattle.sat_checker.specs.KernelView.{step_error, kernel_has_failed, kernel_looks, HasAccepted};
 ghost use Rattle.sat_checker.specs.CheckerView.{seen, ChecksStep, ChecksDelayed};
-ghost use Rattle.sat_checker.specs.announcements.Announcements.{Told};
-ghost use Rattle.sat_checker.specs.inner.TellingSteps.{announced_by, changed_by, put_back, was_of, failure_of, fault_of};
-ghost use Rattle.sat_checker.specs.inner.TellingSteps.{records_in, IsUnmovedByTold, TellsAndKeepsState};
+ghost use Rattle.sat_checker.specs.announcements.Announcements.{Notice};
+ghost use Rattle.sat_checker.specs.inner.NotifyingSteps.{announced_by, changed_by, put_back, was_of, failure_of, fault_of};
+ghost use Rattle.sat_checker.specs.inner.NotifyingSteps.{records_in, IsUnmovedByNotices, NotifiesAndKeepsState};
 ghost use Rattle.sat_checker.specs.inner.VariablesView.{variable_at};
-ghost use Rattle.sat_checker.specs.telling.AnnouncementView.{variables_of};
-ghost use Rattle.sat_checker.specs.telling.Hearing.{hearers, HearsAll, HearsFirst, HearsUpTo};
-ghost use Rattle.sat_checker.specs.telling.ProcessingView.{listeners_of, HearsEach};
+ghost use Rattle.sat_checker.specs.listeners.AnnouncementView.{variables_of};
+ghost use Rattle.sat_checker.specs.listeners.Hearing.{hearers, HearsAll, HearsFirst, HearsUpTo};
+ghost use Rattle.sat_checker.specs.listeners.ProcessingView.{listeners_of, HearsEach};
 
 use crate::announce::announcement::{CheckedProofStep, CheckerData, Was};
 use crate::announce::news::News;
@@ -78,7 +78,7 @@ fn listens<P: ProofProcessor, T: ProofTranscriptProcessor>(
 
 /// Notifies the listeners of announcements, in order, up to the first fault.
 #[inline(always)]
-fn tell_news<O: ProofProcessor, P: ProofProcessor, T: ProofTranscriptProcessor>(
+fn notify_news<O: ProofProcessor, P: ProofProcessor, T: ProofTranscriptProcessor>(
     news: &News,
     names: CheckerData<'_>,
     own: &mut O,
@@ -113,7 +113,7 @@ pub enum StepRefusal {
 
 /// Returns why a step that could not be stored is not accepted.
 fn refusal(error: StoreError) -> StepRefusal
-    ensures { error_of result ≡ failure_of error }
+    ensures { step_error result ≡ failure_of error }
 {
     match error {
         StoreError::OutOfMemory => StepRefusal::OutOfMemory,
@@ -137,9 +137,9 @@ impl Kernel {
     /// Makes a kernel that has accepted no step. It does not allocate.
     pub fn new(alloc: Global) -> Kernel
         ensures stands { HasAccepted result [] }
-        ensures goes_on { has_failed result ≡ false }
+        ensures goes_on { kernel_has_failed result ≡ false }
         ensures settled { result.state.formula.status.conflict ≡ None }
-        ensures looks { looks_of result ≡ 0 }
+        ensures looks { kernel_looks result ≡ 0 }
     {
         Kernel {
             state: State::new(alloc),
@@ -160,15 +160,15 @@ impl Kernel {
         others: &mut Processing<P, T>,
     ) -> Result<(), CheckerError>
         // Without a processor of the caller, `own` accepts everything and does not change.
-        requires { has_own ≡ false → (v : _) (t : Told) → O.takes v t (Ok tt) v }
+        requires { has_own ≡ false → (v : _) (t : Notice) → O.takes v t (Ok tt) v }
         ensures judges { kernels.ChecksStep result self.old (step_of step.now) self.new }
-        ensures goes_on { OnOk result (has_failed self.new ≡ false) }
+        ensures goes_on { OnOk result (kernel_has_failed self.new ≡ false) }
         ensures tells { ChecksStep (HearsFirst O.takes (HearsEach P.takes T.reads)) result
             (seen self.old (hearers own.old others.old)) (step_of step.now)
             (seen self.new (hearers own.new others.new)) }
         ensures looks { kernels.LooksAtMost self.old (step_of step.now) self.new }
-        ensures rise { looks_of self.old ≤ looks_of self.new }
-        ensures failed { has_failed self.old ≡ true
+        ensures rise { kernel_looks self.old ≤ kernel_looks self.new }
+        ensures failed { kernel_has_failed self.old ≡ true
             → (result ≡ Err CheckerError.HasFailed) × (self.new ≡ self.old) × (others.new ≡ others.old) }
     {
         if self.failed {
@@ -187,8 +187,8 @@ impl Kernel {
     pub fn accept_step(&mut self, step: &ProofStep<'_>) -> Result<(), StepRefusal>
         ensures judges { kernels.ChecksStep (kernels.answer_of result) self.old (step_of step.now) self.new }
         ensures looks { kernels.LooksAtMost self.old (step_of step.now) self.new }
-        ensures rise { looks_of self.old ≤ looks_of self.new }
-        ensures failed { has_failed self.old ≡ true
+        ensures rise { kernel_looks self.old ≤ kernel_looks self.new }
+        ensures failed { kernel_has_failed self.old ≡ true
             → (result ≡ Err StepRefusal.HasFailed) × (self.new ≡ self.old) }
     {
         if self.failed {
@@ -202,11 +202,11 @@ impl Kernel {
 
     /// Gives the empty clause of a pending unit conflict the next id. It notifies no listener.
     fn settle_alone(&mut self) -> Result<(), StepRefusal>
-        requires { has_failed self.old ≡ false }
+        requires { kernel_has_failed self.old ≡ false }
         ensures judges { kernels.ChecksDelayed (kernels.answer_of result) self.old self.new }
-        ensures goes_on { OnOk result ((has_failed self.new ≡ false)
+        ensures goes_on { OnOk result ((kernel_has_failed self.new ≡ false)
             × (self.new.state.formula.status.conflict ≡ None)) }
-        ensures looks { looks_of self.new ≡ looks_of self.old }
+        ensures looks { kernel_looks self.new ≡ kernel_looks self.old }
     {
         let Some((_stored, _contradicting)) = self.state.formula.status.conflict else {
             return Ok(());
@@ -220,11 +220,11 @@ impl Kernel {
 
     /// Checks the next step, while no unit conflict is pending. It notifies no listener.
     fn step_alone(&mut self, step: &ProofStep<'_>) -> Result<(), StepRefusal>
-        requires well { has_failed self.old ≡ false }
+        requires well { kernel_has_failed self.old ≡ false }
         requires settled { self.old.state.formula.status.conflict ≡ None }
         ensures judges { kernels.ChecksStep (kernels.answer_of result) self.old (step_of step.now) self.new }
         ensures looks { kernels.LooksAtMost self.old (step_of step.now) self.new }
-        ensures rise { looks_of self.old ≤ looks_of self.new }
+        ensures rise { kernel_looks self.old ≤ kernel_looks self.new }
     {
         self.notes.begin(false);
         match self.state.step(step, &mut self.notes, &mut self.looks) {
@@ -251,11 +251,11 @@ impl Kernel {
         own: &mut O,
         others: &mut Processing<P, T>,
     ) -> Result<(), CheckerError>
-        requires { has_failed self.old ≡ false }
+        requires { kernel_has_failed self.old ≡ false }
         ensures judges { kernels.ChecksDelayed result self.old self.new }
-        ensures goes_on { OnOk result ((has_failed self.new ≡ false)
+        ensures goes_on { OnOk result ((kernel_has_failed self.new ≡ false)
             × (self.new.state.formula.status.conflict ≡ None)) }
-        ensures looks { looks_of self.new ≡ looks_of self.old }
+        ensures looks { kernel_looks self.new ≡ kernel_looks self.old }
         ensures tells { ChecksDelayed (HearsFirst O.takes (HearsEach P.takes T.reads))
             result (seen self.old (hearers own.old others.old)) (seen self.new (hearers own.new others.new)) }
     {
@@ -273,11 +273,11 @@ impl Kernel {
         own: &mut O,
         others: &mut Processing<P, T>,
     ) -> Result<(), CheckerError>
-        requires { has_failed self.old ≡ false }
+        requires { kernel_has_failed self.old ≡ false }
         ensures judges { kernels.ChecksDelayed result self.old self.new }
-        ensures goes_on { OnOk result ((has_failed self.new ≡ false)
+        ensures goes_on { OnOk result ((kernel_has_failed self.new ≡ false)
             × (self.new.state.formula.status.conflict ≡ None)) }
-        ensures looks { looks_of self.new ≡ looks_of self.old }
+        ensures looks { kernel_looks self.new ≡ kernel_looks self.old }
         ensures tells { ChecksDelayed (HearsFirst O.takes (HearsEach P.takes T.reads))
             result (seen self.old (hearers own.old others.old)) (seen self.new (hearers own.new others.new)) }
     {
@@ -312,17 +312,17 @@ impl Kernel {
         hears: bool,
         others: &mut Processing<P, T>,
     ) -> Result<(), CheckerError>
-        requires well { has_failed self.old ≡ false }
+        requires well { kernel_has_failed self.old ≡ false }
         requires settled { self.old.state.formula.status.conflict ≡ None }
         requires quiet { hears ≡ false
-            → IsUnmovedByTold (HearsFirst O.takes (HearsEach P.takes T.reads)) (hearers own.old others.old) }
+            → IsUnmovedByNotices (HearsFirst O.takes (HearsEach P.takes T.reads)) (hearers own.old others.old) }
         ensures judges { kernels.ChecksStep result self.old (step_of step.now) self.new }
-        ensures goes_on { OnOk result (has_failed self.new ≡ false) }
+        ensures goes_on { OnOk result (kernel_has_failed self.new ≡ false) }
         ensures tells { ChecksStep (HearsFirst O.takes (HearsEach P.takes T.reads)) result
             (seen self.old (hearers own.old others.old)) (step_of step.now)
             (seen self.new (hearers own.new others.new)) }
         ensures looks { kernels.LooksAtMost self.old (step_of step.now) self.new }
-        ensures rise { looks_of self.old ≤ looks_of self.new }
+        ensures rise { kernel_looks self.old ≤ kernel_looks self.new }
     {
         self.notes.begin(hears);
         let was = changed(&self.state.variables, step, hears);
@@ -348,12 +348,12 @@ impl Kernel {
         hears: bool,
         others: &mut Processing<P, T>,
     ) -> Result<(), CheckerError>
-        requires well { has_failed self.old ≡ false }
+        requires well { kernel_has_failed self.old ≡ false }
         requires quiet { hears ≡ false
-            → IsUnmovedByTold (HearsFirst O.takes (HearsEach P.takes T.reads)) (hearers own.old others.old) }
-        ensures { (told : List Told) → (IsTrue hears
+            → IsUnmovedByNotices (HearsFirst O.takes (HearsEach P.takes T.reads)) (hearers own.old others.old) }
+        ensures { (told : List Notice) → (IsTrue hears
             → told ≡ announced_by (put_back (was_of was.now) (variable_at self.old.state.variables))
-            self.old.notes.news) → TellsAndKeepsState (HearsFirst O.takes (HearsEach P.takes T.reads)) told result
+            self.old.notes.news) → NotifiesAndKeepsState (HearsFirst O.takes (HearsEach P.takes T.reads)) told result
             (seen self.old (hearers own.old others.old)) (seen self.new (hearers own.new others.new)) }
     {
         self.records = self.state.formula.status.records();
@@ -364,25 +364,25 @@ impl Kernel {
         if self.notes.news.is_empty() {
             return Ok(());
         }
-        self.tell(was, own, others)
+        self.notify(was, own, others)
     }
 
     /// Notifies the listeners of what was noted of an accepted step, which is recorded.
     #[inline(never)]
-    fn tell<O: ProofProcessor, P: ProofProcessor, T: ProofTranscriptProcessor>(
+    fn notify<O: ProofProcessor, P: ProofProcessor, T: ProofTranscriptProcessor>(
         &mut self,
         was: &Option<Was>,
         own: &mut O,
         others: &mut Processing<P, T>,
     ) -> Result<(), CheckerError>
-        requires well { has_failed self.old ≡ false }
+        requires well { kernel_has_failed self.old ≡ false }
         requires recorded { self.old.records ≡ records_in self.old.state.formula.status }
-        ensures { TellsAndKeepsState (HearsFirst O.takes (HearsEach P.takes T.reads))
+        ensures { NotifiesAndKeepsState (HearsFirst O.takes (HearsEach P.takes T.reads))
             (announced_by (put_back (was_of was.now) (variable_at self.old.state.variables)) self.old.notes.news)
             result (seen self.old (hearers own.old others.old)) (seen self.new (hearers own.new others.new)) }
     {
         let names = CheckerData::before(&self.state.variables, was);
-        match tell_news(&self.notes.news, names, own, others) {
+        match notify_news(&self.notes.news, names, own, others) {
             Ok(()) => Ok(()),
             Err(error) => {
                 self.failed = true;

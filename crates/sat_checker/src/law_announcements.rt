@@ -2,21 +2,21 @@
 ghost use Rattle.sat_checker.specs.announcements.Promises.{ConflictIsAnnounced, ConflictIsFollowedBackwards};
 ghost use Rattle.sat_checker.specs.announcements.Promises.{DeletionsRest, IdsAreAnnounced, PropagationsInTurn};
 ghost use Rattle.sat_checker.specs.announcements.Promises.{SimplifiedIsAnnounced, TautologiesRestOnNothing};
-ghost use Rattle.sat_checker.specs.announcements.Promises.{ToldInOrder};
-ghost use Rattle.sat_checker.specs.announcements.Rows.{AnswersRead, Assumed, CollidingTold, ConflictAndUnitTold};
+ghost use Rattle.sat_checker.specs.announcements.Promises.{NoticesInOrder};
+ghost use Rattle.sat_checker.specs.announcements.Rows.{AnswersRead, AssumedAnnounced, CollidingAnnounced, ConflictAndUnitAnnounced};
 ghost use Rattle.sat_checker.specs.announcements.Rows.{Contradiction, CoreFailed, CoreOfBothSigns, DerivedIrredundant};
 ghost use Rattle.sat_checker.specs.announcements.Rows.{DerivedIrredundantAgain, DerivedNew, DerivedRedundantAgain};
 ghost use Rattle.sat_checker.specs.announcements.Rows.{DerivedTautology, DerivedUnitAgain, InputBehindUnsat};
 ghost use Rattle.sat_checker.specs.announcements.Rows.{InputDuplicate, InputNew, InputRedundant, InputTautology};
 ghost use Rattle.sat_checker.specs.announcements.Rows.{InputUnitAgain, InputsRead, ModeChanged, ModeLeft};
-ghost use Rattle.sat_checker.specs.announcements.Rows.{ModeOfNameless, Modelled, ModesRead, NameNew, NameNewRead};
+ghost use Rattle.sat_checker.specs.announcements.Rows.{ModeOfNameless, ModelAnnounced, ModesRead, NameNew, NameNewRead};
 ghost use Rattle.sat_checker.specs.announcements.Rows.{NameOfKnown, NameOfKnownRead, NameRemoved, NameRemovedRead};
-ghost use Rattle.sat_checker.specs.announcements.Rows.{NamedTwiceTold, OthersRead, OthersTell, PassedNotNeeded};
-ghost use Rattle.sat_checker.specs.announcements.Rows.{RedundantGone, RedundantStays, RefutedAtZeroTold, RefutedRead};
-ghost use Rattle.sat_checker.specs.announcements.Rows.{RefutedTold, SatisfiedGone, SatisfiedKept, SatisfiedStays};
+ghost use Rattle.sat_checker.specs.announcements.Rows.{NamedTwiceAnnounced, OthersRead, OthersAnnounce, PassedNotNeeded};
+ghost use Rattle.sat_checker.specs.announcements.Rows.{RedundantGone, RedundantStays, RefutedAtZeroAnnounced, RefutedRead};
+ghost use Rattle.sat_checker.specs.announcements.Rows.{RefutedAnnounced, SatisfiedGone, SatisfiedKept, SatisfiedStays};
 ghost use Rattle.sat_checker.specs.announcements.Rows.{SimplifiedByEmpty, SimplifiedGone, SolverNameSet, UnitAlone};
 ghost use Rattle.sat_checker.specs.announcements.Rows.{UnitsFirst, UnitsHeld};
-ghost use Rattle.sat_checker.specs.telling.ProcessingView.{NobodyFails};
+ghost use Rattle.sat_checker.specs.listeners.ProcessingView.{NoListenerNoFault};
 
 use crate::announce::transcript::ProofTranscriptProcessor;
 use crate::processing::ProofProcessor;
@@ -39,20 +39,20 @@ pub fn ids_are_announced()
 
 /// In which order steps and delayed conflicts are announced.
 pub fn announcements_are_in_order()
-    ensures { ToldInOrder }
+    ensures { NoticesInOrder }
 {}
 
 /// A fault, or an allocation failure during an announcement, only comes from a listener.
 pub fn nobody_answers_a_fault<P: ProofProcessor, T: ProofTranscriptProcessor>()
-    ensures { NobodyFails P.takes T.reads }
+    ensures { NoListenerNoFault P.takes T.reads }
 {}
 
 /// Worked rows of what derived clauses rest on, at widths 64, 8 and 0.
 pub fn rows_of_propagations()
-    ensures refuted { RefutedTold }
-    ensures at_zero { RefutedAtZeroTold }
-    ensures twice { NamedTwiceTold }
-    ensures colliding { CollidingTold }
+    ensures refuted { RefutedAnnounced }
+    ensures at_zero { RefutedAtZeroAnnounced }
+    ensures twice { NamedTwiceAnnounced }
+    ensures colliding { CollidingAnnounced }
     ensures units { UnitsFirst }
     ensures held { UnitsHeld }
     ensures passed { PassedNotNeeded }
@@ -62,7 +62,7 @@ pub fn rows_of_propagations()
 /// Worked rows of unit conflicts, whose empty clause is announced later.
 pub fn rows_of_conflicts()
     ensures contradiction { Contradiction }
-    ensures unit_behind { ConflictAndUnitTold }
+    ensures unit_behind { ConflictAndUnitAnnounced }
 {}
 
 /// Worked rows of input clauses.
@@ -105,11 +105,11 @@ pub fn rows_of_users()
     ensures mode { ModeChanged }
     ensures mode_left { ModeLeft }
     ensures nameless { ModeOfNameless }
-    ensures model { Modelled }
-    ensures assumed { Assumed }
+    ensures model { ModelAnnounced }
+    ensures assumed { AssumedAnnounced }
     ensures core { CoreFailed }
     ensures signs { CoreOfBothSigns }
-    ensures others { OthersTell }
+    ensures others { OthersAnnounce }
 {}
 
 /// Worked rows of transcripts.

@@ -6,8 +6,8 @@ ghost use Rattle.sat_checker.specs.Laws.{NamedIsKnown, NamesApart, SameLiteralsA
 ghost use Rattle.sat_checker.specs.Laws.{TautologyHasBothSigns, UnknownIsUnknown, UnsatMeansNone};
 ghost use Rattle.sat_checker.specs.MeaningRows.{DeletedIsFree, EitherHolds, FourHaveNone, LooksOfAll, LooksOfKinds};
 ghost use Rattle.sat_checker.specs.MeaningRows.{OnlyAddedAsk, StoredAsk, UnsatAsks};
-ghost use Rattle.sat_checker.specs.Rows.{Assumed, BehindUnsat, BothSigns, ByDuplicate, ByNameLeft, ByOneCount};
-ghost use Rattle.sat_checker.specs.Rows.{BySolverName, Colliding, ConflictAndUnit, EmptyBefore, EmptyBehind, EndAlone};
+ghost use Rattle.sat_checker.specs.Rows.{DeletesAssumed, BehindUnsat, BothSigns, ByDuplicate, ByNameLeft, ByOneCount};
+ghost use Rattle.sat_checker.specs.Rows.{BySolverName, Colliding, ConflictAndUnit, EmptyBefore, EmptyBehind, EndAloneAccepted};
 ghost use Rattle.sat_checker.specs.Rows.{FourClauses, HashesOfOneTwo, HiddenAdded, HiddenNamed, InClause};
 ghost use Rattle.sat_checker.specs.Rows.{LastBehindConflict, LastUnit, ModelAgainstUnit, ModelTwice};
 ghost use Rattle.sat_checker.specs.Rows.{ModelWithoutClause, Modelled, NameTaken, NamedAgain, NamedOnce, NamedTwice};
@@ -62,7 +62,7 @@ pub fn clauses_read_are_first()
 /// Worked rows of hashes, of names, and of what is stored.
 pub fn rows_of_storing()
     ensures hashes { HashesOfOneTwo }
-    ensures end { EndAlone }
+    ensures end { EndAloneAccepted }
     ensures named { NamedAgain }
     ensures four { FourClauses }
     ensures twice { StoredTwice }
@@ -89,7 +89,7 @@ pub fn rows_of_deleting()
     ensures forgotten { UnitForgotten }
     ensures in_clause { InClause }
     ensures with_name { WithName }
-    ensures assumed { Assumed }
+    ensures assumed { DeletesAssumed }
     ensures unknown { Unknown }
 {}
 

@@ -1,7 +1,7 @@
 //! The count of looks at literals of stored clauses.
 ghost use Rattle.std.specs.Prelude.{◌≡◌, ◌+◌, ◌-◌, ◌^◌, min};
 ghost use Rattle.sat_checker.specs.CheckerView.{kernel_of};
-ghost use Rattle.sat_checker.specs.KernelView.{looks_of};
+ghost use Rattle.sat_checker.specs.KernelView.{kernel_looks};
 
 pub(crate) mod tally;
 
@@ -48,7 +48,7 @@ impl Looks {
 
     /// Adds the looks of a checker.
     pub fn add<P: ProofProcessor, T: ProofTranscriptProcessor>(&mut self, checker: &Checker<P, T>)
-        ensures { self.new ≡ self.old + looks_of (kernel_of checker.now) }
+        ensures { self.new ≡ self.old + kernel_looks (kernel_of checker.now) }
     {
         self.join(&checker.kernel.looks);
     }

@@ -1,14 +1,14 @@
 //! Listeners: processors, and transcripts.
 ghost use Rattle.std.specs.Prelude.{◌≡◌, ◌++◌, ◌∷◌, [], true, IfErr, OnOk, OnErr, Result, Some};
 ghost use Rattle.anyhow.specs.declared.error.Error.{Error as Cause};
-ghost use Rattle.sat_checker.specs.announcements.Announcements.{Told};
+ghost use Rattle.sat_checker.specs.announcements.Announcements.{Notice};
 ghost use Rattle.sat_checker.specs.announcements.Transcripts.{transcript};
 ghost use Rattle.sat_checker.specs.inner.VariablesView.{variable_at};
-ghost use Rattle.sat_checker.specs.telling.AnnouncementView.{announcement_of, told_of, variables_of};
-ghost use Rattle.sat_checker.specs.telling.Hearing.{hearers, takes_all, HearsFirst};
-ghost use Rattle.sat_checker.specs.telling.TranscriptView.{transcribed_of};
-ghost use Rattle.sat_checker.specs.telling.Telling.{AllTold, SomeTold, Transcribes};
-ghost use Rattle.sat_checker.specs.telling.ProcessingView.{listeners_of, HearsEach};
+ghost use Rattle.sat_checker.specs.listeners.AnnouncementView.{announcement_of, notice_of, variables_of};
+ghost use Rattle.sat_checker.specs.listeners.Hearing.{hearers, takes_all, HearsFirst};
+ghost use Rattle.sat_checker.specs.listeners.TranscriptView.{transcribed_of};
+ghost use Rattle.sat_checker.specs.listeners.Notifying.{AllNotified, SomeNotified, Transcribes};
+ghost use Rattle.sat_checker.specs.listeners.ProcessingView.{listeners_of, HearsEach};
 
 pub(crate) mod boxes;
 
@@ -21,7 +21,7 @@ use thiserror::Error;
 /// Receives what a checker announces.
 pub trait ProofProcessor: Drop {
     /// Relates the value before a call, the announcement, the result, and the value after it.
-    ghost takes: { Self → Told → Result (Unit {0}) Cause → Self → Type 0 };
+    ghost takes: { Self → Notice → Result (Unit {0}) Cause → Self → Type 0 };
 
     /// Receives an announcement, and what can be looked up about variables meanwhile.
     fn process_step(
@@ -29,18 +29,18 @@ pub trait ProofProcessor: Drop {
         step: &CheckedProofStep<'_>,
         names: CheckerData<'_>,
     ) -> anyhow::Result<()>
-        ensures { takes self.old (told_of step.now names.entry) result self.new };
+        ensures { takes self.old (notice_of step.now names.entry) result self.new };
 }
 
 /// Notifies the processors of an announcement, in order, up to the first fault.
-fn tell_processors<P: ProofProcessor>(
+fn notify_processors<P: ProofProcessor>(
     processors: &mut [P],
     step: &CheckedProofStep<'_>,
     names: CheckerData<'_>,
 ) -> anyhow::Result<()>
-    ensures ok { OnOk result (AllTold (λ r b d. P.takes b (told_of step.now names.entry) r d) processors.old
+    ensures ok { OnOk result (AllNotified (λ r b d. P.takes b (notice_of step.now names.entry) r d) processors.old
         processors.new) }
-    ensures err { IfErr result (λ cause. SomeTold (λ r b d. P.takes b (told_of step.now names.entry) r d) cause
+    ensures err { IfErr result (λ cause. SomeNotified (λ r b d. P.takes b (notice_of step.now names.entry) r d) cause
         processors.old processors.new) }
 {
     for processor in processors.iter_mut() {
@@ -53,14 +53,14 @@ fn tell_processors<P: ProofProcessor>(
 }
 
 /// Notifies the transcripts of a step, in order, up to the first fault.
-fn tell_transcripts<T: ProofTranscriptProcessor>(
+fn notify_transcripts<T: ProofTranscriptProcessor>(
     transcripts: &mut [T],
     step: &ProofTranscriptStep<'_>,
 ) -> anyhow::Result<()>
-    ensures ok { OnOk result (AllTold (λ r b d. T.reads b (transcribed_of step.now) r d) transcripts.old
+    ensures ok { OnOk result (AllNotified (λ r b d. T.reads b (transcribed_of step.now) r d) transcripts.old
         transcripts.new) }
     ensures err { IfErr result
-        (λ cause. SomeTold (λ r b d. T.reads b (transcribed_of step.now) r d) cause transcripts.old transcripts.new) }
+        (λ cause. SomeNotified (λ r b d. T.reads b (transcribed_of step.now) r d) cause transcripts.old transcripts.new) }
 {
     for transcript in transcripts.iter_mut() {
         match transcript.process_step(step) {
@@ -93,15 +93,15 @@ impl From<AllocError> for ProcessingError {
     }
 }
 
-/// Notifies the transcripts like `tell_transcripts`, with the error of an announcement.
-fn tell_all<T: ProofTranscriptProcessor>(
+/// Notifies the transcripts like `notify_transcripts`, with the error of an announcement.
+fn notify_all<T: ProofTranscriptProcessor>(
     transcripts: &mut [T],
     step: &ProofTranscriptStep<'_>,
 ) -> Result<(), ProcessingError>
     ensures { Transcribes (λ said r b d. T.reads b said r d)
         (Some (transcribed_of step.now)) result transcripts.old transcripts.new }
 {
-    match tell_transcripts(transcripts, step) {
+    match notify_transcripts(transcripts, step) {
         Ok(()) => Ok(()),
         Err(cause) => Err(ProcessingError::ProofProcessorError { cause }),
     }
@@ -121,7 +121,7 @@ fn transcribe<T: ProofTranscriptProcessor>(
         return Ok(());
     }
     match made.transcript_step(step, names) {
-        Ok(Some(said)) => tell_all(transcripts, &said),
+        Ok(Some(said)) => notify_all(transcripts, &said),
         Ok(None) => Ok(()),
         Err(error) => Err(ProcessingError::from(error)),
     }
@@ -205,9 +205,9 @@ impl<P: ProofProcessor, T: ProofTranscriptProcessor> Processing<P, T> {
         step: &CheckedProofStep<'_>,
         names: CheckerData<'_>,
     ) -> Result<(), ProcessingError>
-        ensures { HearsEach P.takes T.reads self.old (told_of step.now names.entry) result self.new }
+        ensures { HearsEach P.takes T.reads self.old (notice_of step.now names.entry) result self.new }
     {
-        match tell_processors(&mut self.processors, step, names) {
+        match notify_processors(&mut self.processors, step, names) {
             Ok(()) => transcribe(&mut self.transcript, &mut self.transcripts, step, names),
             Err(cause) => Err(ProcessingError::ProofProcessorError { cause }),
         }
@@ -222,7 +222,7 @@ impl<P: ProofProcessor, T: ProofTranscriptProcessor> Processing<P, T> {
         names: CheckerData<'_>,
     ) -> Result<(), ProcessingError>
         ensures { HearsFirst O.takes (HearsEach P.takes T.reads)
-            (hearers own.old self.old) (told_of step.now names.entry) result (hearers own.new self.new) }
+            (hearers own.old self.old) (notice_of step.now names.entry) result (hearers own.new self.new) }
     {
         match own.process_step(step, names) {
             Ok(()) => {

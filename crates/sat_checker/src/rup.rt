@@ -11,8 +11,8 @@ ghost use Rattle.sat_checker.specs.inner.Look.{AssumesMore, WalksBucket};
 ghost use Rattle.sat_checker.specs.inner.Looking.{LooksUpTo};
 ghost use Rattle.sat_checker.specs.inner.Reasons.{clause_at, filed, named, noted_length, NotesReasons, RecordsWalk};
 ghost use Rattle.sat_checker.specs.inner.Reasons.{MeetsConflict, ExplainsCheck};
-ghost use Rattle.sat_checker.specs.inner.Room.{HasRoomFor, HasRoomForAll, HasRoomForStored, signed};
-ghost use Rattle.sat_checker.specs.inner.Room.{AgreesOn, DeniedInRoom};
+ghost use Rattle.sat_checker.specs.inner.AssumedRoom.{HasClauseRoom, HasClausesRoom, HasStoredRoom, signed};
+ghost use Rattle.sat_checker.specs.inner.AssumedRoom.{AgreesOn, DeniedInRoom};
 ghost use Rattle.sat_checker.specs.inner.SlotView.{literals_at, bucket_in, bucket_of, live, live_length};
 ghost use Rattle.sat_checker.specs.inner.Walk.{verdict, walk_on, walk_buckets, denied_in_turn};
 
@@ -42,9 +42,9 @@ fn meet(
     requires { place < length clauses.now }
     ensures met { IfOk result (λ conflict. walk_on (verdict assigned.old.literals (literals_at clauses.now place))
         assigned.old.literals ≡ (if conflict then None else Some assigned.new.literals)) }
-    ensures short { OnErr result (HasRoomFor assigned.old.room (literals_at clauses.now place) → ⊥) }
+    ensures short { OnErr result (HasClauseRoom assigned.old.room (literals_at clauses.now place) → ⊥) }
     ensures extends { AssumesMore assigned.old assigned.new }
-    ensures same { HasRoomFor assigned.old.room (literals_at clauses.now place)
+    ensures same { HasClauseRoom assigned.old.room (literals_at clauses.now place)
         → assigned.new.room ≡ assigned.old.room }
     ensures looks { looks.new ≡ looks.old + length (literals_at clauses.now place) }
     ensures noted { IfOk result (λ conflict. NotesReasons clauses.now conflict passed.old assigned.old.literals
@@ -85,9 +85,9 @@ fn walk_bucket(
 ) -> Result<Walked, AllocError>
     ensures says { IfOk result
         (λ b. WalksBucket b (bucket_in hash clauses.now) assigned.old.literals assigned.new.literals) }
-    ensures short { OnErr result (HasRoomForAll assigned.old.room (bucket_in hash clauses.now) → ⊥) }
+    ensures short { OnErr result (HasClausesRoom assigned.old.room (bucket_in hash clauses.now) → ⊥) }
     ensures extends { AssumesMore assigned.old assigned.new }
-    ensures same { HasRoomForAll assigned.old.room (bucket_in hash clauses.now)
+    ensures same { HasClausesRoom assigned.old.room (bucket_in hash clauses.now)
         → assigned.new.room ≡ assigned.old.room }
     ensures looks { LooksUpTo (total_length (bucket_in hash clauses.now)) looks.old looks.new }
     ensures noted { IfOk result (λ b. RecordsWalk clauses.now b passed.old assigned.old.literals
@@ -119,9 +119,9 @@ fn walk_hashes(
 ) -> Result<bool, AllocError>
     ensures found { IfOk result
         (λ yes. yes ≡ walk_buckets assigned.old.literals (map (bucket_of clauses.now) hashes.now)) }
-    ensures short { OnErr result (HasRoomForStored assigned.old.room (live clauses.now) → ⊥) }
+    ensures short { OnErr result (HasStoredRoom assigned.old.room (live clauses.now) → ⊥) }
     ensures extends { AssumesMore assigned.old assigned.new }
-    ensures same { HasRoomForStored assigned.old.room (live clauses.now) → assigned.new.room ≡ assigned.old.room }
+    ensures same { HasStoredRoom assigned.old.room (live clauses.now) → assigned.new.room ≡ assigned.old.room }
     ensures looks { LooksUpTo (length hashes.now * live_length clauses.now) looks.old looks.new }
     ensures noted { IfOk result (λ yes. IsTrue yes
         → MeetsConflict clauses.now passed.old assigned.old.literals (named hashes.now clauses.now) passed.new) }
@@ -214,12 +214,12 @@ pub(crate) fn check_in_room(
     looks: &mut Looks,
 ) -> Result<bool, AllocError>
     requires { noted_length clauses.now passed.old ≡ 0 }
-    ensures exact { IfOk result (λ yes. HasRoomForStored assigned.old.room (live clauses.now) → IsTrue yes
+    ensures exact { IfOk result (λ yes. HasStoredRoom assigned.old.room (live clauses.now) → IsTrue yes
         ↔ PassesCheck assigned.old.literals (signed negate literals.now)
         (map (bucket_of clauses.now) hashes.now)) }
-    ensures short { OnErr result (HasRoomForStored assigned.old.room (live clauses.now) → ⊥) }
+    ensures short { OnErr result (HasStoredRoom assigned.old.room (live clauses.now) → ⊥) }
     ensures extends { AssumesMore assigned.old assigned.new }
-    ensures same { HasRoomForStored assigned.old.room (live clauses.now) → assigned.new.room ≡ assigned.old.room }
+    ensures same { HasStoredRoom assigned.old.room (live clauses.now) → assigned.new.room ≡ assigned.old.room }
     ensures looks { LooksUpTo (length hashes.now * live_length clauses.now) looks.old looks.new }
     ensures lost { passed.new.lost ≡ true }
     ensures read { IfOk result (λ _. noted_length clauses.now passed.new + looks.old ≤ looks.new) }
@@ -246,10 +246,10 @@ pub(crate) fn check_clause_with_hashes(
     passed: &mut Passed,
     looks: &mut Looks,
 ) -> Result<bool, AllocError>
-    ensures exact { IfOk result (λ yes. HasRoomForStored assigned.old.room (live clauses.now) → IsTrue yes
+    ensures exact { IfOk result (λ yes. HasStoredRoom assigned.old.room (live clauses.now) → IsTrue yes
         ↔ PassesCheck assigned.old.literals (signed negate literals.now)
         (map (bucket_of clauses.now) hashes.now)) }
-    ensures short { OnErr result (HasRoomForStored assigned.old.room (live clauses.now) → ⊥) }
+    ensures short { OnErr result (HasStoredRoom assigned.old.room (live clauses.now) → ⊥) }
     ensures extends { AssumesMore assigned.old assigned.new }
     ensures looks { LooksUpTo (length hashes.now * live_length clauses.now) looks.old looks.new }
     ensures explained { IfOk result (λ yes. IsTrue yes → passed.new.lost ≡ false

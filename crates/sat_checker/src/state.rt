@@ -11,10 +11,10 @@ ghost use Rattle.sat_checker.specs.announcements.Announcements.{derived, input};
 ghost use Rattle.sat_checker.specs.inner.FormulaView.{Explained};
 ghost use Rattle.sat_checker.specs.inner.Looking.{LooksOver};
 ghost use Rattle.sat_checker.specs.inner.Reasons.{noted_length};
-ghost use Rattle.sat_checker.specs.inner.StateView.{KeepsStored, KeepsFiled, ChangesStored, with_added, with_derived};
-ghost use Rattle.sat_checker.specs.inner.StateView.{Decides, LooksWithin};
-ghost use Rattle.sat_checker.specs.telling.AnnouncingView.{AreLong};
-ghost use Rattle.sat_checker.specs.telling.NotedView.{Announces, AppendsNews};
+ghost use Rattle.sat_checker.specs.inner.StateView.{KeepsStored, KeepsFiled, ChangesStored, with_added_clause, with_derived};
+ghost use Rattle.sat_checker.specs.inner.StateView.{DecidesStep, LooksWithin};
+ghost use Rattle.sat_checker.specs.listeners.AnnouncingView.{AreLong};
+ghost use Rattle.sat_checker.specs.listeners.NotedView.{Announces, AppendsNews};
 
 pub(crate) mod lit_set;
 pub(crate) mod status;
@@ -43,7 +43,7 @@ pub(crate) struct State {
 impl State {
     /// Judges a `SolverVarName`.
     fn solver_var_name(&mut self, var: Var, name: Option<Var>) -> Result<bool, StoreError>
-        ensures { Decides result self.old (SolverVarName var name) self.new }
+        ensures { DecidesStep result self.old (SolverVarName var name) self.new }
     {
         if let Some(solver) = name {
             self.variables.learn_var(var)?;
@@ -61,7 +61,7 @@ impl State {
         user: Option<Var>,
         notes: &mut Notes,
     ) -> Result<bool, StoreError>
-        ensures decides { Decides result self.old (UserVarName var user) self.new }
+        ensures decides { DecidesStep result self.old (UserVarName var user) self.new }
         ensures noted { Announces result self.old (UserVarName var user) notes.old notes.new }
     {
         let before = self.variables.data(var);
@@ -79,7 +79,7 @@ impl State {
         sample: bool,
         notes: &mut Notes,
     ) -> Result<bool, StoreError>
-        ensures decides { Decides result self.old (ChangeSamplingMode var sample) self.new }
+        ensures decides { DecidesStep result self.old (ChangeSamplingMode var sample) self.new }
         ensures noted { Announces result self.old (ChangeSamplingMode var sample) notes.old notes.new }
     {
         let before = self.variables.data(var);
@@ -97,7 +97,7 @@ impl State {
         notes: &mut Notes,
         looks: &mut Looks,
     ) -> Result<bool, StoreError>
-        ensures decides { Decides result self.old (AddClause clause.now) self.new }
+        ensures decides { DecidesStep result self.old (AddClause clause.now) self.new }
         ensures looks { LooksWithin self.old (AddClause clause.now) looks.old looks.new }
         ensures noted { Announces result self.old (AddClause clause.now) notes.old notes.new }
     {
@@ -119,7 +119,7 @@ impl State {
         notes: &mut Notes,
         looks: &mut Looks,
     ) -> Result<(), StoreError>
-        ensures stored { ChangesStored result self.old (with_added clause.now) self.new }
+        ensures stored { ChangesStored result self.old (with_added_clause clause.now) self.new }
         ensures noted { OnOk result ((f : Stored) → KeepsFiled self.old f
             → AppendsNews notes.old (input clause.now f) notes.new) }
         ensures looks { LooksOver (KeepsFiled self.old) (λ f. 2 * literal_count f) looks.old looks.new }
@@ -139,7 +139,7 @@ impl State {
         notes: &mut Notes,
         looks: &mut Looks,
     ) -> Result<bool, StoreError>
-        ensures decides { Decides result self.old (AtClause redundant clause.now hashes.now) self.new }
+        ensures decides { DecidesStep result self.old (AtClause redundant clause.now hashes.now) self.new }
         ensures looks { LooksWithin self.old (AtClause redundant clause.now hashes.now) looks.old looks.new }
         ensures noted { Announces result self.old (AtClause redundant clause.now hashes.now) notes.old notes.new }
     {
@@ -182,7 +182,7 @@ impl State {
 
     /// Judges a `ChangeHashBits`.
     fn change_hash_bits(&mut self, bits: HashBits) -> Result<bool, StoreError>
-        ensures { Decides result self.old (ChangeHashBits bits) self.new }
+        ensures { DecidesStep result self.old (ChangeHashBits bits) self.new }
     {
         self.formula.store.set_bits(bits);
         Ok(true)
@@ -190,7 +190,7 @@ impl State {
 
     /// Judges an `Assumptions`.
     fn assumptions(&mut self, literals: &[Lit], notes: &mut Notes) -> Result<bool, StoreError>
-        ensures decides { Decides result self.old (Assumptions literals.now) self.new }
+        ensures decides { DecidesStep result self.old (Assumptions literals.now) self.new }
         ensures noted { Announces result self.old (Assumptions literals.now) notes.old notes.new }
     {
         self.variables.learn(literals)?;
@@ -201,7 +201,7 @@ impl State {
 
     /// Judges an `End`.
     fn end(&mut self) -> Result<bool, StoreError>
-        ensures { Decides result self.old End self.new }
+        ensures { DecidesStep result self.old End self.new }
     {
         self.formula.status.ended = true;
         Ok(true)
@@ -214,7 +214,7 @@ impl State {
         notes: &mut Notes,
         looks: &mut Looks,
     ) -> Result<bool, StoreError>
-        ensures decides { Decides result self.old (UnitClauses units.now) self.new }
+        ensures decides { DecidesStep result self.old (UnitClauses units.now) self.new }
         ensures looks { LooksWithin self.old (UnitClauses units.now) looks.old looks.new }
         ensures noted { Announces result self.old (UnitClauses units.now) notes.old notes.new }
     {
@@ -234,7 +234,7 @@ impl State {
         notes: &mut Notes,
         looks: &mut Looks,
     ) -> Result<bool, StoreError>
-        ensures decides { Decides result self.old (DeleteClause clause.now (deletion_of proof)) self.new }
+        ensures decides { DecidesStep result self.old (DeleteClause clause.now (deletion_of proof)) self.new }
         ensures looks { LooksWithin self.old (DeleteClause clause.now (deletion_of proof)) looks.old looks.new }
         ensures noted { Announces result self.old (DeleteClause clause.now (deletion_of proof)) notes.old notes.new }
     {
@@ -258,7 +258,7 @@ impl State {
         notes: &mut Notes,
         looks: &mut Looks,
     ) -> Result<bool, StoreError>
-        ensures decides { Decides result self.old (Model assignment.now) self.new }
+        ensures decides { DecidesStep result self.old (Model assignment.now) self.new }
         ensures looks { LooksWithin self.old (Model assignment.now) looks.old looks.new }
         ensures noted { Announces result self.old (Model assignment.now) notes.old notes.new }
     {
@@ -278,7 +278,7 @@ impl State {
         notes: &mut Notes,
         looks: &mut Looks,
     ) -> Result<bool, StoreError>
-        ensures decides { Decides result self.old (FailedAssumptions core.now hashes.now) self.new }
+        ensures decides { DecidesStep result self.old (FailedAssumptions core.now hashes.now) self.new }
         ensures looks { LooksWithin self.old (FailedAssumptions core.now hashes.now) looks.old looks.new }
         ensures noted { Announces result self.old (FailedAssumptions core.now hashes.now) notes.old notes.new }
     {
@@ -299,7 +299,7 @@ impl State {
 
     /// Judges a `DeleteVar`. No clause is looked at.
     fn delete_var(&mut self, var: Var, notes: &mut Notes) -> Result<bool, StoreError>
-        ensures decides { Decides result self.old (DeleteVar var) self.new }
+        ensures decides { DecidesStep result self.old (DeleteVar var) self.new }
         ensures noted { Announces result self.old (DeleteVar var) notes.old notes.new }
     {
         if !self.may_delete(var) {
@@ -349,7 +349,7 @@ impl State {
         notes: &mut Notes,
         looks: &mut Looks,
     ) -> Result<bool, StoreError>
-        ensures decides { Decides result self.old (step_of step.now) self.new }
+        ensures decides { DecidesStep result self.old (step_of step.now) self.new }
         ensures looks { LooksWithin self.old (step_of step.now) looks.old looks.new }
         ensures noted { Announces result self.old (step_of step.now) notes.old notes.new }
     {

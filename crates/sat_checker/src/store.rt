@@ -5,8 +5,8 @@ ghost use Rattle.sat_checker.specs.inner.Looking.{LooksOver, LooksUpTo};
 ghost use Rattle.sat_checker.specs.inner.Marks.{IsIncreasing};
 ghost use Rattle.sat_checker.specs.Stored.{Stored, nothing_stored};
 ghost use Rattle.sat_checker.specs.Looks.{literal_count};
-ghost use Rattle.sat_checker.specs.inner.StoreView.{KeepsClauses, refiled, Stores, PlacesIds, KeepsIds, TakesCount};
-ghost use Rattle.sat_checker.specs.inner.StoreView.{with_less, count_in, found_in};
+ghost use Rattle.sat_checker.specs.inner.StoreView.{KeepsClauses, refiled, StoreEffect, PlacesIds, KeepsIds, TakesCount};
+ghost use Rattle.sat_checker.specs.inner.StoreView.{with_less, store_count_in, found_in};
 ghost use Rattle.sat_checker.specs.inner.SlotView.{slot_ids, live, live_length, gone_count};
 ghost use Rattle.sat_checker.specs.Storing.{clause_with, clause_numbered, with_solver_name};
 ghost use Rattle.sat_checker.specs.Accepts.{IsStrictSubset};
@@ -122,13 +122,13 @@ impl Store {
     ) -> Result<Placed, StoreError>
         requires { IsIncreasing literals.now }
         ensures ok { IfOk result (λ placed. (f : Stored) → KeepsClauses self.old f
-            → Stores self.new f id redundant literals.now placed.id placed.is_new) }
+            → StoreEffect self.new f id redundant literals.now placed.id placed.is_new) }
         ensures placed { IfOk result (λ placed. PlacesIds self.old.clauses self.new.clauses id placed.is_new) }
         ensures counted { IfOk result (λ placed. (f : Stored) → KeepsClauses self.old f
-            → count_in false (clause_with literals.now f.clauses) ≡ placed.irredundant) }
+            → store_count_in false (clause_with literals.now f.clauses) ≡ placed.irredundant) }
         // A count has reached its end.
         ensures full { result ≡ Err StoreError.CounterEnd → (f : Stored) → KeepsClauses self.old f
-            → 2 ^ 64 ≤ count_in redundant (clause_with literals.now f.clauses) + 1 }
+            → 2 ^ 64 ≤ store_count_in redundant (clause_with literals.now f.clauses) + 1 }
         ensures looks { LooksOver (KeepsClauses self.old) literal_count looks.old looks.new }
     {
         let hash = self.hasher.clause_hash(literals);
@@ -266,7 +266,7 @@ impl Store {
     /// found without its hash.
     pub fn assumed_count(&self, redundant: bool, assigned: &Assigned, looks: &mut Looks) -> u64
         ensures found { (f : Stored) → KeepsClauses self.now f
-            → result ≡ count_in redundant (clause_with (canonical assigned.now.literals) f.clauses) }
+            → result ≡ store_count_in redundant (clause_with (canonical assigned.now.literals) f.clauses) }
         ensures looks { LooksOver (KeepsClauses self.now) literal_count looks.old looks.new }
     {
         self.clauses.assumed_count(redundant, assigned, looks)

@@ -15,7 +15,7 @@ ghost use Rattle.sat_checker.specs.Accepts.{PassesByHashes};
 ghost use Rattle.sat_checker.specs.Looks.{literal_count};
 ghost use Rattle.sat_checker.specs.inner.StoreView.{KeepsClauses};
 ghost use Rattle.sat_checker.specs.inner.InTurn.{PassBehind};
-ghost use Rattle.sat_checker.specs.inner.Room.{signed, with_room, RoomStays, HasRoomFor, HasRoomForStored};
+ghost use Rattle.sat_checker.specs.inner.AssumedRoom.{signed, with_room, RoomStays, HasClauseRoom, HasStoredRoom};
 
 pub mod assigned;
 pub(crate) mod lit_numbers;
@@ -136,7 +136,7 @@ impl Units {
 
     /// Makes room for the literals of a clause, and for their negations.
     pub fn make_room_for(&mut self, literals: &[Lit]) -> Result<(), AllocError>
-        ensures room { OnOk result (HasRoomFor self.new.room literals.now) }
+        ensures room { OnOk result (HasClauseRoom self.new.room literals.now) }
         ensures units { self.new.units ≡ self.old.units }
         ensures stays { RoomStays self.old.room self.new.room }
     {
@@ -217,10 +217,10 @@ impl Units {
         looks: &mut Looks,
     ) -> Result<bool, AllocError>
         ensures exact { IfOk result (λ passes. (f : Stored) → KeepsClauses store.now f → self.old.units ≡ f.units
-            → HasRoomForStored self.old.room f.clauses → IsTrue passes
+            → HasStoredRoom self.old.room f.clauses → IsTrue passes
             ↔ PassesByHashes f (signed negate literals.now) hashes.now) }
         ensures short { OnErr result ((f : Stored) → KeepsClauses store.now f
-            → HasRoomForStored self.old.room f.clauses → ⊥) }
+            → HasStoredRoom self.old.room f.clauses → ⊥) }
         ensures units { self.new.units ≡ self.old.units }
         ensures stays { RoomStays self.old.room self.new.room }
         ensures looks { LooksOver (KeepsClauses store.now)
@@ -254,10 +254,10 @@ impl Units {
         looks: &mut Looks,
     ) -> Result<bool, AllocError>
         ensures exact { IfOk result (λ pass. (f : Stored) → KeepsClauses store.now f
-            → map (λ u. u.literal) self.old.units ≡ unit_literals f → HasRoomForStored self.old.room f.clauses
+            → map (λ u. u.literal) self.old.units ≡ unit_literals f → HasStoredRoom self.old.room f.clauses
             → IsTrue pass ↔ PassBehind f units.now) }
         ensures short { OnErr result ((f : Stored) → KeepsClauses store.now f
-            → HasRoomForStored self.old.room f.clauses → ⊥) }
+            → HasStoredRoom self.old.room f.clauses → ⊥) }
         ensures units { self.new.units ≡ self.old.units }
         ensures looks { LooksOver (KeepsClauses store.now)
             (λ f. (length units.now - 1) * literal_count f) looks.old looks.new }

@@ -4,7 +4,7 @@ ghost use Rattle.std.specs.Prelude.{if◌then◌else◌};
 ghost use Rattle.sat_base.specs.values.Literals.{variable};
 ghost use Rattle.sat_checker.specs.LiteralSets.{is_among};
 ghost use Rattle.sat_checker.specs.Stored.{Hide, Sample, Variable, Witness, unknown};
-ghost use Rattle.sat_checker.specs.inner.VariablesView.{mode_in, variable_of, variable_at, holder_at, known_if};
+ghost use Rattle.sat_checker.specs.inner.VariablesView.{mode_in, variable_of_data, variable_at, holder_at, known_if};
 ghost use Rattle.sat_checker.specs.inner.VariablesView.{unknown_data, AreSampling, KeepsVariables, VariablesAllow};
 ghost use Rattle.sat_checker.specs.inner.VariablesView.{VariablesAnswer};
 ghost use Rattle.sat_base.specs.steps.Steps.{UserVarName, ChangeSamplingMode};
@@ -62,7 +62,7 @@ pub struct VarData {
 impl VarData {
     /// Returns the data of a variable that is not known yet.
     pub fn unknown() -> VarData
-        ensures variable { variable_of result ≡ unknown }
+        ensures variable { variable_of_data result ≡ unknown }
         ensures data { result ≡ unknown_data }
     {
         VarData {
@@ -94,7 +94,7 @@ impl Variables {
 
     /// Returns the data of a variable.
     pub fn data(&self, var: Var) -> VarData
-        ensures { variable_of result ≡ variable_at self.now var }
+        ensures { variable_of_data result ≡ variable_at self.now var }
     {
         self.data.get(var.index(), VarData::unknown())
     }
@@ -109,7 +109,7 @@ impl Variables {
     /// Sets the data of a variable.
     fn set(&mut self, var: Var, state: VarData) -> Result<(), AllocError>
         ensures variables { OnOk result ((v : ℕ) →
-            variable_at self.new v ≡ (if v == var then variable_of state else variable_at self.old v)) }
+            variable_at self.new v ≡ (if v == var then variable_of_data state else variable_at self.old v)) }
         ensures holders { (name : ℕ) → holder_at self.new name ≡ holder_at self.old name }
     {
         self.data.set(var.index(), state, VarData::unknown())

@@ -2,8 +2,8 @@
 
 use crate::calls::{Answer, Call, error_of};
 use crate::hearing::{
-    GONE, Heard, HeardCalls, IRREDUNDANT, KEPT, KNOWN, Listener, NEW, NO, REDUNDANT, SAMPLE, Said,
-    Told, WITNESS, add_listener, add_reader, are_done, first_unheard,
+    GONE, Heard, HeardCalls, IRREDUNDANT, KEPT, KNOWN, Listener, NEW, NO, Notice, REDUNDANT,
+    SAMPLE, Said, WITNESS, add_listener, add_reader, are_done, first_unheard,
 };
 use crate::kinds::{Kind, failure};
 use sat_base::{Counted, Var};
@@ -11,11 +11,11 @@ use sat_checker::{CheckedProofStep, CheckerData, ProofProcessor};
 use std::alloc::Global;
 
 /// Steps in bytes, what is announced of them, and its transcript.
-type Row = (&'static [u8], &'static [Told], &'static [Said]);
+type Row = (&'static [u8], &'static [Notice], &'static [Said]);
 
 /// Whether a processor and a transcript that were added are told this, the steps being fed one by one.
-fn is_told_to_added(alloc: Global, row: &Row) -> bool {
-    let mut checker = Heard::telling(alloc);
+fn is_reported_to_added(alloc: Global, row: &Row) -> bool {
+    let mut checker = Heard::notifying(alloc);
     let taken = add_listener(&mut checker, row.1)
         && add_reader(&mut checker, row.2)
         && error_of(alloc, &mut checker, Call::Steps(row.0)).is_none();
@@ -37,8 +37,8 @@ pub(crate) fn check_with<O: ProofProcessor>(
 }
 
 /// Whether a processor of the caller's own is told this, the steps being a proof's, with its end or cut off before it.
-fn is_told_to_own(alloc: Global, row: &Row) -> bool {
-    let mut checker = Heard::telling(alloc);
+fn is_reported_to_own(alloc: Global, row: &Row) -> bool {
+    let mut checker = Heard::notifying(alloc);
     let mut own = Listener::new(row.1);
     let error = check_with(alloc, &mut checker, row.0, &mut own);
     let read = error.is_none() && checker.ended() || error == Some(Kind::ProofIncomplete);
@@ -47,7 +47,7 @@ fn is_told_to_own(alloc: Global, row: &Row) -> bool {
 }
 
 fn is_announced(alloc: Global, row: &Row) -> bool {
-    is_told_to_added(alloc, row) && is_told_to_own(alloc, row)
+    is_reported_to_added(alloc, row) && is_reported_to_own(alloc, row)
 }
 
 /// The first steps of some rows of which something else is announced.
@@ -61,13 +61,13 @@ fn first_unannounced(alloc: Global, rows: &[Row]) -> Option<&'static [u8]> {
 }
 
 /// The four clauses over two variables, two clauses that follow from them, and what is told of that.
-pub(crate) const REFUTED: &[Told] = &[
-    Told::AddClause(0, [1, 2, 0]),
-    Told::AddClause(1, [1, -2, 0]),
-    Told::AddClause(2, [-1, 2, 0]),
-    Told::AddClause(3, [-1, -2, 0]),
-    Told::AtClause(4, IRREDUNDANT, [1, 0, 0], [0, 1, NO, NO]),
-    Told::AtClause(5, IRREDUNDANT, [0, 0, 0], [4, 2, 3, NO]),
+pub(crate) const REFUTED: &[Notice] = &[
+    Notice::AddClause(0, [1, 2, 0]),
+    Notice::AddClause(1, [1, -2, 0]),
+    Notice::AddClause(2, [-1, 2, 0]),
+    Notice::AddClause(3, [-1, -2, 0]),
+    Notice::AtClause(4, IRREDUNDANT, [1, 0, 0], [0, 1, NO, NO]),
+    Notice::AtClause(5, IRREDUNDANT, [0, 0, 0], [4, 2, 3, NO]),
 ];
 
 pub(crate) const REFUTED_SAID: &[Said] = &[
@@ -113,10 +113,10 @@ static PROPAGATIONS: [Row; 4] = [
             5, 3, 3, 4, 6, 5, 2, 0, 2, 5, 2, 3, 7, 9, 0, 6, 0, 2, 0, 4, 2, 0, 0,
         ],
         &[
-            Told::AddClause(0, [-2, 3, 4]),
-            Told::AddClause(1, [1, 2, 0]),
-            Told::AddClause(2, [-2, -4, 0]),
-            Told::AtClause(3, IRREDUNDANT, [1, 3, 0], [1, 2, 0, NO]),
+            Notice::AddClause(0, [-2, 3, 4]),
+            Notice::AddClause(1, [1, 2, 0]),
+            Notice::AddClause(2, [-2, -4, 0]),
+            Notice::AtClause(3, IRREDUNDANT, [1, 3, 0], [1, 2, 0, NO]),
         ],
         &[
             Said::AddClause([-2, 3, 4]),
@@ -129,46 +129,46 @@ static PROPAGATIONS: [Row; 4] = [
 /// Names and modes.
 static NAMES: [Row; 13] = [
     // of an unknown variable, which stays so without a solver index
-    (&[2, 0, 5], &[Told::UserVar(1, 5, SAMPLE, NEW)], &[]),
+    (&[2, 0, 5], &[Notice::UserVar(1, 5, SAMPLE, NEW)], &[]),
     (
         &[1, 0, 0, 2, 0, 5],
-        &[Told::UserVar(1, 5, SAMPLE, NEW)],
+        &[Notice::UserVar(1, 5, SAMPLE, NEW)],
         &[],
     ),
     // of a known one: of a clause, a witness, and by its solver index
     (
         &[5, 1, 0, 2, 0, 5],
         &[
-            Told::AddClause(0, [1, 0, 0]),
-            Told::UserVar(1, 5, SAMPLE, KNOWN),
+            Notice::AddClause(0, [1, 0, 0]),
+            Notice::UserVar(1, 5, SAMPLE, KNOWN),
         ],
         &[Said::AddClause([1, 0, 0]), Said::ObserveInternalVar(5)],
     ),
     (
         &[5, 1, 0, 4, 0, 0, 2, 0, 5],
         &[
-            Told::AddClause(0, [1, 0, 0]),
-            Told::UserVar(1, 5, WITNESS, KNOWN),
+            Notice::AddClause(0, [1, 0, 0]),
+            Notice::UserVar(1, 5, WITNESS, KNOWN),
         ],
         &[Said::AddClause([1, 0, 0]), Said::ObserveInternalVar(5)],
     ),
     (
         &[1, 0, 1, 2, 0, 5],
-        &[Told::UserVar(1, 5, SAMPLE, KNOWN)],
+        &[Notice::UserVar(1, 5, SAMPLE, KNOWN)],
         &[Said::ObserveInternalVar(5)],
     ),
     // removed, also from a witness
     (
         &[2, 0, 5, 2, 0, 0],
-        &[Told::UserVar(1, 5, SAMPLE, NEW), Told::NoName(1)],
+        &[Notice::UserVar(1, 5, SAMPLE, NEW), Notice::NoName(1)],
         &[Said::HideVar(5)],
     ),
     (
         &[2, 0, 5, 4, 0, 0, 2, 0, 0],
         &[
-            Told::UserVar(1, 5, SAMPLE, NEW),
-            Told::UserVar(1, 5, WITNESS, KNOWN),
-            Told::NoName(1),
+            Notice::UserVar(1, 5, SAMPLE, NEW),
+            Notice::UserVar(1, 5, WITNESS, KNOWN),
+            Notice::NoName(1),
         ],
         &[Said::WitnessVar(5), Said::HideVar(5)],
     ),
@@ -176,9 +176,9 @@ static NAMES: [Row; 13] = [
     (
         &[2, 0, 5, 4, 0, 0, 4, 0, 1],
         &[
-            Told::UserVar(1, 5, SAMPLE, NEW),
-            Told::UserVar(1, 5, WITNESS, KNOWN),
-            Told::UserVar(1, 5, SAMPLE, KNOWN),
+            Notice::UserVar(1, 5, SAMPLE, NEW),
+            Notice::UserVar(1, 5, WITNESS, KNOWN),
+            Notice::UserVar(1, 5, SAMPLE, KNOWN),
         ],
         &[Said::WitnessVar(5), Said::SampleVar(5)],
     ),
@@ -186,39 +186,39 @@ static NAMES: [Row; 13] = [
     (
         &[2, 0, 5, 4, 0, 1, 4, 0, 0, 4, 0, 0],
         &[
-            Told::UserVar(1, 5, SAMPLE, NEW),
-            Told::UserVar(1, 5, WITNESS, KNOWN),
+            Notice::UserVar(1, 5, SAMPLE, NEW),
+            Notice::UserVar(1, 5, WITNESS, KNOWN),
         ],
         &[Said::WitnessVar(5)],
     ),
     // modes of a variable without a name: one that never had any, and a hidden one
     (
         &[5, 1, 0, 4, 0, 0, 4, 0, 1],
-        &[Told::AddClause(0, [1, 0, 0])],
+        &[Notice::AddClause(0, [1, 0, 0])],
         &[Said::AddClause([1, 0, 0])],
     ),
     (
         &[2, 0, 5, 2, 0, 0, 4, 0, 1, 4, 0, 0],
-        &[Told::UserVar(1, 5, SAMPLE, NEW), Told::NoName(1)],
+        &[Notice::UserVar(1, 5, SAMPLE, NEW), Notice::NoName(1)],
         &[Said::HideVar(5)],
     ),
     // another name for one that is hidden no longer, and one for a deleted variable
     (
         &[2, 0, 5, 2, 0, 0, 4, 0, 1, 2, 0, 6],
         &[
-            Told::UserVar(1, 5, SAMPLE, NEW),
-            Told::NoName(1),
-            Told::UserVar(1, 6, SAMPLE, KNOWN),
+            Notice::UserVar(1, 5, SAMPLE, NEW),
+            Notice::NoName(1),
+            Notice::UserVar(1, 6, SAMPLE, KNOWN),
         ],
         &[Said::HideVar(5), Said::ObserveInternalVar(6)],
     ),
     (
         &[2, 0, 5, 2, 0, 0, 3, 0, 2, 0, 5],
         &[
-            Told::UserVar(1, 5, SAMPLE, NEW),
-            Told::NoName(1),
-            Told::DeleteVar(1),
-            Told::UserVar(1, 5, SAMPLE, NEW),
+            Notice::UserVar(1, 5, SAMPLE, NEW),
+            Notice::NoName(1),
+            Notice::DeleteVar(1),
+            Notice::UserVar(1, 5, SAMPLE, NEW),
         ],
         &[Said::HideVar(5)],
     ),
@@ -229,23 +229,23 @@ static INPUTS: [Row; 11] = [
     // new, as a sorted set
     (
         &[5, 3, 2, 0, 2],
-        &[Told::AddClause(0, [1, 2, 0])],
+        &[Notice::AddClause(0, [1, 2, 0])],
         &[Said::AddClause([1, 2, 0])],
     ),
     // stored before: a long one, a unit
     (
         &[5, 2, 0, 2, 5, 3, 2, 0, 0],
         &[
-            Told::AddClause(0, [1, 2, 0]),
-            Told::DuplicatedClause(1, 0, [1, 2, 0]),
+            Notice::AddClause(0, [1, 2, 0]),
+            Notice::DuplicatedClause(1, 0, [1, 2, 0]),
         ],
         &[Said::AddClause([1, 2, 0]), Said::AddClause([1, 2, 0])],
     ),
     (
         &[5, 1, 0, 5, 2, 0, 0],
         &[
-            Told::AddClause(0, [1, 0, 0]),
-            Told::DuplicatedClause(1, 0, [1, 0, 0]),
+            Notice::AddClause(0, [1, 0, 0]),
+            Notice::DuplicatedClause(1, 0, [1, 0, 0]),
         ],
         &[Said::AddClause([1, 0, 0]), Said::AddClause([1, 0, 0])],
     ),
@@ -255,9 +255,9 @@ static INPUTS: [Row; 11] = [
             9, 0, 5, 2, 0, 2, 6, 1, 3, 0, 2, 4, 1, 0, 5, 3, 0, 2, 4, 6, 0, 3, 0, 2, 4, 1, 0,
         ],
         &[
-            Told::AddClause(0, [1, 2, 0]),
-            Told::AtClause(1, REDUNDANT, [1, 2, 3], [0, NO, NO, NO]),
-            Told::DuplicatedClause(2, 1, [1, 2, 3]),
+            Notice::AddClause(0, [1, 2, 0]),
+            Notice::AtClause(1, REDUNDANT, [1, 2, 3], [0, NO, NO, NO]),
+            Notice::DuplicatedClause(2, 1, [1, 2, 3]),
         ],
         &[Said::AddClause([1, 2, 0]), Said::AddClause([1, 2, 3])],
     ),
@@ -265,10 +265,10 @@ static INPUTS: [Row; 11] = [
     (
         &[9, 0, 5, 2, 0, 2, 5, 2, 0, 3, 6, 0, 1, 0, 1, 0, 5, 1, 0],
         &[
-            Told::AddClause(0, [1, 2, 0]),
-            Told::AddClause(1, [1, -2, 0]),
-            Told::AtClause(2, IRREDUNDANT, [1, 0, 0], [0, 1, NO, NO]),
-            Told::DuplicatedClause(3, 2, [1, 0, 0]),
+            Notice::AddClause(0, [1, 2, 0]),
+            Notice::AddClause(1, [1, -2, 0]),
+            Notice::AtClause(2, IRREDUNDANT, [1, 0, 0], [0, 1, NO, NO]),
+            Notice::DuplicatedClause(3, 2, [1, 0, 0]),
         ],
         &[
             Said::AddClause([1, 2, 0]),
@@ -280,10 +280,10 @@ static INPUTS: [Row; 11] = [
     (
         &[5, 2, 0, 2, 5, 1, 0, 8, 2, 0, 2, 2, 5, 2, 0, 2],
         &[
-            Told::AddClause(0, [1, 2, 0]),
-            Told::AddClause(1, [1, 0, 0]),
-            Told::DeleteAtClause(0, GONE, [1, 2, 0], [1, NO, NO, NO]),
-            Told::AddClause(2, [1, 2, 0]),
+            Notice::AddClause(0, [1, 2, 0]),
+            Notice::AddClause(1, [1, 0, 0]),
+            Notice::DeleteAtClause(0, GONE, [1, 2, 0], [1, NO, NO, NO]),
+            Notice::AddClause(2, [1, 2, 0]),
         ],
         &[
             Said::AddClause([1, 2, 0]),
@@ -295,9 +295,9 @@ static INPUTS: [Row; 11] = [
     (
         &[5, 3, 2, 1, 0, 5, 3, 0, 1, 2, 5, 1, 2],
         &[
-            Told::TautologicalClause(0, [1, -1, 2]),
-            Told::TautologicalClause(1, [1, -1, 2]),
-            Told::AddClause(2, [2, 0, 0]),
+            Notice::TautologicalClause(0, [1, -1, 2]),
+            Notice::TautologicalClause(1, [1, -1, 2]),
+            Notice::AddClause(2, [2, 0, 0]),
         ],
         &[
             Said::AddClause([1, -1, 2]),
@@ -308,25 +308,25 @@ static INPUTS: [Row; 11] = [
     // an empty one, behind which no clause has an effect
     (
         &[5, 0, 5, 0, 5, 1, 0, 5, 2, 0, 1],
-        &[Told::AddClause(0, [0, 0, 0])],
+        &[Notice::AddClause(0, [0, 0, 0])],
         &[Said::AddClause([0, 0, 0])],
     ),
     // in the user's names: a variable that has one, and one that is its own
     (
         &[2, 0, 5, 5, 2, 0, 3],
         &[
-            Told::UserVar(1, 5, SAMPLE, NEW),
-            Told::AddClause(0, [1, -2, 0]),
+            Notice::UserVar(1, 5, SAMPLE, NEW),
+            Notice::AddClause(0, [1, -2, 0]),
         ],
         &[Said::AddClause([5, -2, 0])],
     ),
     (
         &[2, 0, 5, 5, 1, 1, 5, 1, 1, 5, 2, 1, 0],
         &[
-            Told::UserVar(1, 5, SAMPLE, NEW),
-            Told::AddClause(0, [-1, 0, 0]),
-            Told::DuplicatedClause(1, 0, [-1, 0, 0]),
-            Told::TautologicalClause(2, [1, -1, 0]),
+            Notice::UserVar(1, 5, SAMPLE, NEW),
+            Notice::AddClause(0, [-1, 0, 0]),
+            Notice::DuplicatedClause(1, 0, [-1, 0, 0]),
+            Notice::TautologicalClause(2, [1, -1, 0]),
         ],
         &[
             Said::AddClause([-5, 0, 0]),
@@ -344,8 +344,8 @@ static DERIVED: [Row; 11] = [
     (
         &[9, 0, 5, 2, 0, 2, 6, 1, 4, 4, 2, 0, 0, 1, 0],
         &[
-            Told::AddClause(0, [1, 2, 0]),
-            Told::AtClause(1, REDUNDANT, [1, 2, 3], [0, NO, NO, NO]),
+            Notice::AddClause(0, [1, 2, 0]),
+            Notice::AtClause(1, REDUNDANT, [1, 2, 3], [0, NO, NO, NO]),
         ],
         &[Said::AddClause([1, 2, 0])],
     ),
@@ -356,9 +356,9 @@ static DERIVED: [Row; 11] = [
             6, 0, 2, 0, 2, 1, 0, 5, 1, 6,
         ],
         &[
-            Told::AddClause(0, [1, 2, 0]),
-            Told::AtClause(1, REDUNDANT, [1, 2, 3], [0, NO, NO, NO]),
-            Told::AddClause(2, [4, 0, 0]),
+            Notice::AddClause(0, [1, 2, 0]),
+            Notice::AtClause(1, REDUNDANT, [1, 2, 3], [0, NO, NO, NO]),
+            Notice::AddClause(2, [4, 0, 0]),
         ],
         &[Said::AddClause([1, 2, 0]), Said::AddClause([4, 0, 0])],
     ),
@@ -369,9 +369,9 @@ static DERIVED: [Row; 11] = [
             0,
         ],
         &[
-            Told::AddClause(0, [1, 2, 0]),
-            Told::AtClause(1, REDUNDANT, [1, 2, 3], [0, NO, NO, NO]),
-            Told::MakeIrredundant(1, [1, 2, 3]),
+            Notice::AddClause(0, [1, 2, 0]),
+            Notice::AtClause(1, REDUNDANT, [1, 2, 3], [0, NO, NO, NO]),
+            Notice::MakeIrredundant(1, [1, 2, 3]),
         ],
         &[Said::AddClause([1, 2, 0])],
     ),
@@ -379,14 +379,14 @@ static DERIVED: [Row; 11] = [
     (&[6, 0, 2, 0, 1, 0], &[], &[]),
     (
         &[5, 1, 0, 6, 0, 1, 0, 0, 7, 1, 0, 0],
-        &[Told::AddClause(0, [1, 0, 0])],
+        &[Notice::AddClause(0, [1, 0, 0])],
         &[Said::AddClause([1, 0, 0])],
     ),
     (
         &[5, 1, 0, 6, 0, 2, 0, 2, 0],
         &[
-            Told::AddClause(0, [1, 0, 0]),
-            Told::AtClause(1, IRREDUNDANT, [1, 2, 0], [0, NO, NO, NO]),
+            Notice::AddClause(0, [1, 0, 0]),
+            Notice::AtClause(1, IRREDUNDANT, [1, 2, 0], [0, NO, NO, NO]),
         ],
         &[Said::AddClause([1, 0, 0])],
     ),
@@ -394,11 +394,11 @@ static DERIVED: [Row; 11] = [
     (
         &[9, 0, 5, 1, 0, 5, 2, 1, 2, 5, 2, 3, 5, 7, 2, 2, 0, 5, 0],
         &[
-            Told::AddClause(0, [1, 0, 0]),
-            Told::AddClause(1, [-1, 2, 0]),
-            Told::AddClause(2, [-2, -3, 0]),
-            Told::AtClause(3, IRREDUNDANT, [2, 0, 0], [0, 1, NO, NO]),
-            Told::AtClause(4, IRREDUNDANT, [-3, 0, 0], [3, 2, NO, NO]),
+            Notice::AddClause(0, [1, 0, 0]),
+            Notice::AddClause(1, [-1, 2, 0]),
+            Notice::AddClause(2, [-2, -3, 0]),
+            Notice::AtClause(3, IRREDUNDANT, [2, 0, 0], [0, 1, NO, NO]),
+            Notice::AtClause(4, IRREDUNDANT, [-3, 0, 0], [3, 2, NO, NO]),
         ],
         &[
             Said::AddClause([1, 0, 0]),
@@ -410,10 +410,10 @@ static DERIVED: [Row; 11] = [
     (
         &[9, 0, 5, 2, 0, 4, 5, 2, 0, 2, 5, 2, 0, 3, 6, 0, 1, 0, 1, 0],
         &[
-            Told::AddClause(0, [1, 3, 0]),
-            Told::AddClause(1, [1, 2, 0]),
-            Told::AddClause(2, [1, -2, 0]),
-            Told::AtClause(3, IRREDUNDANT, [1, 0, 0], [1, 2, NO, NO]),
+            Notice::AddClause(0, [1, 3, 0]),
+            Notice::AddClause(1, [1, 2, 0]),
+            Notice::AddClause(2, [1, -2, 0]),
+            Notice::AtClause(3, IRREDUNDANT, [1, 0, 0], [1, 2, NO, NO]),
         ],
         &[
             Said::AddClause([1, 3, 0]),
@@ -427,11 +427,11 @@ static DERIVED: [Row; 11] = [
             9, 0, 5, 1, 0, 5, 1, 2, 5, 2, 1, 4, 5, 2, 3, 5, 6, 0, 1, 6, 1, 0,
         ],
         &[
-            Told::AddClause(0, [1, 0, 0]),
-            Told::AddClause(1, [2, 0, 0]),
-            Told::AddClause(2, [-1, 3, 0]),
-            Told::AddClause(3, [-2, -3, 0]),
-            Told::AtClause(4, IRREDUNDANT, [4, 0, 0], [0, 1, 2, 3]),
+            Notice::AddClause(0, [1, 0, 0]),
+            Notice::AddClause(1, [2, 0, 0]),
+            Notice::AddClause(2, [-1, 3, 0]),
+            Notice::AddClause(3, [-2, -3, 0]),
+            Notice::AtClause(4, IRREDUNDANT, [4, 0, 0], [0, 1, 2, 3]),
         ],
         &[
             Said::AddClause([1, 0, 0]),
@@ -446,12 +446,12 @@ static DERIVED: [Row; 11] = [
             9, 0, 5, 1, 1, 5, 2, 0, 2, 5, 2, 0, 3, 6, 0, 1, 0, 1, 0, 11, 0,
         ],
         &[
-            Told::AddClause(0, [-1, 0, 0]),
-            Told::AddClause(1, [1, 2, 0]),
-            Told::AddClause(2, [1, -2, 0]),
-            Told::AtClause(3, IRREDUNDANT, [1, 0, 0], [1, 2, NO, NO]),
-            Told::AtClause(4, IRREDUNDANT, [0, 0, 0], [0, 3, NO, NO]),
-            Told::Assumptions([0, 0, 0]),
+            Notice::AddClause(0, [-1, 0, 0]),
+            Notice::AddClause(1, [1, 2, 0]),
+            Notice::AddClause(2, [1, -2, 0]),
+            Notice::AtClause(3, IRREDUNDANT, [1, 0, 0], [1, 2, NO, NO]),
+            Notice::AtClause(4, IRREDUNDANT, [0, 0, 0], [0, 3, NO, NO]),
+            Notice::Assumptions([0, 0, 0]),
         ],
         &[
             Said::AddClause([-1, 0, 0]),
@@ -467,11 +467,11 @@ static DERIVED: [Row; 11] = [
             9, 0, 5, 2, 0, 2, 5, 1, 1, 5, 1, 3, 6, 0, 0, 1, 0, 6, 1, 0, 1, 0,
         ],
         &[
-            Told::AddClause(0, [1, 2, 0]),
-            Told::AddClause(1, [-1, 0, 0]),
-            Told::AddClause(2, [-2, 0, 0]),
-            Told::AtClause(3, IRREDUNDANT, [0, 0, 0], [1, 2, 0, NO]),
-            Told::AtClause(4, REDUNDANT, [0, 0, 0], [1, 2, 0, NO]),
+            Notice::AddClause(0, [1, 2, 0]),
+            Notice::AddClause(1, [-1, 0, 0]),
+            Notice::AddClause(2, [-2, 0, 0]),
+            Notice::AtClause(3, IRREDUNDANT, [0, 0, 0], [1, 2, 0, NO]),
+            Notice::AtClause(4, REDUNDANT, [0, 0, 0], [1, 2, 0, NO]),
         ],
         &[
             Said::AddClause([1, 2, 0]),
@@ -489,9 +489,9 @@ static DELETED: [Row; 12] = [
     (
         &[9, 0, 5, 2, 0, 2, 6, 1, 3, 0, 2, 4, 1, 0, 8, 3, 4, 2, 0, 0],
         &[
-            Told::AddClause(0, [1, 2, 0]),
-            Told::AtClause(1, REDUNDANT, [1, 2, 3], [0, NO, NO, NO]),
-            Told::DeleteClause(1, [1, 2, 3]),
+            Notice::AddClause(0, [1, 2, 0]),
+            Notice::AtClause(1, REDUNDANT, [1, 2, 3], [0, NO, NO, NO]),
+            Notice::DeleteClause(1, [1, 2, 3]),
         ],
         &[Said::AddClause([1, 2, 0])],
     ),
@@ -501,25 +501,25 @@ static DELETED: [Row; 12] = [
             0, 8, 3, 0, 2, 4, 0,
         ],
         &[
-            Told::AddClause(0, [1, 2, 0]),
-            Told::AtClause(1, REDUNDANT, [1, 2, 3], [0, NO, NO, NO]),
-            Told::Assumptions([0, 0, 0]),
-            Told::DeleteClause(1, [1, 2, 3]),
+            Notice::AddClause(0, [1, 2, 0]),
+            Notice::AtClause(1, REDUNDANT, [1, 2, 3], [0, NO, NO, NO]),
+            Notice::Assumptions([0, 0, 0]),
+            Notice::DeleteClause(1, [1, 2, 3]),
         ],
         &[Said::AddClause([1, 2, 0]), Said::Assume([0, 0, 0])],
     ),
     (
         &[9, 0, 5, 2, 0, 2, 6, 1, 2, 0, 2, 1, 0, 8, 2, 0, 2, 0],
-        &[Told::AddClause(0, [1, 2, 0])],
+        &[Notice::AddClause(0, [1, 2, 0])],
         &[Said::AddClause([1, 2, 0])],
     ),
     // satisfied: gone; there once more; kept as redundant, and gone then
     (
         &[5, 2, 0, 2, 5, 1, 0, 8, 2, 2, 0, 2],
         &[
-            Told::AddClause(0, [1, 2, 0]),
-            Told::AddClause(1, [1, 0, 0]),
-            Told::DeleteAtClause(0, GONE, [1, 2, 0], [1, NO, NO, NO]),
+            Notice::AddClause(0, [1, 2, 0]),
+            Notice::AddClause(1, [1, 0, 0]),
+            Notice::DeleteAtClause(0, GONE, [1, 2, 0], [1, NO, NO, NO]),
         ],
         &[Said::AddClause([1, 2, 0]), Said::AddClause([1, 0, 0])],
     ),
@@ -528,11 +528,11 @@ static DELETED: [Row; 12] = [
             5, 2, 0, 2, 5, 2, 0, 2, 5, 1, 0, 8, 2, 0, 2, 2, 11, 0, 8, 2, 0, 2, 2,
         ],
         &[
-            Told::AddClause(0, [1, 2, 0]),
-            Told::DuplicatedClause(1, 0, [1, 2, 0]),
-            Told::AddClause(2, [1, 0, 0]),
-            Told::Assumptions([0, 0, 0]),
-            Told::DeleteAtClause(0, GONE, [1, 2, 0], [2, NO, NO, NO]),
+            Notice::AddClause(0, [1, 2, 0]),
+            Notice::DuplicatedClause(1, 0, [1, 2, 0]),
+            Notice::AddClause(2, [1, 0, 0]),
+            Notice::Assumptions([0, 0, 0]),
+            Notice::DeleteAtClause(0, GONE, [1, 2, 0], [2, NO, NO, NO]),
         ],
         &[
             Said::AddClause([1, 2, 0]),
@@ -546,10 +546,10 @@ static DELETED: [Row; 12] = [
             9, 0, 5, 2, 0, 2, 6, 1, 2, 0, 2, 1, 0, 5, 1, 0, 8, 2, 0, 2, 2, 8, 2, 0, 2, 0,
         ],
         &[
-            Told::AddClause(0, [1, 2, 0]),
-            Told::AddClause(1, [1, 0, 0]),
-            Told::DeleteAtClause(0, KEPT, [1, 2, 0], [1, NO, NO, NO]),
-            Told::DeleteClause(0, [1, 2, 0]),
+            Notice::AddClause(0, [1, 2, 0]),
+            Notice::AddClause(1, [1, 0, 0]),
+            Notice::DeleteAtClause(0, KEPT, [1, 2, 0], [1, NO, NO, NO]),
+            Notice::DeleteClause(0, [1, 2, 0]),
         ],
         &[Said::AddClause([1, 2, 0]), Said::AddClause([1, 0, 0])],
     ),
@@ -557,9 +557,9 @@ static DELETED: [Row; 12] = [
     (
         &[5, 3, 0, 2, 4, 5, 2, 4, 0, 8, 3, 0, 2, 4, 1],
         &[
-            Told::AddClause(0, [1, 2, 3]),
-            Told::AddClause(1, [1, 3, 0]),
-            Told::DeleteAtClause(0, GONE, [1, 2, 3], [1, NO, NO, NO]),
+            Notice::AddClause(0, [1, 2, 3]),
+            Notice::AddClause(1, [1, 3, 0]),
+            Notice::DeleteAtClause(0, GONE, [1, 2, 3], [1, NO, NO, NO]),
         ],
         &[Said::AddClause([1, 2, 3]), Said::AddClause([1, 3, 0])],
     ),
@@ -568,11 +568,11 @@ static DELETED: [Row; 12] = [
             5, 3, 0, 2, 4, 5, 3, 0, 2, 4, 5, 2, 0, 4, 8, 3, 0, 2, 4, 1, 11, 0, 8, 3, 0, 2, 4, 1,
         ],
         &[
-            Told::AddClause(0, [1, 2, 3]),
-            Told::DuplicatedClause(1, 0, [1, 2, 3]),
-            Told::AddClause(2, [1, 3, 0]),
-            Told::Assumptions([0, 0, 0]),
-            Told::DeleteAtClause(0, GONE, [1, 2, 3], [2, NO, NO, NO]),
+            Notice::AddClause(0, [1, 2, 3]),
+            Notice::DuplicatedClause(1, 0, [1, 2, 3]),
+            Notice::AddClause(2, [1, 3, 0]),
+            Notice::Assumptions([0, 0, 0]),
+            Notice::DeleteAtClause(0, GONE, [1, 2, 3], [2, NO, NO, NO]),
         ],
         &[
             Said::AddClause([1, 2, 3]),
@@ -586,11 +586,11 @@ static DELETED: [Row; 12] = [
             9, 0, 5, 2, 0, 2, 6, 1, 3, 0, 2, 4, 1, 0, 5, 3, 0, 2, 4, 5, 2, 0, 4, 8, 3, 0, 2, 4, 1,
         ],
         &[
-            Told::AddClause(0, [1, 2, 0]),
-            Told::AtClause(1, REDUNDANT, [1, 2, 3], [0, NO, NO, NO]),
-            Told::DuplicatedClause(2, 1, [1, 2, 3]),
-            Told::AddClause(3, [1, 3, 0]),
-            Told::DeleteAtClause(1, KEPT, [1, 2, 3], [3, NO, NO, NO]),
+            Notice::AddClause(0, [1, 2, 0]),
+            Notice::AtClause(1, REDUNDANT, [1, 2, 3], [0, NO, NO, NO]),
+            Notice::DuplicatedClause(2, 1, [1, 2, 3]),
+            Notice::AddClause(3, [1, 3, 0]),
+            Notice::DeleteAtClause(1, KEPT, [1, 2, 3], [3, NO, NO, NO]),
         ],
         &[
             Said::AddClause([1, 2, 0]),
@@ -602,28 +602,28 @@ static DELETED: [Row; 12] = [
     (
         &[5, 2, 0, 2, 5, 1, 0, 8, 2, 0, 2, 1],
         &[
-            Told::AddClause(0, [1, 2, 0]),
-            Told::AddClause(1, [1, 0, 0]),
-            Told::DeleteAtClause(0, GONE, [1, 2, 0], [1, NO, NO, NO]),
+            Notice::AddClause(0, [1, 2, 0]),
+            Notice::AddClause(1, [1, 0, 0]),
+            Notice::DeleteAtClause(0, GONE, [1, 2, 0], [1, NO, NO, NO]),
         ],
         &[Said::AddClause([1, 2, 0]), Said::AddClause([1, 0, 0])],
     ),
     (
         &[5, 2, 0, 2, 5, 0, 8, 2, 0, 2, 1],
         &[
-            Told::AddClause(0, [1, 2, 0]),
-            Told::AddClause(1, [0, 0, 0]),
-            Told::DeleteAtClause(0, GONE, [1, 2, 0], [1, NO, NO, NO]),
+            Notice::AddClause(0, [1, 2, 0]),
+            Notice::AddClause(1, [0, 0, 0]),
+            Notice::DeleteAtClause(0, GONE, [1, 2, 0], [1, NO, NO, NO]),
         ],
         &[Said::AddClause([1, 2, 0]), Said::AddClause([0, 0, 0])],
     ),
     (
         &[5, 2, 0, 4, 5, 3, 0, 2, 4, 5, 2, 0, 4, 8, 3, 0, 2, 4, 1],
         &[
-            Told::AddClause(0, [1, 3, 0]),
-            Told::AddClause(1, [1, 2, 3]),
-            Told::DuplicatedClause(2, 0, [1, 3, 0]),
-            Told::DeleteAtClause(1, GONE, [1, 2, 3], [0, NO, NO, NO]),
+            Notice::AddClause(0, [1, 3, 0]),
+            Notice::AddClause(1, [1, 2, 3]),
+            Notice::DuplicatedClause(2, 0, [1, 3, 0]),
+            Notice::DeleteAtClause(1, GONE, [1, 2, 3], [0, NO, NO, NO]),
         ],
         &[
             Said::AddClause([1, 3, 0]),
@@ -638,21 +638,24 @@ static ANSWERS: [Row; 13] = [
     // in the order of their steps
     (
         &[5, 2, 0, 2, 10, 2, 2, 1],
-        &[Told::AddClause(0, [1, 2, 0]), Told::Model([2, -1, 0])],
+        &[Notice::AddClause(0, [1, 2, 0]), Notice::Model([2, -1, 0])],
         &[Said::AddClause([1, 2, 0]), Said::Model([2, -1, 0])],
     ),
     (
         &[11, 2, 2, 1, 11, 0],
-        &[Told::Assumptions([2, -1, 0]), Told::Assumptions([0, 0, 0])],
+        &[
+            Notice::Assumptions([2, -1, 0]),
+            Notice::Assumptions([0, 0, 0]),
+        ],
         &[Said::Assume([2, -1, 0]), Said::Assume([0, 0, 0])],
     ),
     // cores: by a unit, by a clause, by both, of no literal, and of both signs
     (
         &[5, 1, 0, 11, 2, 1, 2, 12, 1, 1, 0],
         &[
-            Told::AddClause(0, [1, 0, 0]),
-            Told::Assumptions([-1, 2, 0]),
-            Told::FailedAssumptions([-1, 0, 0], [0, NO, NO, NO]),
+            Notice::AddClause(0, [1, 0, 0]),
+            Notice::Assumptions([-1, 2, 0]),
+            Notice::FailedAssumptions([-1, 0, 0], [0, NO, NO, NO]),
         ],
         &[
             Said::AddClause([1, 0, 0]),
@@ -663,9 +666,9 @@ static ANSWERS: [Row; 13] = [
     (
         &[9, 0, 5, 2, 0, 2, 11, 2, 1, 3, 12, 2, 1, 3, 1, 0],
         &[
-            Told::AddClause(0, [1, 2, 0]),
-            Told::Assumptions([-1, -2, 0]),
-            Told::FailedAssumptions([-1, -2, 0], [0, NO, NO, NO]),
+            Notice::AddClause(0, [1, 2, 0]),
+            Notice::Assumptions([-1, -2, 0]),
+            Notice::FailedAssumptions([-1, -2, 0], [0, NO, NO, NO]),
         ],
         &[
             Said::AddClause([1, 2, 0]),
@@ -676,10 +679,10 @@ static ANSWERS: [Row; 13] = [
     (
         &[9, 0, 5, 1, 1, 5, 2, 0, 2, 11, 1, 3, 12, 1, 3, 1, 0],
         &[
-            Told::AddClause(0, [-1, 0, 0]),
-            Told::AddClause(1, [1, 2, 0]),
-            Told::Assumptions([-2, 0, 0]),
-            Told::FailedAssumptions([-2, 0, 0], [0, 1, NO, NO]),
+            Notice::AddClause(0, [-1, 0, 0]),
+            Notice::AddClause(1, [1, 2, 0]),
+            Notice::Assumptions([-2, 0, 0]),
+            Notice::FailedAssumptions([-2, 0, 0], [0, 1, NO, NO]),
         ],
         &[
             Said::AddClause([-1, 0, 0]),
@@ -691,10 +694,10 @@ static ANSWERS: [Row; 13] = [
     (
         &[9, 0, 5, 1, 1, 5, 1, 3, 5, 2, 0, 2, 12, 0, 1, 0],
         &[
-            Told::AddClause(0, [-1, 0, 0]),
-            Told::AddClause(1, [-2, 0, 0]),
-            Told::AddClause(2, [1, 2, 0]),
-            Told::FailedAssumptions([0, 0, 0], [0, 1, 2, NO]),
+            Notice::AddClause(0, [-1, 0, 0]),
+            Notice::AddClause(1, [-2, 0, 0]),
+            Notice::AddClause(2, [1, 2, 0]),
+            Notice::FailedAssumptions([0, 0, 0], [0, 1, 2, NO]),
         ],
         &[
             Said::AddClause([-1, 0, 0]),
@@ -706,8 +709,8 @@ static ANSWERS: [Row; 13] = [
     (
         &[11, 2, 0, 1, 12, 2, 0, 1, 0],
         &[
-            Told::Assumptions([1, -1, 0]),
-            Told::FailedAssumptions([1, -1, 0], [NO, NO, NO, NO]),
+            Notice::Assumptions([1, -1, 0]),
+            Notice::FailedAssumptions([1, -1, 0], [NO, NO, NO, NO]),
         ],
         &[
             Said::Assume([1, -1, 0]),
@@ -718,10 +721,10 @@ static ANSWERS: [Row; 13] = [
     (
         &[2, 0, 5, 5, 1, 0, 11, 1, 1, 12, 1, 1, 0],
         &[
-            Told::UserVar(1, 5, SAMPLE, NEW),
-            Told::AddClause(0, [1, 0, 0]),
-            Told::Assumptions([-1, 0, 0]),
-            Told::FailedAssumptions([-1, 0, 0], [0, NO, NO, NO]),
+            Notice::UserVar(1, 5, SAMPLE, NEW),
+            Notice::AddClause(0, [1, 0, 0]),
+            Notice::Assumptions([-1, 0, 0]),
+            Notice::FailedAssumptions([-1, 0, 0], [0, NO, NO, NO]),
         ],
         &[
             Said::AddClause([5, 0, 0]),
@@ -731,15 +734,18 @@ static ANSWERS: [Row; 13] = [
     ),
     (
         &[2, 0, 5, 10, 2, 1, 2],
-        &[Told::UserVar(1, 5, SAMPLE, NEW), Told::Model([-1, 2, 0])],
+        &[
+            Notice::UserVar(1, 5, SAMPLE, NEW),
+            Notice::Model([-1, 2, 0]),
+        ],
         &[Said::Model([-5, 2, 0])],
     ),
     (
         &[2, 0, 5, 4, 0, 0, 11, 1, 1],
         &[
-            Told::UserVar(1, 5, SAMPLE, NEW),
-            Told::UserVar(1, 5, WITNESS, KNOWN),
-            Told::Assumptions([-1, 0, 0]),
+            Notice::UserVar(1, 5, SAMPLE, NEW),
+            Notice::UserVar(1, 5, WITNESS, KNOWN),
+            Notice::Assumptions([-1, 0, 0]),
         ],
         &[Said::WitnessVar(5), Said::Assume([-5, 0, 0])],
     ),
@@ -750,11 +756,11 @@ static ANSWERS: [Row; 13] = [
             2, 0, 5, 2, 0, 0, 11, 3, 0, 1, 3, 12, 2, 0, 1, 0, 10, 2, 1, 2,
         ],
         &[
-            Told::UserVar(1, 5, SAMPLE, NEW),
-            Told::NoName(1),
-            Told::Assumptions([1, -1, -2]),
-            Told::FailedAssumptions([1, -1, 0], [NO, NO, NO, NO]),
-            Told::Model([-1, 2, 0]),
+            Notice::UserVar(1, 5, SAMPLE, NEW),
+            Notice::NoName(1),
+            Notice::Assumptions([1, -1, -2]),
+            Notice::FailedAssumptions([1, -1, 0], [NO, NO, NO, NO]),
+            Notice::Model([-1, 2, 0]),
         ],
         &[
             Said::HideVar(5),
@@ -766,18 +772,18 @@ static ANSWERS: [Row; 13] = [
     (
         &[2, 0, 5, 2, 0, 0, 4, 0, 1, 11, 1, 1],
         &[
-            Told::UserVar(1, 5, SAMPLE, NEW),
-            Told::NoName(1),
-            Told::Assumptions([-1, 0, 0]),
+            Notice::UserVar(1, 5, SAMPLE, NEW),
+            Notice::NoName(1),
+            Notice::Assumptions([-1, 0, 0]),
         ],
         &[Said::HideVar(5), Said::Assume([-1, 0, 0])],
     ),
     (
         &[5, 1, 0, 4, 0, 0, 11, 2, 1, 2, 10, 1, 0],
         &[
-            Told::AddClause(0, [1, 0, 0]),
-            Told::Assumptions([-1, 2, 0]),
-            Told::Model([1, 0, 0]),
+            Notice::AddClause(0, [1, 0, 0]),
+            Notice::Assumptions([-1, 2, 0]),
+            Notice::Model([1, 0, 0]),
         ],
         &[
             Said::AddClause([1, 0, 0]),
@@ -791,10 +797,10 @@ static ANSWERS: [Row; 13] = [
 pub(crate) const UNITS: &[u8] = &[2, 0, 1, 5, 1, 0, 5, 1, 1];
 
 /// What is told of them till what is delayed is settled.
-pub(crate) const CONFLICT_BEFORE: &[Told] = &[
-    Told::UserVar(1, 1, SAMPLE, NEW),
-    Told::AddClause(0, [1, 0, 0]),
-    Told::AddClause(1, [-1, 0, 0]),
+pub(crate) const CONFLICT_BEFORE: &[Notice] = &[
+    Notice::UserVar(1, 1, SAMPLE, NEW),
+    Notice::AddClause(0, [1, 0, 0]),
+    Notice::AddClause(1, [-1, 0, 0]),
 ];
 
 pub(crate) const CONFLICT_SAID_BEFORE: &[Said] = &[
@@ -802,11 +808,11 @@ pub(crate) const CONFLICT_SAID_BEFORE: &[Said] = &[
     Said::AddClause([-1, 0, 0]),
 ];
 
-pub(crate) const CONFLICT: &[Told] = &[
-    Told::UserVar(1, 1, SAMPLE, NEW),
-    Told::AddClause(0, [1, 0, 0]),
-    Told::AddClause(1, [-1, 0, 0]),
-    Told::AtClause(2, IRREDUNDANT, [0, 0, 0], [0, 1, NO, NO]),
+pub(crate) const CONFLICT: &[Notice] = &[
+    Notice::UserVar(1, 1, SAMPLE, NEW),
+    Notice::AddClause(0, [1, 0, 0]),
+    Notice::AddClause(1, [-1, 0, 0]),
+    Notice::AtClause(2, IRREDUNDANT, [0, 0, 0], [0, 1, NO, NO]),
 ];
 
 const CONFLICT_SAID: &[Said] = &[
@@ -826,11 +832,11 @@ static CONFLICTS: [Row; 5] = [
     (
         &[2, 0, 1, 5, 1, 0, 5, 1, 1, 11, 1, 1],
         &[
-            Told::UserVar(1, 1, SAMPLE, NEW),
-            Told::AddClause(0, [1, 0, 0]),
-            Told::AddClause(1, [-1, 0, 0]),
-            Told::AtClause(2, IRREDUNDANT, [0, 0, 0], [0, 1, NO, NO]),
-            Told::Assumptions([-1, 0, 0]),
+            Notice::UserVar(1, 1, SAMPLE, NEW),
+            Notice::AddClause(0, [1, 0, 0]),
+            Notice::AddClause(1, [-1, 0, 0]),
+            Notice::AtClause(2, IRREDUNDANT, [0, 0, 0], [0, 1, NO, NO]),
+            Notice::Assumptions([-1, 0, 0]),
         ],
         &[
             Said::AddClause([1, 0, 0]),
@@ -843,10 +849,10 @@ static CONFLICTS: [Row; 5] = [
     (
         &[2, 0, 5, 5, 1, 0, 5, 1, 1, 13],
         &[
-            Told::UserVar(1, 5, SAMPLE, NEW),
-            Told::AddClause(0, [1, 0, 0]),
-            Told::AddClause(1, [-1, 0, 0]),
-            Told::AtClause(2, IRREDUNDANT, [0, 0, 0], [0, 1, NO, NO]),
+            Notice::UserVar(1, 5, SAMPLE, NEW),
+            Notice::AddClause(0, [1, 0, 0]),
+            Notice::AddClause(1, [-1, 0, 0]),
+            Notice::AtClause(2, IRREDUNDANT, [0, 0, 0], [0, 1, NO, NO]),
         ],
         &[
             Said::AddClause([5, 0, 0]),
@@ -858,12 +864,12 @@ static CONFLICTS: [Row; 5] = [
     (
         &[9, 0, 5, 1, 0, 5, 2, 1, 2, 5, 2, 1, 3, 7, 2, 2, 0, 3, 0, 13],
         &[
-            Told::AddClause(0, [1, 0, 0]),
-            Told::AddClause(1, [-1, 2, 0]),
-            Told::AddClause(2, [-1, -2, 0]),
-            Told::AtClause(3, IRREDUNDANT, [2, 0, 0], [0, 1, NO, NO]),
-            Told::AtClause(4, IRREDUNDANT, [-2, 0, 0], [0, 2, NO, NO]),
-            Told::AtClause(5, IRREDUNDANT, [0, 0, 0], [3, 4, NO, NO]),
+            Notice::AddClause(0, [1, 0, 0]),
+            Notice::AddClause(1, [-1, 2, 0]),
+            Notice::AddClause(2, [-1, -2, 0]),
+            Notice::AtClause(3, IRREDUNDANT, [2, 0, 0], [0, 1, NO, NO]),
+            Notice::AtClause(4, IRREDUNDANT, [-2, 0, 0], [0, 2, NO, NO]),
+            Notice::AtClause(5, IRREDUNDANT, [0, 0, 0], [3, 4, NO, NO]),
         ],
         &[
             Said::AddClause([1, 0, 0]),
@@ -939,8 +945,8 @@ static HEARD: [HeardCalls; 3] = [
     (
         "a clause that comes twice is told so, and nothing is told of a step that is refused",
         &[
-            Told::AddClause(0, [1, 2, 0]),
-            Told::DuplicatedClause(1, 0, [1, 2, 0]),
+            Notice::AddClause(0, [1, 2, 0]),
+            Notice::DuplicatedClause(1, 0, [1, 2, 0]),
         ],
         &[Said::AddClause([1, 2, 0]), Said::AddClause([1, 2, 0])],
         &[
@@ -1013,7 +1019,7 @@ const LOOKED_UP: &[u8] = &[
 const FOUND: &[i64] = &[1, 1, 5, 5, 5, 5, 0, 1, 0];
 
 fn are_looked_up(alloc: Global, own: &mut Names) -> bool {
-    let mut checker = Heard::telling(alloc);
+    let mut checker = Heard::notifying(alloc);
     let error = check_with(alloc, &mut checker, LOOKED_UP, own);
     drop(checker);
     error.is_none()

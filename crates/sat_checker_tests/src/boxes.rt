@@ -49,8 +49,8 @@ fn is_added(checker: &mut BoxChecker, lit: Lit) -> Option<bool> {
 }
 
 /// What comes of two clauses where the second box answers a fault at this call, and how many boxes come back.
-fn told_boxes(alloc: Global, at: u64) -> (bool, Option<bool>, Option<bool>, usize) {
-    let mut checker: BoxChecker = Checker::telling(alloc);
+fn reported_boxes(alloc: Global, at: u64) -> (bool, Option<bool>, Option<bool>, usize) {
+    let mut checker: BoxChecker = Checker::notifying(alloc);
     let added = add_boxes(&mut checker, alloc, at);
     let first = is_added(&mut checker, Lit::from_code(0));
     let second = is_added(&mut checker, Lit::from_code(2));
@@ -59,9 +59,9 @@ fn told_boxes(alloc: Global, at: u64) -> (bool, Option<bool>, Option<bool>, usiz
 }
 
 #[test]
-fn boxes_are_told_in_order(rt: HostRuntime) {
-    let quiet = told_boxes(rt.alloc(), 0);
+fn boxes_are_reported_in_order(rt: HostRuntime) {
+    let quiet = reported_boxes(rt.alloc(), 0);
     assert!(rt; quiet == (true, Some(true), Some(true), 2));
-    let fails = told_boxes(rt.alloc(), 2);
+    let fails = reported_boxes(rt.alloc(), 2);
     assert!(rt; fails == (true, Some(true), Some(false), 2));
 }

@@ -4,7 +4,7 @@ ghost use Rattle.sat_base.specs.steps.Steps.{Step, End};
 ghost use Rattle.sat_base.specs.values.Clauses.{Valuation};
 ghost use Rattle.sat_checker.specs.Fold.{Holds};
 ghost use Rattle.sat_checker.specs.CheckerView.{kernel_of};
-ghost use Rattle.sat_checker.specs.KernelView.{HasAccepted, IsSettled};
+ghost use Rattle.sat_checker.specs.KernelView.{HasAccepted, KernelIsSettled};
 ghost use Rattle.sat_checker.specs.ProofView.{GaveSteps, taken_after};
 ghost use Rattle.sat_checker.specs.ClausesView.{after_additions};
 
@@ -36,7 +36,7 @@ fn is_refuted_by<R: CountedRead>(
     proof: &mut R,
 ) -> Result<bool, CheckerError>
     requires stands { HasAccepted (kernel_of checker.old) [] }
-    requires settled { IsSettled (kernel_of checker.old) }
+    requires settled { KernelIsSettled (kernel_of checker.old) }
     ensures { IfOk result (λ refuted. (passed : List Step) × (rest : List ℕ)
         × GaveSteps (R.seen proof.old) (R.seen proof.new) (passed ++ End ∷ []) rest
         × (refuted ≡ true → (a : Valuation) → Holds (taken_after passed (after_additions formula.now.clauses [])) a

@@ -7,7 +7,7 @@ use crate::announcements::{
 use crate::calls::{Answer, Answered, Call, END, error_of};
 use crate::dimacs::PAIRS;
 use crate::hearing::{
-    Heard, HeardCalls, Listener, Said, Told, add_listener, add_reader, are_done, are_heard,
+    Heard, HeardCalls, Listener, Notice, Said, add_listener, add_reader, are_done, are_heard,
     first_unheard,
 };
 use crate::kinds::Kind;
@@ -28,7 +28,7 @@ fn calls(place: usize, failing: usize, at: usize) -> usize {
 }
 
 /// The announcements that are taken by the one at this place.
-fn told(place: usize, failing: usize, at: usize) -> &'static [Told] {
+fn told(place: usize, failing: usize, at: usize) -> &'static [Notice] {
     &REFUTED[..calls(place, failing, at).min(REFUTED.len())]
 }
 
@@ -51,7 +51,7 @@ fn is_ended(alloc: Global, checker: &mut Heard, call: Call) -> bool {
 }
 
 /// Whether a proof is ended by such a fault, a processor of the caller's own being the first, at place 0.
-fn is_ended_with_own(alloc: Global, checker: &mut Heard, awaited: &'static [Told]) -> bool {
+fn is_ended_with_own(alloc: Global, checker: &mut Heard, awaited: &'static [Notice]) -> bool {
     let mut own = Listener::new(awaited);
     check_with(alloc, checker, REFUTATION, &mut own) == Some(Kind::NoMore) && own.is_done()
 }
@@ -69,7 +69,7 @@ fn has_failed(alloc: Global, checker: &mut Heard) -> bool {
 /// Whether a fault at this place ends the steps at this announcement: those of a proof with a processor of the caller's
 /// own, or else those that are fed one by one.
 fn ends(alloc: Global, failing: usize, at: usize, with_own: bool) -> bool {
-    let mut checker = Heard::telling(alloc);
+    let mut checker = Heard::notifying(alloc);
     let ended = add_four(&mut checker, failing, at)
         && (if with_own {
             is_ended_with_own(alloc, &mut checker, told(0, failing, at))
@@ -134,7 +134,7 @@ fn ended(call: Call) -> [Answered; 4] {
 }
 
 /// Whether a formula's clauses are told up to the first that isn't awaited, where so many are.
-fn is_told_up_to(alloc: Global, call: Call, count: usize) -> bool {
+fn is_reported_up_to(alloc: Global, call: Call, count: usize) -> bool {
     let (told, said) = (told(0, 1, count), said(0, 1, count));
     if count == 4 {
         are_heard(alloc, told, said, &taken(call))
@@ -144,10 +144,10 @@ fn is_told_up_to(alloc: Global, call: Call, count: usize) -> bool {
 }
 
 /// The first number of clauses behind which a fault doesn't end a formula, as such or as its text.
-fn first_untold(alloc: Global) -> Option<usize> {
+fn first_unreported(alloc: Global) -> Option<usize> {
     for count in 0..5 {
-        if !is_told_up_to(alloc, Call::Formula(proofs::PAIRS), count)
-            || !is_told_up_to(alloc, Call::Dimacs(PAIRS), count)
+        if !is_reported_up_to(alloc, Call::Formula(proofs::PAIRS), count)
+            || !is_reported_up_to(alloc, Call::Dimacs(PAIRS), count)
         {
             return Some(count);
         }
@@ -157,7 +157,7 @@ fn first_untold(alloc: Global) -> Option<usize> {
 
 #[test]
 fn faults_end_formulas(rt: HostRuntime) {
-    let wrong = first_untold(rt.alloc());
+    let wrong = first_unreported(rt.alloc());
     assert!(rt; wrong == None, "{wrong:?}");
 }
 

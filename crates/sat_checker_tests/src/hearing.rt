@@ -22,7 +22,7 @@ pub(crate) const NO: u64 = u64::MAX;
 
 /// An announcement. Variables, names and literals are numbers of DIMACS.
 #[derive(Clone, Copy)]
-pub(crate) enum Told {
+pub(crate) enum Notice {
     /// A variable, its name, whether it is a sampling one, and whether it was unknown.
     UserVar(i64, i64, bool, bool),
     /// A variable, which has no name any longer.
@@ -106,9 +106,9 @@ fn samples(mode: CheckedSamplingMode) -> bool {
     }
 }
 
-fn is_named(told: Told, var: Var, user: CheckedUserVar) -> bool {
+fn is_named(told: Notice, var: Var, user: CheckedUserVar) -> bool {
     match told {
-        Told::UserVar(number, name, sampling, new_var) => {
+        Notice::UserVar(number, name, sampling, new_var) => {
             var.to_dimacs() == number
                 && user.user_var.to_dimacs() == name
                 && samples(user.sampling_mode) == sampling
@@ -118,14 +118,14 @@ fn is_named(told: Told, var: Var, user: CheckedUserVar) -> bool {
     }
 }
 
-fn is_unnamed(told: Told, var: Var) -> bool {
+fn is_unnamed(told: Notice, var: Var) -> bool {
     match told {
-        Told::NoName(number) => var.to_dimacs() == number,
+        Notice::NoName(number) => var.to_dimacs() == number,
         _ => false,
     }
 }
 
-fn is_user_var(told: Told, var: Var, user_var: Option<CheckedUserVar>) -> bool {
+fn is_user_var(told: Notice, var: Var, user_var: Option<CheckedUserVar>) -> bool {
     match user_var {
         Some(user) => is_named(told, var, user),
         None => is_unnamed(told, var),
@@ -215,20 +215,20 @@ fn parts_of<'a>(step: &CheckedProofStep<'a>) -> Found<'a> {
     }
 }
 
-fn awaited_parts(told: Told) -> Awaited {
+fn awaited_parts(told: Notice) -> Awaited {
     match told {
-        Told::UserVar(..) | Told::NoName(_) => (NAMED, 0, 0, false, [0; 3], NONE),
-        Told::DeleteVar(var) => (FORGOTTEN, var.unsigned_abs(), 0, false, [0; 3], NONE),
-        Told::AddClause(id, clause) => (ADDED, id, 0, false, clause, NONE),
-        Told::DuplicatedClause(id, same, clause) => (DUPLICATED, id, same, false, clause, NONE),
-        Told::TautologicalClause(id, clause) => (TAUTOLOGICAL, id, 0, false, clause, NONE),
-        Told::AtClause(id, redundant, clause, ids) => (DERIVED, id, 0, redundant, clause, ids),
-        Told::MakeIrredundant(id, clause) => (MADE_IRREDUNDANT, id, 0, false, clause, NONE),
-        Told::DeleteClause(id, clause) => (DELETED, id, 0, false, clause, NONE),
-        Told::DeleteAtClause(id, kept, clause, ids) => (DELETED_BY, id, 0, kept, clause, ids),
-        Told::Model(assignment) => (MODEL, 0, 0, false, assignment, NONE),
-        Told::Assumptions(assumptions) => (ASSUMED, 0, 0, false, assumptions, NONE),
-        Told::FailedAssumptions(core, ids) => (FAILED, 0, 0, false, core, ids),
+        Notice::UserVar(..) | Notice::NoName(_) => (NAMED, 0, 0, false, [0; 3], NONE),
+        Notice::DeleteVar(var) => (FORGOTTEN, var.unsigned_abs(), 0, false, [0; 3], NONE),
+        Notice::AddClause(id, clause) => (ADDED, id, 0, false, clause, NONE),
+        Notice::DuplicatedClause(id, same, clause) => (DUPLICATED, id, same, false, clause, NONE),
+        Notice::TautologicalClause(id, clause) => (TAUTOLOGICAL, id, 0, false, clause, NONE),
+        Notice::AtClause(id, redundant, clause, ids) => (DERIVED, id, 0, redundant, clause, ids),
+        Notice::MakeIrredundant(id, clause) => (MADE_IRREDUNDANT, id, 0, false, clause, NONE),
+        Notice::DeleteClause(id, clause) => (DELETED, id, 0, false, clause, NONE),
+        Notice::DeleteAtClause(id, kept, clause, ids) => (DELETED_BY, id, 0, kept, clause, ids),
+        Notice::Model(assignment) => (MODEL, 0, 0, false, assignment, NONE),
+        Notice::Assumptions(assumptions) => (ASSUMED, 0, 0, false, assumptions, NONE),
+        Notice::FailedAssumptions(core, ids) => (FAILED, 0, 0, false, core, ids),
     }
 }
 
@@ -241,7 +241,7 @@ fn are_same(found: Found<'_>, awaited: Awaited) -> bool {
 }
 
 /// Whether this is announced.
-fn is_told(step: &CheckedProofStep<'_>, told: Told) -> bool {
+fn is_reported(step: &CheckedProofStep<'_>, told: Notice) -> bool {
     match *step {
         CheckedProofStep::UserVar { var, user_var } => is_user_var(told, var, user_var),
         _ => are_same(parts_of(step), awaited_parts(told)),
@@ -290,11 +290,11 @@ const ANOTHER: &str = "another one is awaited";
 /// A processor that waits for these announcements.
 #[derive(Drop)]
 pub(crate) struct Listener {
-    awaited: &'static [Told],
+    awaited: &'static [Notice],
 }
 
 impl Listener {
-    pub(crate) fn new(awaited: &'static [Told]) -> Listener {
+    pub(crate) fn new(awaited: &'static [Notice]) -> Listener {
         Listener { awaited }
     }
 
@@ -307,7 +307,7 @@ impl Listener {
         let Some((first, rest)) = self.awaited.split_first() else {
             return Some(NO_MORE);
         };
-        if !is_told(step, *first) {
+        if !is_reported(step, *first) {
             return Some(ANOTHER);
         }
         self.awaited = rest;
@@ -377,7 +377,7 @@ impl ProofTranscriptProcessor for Reader {
 pub(crate) type Heard = Checker<Listener, Reader>;
 
 /// Adds a processor that waits for these announcements. The answer is whether there was memory.
-pub(crate) fn add_listener(checker: &mut Heard, awaited: &'static [Told]) -> bool {
+pub(crate) fn add_listener(checker: &mut Heard, awaited: &'static [Notice]) -> bool {
     checker.add_processor(Listener::new(awaited)).is_ok()
 }
 
@@ -416,11 +416,11 @@ pub(crate) fn are_done(given_back: Processors<Listener, Reader>, count: usize) -
 /// answered so.
 pub(crate) fn are_heard(
     alloc: Global,
-    told: &'static [Told],
+    told: &'static [Notice],
     said: &'static [Said],
     calls: &[Answered],
 ) -> bool {
-    let mut checker = Heard::telling(alloc);
+    let mut checker = Heard::notifying(alloc);
     let right = add_listener(&mut checker, told)
         && add_reader(&mut checker, said)
         && answers(alloc, &mut checker, calls);
@@ -431,7 +431,7 @@ pub(crate) fn are_heard(
 /// What some calls are about, what is told and said of them, and the calls.
 pub(crate) type HeardCalls = (
     &'static str,
-    &'static [Told],
+    &'static [Notice],
     &'static [Said],
     &'static [Answered],
 );

@@ -116,7 +116,7 @@ fn is_part(alloc: Global, first: [i64; 3], second: [i64; 3], strict: bool) -> Op
 }
 
 #[test]
-fn parts_are_told(rt: HostRuntime) {
+fn parts_are_reported(rt: HostRuntime) {
     for &(first, second, part, strict_part) in parts() {
         assert!(rt; is_part(rt.alloc(), first, second, false) == Some(part));
         assert!(rt; is_part(rt.alloc(), first, second, true) == Some(strict_part));
@@ -124,10 +124,10 @@ fn parts_are_told(rt: HostRuntime) {
 }
 
 /// What a checker tells of the first variable: its name, whether it is known, and whether one was deleted.
-type Told = (Option<usize>, bool, bool);
+type Notice = (Option<usize>, bool, bool);
 
 /// Steps, and what is told then.
-static TOLD: [(&[u8], Told); 8] = [
+static TOLD: [(&[u8], Notice); 8] = [
     (&[], (None, false, false)),
     (&[2, 0, 5], (Some(4), true, false)),
     (&[2, 0, 5, 2, 0, 0], (None, true, false)),
@@ -138,11 +138,11 @@ static TOLD: [(&[u8], Told); 8] = [
     (&[11, 1, 3, 11, 0, 3, 1], (None, false, true)),
 ];
 
-fn rows_of_told() -> &'static [(&'static [u8], Told)] {
+fn rows_of_reported() -> &'static [(&'static [u8], Notice)] {
     &TOLD
 }
 
-fn told(alloc: Global, text: &'static [u8]) -> Told {
+fn told(alloc: Global, text: &'static [u8]) -> Notice {
     let mut checker = Checker::new(alloc);
     let _incomplete = error_of(alloc, &mut checker, Call::Proof(text));
     let var = Var::from_index(0);
@@ -153,8 +153,8 @@ fn told(alloc: Global, text: &'static [u8]) -> Told {
 }
 
 #[test]
-fn variables_are_told(rt: HostRuntime) {
-    for (text, wanted) in rows_of_told() {
+fn variables_are_reported(rt: HostRuntime) {
+    for (text, wanted) in rows_of_reported() {
         assert!(rt; told(rt.alloc(), *text) == *wanted, "{text:?}");
     }
 }

@@ -112,7 +112,10 @@ fn failed_processors_are_handed_back(rt: HostRuntime) {
 
 /// Whether a processor of the caller's own that answers a fault ends the step before the others, and one that doesn't
 /// lets them be told.
-fn is_told_before(processing: &mut Processing<FailsAt, FailsAt>, names: CheckerData<'_>) -> bool {
+fn is_reported_before(
+    processing: &mut Processing<FailsAt, FailsAt>,
+    names: CheckerData<'_>,
+) -> bool {
     let step = CheckedProofStep::AddClause { id: 0, clause: &[] };
     let mut own = FailsAt::new(1);
     processing.step_with(&mut own, &step, names).is_err()
@@ -123,18 +126,18 @@ fn is_told_before(processing: &mut Processing<FailsAt, FailsAt>, names: CheckerD
 }
 
 /// Whether somebody listens once a processor was added, and the caller's own is told before it.
-fn is_told_first(alloc: Global) -> bool {
+fn is_reported_first(alloc: Global) -> bool {
     let variables = Variables::new(alloc);
     let mut processing: Processing<FailsAt, FailsAt> = Processing::new(alloc);
     processing.is_quiet()
         && processing.add_processor(FailsAt::new(1)).is_ok()
         && !processing.is_quiet()
-        && is_told_before(&mut processing, CheckerData::new(&variables))
+        && is_reported_before(&mut processing, CheckerData::new(&variables))
 }
 
 #[test]
-fn own_processor_is_told_first(rt: HostRuntime) {
-    assert!(rt; is_told_first(rt.alloc()));
+fn own_processor_is_reported_first(rt: HostRuntime) {
+    assert!(rt; is_reported_first(rt.alloc()));
 }
 
 /// How many literals a clause of a transcript has, and the first.

@@ -32,7 +32,7 @@ pub(crate) fn read_by<C: SelfChecker, R: CountedRead>(
 
 /// Whether steps are answered so where a processor and a transcript take everything that is announced.
 fn is_answered_to_listeners(alloc: Global, calls: &[Answered]) -> bool {
-    let mut checker: Checker<FailsAt, FailsAt> = Checker::telling(alloc);
+    let mut checker: Checker<FailsAt, FailsAt> = Checker::notifying(alloc);
     let right = add_quiet(&mut checker) && answers(alloc, &mut checker, calls);
     drop(checker);
     right

@@ -1,7 +1,7 @@
 -- Which lines the steps of a certificate give, in the order in which they are announced.
 use Rattle.std.specs.Prelude.{ℕ, true, false, Bool, Option, None, Some, List, [], ◌∷◌, length}
 use Rattle.sat_base.specs.steps.Steps.{Step}
-use Rattle.sat_checker.specs.announcements.Announcements.{Announcement, Told, all_told_after}
+use Rattle.sat_checker.specs.announcements.Announcements.{Announcement, Notice, all_notices_after}
 use Rattle.sat_checker.specs.announcements.Announcements as told
 use Rattle.sat_base.specs.text.Tokenizing.{held}
 use Rattle.sat_hints.specs.Lines.{Line, Input, Derived, Gone, Core, Fresh, text_of}
@@ -15,20 +15,20 @@ gone_unless true id = None
 gone_unless false id = Some (Gone id)
 
 -- the line of an announcement, if it has one
-abbrev pub line_told : Announcement → Option Line
-line_told (told.UserVar v user) = None
-line_told (told.DeleteVar v) = Some (Fresh v)
-line_told (told.AddClause id clause) = Some (Input id clause)
-line_told (told.DuplicatedClause id same clause) = None
-line_told (told.TautologicalClause id clause) = None
-line_told (told.AtClause id redundant clause ids) = Some (Derived id clause ids)
-line_told (told.MakeIrredundant id clause) = None
-line_told (told.DeleteClause id clause) = Some (Gone id)
-line_told (told.DeleteAtClause id kept clause ids) = gone_unless kept id
-line_told (told.DeleteRatClause id kept clause) = None
-line_told (told.Model assignment) = None
-line_told (told.Assumptions assumptions) = None
-line_told (told.FailedAssumptions core ids) = Some (Core core ids)
+abbrev pub announced_line : Announcement → Option Line
+announced_line (told.UserVar v user) = None
+announced_line (told.DeleteVar v) = Some (Fresh v)
+announced_line (told.AddClause id clause) = Some (Input id clause)
+announced_line (told.DuplicatedClause id same clause) = None
+announced_line (told.TautologicalClause id clause) = None
+announced_line (told.AtClause id redundant clause ids) = Some (Derived id clause ids)
+announced_line (told.MakeIrredundant id clause) = None
+announced_line (told.DeleteClause id clause) = Some (Gone id)
+announced_line (told.DeleteAtClause id kept clause ids) = gone_unless kept id
+announced_line (told.DeleteRatClause id kept clause) = None
+announced_line (told.Model assignment) = None
+announced_line (told.Assumptions assumptions) = None
+announced_line (told.FailedAssumptions core ids) = Some (Core core ids)
 
 -- a line before these, if there is one
 abbrev pub with_line : Option Line → List Line → List Line
@@ -36,13 +36,13 @@ with_line None lines = lines
 with_line (Some line) lines = line ∷ lines
 
 -- the lines of announcements, the oldest first, after earlier lines, the newest first
-abbrev pub lines_told : List Told → List Line → List Line
-lines_told [] earlier = earlier
-lines_told (t ∷ ts) earlier = lines_told ts (with_line (line_told t.announcement) earlier)
+abbrev pub announced_lines : List Notice → List Line → List Line
+announced_lines [] earlier = earlier
+announced_lines (t ∷ ts) earlier = announced_lines ts (with_line (announced_line t.announcement) earlier)
 
 -- the lines of accepted steps, both with the newest first
 abbrev pub lines_of : List Step → List Line
-lines_of steps = lines_told (all_told_after steps) []
+lines_of steps = announced_lines (all_notices_after steps) []
 
 -- the text of those lines
 abbrev pub hint_text : List Step → List ℕ

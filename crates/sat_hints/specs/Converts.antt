@@ -2,7 +2,7 @@
 use Rattle.std.specs.Prelude.{ℕ, ◌≡◌, ◌≢◌, ◌⊎◌, List, [], ◌∷◌, ◌++◌, Result, Ok, Err}
 use Rattle.std.specs.List.{AllByRecursion}
 use Rattle.sat_base.specs.device.Device.{Reader, Writer, IsOver, ReadFails, WriterTakes, WriterBreaks}
-use Rattle.sat_base.specs.steps.Formats.{IsProperFront, Spoilt}
+use Rattle.sat_base.specs.steps.Formats.{IsProperFront, IsFirstBadByte}
 use Rattle.sat_base.specs.steps.Steps.{Step, End}
 use Rattle.sat_base.specs.steps.StepText.{SpellsStep}
 use Rattle.sat_checker.specs.Accepts.{Accepts, AcceptsAll, ready_after}
@@ -15,7 +15,7 @@ use Rattle.sat_hints.specs.declared.error.HintError.{HintError}
 use Rattle.sat_hints.specs.declared.error.HintError.TheVariants.{Refused, HasDeleteVar, Read, Write, OutOfMemory}
 
 -- A reader gave the text of steps that are accepted, in the order in which they were taken, then that of one more or none, and then these bytes.
-pub record Gave (from to : Reader) (passed last : List Step) (rest : List ℕ) : Type 0 where
+pub record GaveAcceptedSteps (from to : Reader) (passed last : List Step) (rest : List ℕ) : Type 0 where
   pub steps : GaveSteps from to (passed ++ last) rest
   pub unended : AllByRecursion (λ step. step ≢ End) passed
   pub accepted : AcceptsAll (taken_after passed [])
@@ -33,23 +33,23 @@ BreaksBehind old new step steps = WriterBreaks old new (hint_text steps) ⊎ (Ac
 
 -- after the steps that passed one was begun, of which a byte was given, or it was read and would be accepted
 abbrev pub GaveUpTo : Reader → Reader → List Step → List ℕ → Type 0
-GaveUpTo from to passed rest = (Gave from to passed [] rest × BeginsWithStep rest)
-    ⊎ ((step : Step) × Gave from to passed (step ∷ []) rest × Accepts (ready_after (taken_after passed [])) step)
+GaveUpTo from to passed rest = (GaveAcceptedSteps from to passed [] rest × BeginsWithStep rest)
+    ⊎ ((step : Step) × GaveAcceptedSteps from to passed (step ∷ []) rest × Accepts (ready_after (taken_after passed [])) step)
 
 -- the certificate was read and accepted to its end
 pub record IsAccepted (from to : Reader) (passed : List Step) (rest : List ℕ) : Type 0 where
-  pub gave : Gave from to passed (End ∷ []) rest
+  pub gave : GaveAcceptedSteps from to passed (End ∷ []) rest
   pub none_failed : NoReadFailed from to
   pub ends : Accepts (ready_after (taken_after passed [])) End
 
 -- why the checker refuses it
 abbrev pub RefusesBy : CheckerError → Reader → Reader → List Step → Type 0
 -- a step is not accepted,
-RefusesBy errors.CheckFailed from to passed = (step : Step) × (rest : List ℕ) × Gave from to passed (step ∷ []) rest × (Accepts (ready_after (taken_after passed [])) step → ⊥)
+RefusesBy errors.CheckFailed from to passed = (step : Step) × (rest : List ℕ) × GaveAcceptedSteps from to passed (step ∷ []) rest × (Accepts (ready_after (taken_after passed [])) step → ⊥)
 -- the text has ended before an end,
-RefusesBy errors.ProofIncomplete from to passed = (rest : List ℕ) × Gave from to passed [] rest × IsOver to × IsProperFront SpellsStep rest
+RefusesBy errors.ProofIncomplete from to passed = (rest : List ℕ) × GaveAcceptedSteps from to passed [] rest × IsOver to × IsProperFront SpellsStep rest
 -- or no step can follow a byte
-RefusesBy errors.ParseError from to passed = (rest : List ℕ) × Gave from to passed [] rest × Spoilt SpellsStep rest
+RefusesBy errors.ParseError from to passed = (rest : List ℕ) × GaveAcceptedSteps from to passed [] rest × IsFirstBadByte SpellsStep rest
 -- ids and counts do not come to their end within the bytes that a reader gives
 RefusesBy errors.CounterEnd from to passed = ⊥
 RefusesBy errors.IoError from to passed = ⊥
@@ -69,10 +69,10 @@ Converts (Err HasDeleteVar) from to old new = ⊥
 Converts (Err (Refused e)) from to old new = (passed : List Step) × NoReadFailed from to × RefusesBy e from to passed
     × WritesFrontOf old new (hint_text (taken_after passed []))
 -- exactly one read failed, the last, or 2^48 were made and none did,
-Converts (Err Read) from to old new = (passed : List Step) × (rest : List ℕ) × ReadFails from to × Gave from to passed [] rest × IsProperFront SpellsStep rest
+Converts (Err Read) from to old new = (passed : List Step) × (rest : List ℕ) × ReadFails from to × GaveAcceptedSteps from to passed [] rest × IsProperFront SpellsStep rest
     × WritesFrontOf old new (hint_text (taken_after passed []))
 -- a write of the lines failed, the last, as the last step read was checked or announced,
-Converts (Err Write) from to old new = (passed : List Step) × (step : Step) × (rest : List ℕ) × NoReadFailed from to × Gave from to passed (step ∷ []) rest
+Converts (Err Write) from to old new = (passed : List Step) × (step : Step) × (rest : List ℕ) × NoReadFailed from to × GaveAcceptedSteps from to passed (step ∷ []) rest
     × BreaksBehind old new step (taken_after passed [])
 -- or memory was refused, as a step was read, or as an accepted one was checked or announced
 Converts (Err OutOfMemory) from to old new = (passed : List Step) × (rest : List ℕ) × NoReadFailed from to × GaveUpTo from to passed rest

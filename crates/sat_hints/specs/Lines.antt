@@ -37,9 +37,9 @@ abbrev pub AreLines : List Line → Type 0
 AreLines = AllByRecursion IsLine
 
 -- the word of each item, and a space after it
-abbrev pub words : (ℕ → List ℕ) → List ℕ → List ℕ
-words word [] = []
-words word (x ∷ xs) = word x ++ (32 ∷ words word xs)
+abbrev pub spaced_words : (ℕ → List ℕ) → List ℕ → List ℕ
+spaced_words word [] = []
+spaced_words word (x ∷ xs) = word x ++ (32 ∷ spaced_words word xs)
 
 -- an id in a text is one more, in decimal, so that `0` can end a list
 abbrev pub id_text : ℕ → List ℕ
@@ -47,15 +47,15 @@ id_text id = decimal (id + 1)
 
 -- ids, each with a space after it
 abbrev pub id_words : List ℕ → List ℕ
-id_words = words id_text
+id_words = spaced_words id_text
 
 -- a variable is its number in DIMACS, in the same form
 abbrev pub variable_words : List ℕ → List ℕ
-variable_words = words id_text
+variable_words = spaced_words id_text
 
 -- a literal is its number in DIMACS
 abbrev pub literal_words : List ℕ → List ℕ
-literal_words = words number_text
+literal_words = spaced_words number_text
 
 -- `i ID LITS 0`, `d ID LITS 0 IDS 0`, `x ID 0`, `f LITS 0 IDS 0` or `e VAR 0`, with LF
 abbrev pub line_text : Line → List ℕ

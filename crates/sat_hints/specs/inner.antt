@@ -7,5 +7,5 @@ pub mod Course
 pub mod Judging
 pub mod Holding
 pub mod LineWriting
-pub mod Telling
+pub mod AnnouncedLines
 pub mod LinesWritten

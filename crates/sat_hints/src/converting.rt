@@ -2,15 +2,15 @@
 ghost use Rattle.std.specs.Prelude.{◌≡◌, [], false};
 ghost use Rattle.std.specs.Option.{option_map};
 ghost use Rattle.sat_checker.specs.CheckerView.{kernel_of, seen_of};
-ghost use Rattle.sat_checker.specs.KernelView.{has_failed, IsSettled, HasAccepted};
-ghost use Rattle.sat_checker.specs.telling.AnnouncementView.{announcement_of};
-ghost use Rattle.sat_checker.specs.telling.ProcessingView.{listeners_of};
-ghost use Rattle.sat_hints.specs.Conversion.{line_told};
+ghost use Rattle.sat_checker.specs.KernelView.{kernel_has_failed, KernelIsSettled, HasAccepted};
+ghost use Rattle.sat_checker.specs.listeners.AnnouncementView.{announcement_of};
+ghost use Rattle.sat_checker.specs.listeners.ProcessingView.{listeners_of};
+ghost use Rattle.sat_hints.specs.Conversion.{announced_line};
 ghost use Rattle.sat_hints.specs.Converts.{Converts};
-ghost use Rattle.sat_hints.specs.inner.LineReading.{line_of};
+ghost use Rattle.sat_hints.specs.inner.LineReading.{line_of_view};
 ghost use Rattle.sat_hints.specs.inner.LineWriting.{outlet, PutsText};
 ghost use Rattle.sat_hints.specs.inner.LinesWritten.{hint_of, WritesLines};
-ghost use Rattle.sat_hints.specs.inner.Telling.{text_if, TakesTold};
+ghost use Rattle.sat_hints.specs.inner.AnnouncedLines.{text_if, PutsAnnouncedLine};
 
 use crate::error::HintError;
 use crate::line::HintLine;
@@ -21,8 +21,8 @@ use std::alloc::Global;
 
 /// Returns the line of an announcement, if it has one. Clauses that were stored before, tautologies, names, models and
 /// assumptions have none.
-fn line_told<'a>(step: &CheckedProofStep<'a>) -> Option<HintLine<'a>>
-    ensures { option_map line_of result ≡ line_told (announcement_of step.now) }
+fn announced_line<'a>(step: &CheckedProofStep<'a>) -> Option<HintLine<'a>>
+    ensures { option_map line_of_view result ≡ announced_line (announcement_of step.now) }
 {
     match step {
         CheckedProofStep::AddClause { id, clause } => Some(HintLine::Input { id: *id, clause }),
@@ -69,11 +69,11 @@ fn line_told<'a>(step: &CheckedProofStep<'a>) -> Option<HintLine<'a>>
 
 impl<W: CountedWrite> LineWriter<W> {
     /// Puts the line of an announcement, if it has one.
-    fn put_told(&mut self, step: &CheckedProofStep<'_>)
-        ensures { PutsText (text_if (line_told (announcement_of step.now))) (outlet W.seen self.old)
+    fn put_announced(&mut self, step: &CheckedProofStep<'_>)
+        ensures { PutsText (text_if (announced_line (announcement_of step.now))) (outlet W.seen self.old)
             (outlet W.seen self.new) }
     {
-        match line_told(step) {
+        match announced_line(step) {
             Some(line) => self.put_line(&line),
             None => {}
         }
@@ -81,14 +81,14 @@ impl<W: CountedWrite> LineWriter<W> {
 }
 
 impl<W: CountedWrite + Drop> ProofProcessor for LineWriter<W> {
-    ghost takes = { TakesTold W.seen };
+    ghost takes = { PutsAnnouncedLine W.seen };
 
     fn process_step(
         &mut self,
         step: &CheckedProofStep<'_>,
         _names: CheckerData<'_>,
     ) -> anyhow::Result<()> {
-        self.put_told(step);
+        self.put_announced(step);
         if self.has_failed() {
             return Err(anyhow::Error::msg("a write failed"));
         }
@@ -119,8 +119,8 @@ fn write_checked<R: CountedRead, W: CountedWrite + Drop>(
     lines: &mut LineWriter<W>,
 ) -> Result<(), HintError>
     requires stands { HasAccepted (kernel_of checker.old) [] }
-    requires goes_on { has_failed (kernel_of checker.old) ≡ false }
-    requires settled { IsSettled (kernel_of checker.old) }
+    requires goes_on { kernel_has_failed (kernel_of checker.old) ≡ false }
+    requires settled { KernelIsSettled (kernel_of checker.old) }
     requires listeners { listeners_of (seen_of checker.old).listeners ≡ record { processors = []; transcripts = [] } }
     requires well { lines.old.failed ≡ false }
     ensures { WritesLines result (R.seen certificate.old) (R.seen certificate.new) (outlet W.seen lines.old)

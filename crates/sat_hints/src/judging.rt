@@ -3,8 +3,8 @@ ghost use Rattle.std.specs.Prelude.{◌≡◌, ◌≤◌, ◌+◌, ◌^◌, ◌-
 ghost use Rattle.sat_base.specs.text.Tokenizing.{held};
 ghost use Rattle.sat_checker.specs.LiteralSets.{canonical};
 ghost use Rattle.sat_hints.specs.Lines.{Input, Derived, Gone, Core, Fresh, IsLine};
-ghost use Rattle.sat_hints.specs.inner.LineReading.{line_of, IsId};
-ghost use Rattle.sat_checker.specs.inner.Room.{signed};
+ghost use Rattle.sat_hints.specs.inner.LineReading.{line_of_view, IsId};
+ghost use Rattle.sat_checker.specs.inner.AssumedRoom.{signed};
 ghost use Rattle.sat_hints.specs.inner.Judging.{HasTakenLines, IsReadyJudge, IsSame, MayFollow, WhyNotRefuted};
 ghost use Rattle.sat_hints.specs.inner.Judging.{StoresClause, TakesNext, TakesOne};
 
@@ -165,9 +165,9 @@ impl Judge {
     /// Judges the next line, without counting it.
     fn take_unnumbered(&mut self, line: &HintLine<'_>) -> Result<Option<HintWhy>, AllocError>
         requires ready { IsReadyJudge self.old }
-        requires within { IsLine (line_of line.now) }
-        ensures takes { IfOk result (λ why. TakesOne why self.old self.new (line_of line.now)) }
-        ensures judged { OnErr result (MayFollow self.old (line_of line.now)) }
+        requires within { IsLine (line_of_view line.now) }
+        ensures takes { IfOk result (λ why. TakesOne why self.old self.new (line_of_view line.now)) }
+        ensures judged { OnErr result (MayFollow self.old (line_of_view line.now)) }
     {
         match line {
             HintLine::Input { id, clause } => self.input(*id, clause),
@@ -181,10 +181,10 @@ impl Judge {
     /// Judges the next line. Returns why it is at fault, if it is. Memory is needed only for a line that is not.
     pub(crate) fn take(&mut self, line: &HintLine<'_>) -> Result<Option<HintWhy>, AllocError>
         requires ready { IsReadyJudge self.old }
-        requires within { IsLine (line_of line.now) }
+        requires within { IsLine (line_of_view line.now) }
         ensures ready { IfOk result (λ why. why ≡ None → IsReadyJudge self.new) }
-        ensures takes { IfOk result (λ why. TakesNext why self.old self.new (line_of line.now)) }
-        ensures judged { OnErr result (MayFollow self.old (line_of line.now)) }
+        ensures takes { IfOk result (λ why. TakesNext why self.old self.new (line_of_view line.now)) }
+        ensures judged { OnErr result (MayFollow self.old (line_of_view line.now)) }
     {
         let why = self.take_unnumbered(line)?;
         if why.is_none() {

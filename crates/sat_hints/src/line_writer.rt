@@ -1,7 +1,7 @@
 //! Writing lines of a hint text, through a buffer.
 ghost use Rattle.std.specs.Prelude.{◌≡◌, ◌+◌, ◌<◌, ◌∷◌, ◌++◌, [], false, decimal};
 ghost use Rattle.sat_hints.specs.Lines.{Input, Derived, Gone, Core, Fresh, id_words, line_text, literal_words};
-ghost use Rattle.sat_hints.specs.inner.LineReading.{line_of};
+ghost use Rattle.sat_hints.specs.inner.LineReading.{line_of_view};
 ghost use Rattle.sat_hints.specs.inner.LineWriting.{outlet, both_words, sign_text, PutsText};
 
 use crate::items::{MOST_BYTES, write_ids, write_literals};
@@ -294,7 +294,7 @@ impl<W: CountedWrite> LineWriter<W> {
 
     /// Puts a line.
     pub(crate) fn put_line(&mut self, line: &HintLine<'_>)
-        ensures { PutsText (line_text (line_of line.now)) (outlet W.seen self.old) (outlet W.seen self.new) }
+        ensures { PutsText (line_text (line_of_view line.now)) (outlet W.seen self.old) (outlet W.seen self.new) }
     {
         match line {
             HintLine::Input { id, clause } => self.put_input(*id, clause),

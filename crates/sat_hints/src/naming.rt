@@ -1,13 +1,13 @@
 //! Tests of whether the clauses that a line names are present.
 ghost use Rattle.std.specs.Prelude.{◌≡◌, ◌≢◌, None, MatchBool};
-ghost use Rattle.sat_hints.specs.inner.Standing.{clauses_of, StandingInvariant};
+ghost use Rattle.sat_hints.specs.inner.Standing.{standing_clauses, StandingInvariant};
 
 use crate::standing::Standing;
 
 /// Whether all clauses under these ids are present.
 pub(crate) fn are_present(standing: &Standing, ids: &[u64]) -> bool
     requires { StandingInvariant standing.now }
-    ensures { MatchBool result (clauses_of standing.now ids.now ≢ None) (clauses_of standing.now ids.now ≡ None) }
+    ensures { MatchBool result (standing_clauses standing.now ids.now ≢ None) (standing_clauses standing.now ids.now ≡ None) }
 {
     for id in ids {
         let Some(_place) = standing.find(*id) else {

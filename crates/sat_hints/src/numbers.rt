@@ -3,7 +3,7 @@ ghost use Rattle.std.specs.Prelude.{◌≡◌, ◌++◌, ◌∷◌, [], ◌<◌,
 ghost use Rattle.sat_base.specs.dimacs.DimacsText.{number_text};
 ghost use Rattle.sat_hints.specs.Lines.{id_text};
 ghost use Rattle.sat_hints.specs.inner.LineReading.{BeginsWithWord, IsId, IsLiteralCode, IsNumberUpTo, IsVariableIndex};
-ghost use Rattle.sat_hints.specs.inner.LineReading.{EndsNone, NoDigit, NoWord, digits_so_far};
+ghost use Rattle.sat_hints.specs.inner.LineReading.{EndsNone, NoDigit, NoWord, number_digits_so_far};
 
 use sat_base::{Lit, Var};
 
@@ -25,7 +25,7 @@ pub(crate) fn take_text<'a>(bytes: &'a [u8], text: &[u8]) -> Option<&'a [u8]>
 pub(crate) fn with_digit(number: u64, byte: u8, limit: u64) -> Option<u64>
     requires { 9 ≤ limit }
     ensures { MatchOption result (NoDigit limit number byte)
-        (λ more. IsNumberUpTo limit more × (decimal more ≡ digits_so_far number ++ byte ∷ [])) }
+        (λ more. IsNumberUpTo limit more × (decimal more ≡ number_digits_so_far number ++ byte ∷ [])) }
 {
     if byte < b'0' || byte > b'9' {
         return None;

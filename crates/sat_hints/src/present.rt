@@ -2,7 +2,7 @@
 ghost use Rattle.std.specs.Prelude.{◌≡◌, ◌<◌, ℕ, [], None, length, slice_index, slice_index_or, OnOk, MatchOption};
 ghost use Rattle.std.specs.Prelude.{false};
 ghost use Rattle.sat_checker.specs.SortedSets.{IsIncreasing};
-ghost use Rattle.sat_hints.specs.inner.Clauses.{clause_at, clause_in, times_at, AddsPresentClause, AllBelow, FindsOne};
+ghost use Rattle.sat_hints.specs.inner.Clauses.{present_clause_at, clause_in, times_at, AddsPresentClause, AllBelow, FindsPresentClause};
 ghost use Rattle.sat_hints.specs.inner.Clauses.{IsStore, SamePresentClauses, Loses};
 
 use crate::guesses::Guesses;
@@ -47,7 +47,7 @@ impl Present {
     pub(crate) fn find(&self, id: u64) -> Option<usize>
         requires { IsStore self.now }
         ensures { MatchOption result (clause_in self.now id ≡ None)
-            (FindsOne self.now id) }
+            (FindsPresentClause self.now id) }
     {
         let Ok(place) = self.guesses.search(&self.ids, id) else {
             return None;
@@ -62,7 +62,7 @@ impl Present {
     #[inline(always)]
     pub(crate) fn clause(&self, place: usize) -> &[Lit]
         requires { place < length self.now.clauses }
-        ensures { result.now ≡ clause_at self.now place }
+        ensures { result.now ≡ present_clause_at self.now place }
     {
         self.clauses.get(place)
     }

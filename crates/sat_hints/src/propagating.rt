@@ -1,9 +1,9 @@
 //! Tests of whether clauses are unit in turn, and the last falsified. A lack of memory changes no answer.
 ghost use Rattle.std.specs.Prelude.{◌≡◌, ◌≢◌, ◌⊎◌, [], true, false, None, MatchBool};
 ghost use Rattle.sat_checker.specs.LiteralSets.{is_among, is_tautology};
-ghost use Rattle.sat_checker.specs.inner.Room.{AgreesOn, RoomStays, signed};
-ghost use Rattle.sat_hints.specs.inner.Judging.{course_of, WhyNotRefuted};
-ghost use Rattle.sat_hints.specs.inner.Standing.{clauses_of, HasRoomForPresent, StandingInvariant};
+ghost use Rattle.sat_checker.specs.inner.AssumedRoom.{AgreesOn, RoomStays, signed};
+ghost use Rattle.sat_hints.specs.inner.Judging.{refutation_failure_of, WhyNotRefuted};
+ghost use Rattle.sat_hints.specs.inner.Standing.{standing_clauses, HasRoomForPresent, StandingInvariant};
 
 use crate::answer::HintWhy;
 use crate::naming::are_present;
@@ -64,8 +64,8 @@ fn assume_all(assumed: &mut Assigned, literals: &[Lit], negate: bool) -> bool
 /// Returns why a line is at fault whose clause is not unit in its turn, if it names clauses under these ids after that.
 fn not_unit(standing: &Standing, behind: &[u64]) -> HintWhy
     requires { StandingInvariant standing.now }
-    ensures { (clauses_of standing.now behind.now ≡ None) × (result ≡ HintWhy.UnknownId)
-        ⊎ (clauses_of standing.now behind.now ≢ None) × (result ≡ HintWhy.NotUnit) }
+    ensures { (standing_clauses standing.now behind.now ≡ None) × (result ≡ HintWhy.UnknownId)
+        ⊎ (standing_clauses standing.now behind.now ≢ None) × (result ≡ HintWhy.NotUnit) }
 {
     if are_present(standing, behind) {
         return HintWhy::NotUnit;
@@ -77,7 +77,7 @@ fn not_unit(standing: &Standing, behind: &[u64]) -> HintWhy
 fn follow(standing: &Standing, ids: &[u64], assumed: &mut Assigned) -> Option<HintWhy>
     requires standing { StandingInvariant standing.now }
     requires room { HasRoomForPresent assumed.old.room standing.now }
-    ensures follows { result ≡ course_of assumed.old.literals (clauses_of standing.now ids.now) }
+    ensures follows { result ≡ refutation_failure_of assumed.old.literals (standing_clauses standing.now ids.now) }
     ensures room { assumed.new.room ≡ assumed.old.room }
 {
     if ids.is_empty() {

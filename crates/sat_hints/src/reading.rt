@@ -3,7 +3,7 @@ ghost use Rattle.std.specs.Prelude.{◌≡◌, ◌++◌, List, ℕ, codes, IfOk,
 ghost use Rattle.sat_base.specs.dimacs.DimacsText.{number_text};
 ghost use Rattle.sat_hints.specs.Lines.{id_text};
 ghost use Rattle.sat_hints.specs.inner.LineReading.{BeginsWithBoth, BeginsWithNoLine, BeginsWithOne, BeginsWithWords};
-ghost use Rattle.sat_hints.specs.inner.LineReading.{IsId, IsLiteralCode, ReadsLine, line_of, line_with};
+ghost use Rattle.sat_hints.specs.inner.LineReading.{IsId, IsLiteralCode, BeginsWithHintLine, line_of_view, line_with};
 
 use crate::line::HintLine;
 use crate::numbers::{read_id, read_literal, read_variable, take_text};
@@ -69,7 +69,7 @@ impl Lists {
 
     /// Returns the line with this head and these lists.
     pub(crate) fn line(&self, head: Head) -> HintLine<'_>
-        ensures { line_of result ≡ line_with head self.now.literals.items self.now.ids.items }
+        ensures { line_of_view result ≡ line_with head self.now.literals.items self.now.ids.items }
     {
         let literals = self.literals.as_slice();
         let ids = self.ids.as_slice();
@@ -119,7 +119,7 @@ impl Lists {
     /// Reads a line `i`, after `i `.
     fn read_input<'a>(&mut self, bytes: &'a [u8]) -> Result<Option<(Head, &'a [u8])>, AllocError>
         ensures { IfOk result (λ found. MatchOption found (BeginsWithNoLine (codes "i " ++ bytes.now))
-            (λ x. ReadsLine (codes "i " ++ bytes.now) (line_with x.0 self.new.literals.items self.new.ids.items) x.1.now)) }
+            (λ x. BeginsWithHintLine (codes "i " ++ bytes.now) (line_with x.0 self.new.literals.items self.new.ids.items) x.1.now)) }
     {
         let Some(found) = read_id(bytes) else {
             return Ok(None);
@@ -134,7 +134,7 @@ impl Lists {
     /// Reads a line `d`, after `d `.
     fn read_derived<'a>(&mut self, bytes: &'a [u8]) -> Result<Option<(Head, &'a [u8])>, AllocError>
         ensures { IfOk result (λ found. MatchOption found (BeginsWithNoLine (codes "d " ++ bytes.now))
-            (λ x. ReadsLine (codes "d " ++ bytes.now) (line_with x.0 self.new.literals.items self.new.ids.items) x.1.now)) }
+            (λ x. BeginsWithHintLine (codes "d " ++ bytes.now) (line_with x.0 self.new.literals.items self.new.ids.items) x.1.now)) }
     {
         let Some(found) = read_id(bytes) else {
             return Ok(None);
@@ -149,7 +149,7 @@ impl Lists {
     /// Reads a line `f`, after `f `.
     fn read_core<'a>(&mut self, bytes: &'a [u8]) -> Result<Option<(Head, &'a [u8])>, AllocError>
         ensures { IfOk result (λ found. MatchOption found (BeginsWithNoLine (codes "f " ++ bytes.now))
-            (λ x. ReadsLine (codes "f " ++ bytes.now) (line_with x.0 self.new.literals.items self.new.ids.items) x.1.now)) }
+            (λ x. BeginsWithHintLine (codes "f " ++ bytes.now) (line_with x.0 self.new.literals.items self.new.ids.items) x.1.now)) }
     {
         match self.read_both(bytes)? {
             Some(rest) => Ok(Some((Head::Core, rest))),
@@ -164,7 +164,7 @@ impl Lists {
         bytes: &'a [u8],
     ) -> Result<Option<(Head, &'a [u8])>, AllocError>
         ensures { IfOk result (λ found. MatchOption found (BeginsWithNoLine bytes.now)
-            (λ x. ReadsLine bytes.now (line_with x.0 self.new.literals.items self.new.ids.items) x.1.now)) }
+            (λ x. BeginsWithHintLine bytes.now (line_with x.0 self.new.literals.items self.new.ids.items) x.1.now)) }
     {
         if let Some(rest) = take_text(bytes, b"d ") {
             return self.read_derived(rest);
@@ -188,7 +188,7 @@ impl Lists {
 /// Reads a line `x`, after `x `.
 fn read_gone(bytes: &[u8]) -> Option<(Head, &[u8])>
     ensures { MatchOption result (BeginsWithNoLine (codes "x " ++ bytes.now))
-        (λ x. (ls : List ℕ) (ids : List ℕ) → ReadsLine (codes "x " ++ bytes.now) (line_with x.0 ls ids) x.1.now) }
+        (λ x. (ls : List ℕ) (ids : List ℕ) → BeginsWithHintLine (codes "x " ++ bytes.now) (line_with x.0 ls ids) x.1.now) }
 {
     let (id, behind) = read_id(bytes)?;
     let rest = take_text(behind, b"0\n")?;
@@ -198,7 +198,7 @@ fn read_gone(bytes: &[u8]) -> Option<(Head, &[u8])>
 /// Reads a line `e`, after `e `.
 fn read_fresh(bytes: &[u8]) -> Option<(Head, &[u8])>
     ensures { MatchOption result (BeginsWithNoLine (codes "e " ++ bytes.now))
-        (λ x. (ls : List ℕ) (ids : List ℕ) → ReadsLine (codes "e " ++ bytes.now) (line_with x.0 ls ids) x.1.now) }
+        (λ x. (ls : List ℕ) (ids : List ℕ) → BeginsWithHintLine (codes "e " ++ bytes.now) (line_with x.0 ls ids) x.1.now) }
 {
     let (index, behind) = read_variable(bytes)?;
     let rest = take_text(behind, b"0\n")?;

@@ -2,7 +2,7 @@
 ghost use Rattle.std.specs.Prelude.{◌≡◌, ◌≢◌, ◌⊎◌, ℕ, [], None, Some, IfOk, OnErr, OnOk, MatchBool, MatchOption};
 ghost use Rattle.sat_checker.specs.SortedSets.{IsIncreasing};
 ghost use Rattle.sat_hints.specs.inner.Clauses.{AllBelow};
-ghost use Rattle.sat_hints.specs.inner.Standing.{clause_of, is_stale, Drops, FindsOne, RenewsVariable};
+ghost use Rattle.sat_hints.specs.inner.Standing.{standing_clause, is_stale, DropsClause, FindsClause, RenewsVariable};
 ghost use Rattle.sat_hints.specs.inner.Standing.{AddsStandingClause, StandingInvariant, IsUsed, SinceWithin};
 
 use crate::present::Present;
@@ -24,7 +24,7 @@ impl Standing {
     pub(crate) fn new(alloc: Global) -> Standing
         ensures standing { StandingInvariant result }
         ensures none { result.present.ids.items ≡ [] }
-        ensures clauses { (id : ℕ) → clause_of result id ≡ None }
+        ensures clauses { (id : ℕ) → standing_clause result id ≡ None }
         ensures since { SinceWithin result 0 }
     {
         Standing {
@@ -48,7 +48,7 @@ impl Standing {
     /// Returns the place of the clause under this id, if it is present.
     pub(crate) fn find(&self, id: u64) -> Option<usize>
         requires { StandingInvariant self.now }
-        ensures { MatchOption result (clause_of self.now id ≡ None) (FindsOne self.now id) }
+        ensures { MatchOption result (standing_clause self.now id ≡ None) (FindsClause self.now id) }
     {
         let place = self.present.find(id)?;
         if self.is_stale(id, self.present.clause(place)) {
@@ -61,7 +61,7 @@ impl Standing {
     #[inline(always)]
     pub(crate) fn find_clause(&self, id: u64) -> Option<&[Lit]>
         requires { StandingInvariant self.now }
-        ensures { MatchOption result (clause_of self.now id ≡ None) (λ clause. clause_of self.now id ≡ Some clause.now) }
+        ensures { MatchOption result (standing_clause self.now id ≡ None) (λ clause. standing_clause self.now id ≡ Some clause.now) }
     {
         let place = self.present.find(id)?;
         let clause = self.present.clause(place);
@@ -88,9 +88,9 @@ impl Standing {
     /// Removes the clause under this id. Returns whether it was present.
     pub(crate) fn remove(&mut self, id: u64) -> Result<bool, AllocError>
         requires { StandingInvariant self.old }
-        ensures takes { IfOk result (λ was. MatchBool was ((clause_of self.old id ≢ None) × Drops self.old self.new id)
-            ((clause_of self.old id ≡ None) × (self.new ≡ self.old))) }
-        ensures judged { OnErr result (clause_of self.old id ≢ None) }
+        ensures takes { IfOk result (λ was. MatchBool was ((standing_clause self.old id ≢ None) × DropsClause self.old self.new id)
+            ((standing_clause self.old id ≡ None) × (self.new ≡ self.old))) }
+        ensures judged { OnErr result (standing_clause self.old id ≢ None) }
     {
         let Some(place) = self.find(id) else {
             return Ok(false);

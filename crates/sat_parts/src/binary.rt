@@ -3,7 +3,7 @@ ghost use Rattle.std.specs.Prelude.{ℕ, ◌≡◌, ◌+◌, ◌-◌, ◌*◌, �
 ghost use Rattle.std.specs.Prelude.{slice_index, slice_index_or, slice_set, vec_capacity};
 ghost use Rattle.sat_base.specs.values.Literals.{var_limit, negated};
 ghost use Rattle.sat_parts.specs.prop.Values.{is_unset};
-ghost use Rattle.sat_parts.specs.prop.Binaries.{implied_by, with_implied, without_last, with_binary, with_literals};
+ghost use Rattle.sat_parts.specs.prop.Binaries.{implied_by, with_implied, without_last_implied, with_binary, with_binary_lists};
 ghost use Rattle.sat_parts.specs.prop.Binaries.{open_among, implications, RemovesAssigned};
 ghost use Rattle.sat_parts.specs.prop.Places.{no_place, place_at, part_of, lists_of, ArePlaces, CopiesPart};
 
@@ -143,7 +143,7 @@ fn pop(places: &mut Vec<Place>, lits: &Vec<Lit>, code: usize)
     requires below { code < length places.old.items }
     ensures places { ArePlaces places.new.items (length lits.now.items) }
     ensures popped { lists_of places.new.items lits.now.items
-        ≡ without_last code (lists_of places.old.items lits.now.items) }
+        ≡ without_last_implied code (lists_of places.old.items lits.now.items) }
 {
     let place = places[code];
     places[code] = Place {
@@ -246,7 +246,7 @@ impl BinaryClauses {
     /// Sets the number of variables. New literals imply nothing.
     pub fn set_var_count(&mut self, alloc: Global, count: usize) -> Result<(), AllocError>
         requires { count ≤ var_limit }
-        ensures done { OnOk result (self.new ≡ with_literals (2 * count) self.old) }
+        ensures done { OnOk result (self.new ≡ with_binary_lists (2 * count) self.old) }
         ensures same { OnErr result (self.new ≡ self.old) }
     {
         let _ = alloc;
@@ -298,7 +298,7 @@ impl BinaryClauses {
     /// Removes the last of the literals that a literal implies.
     fn pop_implied(&mut self, lit: Lit)
         requires { lit < length self.old.implied }
-        ensures { self.new ≡ record self.old { implied = without_last lit self.old.implied } }
+        ensures { self.new ≡ record self.old { implied = without_last_implied lit self.old.implied } }
     {
         pop(&mut self.by_lit, &self.lits, lit.code());
     }

@@ -3,7 +3,7 @@ ghost use Rattle.std.specs.Prelude.{◌≡◌, ◌≤◌, OnOk, length, []};
 ghost use Rattle.sat_base.specs.values.Literals.{var_limit};
 ghost use Rattle.sat_parts.specs.prop.Trails.{no_trail};
 ghost use Rattle.sat_parts.specs.parts.Whole.{PartsInvariant};
-ghost use Rattle.sat_parts.specs.parts.Frame.{Grown};
+ghost use Rattle.sat_parts.specs.parts.Frame.{AddsVars};
 
 pub mod assumptions;
 pub mod clauses;
@@ -40,7 +40,7 @@ pub fn grow(alloc: Global, parts: &mut Parts, count: usize) -> Result<(), AllocE
     requires more { length parts.old.assignment.current ≤ count }
     requires few { count ≤ var_limit }
     ensures holds { OnOk result (PartsInvariant parts.new) }
-    ensures grown { OnOk result (Grown parts.old parts.new count) }
+    ensures grown { OnOk result (AddsVars parts.old parts.new count) }
 {
     parts.watchlists.set_var_count(alloc, count)?;
     parts.binary.set_var_count(alloc, count)?;

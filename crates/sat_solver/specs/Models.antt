@@ -5,14 +5,14 @@ use Rattle.sat_solver.specs.variables.Variables.{data_at, global_of, solver_of}
 use Rattle.sat_solver.specs.declared.variables.Variables.{Variables}
 
 -- is there a value, and is it true?
-abbrev pub is_true : Option Bool → Bool
-is_true None = false
-is_true (Some b) = b
+abbrev pub has_true_value : Option Bool → Bool
+has_true_value None = false
+has_true_value (Some b) = b
 
 -- by its index, else by its unit
 abbrev pub value_by : Option ℕ → List (Option Bool) → Option Bool → Bool
-value_by None values unit = is_true unit
-value_by (Some x) values unit = is_true (get_or values x None)
+value_by None values unit = has_true_value unit
+value_by (Some x) values unit = has_true_value (get_or values x None)
 
 -- the value of a variable of the proof, where the search has these values: that of its index, else its unit's, else false
 abbrev pub value_in : Variables → List (Option Bool) → ℕ → Bool

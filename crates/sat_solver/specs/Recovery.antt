@@ -24,6 +24,6 @@ is_recoverable errors.Malformed = true
 is_recoverable errors.OutOfRange = true
 
 -- what a refusal of the clause buffer is to a solver
-abbrev pub failure_of : StoreError → SolverError
-failure_of stores.StoreFull = errors.StoreFull
-failure_of stores.OutOfMemory = errors.OutOfMemory
+abbrev pub buffer_failure : StoreError → SolverError
+buffer_failure stores.StoreFull = errors.StoreFull
+buffer_failure stores.OutOfMemory = errors.OutOfMemory

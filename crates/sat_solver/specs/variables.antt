@@ -11,7 +11,7 @@ pub mod Naming
 pub mod Observing
 pub mod Ordering
 pub mod Refusing
-pub mod Room
+pub mod VariableRoom
 pub mod Search
 pub mod Searching
 pub mod Taking

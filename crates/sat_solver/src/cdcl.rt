@@ -2,7 +2,7 @@
 ghost use Rattle.std.specs.Prelude.{◌≡◌, ◌<◌, ◌≤◌, length};
 ghost use Rattle.sat_solver.specs.proof.ProofView.{HasAllowedSteps, steps_of, session_of};
 ghost use Rattle.sat_parts.specs.parts.Whole.{IsRefuted};
-ghost use Rattle.sat_solver.specs.session.Naming.{global_of};
+ghost use Rattle.sat_solver.specs.session.Naming.{global_of_index};
 ghost use Rattle.sat_solver.specs.session.Fits.{SessionMatchesParts, TrueLitsHaveNames};
 ghost use Rattle.sat_solver.specs.cdcl.Going.{EmitsSteps};
 ghost use Rattle.sat_solver.specs.cdcl.Turns.{IsStopped};
@@ -40,8 +40,8 @@ fn refute<W: CountedWrite + Drop, P: ProofProcessor>(
     requires keeps { HasAllowedSteps proof.old }
     requires refuted { IsRefuted parts.now conflict.now }
     requires bottom { length parts.now.trail.starts ≡ 0 }
-    requires fits { SessionMatchesParts parts.now (session_of proof.old) (global_of globals.now) }
-    requires named { TrueLitsHaveNames parts.now.assignment.current (session_of proof.old) (global_of globals.now) }
+    requires fits { SessionMatchesParts parts.now (session_of proof.old) (global_of_index globals.now) }
+    requires named { TrueLitsHaveNames parts.now.assignment.current (session_of proof.old) (global_of_index globals.now) }
     requires names { length parts.now.assignment.current ≤ length globals.now }
     ensures { EmitsSteps W.seen result proof.old proof.new
         (λ _ steps. LastRefutes (steps_of proof.old) steps (session_of proof.new)) }

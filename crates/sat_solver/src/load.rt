@@ -4,7 +4,7 @@ ghost use Rattle.sat_base.specs.steps.Steps.{DeleteClause, Satisfied};
 ghost use Rattle.sat_solver.specs.session.Coming.{OnlyAllowedSteps, DeletesAdded};
 ghost use Rattle.sat_solver.specs.session.Session.{May};
 ghost use Rattle.sat_solver.specs.proof.ProofView.{HasAllowedSteps, steps_of, session_of};
-ghost use Rattle.sat_solver.specs.session.Naming.{global_of};
+ghost use Rattle.sat_solver.specs.session.Naming.{global_of_index};
 ghost use Rattle.sat_solver.specs.cdcl.Joint.{global_in};
 ghost use Rattle.sat_solver.specs.load.Loaded.{MayLoad, IsAdded, satisfied_step, DeletesSatisfied, DeletesTrue};
 ghost use Rattle.sat_solver.specs.load.Loaded.{LoadsClause};
@@ -36,8 +36,8 @@ pub fn delete_satisfied<W: CountedWrite + Drop, P: ProofProcessor>(
 ) -> Result<(), Fault>
     requires keeps { HasAllowedSteps proof.old }
     requires names { VariablesBelow lits.now (length globals.now) }
-    requires may { May (session_of proof.old) (satisfied_step (global_of globals.now) lits.now) }
-    ensures { DeletesSatisfied W.seen result proof.old proof.new (global_of globals.now) lits.now }
+    requires may { May (session_of proof.old) (satisfied_step (global_of_index globals.now) lits.now) }
+    ensures { DeletesSatisfied W.seen result proof.old proof.new (global_of_index globals.now) lits.now }
 {
     map_lits(globals, lits, clause)?;
     let step = ProofStep::DeleteClause {

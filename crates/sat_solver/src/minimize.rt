@@ -3,11 +3,11 @@ ghost use Rattle.std.specs.Prelude.{◌≡◌, ◌<◌, ◌∷◌, [], length, O
 ghost use Rattle.sat_base.specs.values.Literals.{variable};
 ghost use Rattle.sat_parts.specs.clause.Glue.{HaveNodes};
 ghost use Rattle.sat_parts.specs.prop.Causes.{falsified};
-ghost use Rattle.sat_parts.specs.prop.Ready.{state_of, IsFalsified};
+ghost use Rattle.sat_parts.specs.prop.Ready.{state_of, AreAllFalse};
 ghost use Rattle.sat_solver.specs.analyze_conflict.Marks.{CanAnalyze};
-ghost use Rattle.sat_solver.specs.analyze_conflict.Derivation.{IsAsserting, HasGrounds, FlagsAmong, IsUipClause};
+ghost use Rattle.sat_solver.specs.analyze_conflict.Derivation.{IsAsserting, HasUnorderedDerivation, FlagsAmong, IsUipClause};
 ghost use Rattle.sat_solver.specs.analyze_conflict.Involved.{KeepsResolved};
-ghost use Rattle.sat_solver.specs.analyze_conflict.Minimal.{HasSearched, Searches, MayStart, followed};
+ghost use Rattle.sat_solver.specs.analyze_conflict.Minimal.{MinimizationIsDone, MinimizationResult, MayStart, followed};
 
 use crate::analyze_conflict::work::Analysis;
 use sat_base::Lit;
@@ -117,10 +117,10 @@ fn is_implied(
     lit: Lit,
 ) -> Result<bool, AllocError>
     requires can { CanAnalyze clauses.now (state_of assignment.now graph.now trail.now) }
-    requires searching { HasSearched clauses.now (state_of assignment.now graph.now trail.now) conflict.now low
+    requires searching { MinimizationIsDone clauses.now (state_of assignment.now graph.now trail.now) conflict.now low
         analysis.old }
     requires may { MayStart (state_of assignment.now graph.now trail.now) analysis.old lit }
-    ensures { IfOk result (λ b. Searches clauses.now (state_of assignment.now graph.now trail.now) conflict.now low lit
+    ensures { IfOk result (λ b. MinimizationResult clauses.now (state_of assignment.now graph.now trail.now) conflict.now low lit
         analysis.old analysis.new b) }
 {
     let top = analysis.used().len();
@@ -159,11 +159,11 @@ pub(crate) fn minimize_clause(
     conflict: &Conflict,
 ) -> Result<(), AllocError>
     requires can { CanAnalyze clauses.now (state_of assignment.now graph.now trail.now) }
-    requires fails { IsFalsified assignment.now.current (falsified clauses.now conflict.now) }
+    requires fails { AreAllFalse assignment.now.current (falsified clauses.now conflict.now) }
     requires resolved { IsUipClause clauses.now (state_of assignment.now graph.now trail.now) conflict.now
         analysis.old }
     ensures asserting { OnOk result (IsAsserting (state_of assignment.now graph.now trail.now) analysis.new.clause) }
-    ensures grounds { OnOk result (HasGrounds clauses.now (state_of assignment.now graph.now trail.now) conflict.now
+    ensures grounds { OnOk result (HasUnorderedDerivation clauses.now (state_of assignment.now graph.now trail.now) conflict.now
         analysis.new) }
     ensures among { OnOk result (FlagsAmong analysis.new) }
     ensures kept { OnOk result (KeepsResolved (state_of assignment.now graph.now trail.now) analysis.old analysis.new) }

@@ -1,7 +1,7 @@
 //! Models over the proof's variables and over names, from the values of the search.
 ghost use Rattle.std.specs.Prelude.{◌≡◌, ◌<◌, ◌++◌, OnOk, Option, None, slice_index_or};
 ghost use Rattle.sat_solver.specs.variables.Variables.{AreTidy, global_of, names_used, variables_used};
-ghost use Rattle.sat_solver.specs.Models.{is_true, value_in, literal_in, model_to, name_literal, named_to};
+ghost use Rattle.sat_solver.specs.Models.{has_true_value, value_in, literal_in, model_to, name_literal, named_to};
 
 use crate::variables::Variables;
 use sat_base::{Lit, Var};
@@ -9,7 +9,7 @@ use std::alloc::AllocError;
 
 /// What has no value counts as false in a model.
 fn holds(value: Option<bool>) -> bool
-    ensures { result ≡ is_true value }
+    ensures { result ≡ has_true_value value }
 {
     match value {
         Some(value) => value,
@@ -19,7 +19,7 @@ fn holds(value: Option<bool>) -> bool
 
 /// The value of an index of the search, false where it has none.
 fn value_at(values: &[Option<bool>], solver: Var) -> bool
-    ensures { result ≡ is_true (slice_index_or values.now solver None) }
+    ensures { result ≡ has_true_value (slice_index_or values.now solver None) }
 {
     let index = solver.index();
     if index >= values.len() {

@@ -2,17 +2,17 @@
 ghost use Rattle.std.specs.Prelude.{◌≡◌, ◌∷◌, [], true, false, Some, OnOk, IfErr};
 ghost use Rattle.sat_base.specs.device.Sink.{empty_sink};
 ghost use Rattle.sat_base.specs.steps.StepViews.{step_of};
-ghost use Rattle.sat_solver.specs.proof.Counting.{start, counted};
+ghost use Rattle.sat_solver.specs.proof.Counting.{nothing_counted, counted};
 ghost use Rattle.sat_solver.specs.proof.Checked.{has_begun};
-ghost use Rattle.sat_solver.specs.proof.MadeView.{Makes};
+ghost use Rattle.sat_solver.specs.proof.MadeView.{MadeEffect};
 ghost use Rattle.sat_solver.specs.session.Session.{May, MayAll};
 ghost use Rattle.sat_solver.specs.proof.Widths.{narrowed, KeepsWidth};
 ghost use Rattle.sat_solver.specs.proof.ProofView.{Closed, IsAtWidth, Open, asking, audience, is_open, is_drat};
 ghost use Rattle.sat_solver.specs.proof.ProofView.{has_asked};
-ghost use Rattle.sat_solver.specs.proof.ProofView.{target_of, steps_of, session_of, is_checked, is_lost, Checks};
-ghost use Rattle.sat_solver.specs.proof.ProofView.{HasTold, HasAllowedSteps, EmitsExactly, EmitsAsAnswered, PutsOn, TargetTakes};
+ghost use Rattle.sat_solver.specs.proof.ProofView.{target_of, steps_of, session_of, is_checked, is_lost, HasFullChecker};
+ghost use Rattle.sat_solver.specs.proof.ProofView.{AllStepsReported, HasAllowedSteps, EmitsExactly, EmitsAsAnswered, PutsOn, TargetTakes};
 ghost use Rattle.sat_solver.specs.proof.ProofView.{FailsOfCheck, FailsOfCheckUnless, FlushesTarget, FlushesOrFails};
-ghost use Rattle.sat_solver.specs.proof.ProofView.{ClosesTarget, Handed, HandedWhole, HandsBack, HasCause, Listens};
+ghost use Rattle.sat_solver.specs.proof.ProofView.{ClosesTarget, HandsBackListeners, HandsBackWholeListeners, HandsBack, HasCause, Listens};
 ghost use Rattle.sat_solver.specs.proof.ProofView.{without_complaint};
 
 pub mod checker;
@@ -134,7 +134,7 @@ impl<W: CountedWrite + Drop, P: ProofProcessor> Proof<W, P> {
     /// From here on a checker takes the steps. Takes no memory.
     pub fn begin_checking(&mut self, alloc: Global)
         requires { has_begun (steps_of self.old) ≡ false }
-        ensures checks { Checks self.old self.new }
+        ensures checks { HasFullChecker self.old self.new }
         ensures asked { has_asked self.new ≡ has_asked self.old }
         ensures target { target_of W.seen self.new ≡ target_of W.seen self.old }
     {
@@ -161,7 +161,7 @@ impl<W: CountedWrite + Drop, P: ProofProcessor> Proof<W, P> {
         ensures listening { audience self.new ≡ audience self.old }
         ensures taking { is_lost self.new ≡ is_lost self.old }
         ensures asked { has_asked self.new ≡ false }
-        ensures target { target_of W.seen self.new ≡ Open format start (empty_sink (W.seen target)) }
+        ensures target { target_of W.seen self.new ≡ Open format nothing_counted (empty_sink (W.seen target)) }
     {
         self.counting = Counting::new();
         self.output = Some(Output::new(format, target));
@@ -286,7 +286,7 @@ impl<W: CountedWrite + Drop, P: ProofProcessor> Proof<W, P> {
         requires width { KeepsWidth (step_of step.now) }
         requires cut { is_checked self.old ≡ true
             → step_of cut.now ≡ narrowed self.old.counting.bits (step_of step.now) }
-        ensures makes { Makes (step_of step.now) self.old.made self.new.made }
+        ensures makes { MadeEffect (step_of step.now) self.old.made self.new.made }
         ensures taking { OnOk result (is_lost self.new ≡ is_lost self.old) }
         ensures width { OnOk result (IsAtWidth self.new) }
         ensures asked { has_asked self.new ≡ has_asked self.old }
@@ -449,7 +449,7 @@ impl<W: CountedWrite + Drop, P: ProofProcessor> Proof<W, P> {
         ensures width { OnOk result (IsAtWidth self.old → IsAtWidth self.new) }
         ensures target { target_of W.seen self.new ≡ target_of W.seen self.old }
         ensures fails { FailsOfCheckUnless (is_lost self.old) result self.new }
-        ensures told { OnOk result (HasTold self.new) }
+        ensures told { OnOk result (AllStepsReported self.new) }
     {
         self.made.take_delayed()?;
         Ok(())
@@ -509,8 +509,8 @@ impl<W: CountedWrite + Drop, P: ProofProcessor> Proof<W, P> {
     /// Those who listen to the checker, in the order in which they were added, also after a failure. There is none
     /// afterwards.
     pub fn take_processors(&mut self, alloc: Global) -> Vec<P>
-        ensures handed { Handed self.old result.items }
-        ensures whole { HandedWhole self.old result.items }
+        ensures handed { HandsBackListeners self.old result.items }
+        ensures whole { HandsBackWholeListeners self.old result.items }
     {
         self.made.take_processors(alloc)
     }

@@ -1,8 +1,8 @@
 //! Rounds with restarts.
 ghost use Rattle.std.specs.Prelude.{◌≡◌, ◌+◌, ◌-◌, ◌^◌, ◌<◌, IfOk, IfErr, None};
 ghost use Rattle.sat_solver.specs.schedule.Climbing.{KeepsProgress};
-ghost use Rattle.sat_solver.specs.schedule.Counting.{AnswersWithin, CountsOn, SpendsRounds, TakesRound, steps_left};
-ghost use Rattle.sat_solver.specs.schedule.Rounds.{ComesBy, RestartsWhereDue};
+ghost use Rattle.sat_solver.specs.schedule.Counting.{AnswersWithin, CountsOn, SpendsRounds, TakesRound, round_allowance};
+ghost use Rattle.sat_solver.specs.schedule.Rounds.{LastRoundAnswers, RestartsWhereDue};
 ghost use Rattle.sat_solver.specs.schedule.Solving.{words_in, values_in, CoreInvariant, TakesNoRounds, EndedBy};
 ghost use Rattle.sat_solver.specs.schedule.Solving.{BreaksRounds};
 ghost use Rattle.sat_solver.specs.schedule.Solving.{Restarted, ReducedAt, RoundOf};
@@ -85,12 +85,12 @@ pub fn search<W: CountedWrite + Drop, P: ProofProcessor>(
     ensures scale { restarts.new.scale ≡ restarts.old.scale }
     ensures counts { CountsOn (values_in core.old) max_steps steps.old steps.new }
     ensures round { TakesRound result steps.old steps.new }
-    ensures interrupted { SpendsRounds result (steps_left max_steps steps.old) steps.old steps.new }
-    ensures answered { AnswersWithin result (values_in core.old) (steps_left max_steps steps.old) }
+    ensures interrupted { SpendsRounds result (round_allowance max_steps steps.old) steps.old steps.new }
+    ensures answered { AnswersWithin result (values_in core.old) (round_allowance max_steps steps.old) }
     ensures goes { IfOk result (λ r. r ≡ None
         → FoundNone W.seen (steps.new - steps.old) names.old names.new core.old core.new) }
     ensures ends { IfOk result (λ r. EndedBy W.seen (steps.new - steps.old) r core.old names.old core.new names.new) }
-    ensures rounds { IfOk result (λ o. ComesBy Restarted (ReducedAt W.seen) (RoundOf W.seen) o core.old names.old
+    ensures rounds { IfOk result (λ o. LastRoundAnswers Restarted (ReducedAt W.seen) (RoundOf W.seen) o core.old names.old
         restarts.old steps.old core.new names.new restarts.new steps.new) }
     ensures fails { IfErr result (λ e. BreaksRounds W.seen core.old e core.new) }
 {

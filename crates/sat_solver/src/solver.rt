@@ -18,15 +18,15 @@ pub mod load;
 pub mod names;
 pub mod progress;
 pub mod proof;
+pub mod report;
 pub mod solve;
-pub mod tell;
 
 use crate::SolverConfig;
 use crate::context::{Core, no_search};
 use crate::load::literals::Taken;
 use crate::proof::Proof;
 use crate::schedule::restarts::Restarts;
-use crate::solver::find::{Clock, Told};
+use crate::solver::find::{Clock, LastAnswers};
 use crate::solver::load::Loading;
 use crate::state::State;
 use crate::variables::Variables;
@@ -42,7 +42,7 @@ pub struct Solver<W: CountedWrite + Drop, P: ProofProcessor = Nobody> {
     core: Core<W, P>,
     names: Variables,
     clock: Clock,
-    told: Told,
+    told: LastAnswers,
     state: State,
     /// Whether a call failed, behind which each one does.
     failed: bool,
@@ -61,13 +61,13 @@ impl<W: CountedWrite + Drop> Solver<W, Nobody> {
     pub fn new(alloc: Global) -> Solver<W, Nobody>
         ensures { IsEmpty W.seen result }
     {
-        Solver::telling(alloc)
+        Solver::notifying(alloc)
     }
 }
 
 impl<W: CountedWrite + Drop, P: ProofProcessor> Solver<W, P> {
     /// As `new`, for processors of this type. Nobody listens yet.
-    pub fn telling(alloc: Global) -> Solver<W, P>
+    pub fn notifying(alloc: Global) -> Solver<W, P>
         ensures { IsEmpty W.seen result }
     {
         let config = SolverConfig::default();
@@ -87,7 +87,7 @@ impl<W: CountedWrite + Drop, P: ProofProcessor> Solver<W, P> {
                 },
                 rounds: 0,
             },
-            told: Told {
+            told: LastAnswers {
                 model: Vec::new(alloc),
                 failed_core: Vec::new(alloc),
             },

@@ -2,7 +2,7 @@
 ghost use Rattle.sat_solver.specs.proof.ProofView.{HasAllowedSteps, session_of};
 ghost use Rattle.sat_solver.specs.cdcl.Going.{EmitsSteps};
 ghost use Rattle.sat_solver.specs.cdcl.Joint.{IsSearch};
-ghost use Rattle.sat_solver.specs.unit_simplify.Flat.{IsFlat, StrengthensAll};
+ghost use Rattle.sat_solver.specs.unit_simplify.Flat.{HasEmptyTrail, StrengthensAll};
 ghost use Rattle.sat_solver.specs.unit_simplify.Passes.{StandTogether, Simplifies};
 
 pub mod binary;
@@ -31,7 +31,7 @@ fn lighten<W: CountedWrite + Drop, P: ProofProcessor>(
 ) -> Result<(), Fault>
     requires keeps { HasAllowedSteps proof.old }
     requires search { IsSearch (session_of proof.old) search.old }
-    requires flat { IsFlat search.old.parts }
+    requires flat { HasEmptyTrail search.old.parts }
     ensures { EmitsSteps W.seen result proof.old proof.new
         (λ _ _. StrengthensAll (session_of proof.new) search.old search.new) }
 {
@@ -49,7 +49,7 @@ pub fn unit_simplify<W: CountedWrite + Drop, P: ProofProcessor>(
     names: &mut Variables,
 ) -> Result<(), Fault>
     requires together { StandTogether names.old proof.old search.old }
-    requires flat { IsFlat search.old.parts }
+    requires flat { HasEmptyTrail search.old.parts }
     ensures { Simplifies W.seen result names.old names.new proof.old proof.new search.old search.new }
 {
     lighten(proof, search)?;

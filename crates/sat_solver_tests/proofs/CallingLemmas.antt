@@ -7,27 +7,27 @@ use Rattle.sat_base.specs.device.Sink.{empty_sink}
 use Rattle.sat_base.specs.steps.Steps.{Step, Assumptions, End}
 use Rattle.sat_base.proofs.lemmas.device.Writes.{breaks_within, lent_puts}
 use Rattle.sat_checker.specs.declared.processing.ProofProcessor.{Ghosts}
-use Rattle.sat_solver.specs.proof.Counting.{start, counted, one_made, written_for}
+use Rattle.sat_solver.specs.proof.Counting.{nothing_counted, counted, one_made, written_for}
 use Rattle.sat_solver.specs.proof.OutputView.{text_in}
 use Rattle.sat_solver.specs.proof.ProofTexts.{BrokeText}
-use Rattle.sat_solver.specs.proof.ProofView.{Target, Open, TargetTakes, TargetFails, GivesWriter, seen_of, is_open, target_of, is_checked, is_lost, EmitsChecked, EmitsAsAnswered, ClosesTarget, HandsBack}
+use Rattle.sat_solver.specs.proof.ProofView.{Target, Open, TargetTakes, TargetFails, GivesWriter, handed_writer, is_open, target_of, is_checked, is_lost, EmitsChecked, EmitsAsAnswered, ClosesTarget, HandsBack}
 use Rattle.sat_solver.specs.declared.proof.format.ProofFormat.TheVariants.{Varisat}
 use Rattle.sat_solver.specs.declared.proof.Proof.{Proof}
 use Rattle.sat_solver.specs.declared.proof.ProofError.{ProofError}
 use Rattle.sat_solver.specs.declared.proof.ProofError.TheVariants.{Write, OutOfMemory, Check}
 use Rattle.sat_solver.proofs.lemmas.session.ProofLemmas.{text_append, carries_more, complains_checked, complains_now, stops_later, closed_is_text, broken_is_front}
-use Rattle.sat_solver_tests.specs.Calling.{made, PutsMade, Calls, PutsOwned}
+use Rattle.sat_solver_tests.specs.Calling.{made, PutsMade, CallAnswers, PutsOwned}
 
 abbrev opened_as : Writer → Target
-opened_as from = Open Varisat start (empty_sink from)
+opened_as from = Open Varisat nothing_counted (empty_sink from)
 
 -- a target that failed at the text of steps, handed back
-faulty : {W : Type 0} (seen : W → Writer) (from : Writer) (steps : List Step) (t : Target) (given : Option W) → TargetFails (opened_as from) steps t → GivesWriter t (seen_of seen given) → (w : W) × (given ≡ Some w) × BrokeText Varisat from (seen w) steps
+faulty : {W : Type 0} (seen : W → Writer) (from : Writer) (steps : List Step) (t : Target) (given : Option W) → TargetFails (opened_as from) steps t → GivesWriter t (handed_writer seen given) → (w : W) × (given ≡ Some w) × BrokeText Varisat from (seen w) steps
 faulty seen from steps t None p g = let q = subst (λ z. GivesWriter z None) p.1 g in absurd (let e = q in cc)
 faulty seen from steps t (Some w) p g = (w, refl, broken_is_front Varisat from (seen w) steps t p g)
 
 -- one that is still open, handed back
-still : {W : Type 0} (seen : W → Writer) (from : Writer) (steps : List Step) (t : Target) (given : Option W) → TargetTakes (opened_as from) steps t → GivesWriter t (seen_of seen given) → (w : W) × (given ≡ Some w)
+still : {W : Type 0} (seen : W → Writer) (from : Writer) (steps : List Step) (t : Target) (given : Option W) → TargetTakes (opened_as from) steps t → GivesWriter t (handed_writer seen given) → (w : W) × (given ≡ Some w)
 still seen from steps t None p g = let q = subst (λ z. GivesWriter z None) p.2 g in absurd (let e = q in cc)
 still seen from steps t (Some w) p g = (w, refl)
 
@@ -76,7 +76,7 @@ module _ {W L : Type 0} {G : Ghosts L} (seen : W → Writer) (w : W) (p q : Proo
         record { written = t.written; counting = t.counting; cuts = t.cuts; puts = t.takes }
 
 -- what was put into a lent target
-pub lent_calls : {W : Type 0} (seen : W → Writer) (a z v : W) (given back : ℕ) (r : Result (Unit {0}) ProofError) → (given ≡ back → z ≡ v) → Calls r (lent_writer given (seen a)) (lent_writer back (seen v)) → Calls r (seen a) (seen z)
+pub lent_calls : {W : Type 0} (seen : W → Writer) (a z v : W) (given back : ℕ) (r : Result (Unit {0}) ProofError) → (given ≡ back → z ≡ v) → CallAnswers r (lent_writer given (seen a)) (lent_writer back (seen v)) → CallAnswers r (seen a) (seen z)
 lent_calls seen a z v given back (Ok x) h c = record { written = c.written; counting = c.counting; cuts = c.cuts; puts = lent_puts {E = ProofError} seen a z v given back (text_in Varisat c.written) (Ok x) h c.puts }
 lent_calls seen a z v given back (Err (Write e)) h c = record { written = c.written; counting = c.counting; cuts = c.cuts; puts = lent_puts {E = ProofError} seen a z v given back (text_in Varisat c.written) (Err (Write e)) h c.puts }
 lent_calls seen a z v given back (Err OutOfMemory) h c = tt

@@ -1,7 +1,7 @@
 //! Each call of a proof's target fails in turn, in each format, with and without a checker of the solver's own; and
 //! what a solver drops isn't called.
 
-use crate::calls::{Behind, Call, Kind, Part, Session, done, kind_of};
+use crate::calls::{Behind, Call, CallParts, Kind, Part, done, kind_of};
 use crate::devices::{ByFew, Tally, by_few};
 use crate::driver::{Closed, Play, Proved, played};
 use sat_base::Counted;
@@ -84,13 +84,13 @@ fn end_with(alloc: Global, (front, format, parts): Row, failing: u64) -> (Kind, 
     let act = Behind(Proved {
         target: by_few(alloc, 7, failing),
         format,
-        act: Session { front, parts },
+        act: CallParts { front, parts },
     });
     let (((told, closed), failed), left) = played::<
         Option<Few>,
         Solver<Few>,
         Ended,
-        Behind<Proved<Few, Session<'_>>>,
+        Behind<Proved<Few, CallParts<'_>>>,
     >(alloc, act);
     let (kind, calls) = end_of(told, closed, left);
     (kind, failed, calls)
@@ -133,7 +133,7 @@ impl<'a> Play<Solver<Counted<Tally<'a>>, Tally<'a>>, [Kind; 4]> for Late<'a> {
 }
 
 /// How these calls are answered, and how often target and processor are called, on their way out too.
-fn told_late(alloc: Global) -> ([Kind; 4], u64) {
+fn reported_late(alloc: Global) -> ([Kind; 4], u64) {
     let calls = Cell::new(0);
     let (kinds, left) = played::<
         HandedBack<Counted<Tally<'_>>, Tally<'_>>,
@@ -148,5 +148,5 @@ fn told_late(alloc: Global) -> ([Kind; 4], u64) {
 #[test]
 fn what_comes_too_late_is_not_called(rt: HostRuntime) {
     let refused = [Kind::Right, Kind::TooLate, Kind::TooLate, Kind::Right];
-    assert!(rt; told_late(rt.alloc()) == (refused, 0));
+    assert!(rt; reported_late(rt.alloc()) == (refused, 0));
 }

@@ -1,5 +1,5 @@
 //! A caller of a proof over a target that is lent.
-ghost use Rattle.sat_solver_tests.specs.Calling.{Calls, PutsOwned};
+ghost use Rattle.sat_solver_tests.specs.Calling.{CallAnswers, PutsOwned};
 
 use sat_base::{CountedWrite, ProofStep};
 use sat_solver::ProofFormat;
@@ -28,7 +28,7 @@ fn write_owned<W: CountedWrite + Drop>(
 
 /// The same, into a target that is lent.
 pub fn write_lent<C: CountedWrite>(alloc: Global, target: &mut C) -> Result<(), ProofError>
-    ensures { Calls result (C.seen target.old) (C.seen target.new) }
+    ensures { CallAnswers result (C.seen target.old) (C.seen target.new) }
 {
     let (lent, result) = write_owned(alloc, target);
     match lent {

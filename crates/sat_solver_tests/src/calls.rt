@@ -473,18 +473,18 @@ fn make_all<W: CountedWrite + Drop + Made, P: ProofProcessor + Made>(
 
 /// Makes all calls, behind those of a front.
 #[derive(Drop)]
-pub(crate) struct Session<'a> {
+pub(crate) struct CallParts<'a> {
     pub(crate) front: &'a [Part<'a>],
     pub(crate) parts: &'a [Part<'a>],
 }
 
 /// A session without a front.
-pub(crate) fn plain<'a>(parts: &'a [Part<'a>]) -> Session<'a> {
-    Session { front: &[], parts }
+pub(crate) fn plain<'a>(parts: &'a [Part<'a>]) -> CallParts<'a> {
+    CallParts { front: &[], parts }
 }
 
 impl<W: CountedWrite + Drop + Made, P: ProofProcessor + Made> Play<Solver<W, P>, Kind>
-    for Session<'_> {
+    for CallParts<'_> {
     fn play(self, alloc: Global, solver: &mut Solver<W, P>) -> Kind {
         let mut lits = Vec::new(alloc);
         let begun = make_all(alloc, solver, &mut lits, self.front);

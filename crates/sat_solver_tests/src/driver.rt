@@ -48,7 +48,7 @@ impl<W: CountedWrite + Drop, P: ProofProcessor> Ready for Solver<W, P> {
 
 impl<W: CountedWrite + Drop, P: ProofProcessor> Fresh<HandedBack<W, P>> for Solver<W, P> {
     fn fresh(alloc: Global) -> Solver<W, P> {
-        Solver::telling(alloc)
+        Solver::notifying(alloc)
     }
 
     fn left(self) -> HandedBack<W, P> {

@@ -114,7 +114,7 @@ fn calls_of(processors: &[Listener]) -> Option<(u64, u64, u64)> {
 
 /// How often one is called by the checker of a proof's text, and what it's told.
 fn of_text(alloc: Global, text: &[u8]) -> Option<(u64, u64)> {
-    let mut checker: Checker<Listener, Nobody> = Checker::telling(alloc);
+    let mut checker: Checker<Listener, Nobody> = Checker::notifying(alloc);
     let added = checker.add_processor(Listener::new(0)).is_ok();
     let taken = checker.check_proof(&mut Counted::new(text)).is_ok();
     let handed = checker.into_processors();
@@ -155,13 +155,13 @@ fn of_solver(alloc: Global, at: u64) -> (Came, Option<(u64, u64, u64)>) {
 fn announcements(alloc: Global) -> Option<u64> {
     let ((kind, _, text), heard) = of_solver(alloc, 0);
     match text {
-        Some(text) => told_alike(alloc, kind, &text, heard?),
+        Some(text) => reported_alike(alloc, kind, &text, heard?),
         None => None,
     }
 }
 
 /// Their number, where the session came to its end, both heard as many, and the checker of the text tells the same.
-fn told_alike(
+fn reported_alike(
     alloc: Global,
     kind: Kind,
     text: &[u8],

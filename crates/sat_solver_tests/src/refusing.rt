@@ -7,10 +7,10 @@ use sat_solver::{ProofFormat, SolverConfigUpdate};
 use std::alloc::Global;
 
 /// A session, and the formats of its proof.
-type Session = (&'static [Call], &'static [ProofFormat]);
+type CallsInFormats = (&'static [Call], &'static [ProofFormat]);
 
 /// Names come, are hidden and come again; a witness; asks under assumptions; a unit that is found; learning.
-const NAMES: Session = (
+const NAMES: CallsInFormats = (
     &[
         Call::Witness(9),
         Call::Clause(&[1, 2, 3]),
@@ -44,7 +44,7 @@ const NAMES: Session = (
 );
 
 /// Asks under no literals, as lines.
-const LINES: Session = (
+const LINES: CallsInFormats = (
     &[
         Call::Clause(&[1, 2]),
         Call::Clause(&[1, -2]),
@@ -71,7 +71,7 @@ const OUT_OF_RANGE: SolverConfigUpdate = SolverConfigUpdate {
 };
 
 /// A session, how calls are refused, these calls, and the first and the last place of them.
-type Row = (Session, Kind, &'static [Call], usize, usize);
+type Row = (CallsInFormats, Kind, &'static [Call], usize, usize);
 
 const ROWS: &[Row] = &[
     (

@@ -1,7 +1,7 @@
 //! Scripts of clauses, names and asks, as calls of a solver whose proof is checked.
 
 use crate::blind::reductions;
-use crate::calls::{Call, Kind, Part, SAME, Session};
+use crate::calls::{Call, CallParts, Kind, Part, SAME};
 use crate::driver::{is_accepted, written};
 use sat_solver::{ProofFormat, SolverConfigUpdate};
 use std::alloc::Global;
@@ -13,7 +13,7 @@ pub(crate) fn text_of(
     front: &[Part<'_>],
     parts: &[Part<'_>],
 ) -> Option<Vec<u8>> {
-    match written(alloc, format, Session { front, parts }) {
+    match written(alloc, format, CallParts { front, parts }) {
         Some((kind, text)) => if kind == Kind::Right {
             Some(text)
         } else {

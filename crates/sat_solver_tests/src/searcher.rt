@@ -17,14 +17,14 @@ use std::alloc::Global;
 
 /// What clauses are read into.
 #[derive(Drop)]
-pub struct Room {
+pub struct ClauseScratch {
     lits: Vec<Lit>,
     loading: Loading,
 }
 
 /// Nothing in it.
-pub fn no_room(alloc: Global) -> Room {
-    Room {
+pub fn no_room(alloc: Global) -> ClauseScratch {
+    ClauseScratch {
         lits: Vec::new(alloc),
         loading: Loading {
             taken: Taken::new(alloc),
@@ -71,7 +71,7 @@ fn add_all<W: CountedWrite + Drop>(
     core: &mut Core<W>,
     names: &mut Variables,
     clauses: &[&[usize]],
-    room: &mut Room,
+    room: &mut ClauseScratch,
 ) -> Option<bool>
     requires { IsJoined names.old core.old }
     ensures { MatchOption result (Unit {0}) (λ left. GoesOnOr left names.new core.new) }
@@ -110,7 +110,7 @@ pub fn search<W: CountedWrite + Drop>(
     core: &mut Core<W>,
     names: &mut Variables,
     clauses: &[&[usize]],
-    room: &mut Room,
+    room: &mut ClauseScratch,
 ) -> bool
     requires { IsJoined names.old core.old }
 {

@@ -1,6 +1,6 @@
 //! A filter for sets of decision levels.
 ghost use Rattle.std.specs.Prelude.{ℕ, ◌≡◌, ◌%◌, ◌==◌, if◌then◌else◌, true, false};
-ghost use Rattle.sat_store.specs.levels.Levels.{passes};
+ghost use Rattle.sat_store.specs.levels.Levels.{level_passes};
 
 use std::marker::Model;
 
@@ -23,9 +23,9 @@ impl Model for LevelAbstraction {
 
 impl Default for LevelAbstraction {
     ghost use Rattle.std.specs.Prelude.{ℕ, ◌≡◌, false};
-    ghost use Rattle.sat_store.specs.levels.Levels.{passes};
+    ghost use Rattle.sat_store.specs.levels.Levels.{level_passes};
 
-    ghost is_default = { λ filter. (level : ℕ) → passes filter level ≡ false };
+    ghost is_default = { λ filter. (level : ℕ) → level_passes filter level ≡ false };
 
     /// Returns the empty set.
     fn default() -> LevelAbstraction {
@@ -36,15 +36,15 @@ impl Default for LevelAbstraction {
 impl LevelAbstraction {
     /// Adds a level, and so all levels with the same remainder.
     pub fn add(&mut self, level: usize)
-        ensures { (other : ℕ) → passes self.new other
-            ≡ (if other % 64 == level % 64 then true else passes self.old other) }
+        ensures { (other : ℕ) → level_passes self.new other
+            ≡ (if other % 64 == level % 64 then true else level_passes self.old other) }
     {
         self.bits |= 1 << (level % 64);
     }
 
     /// Whether the level, or one with the same remainder, was added.
     pub fn test(&self, level: usize) -> bool
-        ensures { result ≡ passes self.now level }
+        ensures { result ≡ level_passes self.now level }
     {
         self.bits >> (level % 64) & 1 == 1
     }

@@ -28,5 +28,5 @@ pub mod CommandsMet
 pub mod Joining
 pub mod Lines
 pub mod ConfirmedThrough
-pub mod SessionMet
+pub mod ConfirmStateMet
 pub mod Decided

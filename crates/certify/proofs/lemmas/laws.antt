@@ -1,7 +1,7 @@
 pub mod MatchingSteps
 pub mod ExpectedOutcomes
 pub mod DefinitionLaws
-pub mod TellingTexts
+pub mod DistinctTexts
 pub mod Rows
 pub mod CertifiedRows
 pub mod CertifiedMatches

@@ -1,5 +1,5 @@
 pub mod Tokens
 pub mod Bytes
-pub mod Ahead
+pub mod LastPieces
 pub mod Streaming
 pub mod FewCommands

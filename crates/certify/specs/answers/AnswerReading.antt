@@ -17,10 +17,10 @@ outcome_of kind.Unsat core = Unsat core
 outcome_of kind.Unknown line = Unknown
 
 -- `s SATISFIABLE`, `s UNSATISFIABLE` or `s UNKNOWN`, with LF
-abbrev pub first_line : AnswerKind → List ℕ
-first_line kind.Sat = s_satisfiable
-first_line kind.Unsat = s_unsatisfiable
-first_line kind.Unknown = s_unknown
+abbrev pub first_answer_line : AnswerKind → List ℕ
+first_answer_line kind.Sat = s_satisfiable
+first_answer_line kind.Unsat = s_unsatisfiable
+first_answer_line kind.Unknown = s_unknown
 
 -- `v LITS 0` or `f LITS 0`, with LF, where there is one
 abbrev pub second_line : Outcome → List ℕ
@@ -87,7 +87,7 @@ NoLiterals k bytes OutOfMemory = WantsRoom k literals_text bytes
 -- why no first line is read
 abbrev pub NoKind : List ℕ → AnswerFault → Type 0
 NoKind bytes Missing = bytes ≡ []
-NoKind bytes Text = (bytes ≢ []) × ((k : AnswerKind) (tail : List ℕ) → bytes ≡ first_line k ++ tail → ⊥)
+NoKind bytes Text = (bytes ≢ []) × ((k : AnswerKind) (tail : List ℕ) → bytes ≡ first_answer_line k ++ tail → ⊥)
 NoKind bytes OutOfMemory = ⊥
 
 -- why no second line is read
@@ -103,7 +103,7 @@ StartsNoLiterals k bytes = (ls : List Literal) (more : List ℕ) → IsInForm (o
 
 -- no first line begins with the bytes, and no second line in form
 abbrev pub StartsNoKind : List ℕ → Type 0
-StartsNoKind bytes = (k : AnswerKind) (more : List ℕ) → first_line k ≡ bytes ++ more → ⊥
+StartsNoKind bytes = (k : AnswerKind) (more : List ℕ) → first_answer_line k ≡ bytes ++ more → ⊥
 
 -- the bytes are no front of a second line in form
 abbrev pub StartsNoLine : AnswerKind → List ℕ → Type 0
@@ -121,7 +121,7 @@ BeginsNoOutcome bytes = (o : Outcome) (tail : List ℕ) → IsInForm o → bytes
 abbrev pub NoOutcome : List ℕ → AnswerFault → Type 0
 NoOutcome bytes Missing = IsCutShort bytes × BeginsNoOutcome bytes
 NoOutcome bytes Text = (IsCutShort bytes → ⊥) × BeginsNoOutcome bytes
-NoOutcome bytes OutOfMemory = (k : AnswerKind) × (rest : List ℕ) × ((bytes ≡ first_line k ++ rest) × NoLine k rest OutOfMemory)
+NoOutcome bytes OutOfMemory = (k : AnswerKind) × (rest : List ℕ) × ((bytes ≡ first_answer_line k ++ rest) × NoLine k rest OutOfMemory)
 
 -- what is read: a literal and the space behind it
 abbrev pub BeginsWithLiteral : List ℕ → ℕ → List ℕ → Type 0

@@ -2,7 +2,7 @@
 use Rattle.std.specs.Prelude.{ℕ, ◌+◌, Option, Some, None, List, [], ◌∷◌, ◌++◌, decimal, if◌then◌else◌}
 use Rattle.sat_base.specs.script.Script.{Literal, Command, Ask, ScriptEnding, Clean, Malformed}
 use Rattle.sat_checker.specs.matching.Expected.{Outcome, Sat, Unsat, Unknown}
-use Rattle.sat_base.specs.script.Judge.{Judge, Refusal, PastLimit, WitnessName, refusal_of, after_command, start}
+use Rattle.sat_base.specs.script.ScriptState.{ScriptState, Refusal, PastLimit, WitnessName, refusal_of, after_command, start}
 
 -- a sign and a number
 abbrev pub word_of : Literal → List ℕ
@@ -21,7 +21,7 @@ s_satisfiable = 115 ∷ 32 ∷ 83 ∷ 65 ∷ 84 ∷ 73 ∷ 83 ∷ 70 ∷ 73 ∷ 
 abbrev pub s_unsatisfiable : List ℕ
 s_unsatisfiable = 115 ∷ 32 ∷ 85 ∷ 78 ∷ 83 ∷ 65 ∷ 84 ∷ 73 ∷ 83 ∷ 70 ∷ 73 ∷ 65 ∷ 66 ∷ 76 ∷ 69 ∷ 10 ∷ []
 
--- the only line of an answer where the steps were spent
+-- the only line of an answer where the rounds were exhausted
 abbrev pub s_unknown : List ℕ
 s_unknown = 115 ∷ 32 ∷ 85 ∷ 78 ∷ 75 ∷ 78 ∷ 79 ∷ 87 ∷ 78 ∷ 10 ∷ []
 
@@ -69,7 +69,7 @@ outcomes_left None (Ask ls) (o ∷ os) = os
 outcomes_left refusal command outcomes = outcomes
 
 -- the answers to commands from number k on
-abbrev pub answers_from : ℕ → Judge → List Command → ScriptEnding → List Outcome → List ℕ
+abbrev pub answers_from : ℕ → ScriptState → List Command → ScriptEnding → List Outcome → List ℕ
 answers_from k j [] ending outcomes = ending_text k ending
 answers_from k j (command ∷ commands) ending outcomes =
     piece k (refusal_of j command) command outcomes

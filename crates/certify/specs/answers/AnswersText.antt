@@ -2,7 +2,7 @@
 use Rattle.std.specs.Prelude.{ℕ, ◌+◌, Option, Some, None, List, [], ◌∷◌, ◌++◌, decimal, codes, if◌then◌else◌}
 use Rattle.sat_base.specs.script.Script.{Literal, Command, Ask, ScriptEnding, Clean, Malformed}
 use Rattle.sat_checker.specs.matching.Expected.{Outcome, Sat, Unsat, Unknown}
-use Rattle.sat_base.specs.script.Judge.{Judge, Refusal, PastLimit, WitnessName, refusal_of, after_command}
+use Rattle.sat_base.specs.script.ScriptState.{ScriptState, Refusal, PastLimit, WitnessName, refusal_of, after_command}
 
 -- literals, each with a sign and a space after it, and then `0` and LF
 abbrev pub literals_line : List Literal → List ℕ
@@ -28,7 +28,7 @@ command_lines k None (Ask ls) (o ∷ os) more = outcome_lines o ++ more os
 command_lines k None command outcomes more = more outcomes
 
 -- The answers to commands, the first of which is number k. A malformed end adds a line, with the number that the next command would have.
-abbrev pub lines_from : ℕ → Judge → List Command → ScriptEnding → List Outcome → List ℕ
+abbrev pub lines_from : ℕ → ScriptState → List Command → ScriptEnding → List Outcome → List ℕ
 lines_from k j [] Clean outcomes = []
 lines_from k j [] Malformed outcomes = codes "c malformed " ++ (decimal k ++ codes "\n")
 lines_from k j (command ∷ commands) ending outcomes =

@@ -1,17 +1,17 @@
 -- The asks of a script, each with what it is put to, and when outcomes of them are right.
 use Rattle.std.specs.Prelude.{List, [], ◌∷◌, is_some, if◌then◌else◌}
 use Rattle.sat_base.specs.script.Script.{Literal, Command, Ask}
-use Rattle.sat_base.specs.script.Judge.{Judge, refusal_of, accepted, after_command}
+use Rattle.sat_base.specs.script.ScriptState.{ScriptState, refusal_of, accepted, after_command}
 use Rattle.sat_checker.specs.matching.Expected.{Outcome}
 use Rattle.certify.specs.answers.RightAnswers.{IsRight}
 
 -- an ask that is not refused: the state after its names were introduced, and its literals
 pub record Asked : Type 0 where
-  pub state : Judge
+  pub state : ScriptState
   pub literals : List Literal
 
 -- the asks that are not refused, in order
-abbrev pub asks_of : Judge → List Command → List Asked
+abbrev pub asks_of : ScriptState → List Command → List Asked
 asks_of j [] = []
 asks_of j (Ask ls ∷ commands) =
     if is_some (refusal_of j (Ask ls)) then asks_of j commands

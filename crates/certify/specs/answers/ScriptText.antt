@@ -40,12 +40,12 @@ begun_by b =
     else (if nat_eq b 115 then Some (Sample []) else None)))
 
 -- the command with one literal more, or one name, which has no minus sign
-abbrev pub with_literal : Literal → Command → Option Command
-with_literal l (Clause ls) = Some (Clause (ls ++ l ∷ []))
-with_literal l (Ask ls) = Some (Ask (ls ++ l ∷ []))
-with_literal l (Hide names) = if l.positive then Some (Hide (names ++ l.name ∷ [])) else None
-with_literal l (Witness names) = if l.positive then Some (Witness (names ++ l.name ∷ [])) else None
-with_literal l (Sample names) = if l.positive then Some (Sample (names ++ l.name ∷ [])) else None
+abbrev pub command_with_literal : Literal → Command → Option Command
+command_with_literal l (Clause ls) = Some (Clause (ls ++ l ∷ []))
+command_with_literal l (Ask ls) = Some (Ask (ls ++ l ∷ []))
+command_with_literal l (Hide names) = if l.positive then Some (Hide (names ++ l.name ∷ [])) else None
+command_with_literal l (Witness names) = if l.positive then Some (Witness (names ++ l.name ∷ [])) else None
+command_with_literal l (Sample names) = if l.positive then Some (Sample (names ++ l.name ∷ [])) else None
 
 -- reads on with the command, or ends as malformed if there is none
 abbrev pub going_on : Option Command → (Option Command → Reading) → Reading
@@ -60,7 +60,7 @@ spelled None [] = ([], Clean)
 spelled (Some command) [] = ([], Malformed)
 spelled hand (Number negative n ∷ ts) =
     if nat_eq n 0 then (unwrap_or hand (Clause []) ∷ (spelled None ts).0, (spelled None ts).1)
-    else going_on (with_literal (record { name = n; positive = not negative }) (unwrap_or hand (Clause []))) (λ h. spelled h ts)
+    else going_on (command_with_literal (record { name = n; positive = not negative }) (unwrap_or hand (Clause []))) (λ h. spelled h ts)
 spelled None (Letter b ∷ ts) = going_on (begun_by b) (λ h. spelled h ts)
 spelled hand (Header v c ∷ ts) = spelled hand ts
 spelled hand (t ∷ ts) = ([], Malformed)

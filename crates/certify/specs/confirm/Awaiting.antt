@@ -6,10 +6,10 @@ use Rattle.sat_base.specs.steps.Steps.{Step}
 use Rattle.sat_checker.specs.Accepts.{ready_after}
 use Rattle.sat_checker.specs.declared.kernel.Kernel.{Kernel}
 use Rattle.sat_checker.specs.matching.Expected.{Outcome, Expected}
-use Rattle.certify.specs.confirm.CertificatePlaces.{CanMeet, MeetsExactly, Bars, Skips, MeetsNothing, Offers}
+use Rattle.certify.specs.confirm.CertificatePlaces.{CanMeet, MeetsExactly, MeetsNoneOf, SkipsUnordered, MeetsNothing, NextIsOrdered}
 use Rattle.certify.specs.confirm.Feeding.{HasTaken}
 use Rattle.certify.specs.confirm.Views.{View}
-use Rattle.certify.specs.confirm.Comparing.{MayStayUnmet, Due, Excuses}
+use Rattle.certify.specs.confirm.Comparing.{MayStayUnmet, Due, ExcusesDue}
 use Rattle.certify.specs.confirm.Following.{StandFor}
 use Rattle.certify.specs.declared.confirm.ordered.Awaited.{Awaited}
 use Rattle.certify.specs.declared.confirm.ordered.Awaited.TheVariants as awaited
@@ -28,20 +28,20 @@ pub record StepIsReady (names : NamedVars) (old : View) (earlier : List Step) (n
   pub later : List Step
   pub stands : CheckerIsAt new.checker names later
   pub open_yet : (ready_after later).unsat ≡ false
-  pub offers : Offers earlier old.rest later new.step new.rest
+  pub offers : NextIsOrdered earlier old.rest later new.step new.rest
 
 -- unsat is recorded before an ordered step came
 pub record UnsatIsRecorded (names : NamedVars) (old : View) (earlier : List Step) (new : View) : Type 0 where
   pub later : List Step
   pub stands : CheckerIsAt new.checker names later
   pub closed : (ready_after later).unsat ≡ true
-  pub skips : Skips earlier old.rest later new.rest
+  pub skips : SkipsUnordered earlier old.rest later new.rest
 
 -- a step that nobody expects was taken
 pub record StepWasPassed (names : NamedVars) (old : View) (earlier : List Step) (new : View) : Type 0 where
   pub later : List Step
   pub stands : CheckerIsAt new.checker names later
-  pub skips : Skips earlier old.rest later new.rest
+  pub skips : SkipsUnordered earlier old.rest later new.rest
 
 -- what came where an ordered step is awaited, or that none can come
 abbrev pub AwaitsNext : NamedVars → View → View → Result Awaited Why → Type 0
@@ -72,12 +72,12 @@ pub record IsDueMet (due : Due) (after : NamedVars) (old : View) (earlier : List
 abbrev pub MeetsDue : Due → NamedVars → NamedVars → View → View → Result (Unit {0}) Why → Type 0
 MeetsDue due before after old new (Ok x) = (earlier : List Step) → CheckerIsAt old.checker before earlier → IsDueMet due after old earlier new
 MeetsDue due before after old new (Err why) = (earlier : List Step) → CheckerIsAt old.checker before earlier
-    → (o : Outcome) (ask : List Literal) → Bars earlier old.rest (due o ask ∷ [])
+    → (o : Outcome) (ask : List Literal) → MeetsNoneOf earlier old.rest (due o ask ∷ [])
 
 -- what is said where it stays unmet
 abbrev pub SaysUnmet : Due → Result (Unit {0}) Stop → Type 0
-SaysUnmet due (Ok x) = Excuses due None
-SaysUnmet due (Err (stop.No why)) = Excuses due (Some why)
+SaysUnmet due (Ok x) = ExcusesDue due None
+SaysUnmet due (Err (stop.No why)) = ExcusesDue due (Some why)
 SaysUnmet due (Err stop.CertificateRead) = ⊥
 SaysUnmet due (Err stop.OutOfMemory) = ⊥
 SaysUnmet due (Err stop.CounterEnd) = ⊥

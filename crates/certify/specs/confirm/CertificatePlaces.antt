@@ -4,11 +4,11 @@ use Rattle.sat_base.specs.steps.Steps.{Step}
 use Rattle.sat_checker.specs.Accepts.{Accepts, ready_after}
 use Rattle.sat_checker.specs.matching.Expected.{Expected, Fits}
 use Rattle.certify.specs.confirm.LeftToMatch.{CertificateMeets}
-use Rattle.sat_checker.specs.matching.ProofChecking.{the_checking}
+use Rattle.sat_checker.specs.matching.ProofChecking.{checker_rules}
 
 -- what is left of the certificate meets what is expected
 abbrev pub CanMeet : List Step → List Expected → List ℕ → Type 0
-CanMeet earlier es certificate = CertificateMeets the_checking earlier es certificate
+CanMeet earlier es certificate = CertificateMeets checker_rules earlier es certificate
 
 -- Between two places of the certificate just these are met: whatever is expected behind them, all is met from the one exactly if the rest
 -- is met from the other.
@@ -17,11 +17,11 @@ pub record MeetsExactly (earlier : List Step) (certificate : List ℕ) (pending 
   pub back : (es : List Expected) → CanMeet later es rest → CanMeet earlier (pending ++ es) certificate
 
 -- nothing that begins with these is met
-pub record Bars (earlier : List Step) (certificate : List ℕ) (pending : List Expected) : Type 0 where
+pub record MeetsNoneOf (earlier : List Step) (certificate : List ℕ) (pending : List Expected) : Type 0 where
   pub none : (es : List Expected) → CanMeet earlier (pending ++ es) certificate → ⊥
 
 -- between two places there are only steps that nobody expects
-pub record Skips (earlier : List Step) (certificate : List ℕ) (later : List Step) (rest : List ℕ) : Type 0 where
+pub record SkipsUnordered (earlier : List Step) (certificate : List ℕ) (later : List Step) (rest : List ℕ) : Type 0 where
   pub on : (e : Expected) (es : List Expected) → CanMeet earlier (e ∷ es) certificate → CanMeet later (e ∷ es) rest
   pub back : (e : Expected) (es : List Expected) → CanMeet later (e ∷ es) rest → CanMeet earlier (e ∷ es) certificate
 
@@ -30,8 +30,8 @@ pub record MeetsNothing (earlier : List Step) (certificate : List ℕ) : Type 0 
   pub none : (e : Expected) (es : List Expected) → CanMeet earlier (e ∷ es) certificate → ⊥
 
 -- the next ordered step is this one: what is expected next is met exactly if the step is that and is accepted
-pub record Offers (earlier : List Step) (certificate : List ℕ) (later : List Step) (step : Step) (rest : List ℕ) : Type 0 where
+pub record NextIsOrdered (earlier : List Step) (certificate : List ℕ) (later : List Step) (step : Step) (rest : List ℕ) : Type 0 where
   pub on : (e : Expected) (es : List Expected) → CanMeet earlier (e ∷ es) certificate
-      → Fits (the_checking.knows later) later e step × Accepts (ready_after later) step × CanMeet (step ∷ later) es rest
-  pub back : (e : Expected) (es : List Expected) → Fits (the_checking.knows later) later e step → Accepts (ready_after later) step
+      → Fits (checker_rules.knows later) later e step × Accepts (ready_after later) step × CanMeet (step ∷ later) es rest
+  pub back : (e : Expected) (es : List Expected) → Fits (checker_rules.knows later) later e step → Accepts (ready_after later) step
       → CanMeet (step ∷ later) es rest → CanMeet earlier (e ∷ es) certificate

@@ -2,12 +2,12 @@
 use Rattle.std.specs.Prelude.{ℕ, ◌+◌, ◌≡◌, false, Option, Some, None, List, []}
 use Rattle.sat_base.specs.script.Script.{Literal}
 use Rattle.sat_base.specs.steps.Steps.{Step, Model}
-use Rattle.sat_checker.specs.KernelView.{HasAccepted, has_failed}
+use Rattle.sat_checker.specs.KernelView.{HasAccepted, kernel_has_failed}
 use Rattle.sat_checker.specs.CheckerView.{kernel_of}
 use Rattle.sat_checker.specs.matching.Checking.{variable_of}
 use Rattle.sat_checker.specs.matching.Expected.{Outcome, Unsat, EachSpelt, Expected, NewName, NoName, Adds, Opens, Shows, Fails, Closes, Finish, Fits}
-use Rattle.sat_checker.specs.matching.ProofChecking.{the_checking}
-use Rattle.certify.specs.confirm.Matches.{Excused}
+use Rattle.sat_checker.specs.matching.ProofChecking.{checker_rules}
+use Rattle.certify.specs.confirm.Matches.{MayBeUnmet}
 use Rattle.certify.specs.answers.AnswerForms.{named_literals}
 use Rattle.certify.specs.judge.Names.{states_of, used_in}
 use Rattle.certify.specs.confirm.Variables.{variable_in}
@@ -34,15 +34,15 @@ due_of code.End = λ o ask. Finish
 -- the checker took these steps, behind which the names have the variables that are known
 pub record AreKnown (known : Known) (earlier : List Step) : Type 0 where
   pub stands : HasAccepted (kernel_of known.checker.now) earlier
-  pub goes_on : has_failed (kernel_of known.checker.now) ≡ false
+  pub goes_on : kernel_has_failed (kernel_of known.checker.now) ≡ false
   pub named : variable_of earlier ≡ variable_in known.variables.now
 
 -- the step is what is expected, whatever outcome and ask, or isn't
 abbrev pub Compares : Due → Known → Step → Option Why → Type 0
 Compares due known step None = (earlier : List Step) → AreKnown known earlier
-    → (o : Outcome) (ask : List Literal) → Fits (the_checking.knows earlier) earlier (due o ask) step
+    → (o : Outcome) (ask : List Literal) → Fits (checker_rules.knows earlier) earlier (due o ask) step
 Compares due known step (Some why) = (earlier : List Step) → AreKnown known earlier
-    → (o : Outcome) (ask : List Literal) → Fits (the_checking.knows earlier) earlier (due o ask) step → ⊥
+    → (o : Outcome) (ask : List Literal) → Fits (checker_rules.knows earlier) earlier (due o ask) step → ⊥
 
 -- the step is a model that has the literals of a line, or isn't
 abbrev pub ComparesLine : Known → List ℕ → Step → Option Why → Type 0
@@ -63,6 +63,6 @@ MayStayUnmet Closes = Unit {0}
 MayStayUnmet Finish = Unit {0}
 
 -- what is expected may stay unmet once unsat is recorded, or may not
-abbrev pub Excuses : Due → Option Why → Type 0
-Excuses due None = (o : Outcome) (ask : List Literal) → MayStayUnmet (due o ask) → Excused (due o ask)
-Excuses due (Some why) = (o : Outcome) (ask : List Literal) → Excused (due o ask) → ⊥
+abbrev pub ExcusesDue : Due → Option Why → Type 0
+ExcusesDue due None = (o : Outcome) (ask : List Literal) → MayStayUnmet (due o ask) → MayBeUnmet (due o ask)
+ExcusesDue due (Some why) = (o : Outcome) (ask : List Literal) → MayBeUnmet (due o ask) → ⊥

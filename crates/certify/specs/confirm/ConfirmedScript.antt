@@ -9,8 +9,8 @@ use Rattle.certify.specs.confirm.Streams.{Stream, Confirms, Covers, rest_in}
 use Rattle.certify.specs.confirm.VerdictPromises.{numbers}
 use Rattle.certify.specs.confirm.Confirming.{ConfirmsLast, Table, Through, table_of}
 use Rattle.certify.specs.confirm.Stopping.{Any, Joins}
-use Rattle.certify.specs.confirm.Sessions.{answers_in, stream_in}
-use Rattle.certify.specs.script.Ahead.{FaultsAhead, NoReadFailedAhead, TakesSome, source_in}
+use Rattle.certify.specs.confirm.ConfirmStates.{answers_in, stream_in}
+use Rattle.certify.specs.script.LastPiece.{FaultsAhead, NoReadFailedAhead, TakesSome, source_in}
 use Rattle.certify.specs.script.Commands.{ReaderMeans}
 use Rattle.certify.specs.declared.confirm.stop.Stop.TheVariants as stop
 use Rattle.certify.specs.declared.confirm.stop.Stop.{Stop}
@@ -30,13 +30,13 @@ pub record ConfirmPlace : Type 0 where
   pub table : Table
 
 -- the script's reader, and what was read of it
-abbrev pub script_in : {S : Type 0} → (S → Reader) → S → Confirmation → Source
-script_in seen script c = source_in seen script c.script.ahead
+abbrev pub script_source : {S : Type 0} → (S → Reader) → S → Confirmation → Source
+script_source seen script c = source_in seen script c.script.ahead
 
 -- the same, from the three readers and what confirming keeps
 abbrev pub confirm_place : {S A C : Type 0} → (S → Reader) → (A → Reader) → (C → Reader) → S → A → StepReader C Buffers → Confirmation → ConfirmPlace
 confirm_place script_seen seen steps_seen script answers steps c = record {
-  script = script_in script_seen script c;
+  script = script_source script_seen script c;
   answers = answers_in seen answers c.session;
   certificate = stream_in steps_seen steps c.session.matching;
   number = c.session.number + 1;

@@ -1,14 +1,14 @@
 -- What a command makes of the answers and the certificate that are left.
 use Rattle.std.specs.Prelude.{ℕ, ◌+◌, ◌≡◌, None, Result, Ok, Err, List, [], ◌∷◌, ◌++◌}
 use Rattle.sat_base.specs.script.Script.{Literal, Command, Ask, ScriptEnding, names_of}
-use Rattle.sat_base.specs.script.Judge.{Judge, after_command, refusal_of}
+use Rattle.sat_base.specs.script.ScriptState.{ScriptState, after_command, refusal_of}
 use Rattle.sat_base.specs.steps.Steps.{Step}
 use Rattle.sat_checker.specs.matching.Expected.{Outcome, Adds, Opens, Closes, showing}
-use Rattle.sat_checker.specs.matching.ProofChecking.{the_checking}
+use Rattle.sat_checker.specs.matching.ProofChecking.{checker_rules}
 use Rattle.certify.specs.confirm.LeftToMatch.{Left}
 use Rattle.certify.specs.confirm.Views.{View}
-use Rattle.certify.specs.judge.Names.{Changes, NamesStand}
-use Rattle.sat_base.specs.script.JudgeLaws.{JudgeInvariant, NamesIncrease}
+use Rattle.certify.specs.judge.Names.{Changes, NamesHaveState}
+use Rattle.sat_base.specs.script.ScriptStateLaws.{ScriptStateInvariant, NamesIncrease}
 use Rattle.certify.specs.confirm.Awaiting.{CheckerIsAt, MeetsDue}
 use Rattle.certify.specs.confirm.Naming.{MeetsAll, naming_all, taken_by}
 use Rattle.sat_base.specs.script.Language.{Reading, Kind, OfClause, OfAsk, OfHide, OfWitness, OfSample, command_of}
@@ -27,17 +27,17 @@ abbrev pub table_of : Matching → Table
 table_of m = record { names = m.names; variables = m.certificate.names }
 
 -- names and modes are the judge's, and the checker took these steps, behind which the names stand for their variables
-pub record HoldsAt (t : Table) (u : View) (j : Judge) (earlier : List Step) : Type 0 where
-  pub judged : NamesStand t.names j
-  pub kept : JudgeInvariant j
+pub record HoldsAt (t : Table) (u : View) (j : ScriptState) (earlier : List Step) : Type 0 where
+  pub judged : NamesHaveState t.names j
+  pub kept : ScriptStateInvariant j
   pub at : CheckerIsAt u.checker t.variables earlier
 
 -- what is still to be confirmed, from command n on
-abbrev pub ToConfirm : Judge → ℕ → List Step → List Command → ScriptEnding → List ℕ → List ℕ → Type 0
-ToConfirm j n earlier commands ending answers certificate = Left the_checking j n earlier [] commands ending answers certificate
+abbrev pub ToConfirm : ScriptState → ℕ → List Step → List Command → ScriptEnding → List ℕ → List ℕ → Type 0
+ToConfirm j n earlier commands ending answers certificate = Left checker_rules j n earlier [] commands ending answers certificate
 
 -- Command n is confirmed: what was to be confirmed is so exactly if the rest is.
-pub record Confirmed (before behind : List ℕ) (old new : View) (j : Judge) (earlier : List Step) (n : ℕ)
+pub record Confirmed (before behind : List ℕ) (old new : View) (j : ScriptState) (earlier : List Step) (n : ℕ)
     (command : Command) (t : Table) : Type 0 where
   pub later : List Step
   pub stands : HoldsAt t new (after_command command j) later
@@ -49,15 +49,15 @@ pub record Confirmed (before behind : List ℕ) (old new : View) (j : Judge) (ea
 -- it is, or can't be
 abbrev pub ConfirmsNext : ℕ → Command → Table → Table → List ℕ → List ℕ → View → View → Result (Unit {0}) Why → Type 0
 ConfirmsNext n command t next before behind old new (Ok x) =
-    (j : Judge) (earlier : List Step) → HoldsAt t old j earlier → Confirmed before behind old new j earlier n command next
+    (j : ScriptState) (earlier : List Step) → HoldsAt t old j earlier → Confirmed before behind old new j earlier n command next
 ConfirmsNext n command t next before behind old new (Err why) =
-    (j : Judge) (earlier : List Step) → HoldsAt t old j earlier
+    (j : ScriptState) (earlier : List Step) → HoldsAt t old j earlier
     → (commands : List Command) (ending : ScriptEnding) → ToConfirm j n earlier (command ∷ commands) ending before old.rest → ⊥
 
 -- a command of this kind isn't refused, and what it expects for its names is met
 pub record MeetsCommandNames (kind : Kind) (ls : List Literal) (t next : Table) (old new : View) : Type 0 where
-  pub allowed : (j : Judge) → NamesStand t.names j → refusal_of j (command_of kind ls) ≡ None
-  pub met : (j : Judge) → NamesStand t.names j → MeetsAll (naming_all kind (names_of ls) j) t.variables next.variables old new (Ok tt)
+  pub allowed : (j : ScriptState) → NamesHaveState t.names j → refusal_of j (command_of kind ls) ≡ None
+  pub met : (j : ScriptState) → NamesHaveState t.names j → MeetsAll (naming_all kind (names_of ls) j) t.variables next.variables old new (Ok tt)
   pub changes : Changes t.names next.names (taken_by kind (names_of ls))
 
 -- what a command of this kind adds or asks behind its names is met, or can't be
@@ -83,24 +83,24 @@ ConfirmsAnswer n ask asked next before behind old new r =
 -- what shows the outcome of an ask is met, or can't be
 abbrev pub MeetsShown : Names → List Literal → Outcome → NamedVars → NamedVars → View → View → Result (Unit {0}) Why → Type 0
 MeetsShown names ask o before after old new r =
-    (j : Judge) → NamesStand names j → NamesIncrease j.in_use → MeetsAll (showing j ask o) before after old new r
+    (j : ScriptState) → NamesHaveState names j → NamesIncrease j.in_use → MeetsAll (showing j ask o) before after old new r
 
 -- and then its end; or they can't be
 abbrev pub MeetsOutcome : Names → List Literal → Outcome → NamedVars → NamedVars → View → View → Result (Unit {0}) Why → Type 0
 MeetsOutcome names ask o before after old new r =
-    (j : Judge) → NamesStand names j → NamesIncrease j.in_use → MeetsAll (showing j ask o ++ Closes ∷ []) before after old new r
+    (j : ScriptState) → NamesHaveState names j → NamesIncrease j.in_use → MeetsAll (showing j ask o ++ Closes ∷ []) before after old new r
 
 -- What is left of the script is confirmed, from command n on, or can't be.
 abbrev pub ConfirmsLast : ℕ → Reading → Table → List ℕ → View → Result (Unit {0}) Why → Type 0
 ConfirmsLast n script t before old (Ok x) =
-    (j : Judge) (earlier : List Step) → HoldsAt t old j earlier → ToConfirm j n earlier script.0 script.1 before old.rest
+    (j : ScriptState) (earlier : List Step) → HoldsAt t old j earlier → ToConfirm j n earlier script.0 script.1 before old.rest
 ConfirmsLast n script t before old (Err why) =
-    (j : Judge) (earlier : List Step) → HoldsAt t old j earlier → ToConfirm j n earlier script.0 script.1 before old.rest → ⊥
+    (j : ScriptState) (earlier : List Step) → HoldsAt t old j earlier → ToConfirm j n earlier script.0 script.1 before old.rest → ⊥
 
 -- So far: from one command on the script was confirmed up to another, and what was to be confirmed is so exactly if the rest is.
-pub record IsThrough (old new : View) (j : Judge) (earlier : List Step) (n : ℕ) (script : Reading) (before : List ℕ)
+pub record IsThrough (old new : View) (j : ScriptState) (earlier : List Step) (n : ℕ) (script : Reading) (before : List ℕ)
     (m : ℕ) (left : Reading) (next : Table) (behind : List ℕ) : Type 0 where
-  pub judge : Judge
+  pub judge : ScriptState
   pub later : List Step
   pub stands : HoldsAt next new judge later
   pub on : ToConfirm j n earlier script.0 script.1 before old.rest → ToConfirm judge m later left.0 left.1 behind new.rest
@@ -109,4 +109,4 @@ pub record IsThrough (old new : View) (j : Judge) (earlier : List Step) (n : ℕ
 -- so for each state of the judge, and steps, for which the table stands
 abbrev pub Through : ℕ → Reading → Table → ℕ → Reading → Table → List ℕ → List ℕ → View → View → Result (Unit {0}) Why → Type 0
 Through n script t m left next before behind old new r =
-    (j : Judge) (earlier : List Step) → HoldsAt t old j earlier → IsThrough old new j earlier n script before m left next behind
+    (j : ScriptState) (earlier : List Step) → HoldsAt t old j earlier → IsThrough old new j earlier n script before m left next behind

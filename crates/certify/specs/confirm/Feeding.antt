@@ -2,7 +2,7 @@
 use Rattle.std.specs.Prelude.{◌≡◌, false, Result, Ok, Err, List, ◌∷◌}
 use Rattle.sat_base.specs.steps.Steps.{Step}
 use Rattle.sat_checker.specs.Accepts.{Accepts, stored_after, ready_after}
-use Rattle.sat_checker.specs.KernelView.{HasAccepted, has_failed, looks_of}
+use Rattle.sat_checker.specs.KernelView.{HasAccepted, kernel_has_failed, kernel_looks}
 use Rattle.sat_checker.specs.Spent.{IsSpent, SpentBy}
 use Rattle.sat_checker.specs.declared.kernel.Kernel.{Kernel}
 use Rattle.sat_checker.specs.declared.error.CheckerError.{CheckerError}
@@ -14,7 +14,7 @@ use Rattle.certify.specs.declared.verdict.Why.TheVariants.{StepRefused}
 -- it accepted these steps, the newest first, and goes on
 pub record HasTaken (checker : Kernel) (steps : List Step) : Type 0 where
   pub stands : HasAccepted checker steps
-  pub goes_on : has_failed checker ≡ false
+  pub goes_on : kernel_has_failed checker ≡ false
 
 -- What is answered where a step isn't accepted. Besides a refusal, want of memory and a number past its end nothing comes of a step
 -- that a checker is fed which goes on.
@@ -42,11 +42,11 @@ FeedsStep (Err stop.TooMany) old step new = ⊥
 
 -- A pending unit conflict is settled, or there is no id for it: no step and no look more.
 abbrev pub SettlesConflict : Result (Unit {0}) Stop → Kernel → Kernel → Type 0
-SettlesConflict (Ok x) old new = (steps : List Step) → HasTaken old steps → HasTaken new steps × (looks_of new ≡ looks_of old)
+SettlesConflict (Ok x) old new = (steps : List Step) → HasTaken old steps → HasTaken new steps × (kernel_looks new ≡ kernel_looks old)
 SettlesConflict (Err (stop.No why)) old new = (steps : List Step) → HasTaken old steps → ⊥
 SettlesConflict (Err stop.CertificateRead) old new = ⊥
-SettlesConflict (Err stop.OutOfMemory) old new = (steps : List Step) → HasTaken old steps → looks_of new ≡ looks_of old
-SettlesConflict (Err stop.CounterEnd) old new = (steps : List Step) → HasTaken old steps → IsSpent (ready_after steps) × (looks_of new ≡ looks_of old)
+SettlesConflict (Err stop.OutOfMemory) old new = (steps : List Step) → HasTaken old steps → kernel_looks new ≡ kernel_looks old
+SettlesConflict (Err stop.CounterEnd) old new = (steps : List Step) → HasTaken old steps → IsSpent (ready_after steps) × (kernel_looks new ≡ kernel_looks old)
 SettlesConflict (Err stop.ScriptRead) old new = ⊥
 SettlesConflict (Err stop.AnswersRead) old new = ⊥
 SettlesConflict (Err stop.TooMany) old new = ⊥

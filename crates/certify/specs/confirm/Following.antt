@@ -6,23 +6,23 @@ use Rattle.sat_base.specs.steps.Steps.{Step}
 use Rattle.sat_checker.specs.Accepts.{Accepts, ready_after}
 use Rattle.sat_checker.specs.matching.Checking.{Accepted, is_ordered, variable_of}
 use Rattle.sat_checker.specs.matching.Expected.{Outcome, Fits}
-use Rattle.sat_checker.specs.matching.ProofChecking.{the_checking}
+use Rattle.sat_checker.specs.matching.ProofChecking.{checker_rules}
 use Rattle.certify.specs.confirm.Comparing.{Due}
 use Rattle.certify.specs.confirm.Variables.{variable_in}
 use Rattle.certify.specs.declared.confirm.variables.NamedVars.{NamedVars}
 
 -- behind accepted steps these are the variables of the names: no two names have one, and each is known
 pub record StandFor (variables : NamedVars) (earlier : List Step) : Type 0 where
-  pub accepted : Accepted the_checking earlier
+  pub accepted : Accepted checker_rules earlier
   pub named : variable_of earlier ≡ variable_in variables
   pub apart : (m n v : ℕ) → variable_of earlier m ≡ Some v → variable_of earlier n ≡ Some v → m ≡ n
-  pub known : (m v : ℕ) → variable_of earlier m ≡ Some v → the_checking.knows earlier v ≡ true
+  pub known : (m v : ℕ) → variable_of earlier m ≡ Some v → checker_rules.knows earlier v ≡ true
   pub few : (name v : ℕ) → variable_of earlier name ≡ Some v → name ≤ var_limit
 
 -- behind an accepted step that is what is expected
 abbrev pub NamesFollow : Due → NamedVars → Step → NamedVars → Type 0
 NamesFollow due old step new = (earlier : List Step) (o : Outcome) (ask : List Literal) → StandFor old earlier
-    → Fits (the_checking.knows earlier) earlier (due o ask) step → Accepts (ready_after earlier) step → StandFor new (step ∷ earlier)
+    → Fits (checker_rules.knows earlier) earlier (due o ask) step → Accepts (ready_after earlier) step → StandFor new (step ∷ earlier)
 
 -- steps that nobody expects change nothing
 abbrev pub OthersPass : Type 0

@@ -2,16 +2,16 @@
 use Rattle.std.specs.Prelude.{ℕ, ◌≡◌, List, [], ◌∷◌, ◌++◌}
 use Rattle.std.specs.List.{AllByRecursion}
 use Rattle.sat_base.specs.script.Script.{Literal, Command, ScriptEnding}
-use Rattle.sat_base.specs.script.Judge.{Judge, accepted_of}
+use Rattle.sat_base.specs.script.ScriptState.{ScriptState, accepted_of}
 use Rattle.sat_base.specs.steps.Steps.{Step}
 use Rattle.sat_base.specs.steps.StepText.{SpellsSteps}
 use Rattle.certify.specs.answers.Answers.{outcome_text, answers_from}
 use Rattle.sat_checker.specs.matching.Expected.{Outcome, Expected, Opens, Closes, showing, expected}
-use Rattle.sat_checker.specs.matching.Checking.{Checking}
+use Rattle.sat_checker.specs.matching.Checking.{CheckerRules}
 use Rattle.certify.specs.confirm.Matches.{OneEach, InForm, Meets}
 
 -- what is left of the certificate begins with steps that are what is expected behind the earlier ones
-pub record CertificateMeets (k : Checking) (earlier : List Step) (es : List Expected) (certificate : List ℕ) : Type 0 where
+pub record CertificateMeets (k : CheckerRules) (earlier : List Step) (es : List Expected) (certificate : List ℕ) : Type 0 where
   pub steps : List Step
   pub text : List ℕ
   pub rest : List ℕ
@@ -20,7 +20,7 @@ pub record CertificateMeets (k : Checking) (earlier : List Step) (es : List Expe
   pub meets : Meets k earlier steps es
 
 -- Command n comes next, in this state of the judge; what is pending belongs to the commands before it.
-pub record Left (k : Checking) (j : Judge) (n : ℕ) (earlier : List Step) (pending : List Expected)
+pub record Left (k : CheckerRules) (j : ScriptState) (n : ℕ) (earlier : List Step) (pending : List Expected)
     (commands : List Command) (ending : ScriptEnding) (answers certificate : List ℕ) : Type 0 where
   pub outcomes : List Outcome
   pub answered : answers ≡ answers_from n j commands ending outcomes
@@ -29,7 +29,7 @@ pub record Left (k : Checking) (j : Judge) (n : ℕ) (earlier : List Step) (pend
   pub certified : CertificateMeets k earlier (pending ++ expected j (accepted_of j commands) outcomes) certificate
 
 -- The answer to an ask is still to be read, j being the state after its names came in. Of its names these are pending, and then its assumptions.
-pub record LeftOfAsk (k : Checking) (j : Judge) (n : ℕ) (earlier : List Step) (pending : List Expected) (ask : List Literal)
+pub record LeftOfAsk (k : CheckerRules) (j : ScriptState) (n : ℕ) (earlier : List Step) (pending : List Expected) (ask : List Literal)
     (commands : List Command) (ending : ScriptEnding) (answers certificate : List ℕ) : Type 0 where
   pub outcome : Outcome
   pub tail : List ℕ

@@ -2,16 +2,16 @@
 use Rattle.std.specs.Prelude.{ℕ, ◌≤◌, ◌≡◌, ◌⊎◌, Bool, true, false, List, [], ◌∷◌, ◌++◌, length, take, Result, Ok, Err}
 use Rattle.std.specs.List.{AllByRecursion}
 use Rattle.sat_base.specs.device.Device.{Reader}
-use Rattle.sat_base.specs.device.Reading.{Source, Passes, PassesToEnd}
+use Rattle.sat_base.specs.device.Reading.{Source, ConsumesBytes, ConsumesToEnd}
 use Rattle.sat_base.specs.declared.device.whole.ReadError.{ReadError}
 use Rattle.sat_base.specs.declared.device.whole.ReadError.TheVariants as errors
 use Rattle.sat_base.specs.script.Script.{Literal}
 use Rattle.sat_checker.specs.matching.Expected.{Outcome, Unsat}
 use Rattle.certify.specs.answers.Answers.{outcome_text}
 use Rattle.certify.specs.answers.AnswerForms.{IsInForm, named_literals}
-use Rattle.certify.specs.answers.AnswerReading.{first_line, second_line, outcome_of}
-use Rattle.certify.specs.script.Ahead.{FaultsAhead, NoReadFailedAhead, source_in, waiting}
-use Rattle.certify.specs.declared.script.ahead.Ahead.{Ahead}
+use Rattle.certify.specs.answers.AnswerReading.{first_answer_line, second_line, outcome_of}
+use Rattle.certify.specs.script.LastPiece.{FaultsAhead, NoReadFailedAhead, source_in, waiting_bytes}
+use Rattle.certify.specs.declared.script.ahead.LastPiece.{LastPiece}
 use Rattle.certify.specs.declared.answers.read.AnswerFault.{AnswerFault}
 use Rattle.certify.specs.declared.answers.read.AnswerFault.TheVariants as unread
 use Rattle.certify.specs.declared.answers.read.AnswerKind.{AnswerKind}
@@ -45,15 +45,15 @@ EndsPart true text left = IsOneLine text
 EndsPart false text left = HasNoLf text × (left ≡ [])
 
 -- bytes that waited were moved to the line in hand
-abbrev pub MovesFront : {E : Type 0} → Result Bool E → Ahead → Ahead → List ℕ → List ℕ → Type 0
-MovesFront (Ok whole) old new before after = (text : List ℕ) × (waiting old ≡ text ++ waiting new) × (new.reads ≡ old.reads)
-    × (after ≡ before ++ text) × EndsPart whole text (waiting new)
+abbrev pub MovesFront : {E : Type 0} → Result Bool E → LastPiece → LastPiece → List ℕ → List ℕ → Type 0
+MovesFront (Ok whole) old new before after = (text : List ℕ) × (waiting_bytes old ≡ text ++ waiting_bytes new) × (new.reads ≡ old.reads)
+    × (after ≡ before ++ text) × EndsPart whole text (waiting_bytes new)
 MovesFront (Err e) old new before after = new ≡ old
 
 -- the lines that may stand where one is read
 abbrev pub IsWantedLine : Wanted → List ℕ → List ℕ → Type 0
 IsWantedLine wanted.Due due line = line ≡ due
-IsWantedLine wanted.First due line = (k : AnswerKind) × (line ≡ first_line k)
+IsWantedLine wanted.First due line = (k : AnswerKind) × (line ≡ first_answer_line k)
 IsWantedLine (wanted.Second k) due line = (ls : List Literal) × (IsInForm (outcome_of k ls) × (line ≡ second_line (outcome_of k ls)))
 IsWantedLine wanted.Nothing due line = ⊥
 
@@ -67,13 +67,13 @@ IsWrong P bytes = StartsNone P bytes × (bytes ≡ [] → ⊥)
 
 -- a line was read, or what is left without one, or bytes without LF with which none of these lines begins
 abbrev pub IsNextLine : (List ℕ → Type 0) → Source → Source → List ℕ → Type 0
-IsNextLine P a b line = (Passes a b line × IsOneLine line) ⊎ ((PassesToEnd a b line × HasNoLf line) ⊎ ((Passes a b line × HasNoLf line) × IsWrong P line))
+IsNextLine P a b line = (ConsumesBytes a b line × IsOneLine line) ⊎ ((ConsumesToEnd a b line × HasNoLf line) ⊎ ((ConsumesBytes a b line × HasNoLf line) × IsWrong P line))
 
 -- so it is, or the reader failed, or memory was wanted
-abbrev pub ReadsLine : (List ℕ → Type 0) → Result (Unit {0}) ReadError → Source → Source → List ℕ → Type 0
-ReadsLine P (Ok x) a b line = IsNextLine P a b line
-ReadsLine P (Err errors.Failed) a b line = FaultsAhead a b
-ReadsLine P (Err errors.OutOfMemory) a b line = NoReadFailedAhead a b
+abbrev pub ReadsLineOfKind : (List ℕ → Type 0) → Result (Unit {0}) ReadError → Source → Source → List ℕ → Type 0
+ReadsLineOfKind P (Ok x) a b line = IsNextLine P a b line
+ReadsLineOfKind P (Err errors.Failed) a b line = FaultsAhead a b
+ReadsLineOfKind P (Err errors.OutOfMemory) a b line = NoReadFailedAhead a b
 
 -- the same of answers
 abbrev pub NextLine : (List ℕ → Type 0) → Result (Unit {0}) Stop → Source → Source → List ℕ → Type 0
@@ -103,7 +103,7 @@ stop_after unread.OutOfMemory = stop.OutOfMemory
 
 -- the first line of an answer was read, or no answer stands there
 abbrev pub ReadsFirst : List ℕ → List ℕ → Result AnswerKind Why → Type 0
-ReadsFirst before behind (Ok kind) = before ≡ first_line kind ++ behind
+ReadsFirst before behind (Ok kind) = before ≡ first_answer_line kind ++ behind
 ReadsFirst before behind (Err why) = (o : Outcome) (tail : List ℕ) → before ≡ outcome_text o ++ tail → ⊥
 
 -- so the second one of an answer of this kind, or none stands there

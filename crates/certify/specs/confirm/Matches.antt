@@ -2,10 +2,10 @@
 use Rattle.std.specs.Prelude.{◌≡◌, ℕ, true, false, List, [], ◌∷◌, ◌++◌}
 use Rattle.std.specs.List.{AllByRecursion}
 use Rattle.sat_base.specs.script.Script.{Command, Ask, ScriptEnding, InOrder}
-use Rattle.sat_base.specs.script.Judge.{start, accepted_of}
+use Rattle.sat_base.specs.script.ScriptState.{start, accepted_of}
 use Rattle.sat_base.specs.steps.Steps.{Step}
 use Rattle.sat_base.specs.steps.StepText.{SpellsSteps}
-use Rattle.sat_checker.specs.matching.Checking.{Checking, is_ordered}
+use Rattle.sat_checker.specs.matching.Checking.{CheckerRules, is_ordered}
 use Rattle.sat_checker.specs.matching.Expected.{Outcome, Sat, Unsat, Unknown, Expected, Opens, Shows, Fails, expected, Fits}
 use Rattle.certify.specs.answers.Answers.{answers_text}
 
@@ -24,16 +24,16 @@ InForm (Unsat core) = InOrder core
 InForm Unknown = Unit {0}
 
 -- what may be left unmet once unsat is recorded: no model, no core but the empty one, and no ask with another outcome
-abbrev pub Excused : Expected → Type 0
-Excused (Opens ls o) = o ≡ Unsat []
-Excused (Shows names ask line) = ⊥
-Excused (Fails ask core) = core ≡ []
-Excused e = Unit {0}
+abbrev pub MayBeUnmet : Expected → Type 0
+MayBeUnmet (Opens ls o) = o ≡ Unsat []
+MayBeUnmet (Shows names ask line) = ⊥
+MayBeUnmet (Fails ask core) = core ≡ []
+MayBeUnmet e = Unit {0}
 
 -- behind the earlier steps, these steps are accepted in turn and the ordered ones are what is expected
-pub data Meets (k : Checking) : List Step → List Step → List Expected → Type 0 where
+pub data Meets (k : CheckerRules) : List Step → List Step → List Expected → Type 0 where
   met : {earlier : List Step} → k.unsat earlier ≡ false → Meets k earlier [] []
-  cut : {earlier : List Step} {es : List Expected} → k.unsat earlier ≡ true → AllByRecursion Excused es → Meets k earlier [] es
+  cut : {earlier : List Step} {es : List Expected} → k.unsat earlier ≡ true → AllByRecursion MayBeUnmet es → Meets k earlier [] es
   other : {earlier steps : List Step} {step : Step} {e : Expected} {es : List Expected}
       → k.unsat earlier ≡ false → is_ordered step ≡ false → k.Accepts earlier step → Meets k (step ∷ earlier) steps (e ∷ es)
       → Meets k earlier (step ∷ steps) (e ∷ es)
@@ -42,14 +42,14 @@ pub data Meets (k : Checking) : List Step → List Step → List Expected → Ty
       → Meets k earlier (step ∷ steps) (e ∷ es)
 
 -- the steps are those of the script's commands and these outcomes
-pub record StepsMatch (k : Checking) (commands : List Command) (outcomes : List Outcome) (steps : List Step) : Type 0 where
+pub record StepsMatch (k : CheckerRules) (commands : List Command) (outcomes : List Outcome) (steps : List Step) : Type 0 where
   pub one_each : OneEach (accepted_of start commands) outcomes
   pub in_form : AllByRecursion InForm outcomes
   pub meets : Meets k [] steps (expected start (accepted_of start commands) outcomes)
 
 -- How a script is read is a definition of its own: here are its commands and how it ends. Nothing is said of what stands in the
 -- certificate behind the steps.
-pub record MatchesCommands (k : Checking) (commands : List Command) (ending : ScriptEnding) (answers certificate : List ℕ) : Type 0 where
+pub record MatchesCommands (k : CheckerRules) (commands : List Command) (ending : ScriptEnding) (answers certificate : List ℕ) : Type 0 where
   pub outcomes : List Outcome
   pub steps : List Step
   pub text : List ℕ
@@ -60,5 +60,5 @@ pub record MatchesCommands (k : Checking) (commands : List Command) (ending : Sc
   pub match : StepsMatch k commands outcomes steps
 
 -- the three texts
-abbrev pub Matches : Checking → (List ℕ → List Command × ScriptEnding) → List ℕ → List ℕ → List ℕ → Type 0
+abbrev pub Matches : CheckerRules → (List ℕ → List Command × ScriptEnding) → List ℕ → List ℕ → List ℕ → Type 0
 Matches k reading script answers certificate = MatchesCommands k (reading script).0 (reading script).1 answers certificate

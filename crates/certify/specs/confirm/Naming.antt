@@ -1,12 +1,12 @@
 -- What the names of a command make of a certificate.
 use Rattle.std.specs.Prelude.{ℕ, ◌≡◌, Result, Ok, Err, List, [], ◌∷◌, ◌++◌, map}
 use Rattle.sat_base.specs.script.Script.{Hide, Witness, Sample}
-use Rattle.sat_base.specs.script.Judge.{Judge, Sampled, Witnessed, new_names, bring_all, accepted}
+use Rattle.sat_base.specs.script.ScriptState.{ScriptState, Sampled, Witnessed, new_names, bring_all, accepted}
 use Rattle.sat_base.specs.steps.Steps.{Step}
 use Rattle.sat_checker.specs.matching.Expected.{Expected, NewName, NoName, bringing, hiding, setting}
-use Rattle.certify.specs.confirm.CertificatePlaces.{MeetsExactly, Bars}
+use Rattle.certify.specs.confirm.CertificatePlaces.{MeetsExactly, MeetsNoneOf}
 use Rattle.certify.specs.confirm.Views.{View}
-use Rattle.certify.specs.judge.Names.{NamesStand, taken}
+use Rattle.certify.specs.judge.Names.{NamesHaveState, taken}
 use Rattle.certify.specs.confirm.Awaiting.{CheckerIsAt}
 use Rattle.sat_base.specs.script.Language.{Kind, OfClause, OfAsk, OfHide, OfWitness, OfSample}
 use Rattle.certify.specs.declared.judge.names.Names.{Names}
@@ -22,7 +22,7 @@ pub record GoesOnTo (pending : List Expected) (after : NamedVars) (old : View) (
 -- what is pending is met, or can't be
 abbrev pub MeetsAll : List Expected → NamedVars → NamedVars → View → View → Result (Unit {0}) Why → Type 0
 MeetsAll pending before after old new (Ok x) = (earlier : List Step) → CheckerIsAt old.checker before earlier → GoesOnTo pending after old earlier new
-MeetsAll pending before after old new (Err why) = (earlier : List Step) → CheckerIsAt old.checker before earlier → Bars earlier old.rest pending
+MeetsAll pending before after old new (Err why) = (earlier : List Step) → CheckerIsAt old.checker before earlier → MeetsNoneOf earlier old.rest pending
 
 -- a name is hidden behind those that come in with it
 abbrev pub hidden_by : Kind → ℕ → List Expected
@@ -33,36 +33,36 @@ hidden_by OfWitness name = []
 hidden_by OfSample name = []
 
 -- what a command of this kind expects for one of its names
-abbrev pub expected_naming : Kind → ℕ → Judge → List Expected
+abbrev pub expected_naming : Kind → ℕ → ScriptState → List Expected
 expected_naming kind name j = map NewName (new_names name j) ++ hidden_by kind name
 
 -- it is met, or can't be
 abbrev pub MeetsName : Kind → ℕ → Names → NamedVars → NamedVars → View → View → Result (Unit {0}) Why → Type 0
-MeetsName kind name names before after old new r = (j : Judge) → NamesStand names j → MeetsAll (expected_naming kind name j) before after old new r
+MeetsName kind name names before after old new r = (j : ScriptState) → NamesHaveState names j → MeetsAll (expected_naming kind name j) before after old new r
 
 -- what a command of this kind expects for names, from left to right
-abbrev pub naming_all : Kind → List ℕ → Judge → List Expected
+abbrev pub naming_all : Kind → List ℕ → ScriptState → List Expected
 naming_all kind [] j = []
 naming_all kind (name ∷ names) j = expected_naming kind name j ++ naming_all kind names (taken kind name j)
 
 -- it is met, or can't be
 abbrev pub MeetsNames : Kind → List ℕ → Names → NamedVars → NamedVars → View → View → Result (Unit {0}) Why → Type 0
-MeetsNames kind list names before after old new r = (j : Judge) → NamesStand names j → MeetsAll (naming_all kind list j) before after old new r
+MeetsNames kind list names before after old new r = (j : ScriptState) → NamesHaveState names j → MeetsAll (naming_all kind list j) before after old new r
 
 -- what a command makes of all its names
-abbrev pub taken_by : Kind → List ℕ → Judge → Judge
+abbrev pub taken_by : Kind → List ℕ → ScriptState → ScriptState
 taken_by kind [] j = j
 taken_by kind (name ∷ names) j = taken_by kind names (taken kind name j)
 
 -- so it is for each kind of command, and what its names leave is what the command leaves, but for a clause
 pub record NamesAreExpected : Type 0 where
-  pub clauses : (names : List ℕ) (j : Judge) → naming_all OfClause names j ≡ bringing names j
-  pub asks : (names : List ℕ) (j : Judge) → naming_all OfAsk names j ≡ bringing names j
-  pub hides : (names : List ℕ) (j : Judge) → naming_all OfHide names j ≡ hiding names j
-  pub witnesses : (names : List ℕ) (j : Judge) → naming_all OfWitness names j ≡ setting Witnessed names j
-  pub samples : (names : List ℕ) (j : Judge) → naming_all OfSample names j ≡ setting Sampled names j
-  pub left_by_clause : (names : List ℕ) (j : Judge) → taken_by OfClause names j ≡ bring_all names j
-  pub left_by_ask : (names : List ℕ) (j : Judge) → taken_by OfAsk names j ≡ bring_all names j
-  pub left_by_hide : (names : List ℕ) (j : Judge) → taken_by OfHide names j ≡ accepted (Hide names) j
-  pub left_by_witness : (names : List ℕ) (j : Judge) → taken_by OfWitness names j ≡ accepted (Witness names) j
-  pub left_by_sample : (names : List ℕ) (j : Judge) → taken_by OfSample names j ≡ accepted (Sample names) j
+  pub clauses : (names : List ℕ) (j : ScriptState) → naming_all OfClause names j ≡ bringing names j
+  pub asks : (names : List ℕ) (j : ScriptState) → naming_all OfAsk names j ≡ bringing names j
+  pub hides : (names : List ℕ) (j : ScriptState) → naming_all OfHide names j ≡ hiding names j
+  pub witnesses : (names : List ℕ) (j : ScriptState) → naming_all OfWitness names j ≡ setting Witnessed names j
+  pub samples : (names : List ℕ) (j : ScriptState) → naming_all OfSample names j ≡ setting Sampled names j
+  pub left_by_clause : (names : List ℕ) (j : ScriptState) → taken_by OfClause names j ≡ bring_all names j
+  pub left_by_ask : (names : List ℕ) (j : ScriptState) → taken_by OfAsk names j ≡ bring_all names j
+  pub left_by_hide : (names : List ℕ) (j : ScriptState) → taken_by OfHide names j ≡ accepted (Hide names) j
+  pub left_by_witness : (names : List ℕ) (j : ScriptState) → taken_by OfWitness names j ≡ accepted (Witness names) j
+  pub left_by_sample : (names : List ℕ) (j : ScriptState) → taken_by OfSample names j ≡ accepted (Sample names) j

@@ -3,7 +3,7 @@ use Rattle.std.specs.Prelude.{◌≡◌, ◌+◌, ◌-◌, ◌*◌, ◌≤◌, �
 use Rattle.std.specs.Io.KnownBytes.{IsAtEnd}
 use Rattle.sat_base.specs.declared.steps.error.StepError.{StepError}
 use Rattle.sat_base.specs.declared.steps.error.StepError.TheVariants as errors
-use Rattle.sat_base.specs.device.Reading.{Source, AtEnd, PassesBut, Passes, Faults}
+use Rattle.sat_base.specs.device.Reading.{Source, AtEnd, ConsumesWithReads, ConsumesBytes, ConsumesAndFails}
 use Rattle.sat_base.specs.declared.steps.reader.Buffers.{Buffers}
 use Rattle.sat_base.specs.declared.steps.reader.StepReader.{StepReader}
 use Rattle.sat_base.specs.device.Device.{Reader, most_reads, piece_size}
@@ -46,8 +46,8 @@ abbrev pub StepsGoOnIf : {R T E : Type 0} → Result T E → (R → Reader) → 
 StepsGoOnIf result seen r = OnOk result (StepsGoOn seen r)
 
 -- the most bytes that can still be taken
-abbrev pub bytes_left : Source → ℕ
-bytes_left s = piece_size * (most_reads - s.reads) + length s.waiting
+abbrev pub most_bytes_left : Source → ℕ
+most_bytes_left s = piece_size * (most_reads - s.reads) + length s.waiting
 
 -- the bytes still to come, if these are all that its reader will have given, to whomever
 abbrev pub rest_in : List ℕ → Source → List ℕ
@@ -69,31 +69,31 @@ HoldsWhateverFollows old new P = (total : List ℕ) → Covers new.source total 
 
 -- some bytes were taken
 abbrev pub TakesStreamBytes : Stream → Stream → Type 0
-TakesStreamBytes old new = (text : List ℕ) × Passes old.source new.source text
+TakesStreamBytes old new = (text : List ℕ) × ConsumesBytes old.source new.source text
 
 -- some bytes were taken, and then perhaps the end was found
 abbrev pub TakesBytesOrEnds : Stream → Stream → Type 0
-TakesBytesOrEnds old new = ((text : List ℕ) × PassesBut 1 old.source new.source text) × (AtEnd new.source → IsAtEnd new.source.reader.to_come)
+TakesBytesOrEnds old new = ((text : List ℕ) × ConsumesWithReads 1 old.source new.source text) × (AtEnd new.source → IsAtEnd new.source.reader.to_come)
 
 -- A call goes on: this is so of what confirming saw and sees, and the checker was fed the steps between them, but for the last one
 -- where that is still to be fed.
-abbrev pub Going : Bool → Stream → Stream → (View → View → Type 0) → Type 0
-Going fed old new P = TakesStreamBytes old new × HoldsWhateverFollows old new P × HoldsWhateverFollows old new (walks_if fed)
+abbrev pub GoesOnWith : Bool → Stream → Stream → (View → View → Type 0) → Type 0
+GoesOnWith fed old new P = TakesStreamBytes old new × HoldsWhateverFollows old new P × HoldsWhateverFollows old new (walks_if fed)
 
 -- It stops, by no other text; P says what a no makes of what confirming saw and sees. Whatever stopped it, the checker took the looks of what it was fed.
-abbrev pub Failing : Stop → Stream → Stream → (View → View → Why → Type 0) → Type 0
-Failing (stop.No why) old new P = TakesBytesOrEnds old new × HoldsWhateverFollows old new (λ a b. P a b why) × HoldsWhateverFollows old new FeedsSomeSteps
-Failing stop.CertificateRead old new P = ((text : List ℕ) × Faults old.source new.source text) × HoldsWhateverFollows old new FeedsSomeSteps
-Failing stop.OutOfMemory old new P = TakesBytesOrEnds old new × HoldsWhateverFollows old new FeedsSomeSteps
-Failing stop.CounterEnd old new P = TakesBytesOrEnds old new × HoldsWhateverFollows old new RunsOut × HoldsWhateverFollows old new FeedsSomeSteps
-Failing stop.ScriptRead old new P = ⊥
-Failing stop.AnswersRead old new P = ⊥
-Failing stop.TooMany old new P = ⊥
+abbrev pub StopsWith : Stop → Stream → Stream → (View → View → Why → Type 0) → Type 0
+StopsWith (stop.No why) old new P = TakesBytesOrEnds old new × HoldsWhateverFollows old new (λ a b. P a b why) × HoldsWhateverFollows old new FeedsSomeSteps
+StopsWith stop.CertificateRead old new P = ((text : List ℕ) × ConsumesAndFails old.source new.source text) × HoldsWhateverFollows old new FeedsSomeSteps
+StopsWith stop.OutOfMemory old new P = TakesBytesOrEnds old new × HoldsWhateverFollows old new FeedsSomeSteps
+StopsWith stop.CounterEnd old new P = TakesBytesOrEnds old new × HoldsWhateverFollows old new RunsOut × HoldsWhateverFollows old new FeedsSomeSteps
+StopsWith stop.ScriptRead old new P = ⊥
+StopsWith stop.AnswersRead old new P = ⊥
+StopsWith stop.TooMany old new P = ⊥
 
 -- What a call answers: it goes on, or it stops; P says what an answer makes of what confirming saw and sees.
 abbrev pub GoesOrStops : {A : Type 0} → (A → Bool) → Result A Stop → Stream → Stream → (View → View → Result A Why → Type 0) → Type 0
-GoesOrStops fed (Ok x) old new P = Going (fed x) old new (λ a b. P a b (Ok x))
-GoesOrStops fed (Err e) old new P = Failing e old new (λ a b why. P a b (Err why))
+GoesOrStops fed (Ok x) old new P = GoesOnWith (fed x) old new (λ a b. P a b (Ok x))
+GoesOrStops fed (Err e) old new P = StopsWith e old new (λ a b why. P a b (Err why))
 
 -- where the checker is fed each step that is read
 abbrev pub Confirms : {A : Type 0} → Result A Stop → Stream → Stream → (View → View → Result A Why → Type 0) → Type 0

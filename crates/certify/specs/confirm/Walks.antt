@@ -3,7 +3,7 @@ use Rattle.std.specs.Prelude.{ℕ, ◌≡◌, ◌+◌, ◌≤◌, Bool, true, fa
 use Rattle.sat_base.specs.steps.Steps.{Step}
 use Rattle.sat_base.specs.steps.StepText.{SpellsStep}
 use Rattle.sat_checker.specs.Accepts.{Accepts, stored_after, ready_after}
-use Rattle.sat_checker.specs.KernelView.{looks_of}
+use Rattle.sat_checker.specs.KernelView.{kernel_looks}
 use Rattle.sat_checker.specs.Looks.{most_looks}
 use Rattle.sat_checker.specs.Spent.{IsSpent, SpentBy}
 use Rattle.sat_checker.specs.declared.kernel.Kernel.{Kernel}
@@ -24,20 +24,20 @@ pub data LooksReach : List Step → List ℕ → ℕ → ℕ → Type 0 where
 
 -- Behind steps from the front of the bytes, each accepted behind the earlier ones, a number is past 64 bits: as a pending unit conflict
 -- is settled, or by the next step.
-pub data Spends : List Step → List ℕ → Type 0 where
-  spent_settling : {earlier : List Step} {bytes : List ℕ} → IsSpent (ready_after earlier) → Spends earlier bytes
+pub data ReachesCounterEnd : List Step → List ℕ → Type 0 where
+  spent_settling : {earlier : List Step} {bytes : List ℕ} → IsSpent (ready_after earlier) → ReachesCounterEnd earlier bytes
   spent_trying : {earlier : List Step} {bytes : List ℕ} (step : Step) (text rest : List ℕ)
-      → bytes ≡ text ++ rest → SpellsStep step text → SpentBy step (stored_after earlier) → Spends earlier bytes
+      → bytes ≡ text ++ rest → SpellsStep step text → SpentBy step (stored_after earlier) → ReachesCounterEnd earlier bytes
   spent_taking : {earlier : List Step} {bytes : List ℕ} (step : Step) (text rest : List ℕ)
-      → bytes ≡ text ++ rest → SpellsStep step text → Accepts (ready_after earlier) step → Spends (step ∷ earlier) rest
-      → Spends earlier bytes
+      → bytes ≡ text ++ rest → SpellsStep step text → Accepts (ready_after earlier) step → ReachesCounterEnd (step ∷ earlier) rest
+      → ReachesCounterEnd earlier bytes
 
 -- The checker was fed steps from the front of the bytes, and these are left: what can be reached from there can be from the beginning.
 pub record IsFedFront (old : Kernel) (bytes : List ℕ) (new : Kernel) (rest : List ℕ) (earlier : List Step) : Type 0 where
   pub later : List Step
   pub taken : HasTaken new later
-  pub reaches : (looks : ℕ) → LooksReach later rest (looks_of new) looks → LooksReach earlier bytes (looks_of old) looks
-  pub spends : Spends later rest → Spends earlier bytes
+  pub reaches : (looks : ℕ) → LooksReach later rest (kernel_looks new) looks → LooksReach earlier bytes (kernel_looks old) looks
+  pub spends : ReachesCounterEnd later rest → ReachesCounterEnd earlier bytes
 
 -- it was fed all steps between two views
 abbrev pub FeedsAllSteps : View → View → Type 0
@@ -55,8 +55,8 @@ walks_if false old new = WalksBefore old new
 
 -- it was fed some steps, the last of which it perhaps didn't take
 abbrev pub FeedsSomeSteps : View → View → Type 0
-FeedsSomeSteps old new = (earlier : List Step) → HasTaken old.checker earlier → LooksReach earlier old.rest (looks_of old.checker) (looks_of new.checker)
+FeedsSomeSteps old new = (earlier : List Step) → HasTaken old.checker earlier → LooksReach earlier old.rest (kernel_looks old.checker) (kernel_looks new.checker)
 
 -- a number was at its end
 abbrev pub RunsOut : View → View → Type 0
-RunsOut old new = (earlier : List Step) → HasTaken old.checker earlier → Spends earlier old.rest
+RunsOut old new = (earlier : List Step) → HasTaken old.checker earlier → ReachesCounterEnd earlier old.rest

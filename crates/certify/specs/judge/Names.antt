@@ -6,7 +6,7 @@ use Rattle.sat_base.specs.values.Tables.{value_at}
 use Rattle.sat_base.specs.declared.table.Table.{Table}
 use Rattle.sat_base.specs.script.Script.{Command, names_of}
 use Rattle.certify.specs.answers.AnswerForms.{named_literals}
-use Rattle.sat_base.specs.script.Judge.{Judge, Mode, Sampled, Witnessed, identity_of, bring_in, new_names, without_name, with_mode, Refusal, PastLimit, WitnessName, refusal_of}
+use Rattle.sat_base.specs.script.ScriptState.{ScriptState, NameMode, Sampled, Witnessed, identity_of, bring_in, new_names, without_name, with_mode, Refusal, PastLimit, WitnessName, refusal_of}
 use Rattle.sat_base.specs.script.Language.{Kind, OfClause, OfAsk, OfHide, OfWitness, OfSample}
 use Rattle.certify.specs.script.Commands.{IsLent}
 use Rattle.certify.specs.declared.script.Command.{Command as Lent}
@@ -22,12 +22,12 @@ state_in states zero = state.Hidden
 state_in states (suc index) = get_or states index state.Hidden
 
 -- of a name in use, by its mode
-abbrev pub state_of_mode : Mode → NameState
+abbrev pub state_of_mode : NameMode → NameState
 state_of_mode Sampled = state.Sampled
 state_of_mode Witnessed = state.Witnessed
 
 -- of an identity, or of a name that isn't in use
-abbrev pub state_of_identity : List Mode → Option ℕ → NameState
+abbrev pub state_of_identity : List NameMode → Option ℕ → NameState
 state_of_identity modes None = state.Hidden
 state_of_identity modes (Some identity) = state_of_mode (get_or modes identity Sampled)
 
@@ -41,15 +41,15 @@ abbrev pub states_of : Names → List NameState
 states_of names = first_states names.states names.used
 
 -- names that weren't are in no table
-abbrev pub AreFresh : Names → Type 0
-AreFresh names = (v : ℕ) → names.used ≤ v → value_at state.Sampled names.states v ≡ state.Sampled
+abbrev pub UnusedAreUnlisted : Names → Type 0
+UnusedAreUnlisted names = (v : ℕ) → names.used ≤ v → value_at state.Sampled names.states v ≡ state.Sampled
 
 -- names and modes are the judge's, who was asked of names within the limit alone
-pub record NamesStand (names : Names) (j : Judge) : Type 0 where
+pub record NamesHaveState (names : Names) (j : ScriptState) : Type 0 where
   pub first : j.first_unused ≡ names.used + 1
   pub limit : j.first_unused ≤ var_limit + 1
   pub each : (name : ℕ) → state_of_identity j.modes (identity_of j name) ≡ state_in (states_of names) name
-  pub fresh : AreFresh names
+  pub fresh : UnusedAreUnlisted names
   -- each name in use has an identity of its own, which has a mode
   pub given : AllByRecursion (λ n. n.identity < j.identity_count) j.in_use
   pub modes : length j.modes ≡ j.identity_count
@@ -85,8 +85,8 @@ refusal_said None = None
 refusal_said (Some refusal) = Some (refusal_in refusal)
 
 -- why a command is refused, if it is
-abbrev pub TellsRefusal : Option CodeRefusal → Names → Lent → Type 0
-TellsRefusal refusal names lent = (j : Judge) (c : Command) → NamesStand names j → IsLent lent c → refusal_said refusal ≡ refusal_of j c
+abbrev pub ReportsRefusal : Option CodeRefusal → Names → Lent → Type 0
+ReportsRefusal refusal names lent = (j : ScriptState) (c : Command) → NamesHaveState names j → IsLent lent c → refusal_said refusal ≡ refusal_of j c
 
 -- a command is refused for the limit if a name of it is past that
 abbrev pub limit_refusal : Bool → Option CodeRefusal
@@ -105,29 +105,29 @@ IsInUse names name = state_in (states_of names) name ≡ state.Hidden → ⊥
 
 -- a name that a command introduces then refers to a variable, if the names are those of a judge
 abbrev pub ComesInUse : (old new : Names) → ℕ → Type 0
-ComesInUse old new name = (j : Judge) → NamesStand old j → IsInUse new name
+ComesInUse old new name = (j : ScriptState) → NamesHaveState old j → IsInUse new name
 
 -- a name in use gets another state
-abbrev pub changed_to : NameState → ℕ → Judge → Judge
+abbrev pub changed_to : NameState → ℕ → ScriptState → ScriptState
 changed_to state.Hidden name j = without_name name j
 changed_to state.Sampled name j = with_mode Sampled name j
 changed_to state.Witnessed name j = with_mode Witnessed name j
 
 -- what a command of a kind makes of one of its names, which is in use
-abbrev pub changed : Kind → ℕ → Judge → Judge
-changed OfClause name j = j
-changed OfAsk name j = j
-changed OfHide name j = without_name name j
-changed OfWitness name j = with_mode Witnessed name j
-changed OfSample name j = with_mode Sampled name j
+abbrev pub changed_state : Kind → ℕ → ScriptState → ScriptState
+changed_state OfClause name j = j
+changed_state OfAsk name j = j
+changed_state OfHide name j = without_name name j
+changed_state OfWitness name j = with_mode Witnessed name j
+changed_state OfSample name j = with_mode Sampled name j
 
 -- so behind bringing it in
-abbrev pub taken : Kind → ℕ → Judge → Judge
-taken kind name j = changed kind name (bring_in name j)
+abbrev pub taken : Kind → ℕ → ScriptState → ScriptState
+taken kind name j = changed_state kind name (bring_in name j)
 
 -- a change of the judge's state
-abbrev pub Changes : Names → Names → (Judge → Judge) → Type 0
-Changes old new change = (j : Judge) → NamesStand old j → NamesStand new (change j)
+abbrev pub Changes : Names → Names → (ScriptState → ScriptState) → Type 0
+Changes old new change = (j : ScriptState) → NamesHaveState old j → NamesHaveState new (change j)
 
 -- does a command of this kind only bring names in?
 abbrev pub is_of_literals : Kind → Bool
@@ -140,4 +140,4 @@ is_of_literals OfSample = false
 -- none of these names comes in, and a command of this kind does no more with them
 pub record BringsNothing (kind : Kind) (list : List ℕ) (names : Names) : Type 0 where
   pub of_literals : is_of_literals kind ≡ true
-  pub known : (j : Judge) → NamesStand names j → AllByRecursion (λ name. new_names name j ≡ []) list
+  pub known : (j : ScriptState) → NamesHaveState names j → AllByRecursion (λ name. new_names name j ≡ []) list

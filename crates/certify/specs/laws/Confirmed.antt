@@ -1,12 +1,12 @@
 -- What was certified is confirmed.
 use Rattle.std.specs.Prelude.{ℕ, None, List, [], reverse}
 use Rattle.sat_base.specs.script.Script.{Command, ScriptEnding}
-use Rattle.sat_base.specs.script.Judge.{start, accepted_of}
+use Rattle.sat_base.specs.script.ScriptState.{start, accepted_of}
 use Rattle.sat_base.specs.steps.Steps.{Step}
 use Rattle.sat_base.specs.steps.StepText.{SpellsSteps}
 use Rattle.sat_checker.specs.Accepts.{AcceptsAll}
 use Rattle.sat_checker.specs.matching.Expected.{Outcome, expected}
-use Rattle.sat_checker.specs.matching.ProofChecking.{the_checking}
+use Rattle.sat_checker.specs.matching.ProofChecking.{checker_rules}
 use Rattle.certify.specs.answers.Answers.{answers_text}
 use Rattle.certify.specs.answers.RightAnswers.{AnswersAreRight}
 use Rattle.certify.specs.confirm.Matches.{Matches}
@@ -19,6 +19,6 @@ CertifiedMatches =
     (reading : List ℕ → List Command × ScriptEnding) (script certificate : List ℕ) (outcomes : List Outcome) (steps : List Step) (counts : List ℕ)
     → AnswersAreRight (reading script).0 outcomes
     → AcceptsAll steps
-    → Certifies the_checking steps None [] (expected start (accepted_of start (reading script).0) outcomes) counts
+    → Certifies checker_rules steps None [] (expected start (accepted_of start (reading script).0) outcomes) counts
     → SpellsSteps (reverse steps) certificate
-    → Matches the_checking reading script (answers_text (reading script).0 (reading script).1 outcomes) certificate
+    → Matches checker_rules reading script (answers_text (reading script).0 (reading script).1 outcomes) certificate

@@ -2,7 +2,7 @@
 use Rattle.std.specs.Prelude.{ℕ, ◌+◌, ◌*◌, ◌^◌, ◌≤◌, ◌≡◌, ◌↔◌, List, ◌++◌, length}
 use Rattle.sat_base.specs.device.Device.{Reader, GaveFront, CanFollow}
 use Rattle.sat_base.specs.script.Language.{reading}
-use Rattle.sat_checker.specs.matching.ProofChecking.{the_checking}
+use Rattle.sat_checker.specs.matching.ProofChecking.{checker_rules}
 use Rattle.certify.specs.confirm.Matches.{Matches}
 use Rattle.certify.specs.confirm.VerdictPromises.{AreRightAnswers, Exact}
 use Rattle.certify.specs.run.FinishedRun.{CertificateGuarantee}
@@ -29,7 +29,7 @@ FinishedIsConfirmed =
 
 -- a verdict on three texts: yes exactly where they match, and then the answers are right
 pub record VerdictSays (script answers certificate : List ℕ) (v : Verdict) : Type 0 where
-  pub exact : (v ≡ Yes) ↔ Matches the_checking reading script answers certificate
+  pub exact : (v ≡ Yes) ↔ Matches checker_rules reading script answers certificate
   pub sound : v ≡ Yes → AreRightAnswers script answers
 
 -- so many looks at most, for so many bytes
@@ -39,7 +39,7 @@ most_looks_over script answers certificate = 16 * (length script + length answer
 -- A script was run, and these answers and this certificate were written. They were confirmed, and so were others, with so many looks.
 pub record Certified (script : List ℕ) (budget : ℕ) (claimed shown : List ℕ) (summary : Summary) (answers certificate : List ℕ)
     (own other : Verdict) (before after : ℕ) : Type 0 where
-  -- one answer for each accepted ask: a right model, a right core, or unknown, once its steps are spent, of which each stands in the
+  -- one answer for each accepted ask: a right model, a right core, or unknown, once its rounds are exhausted, of which each stands in the
   -- certificate, and never with 2^(2n+3) left at its start
   pub answered : CertificateGuarantee script budget summary answers certificate
   -- what a run wrote is confirmed

@@ -1,11 +1,11 @@
 -- The headline, over texts in memory: a script is run, what was written is confirmed, and so are any answers with any certificate.
 use Rattle.std.specs.Prelude.{ℕ, ◌+◌, ◌*◌, ◌^◌, ◌<◌, ◌≤◌, ◌≡◌, List, [], ◌∷◌, length, sum}
-use Rattle.sat_base.specs.script.Judge.{start}
+use Rattle.sat_base.specs.script.ScriptState.{start}
 use Rattle.certify.specs.answers.ScriptText.{script_in}
 use Rattle.sat_checker.specs.matching.Expected.{Outcome, Unknown}
 use Rattle.certify.specs.answers.Asks.{Asked, asks_of}
 use Rattle.certify.specs.confirm.VerdictPromises.{AreRightAnswers}
-use Rattle.certify.specs.run.StepsLeft.{steps_left}
+use Rattle.certify.specs.run.RoundsLeft.{rounds_allowed}
 use Rattle.certify.specs.laws.EndToEnd.{most_looks_over}
 use Rattle.certify.specs.declared.verdict.Verdict.{Verdict}
 use Rattle.certify.specs.declared.verdict.Verdict.TheVariants.{Yes}
@@ -20,7 +20,7 @@ pub record TookRounds (n left taken : ℕ) (o : Outcome) : Type 0 where
 abbrev pub EachTookRounds : (budget before : ℕ) → List Asked → List Outcome → List ℕ → Type 0
 EachTookRounds budget before [] [] [] = Unit {0}
 EachTookRounds budget before (a ∷ asks) (o ∷ outcomes) (taken ∷ rounds) =
-    TookRounds a.state.identity_count (steps_left budget before) taken o × EachTookRounds budget (before + taken) asks outcomes rounds
+    TookRounds a.state.identity_count (rounds_allowed budget before) taken o × EachTookRounds budget (before + taken) asks outcomes rounds
 EachTookRounds budget before asks outcomes rounds = ⊥
 
 -- A script was run, and wrote these answers and this certificate. The summary reports these rounds, one number for each ask. `own` is the

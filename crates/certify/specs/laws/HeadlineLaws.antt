@@ -1,7 +1,7 @@
 -- What the headline rests on: short definitions say the same as those that code is proved against, and what `certify_over` promises gives it.
 use Rattle.std.specs.Prelude.{ℕ, ◌≡◌, ◌↔◌, List}
 use Rattle.sat_base.specs.script.Script.{Command, ScriptEnding}
-use Rattle.sat_base.specs.script.Judge.{start}
+use Rattle.sat_base.specs.script.ScriptState.{start}
 use Rattle.sat_base.specs.script.Language.{reading}
 use Rattle.sat_checker.specs.matching.Expected.{Outcome}
 use Rattle.certify.specs.answers.Answers.{answers_text}
@@ -10,7 +10,7 @@ use Rattle.certify.specs.answers.ScriptText.{script_in}
 use Rattle.certify.specs.answers.AnswersText.{lines_from}
 use Rattle.certify.specs.answers.Asks.{asks_of, EachIsRight}
 use Rattle.certify.specs.confirm.VerdictPromises.{AreRightAnswers}
-use Rattle.certify.specs.run.FinishedRun.{asked_steps}
+use Rattle.certify.specs.run.FinishedRun.{rounds_of_asks}
 use Rattle.certify.specs.laws.EndToEnd.{Certified}
 use Rattle.certify.specs.laws.Headline.{Headline}
 use Rattle.certify.specs.declared.summary.Summary.{Summary}
@@ -42,4 +42,4 @@ CertifiedIsHeadline =
     (script : List ℕ) (budget : ℕ) (claimed shown : List ℕ) (summary : Summary) (answers certificate : List ℕ)
     (own other : Verdict) (before after : ℕ)
     → Certified script budget claimed shown summary answers certificate own other before after
-    → Headline script budget (asked_steps summary.asks.items) answers certificate own claimed shown other before after
+    → Headline script budget (rounds_of_asks summary.asks.items) answers certificate own claimed shown other before after

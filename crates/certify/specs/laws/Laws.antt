@@ -4,39 +4,39 @@ use Rattle.std.specs.List.{AllByRecursion}
 use Rattle.sat_base.specs.values.Literals.{var_limit}
 use Rattle.sat_base.specs.values.Clauses.{Valuation, EachHolds}
 use Rattle.sat_base.specs.script.Script.{Literal, Command, Ask, ScriptEnding, Among, names_of}
-use Rattle.sat_base.specs.script.Judge.{Judge, IsRightModel, IsRightCore, with_clause, accepted, accepted_of, start}
+use Rattle.sat_base.specs.script.ScriptState.{ScriptState, IsRightModel, IsRightCore, with_clause, accepted, accepted_of, start}
 use Rattle.sat_base.specs.steps.Steps.{Step}
 use Rattle.certify.specs.answers.Answers.{answers_text}
 use Rattle.sat_checker.specs.matching.Expected.{Outcome, Sat, Unsat, Unknown}
 use Rattle.certify.specs.answers.RightAnswers.{AnswersAreRight}
 use Rattle.certify.specs.confirm.Matches.{OneEach, StepsMatch, Matches}
-use Rattle.sat_checker.specs.matching.ProofChecking.{the_checking}
+use Rattle.sat_checker.specs.matching.ProofChecking.{checker_rules}
 
 -- no ask has both a right model and a right core
 abbrev pub NotBoth : Type 0
-NotBoth = (j : Judge) (ask line core : List Literal) → IsRightModel j ask line → IsRightCore j ask core → ⊥
+NotBoth = (j : ScriptState) (ask line core : List Literal) → IsRightModel j ask line → IsRightCore j ask core → ⊥
 
 -- clauses of the same literals, in whatever order and however often, hold under the same valuations
 abbrev pub RepeatChangesNothing : Type 0
 RepeatChangesNothing =
-    (j : Judge) (ls ks : List Literal) (a : Valuation)
+    (j : ScriptState) (ls ks : List Literal) (a : Valuation)
     → AllByRecursion (λ l. Among l ks) ls → AllByRecursion (λ l. Among l ls) ks
     → EachHolds a (with_clause ls j).clauses ↔ EachHolds a (with_clause ks j).clauses
 
 -- a clause with both signs of a name changes nothing
 abbrev pub TautologyChangesNothing : Type 0
 TautologyChangesNothing =
-    (j : Judge) (name : ℕ) (ls : List Literal) (a : Valuation)
+    (j : ScriptState) (name : ℕ) (ls : List Literal) (a : Valuation)
     → Among (record { name = name; positive = true }) ls → Among (record { name = name; positive = false }) ls
     → EachHolds a (with_clause ls j).clauses ↔ EachHolds a j.clauses
 
 -- an ask leaves the clauses as they were
 abbrev pub AskBindsNothing : Type 0
-AskBindsNothing = (j : Judge) (ls : List Literal) → (accepted (Ask ls) j).clauses ≡ j.clauses
+AskBindsNothing = (j : ScriptState) (ls : List Literal) → (accepted (Ask ls) j).clauses ≡ j.clauses
 
 -- of an ask, only the names that it brings in count for what comes behind it
 abbrev pub AskLeavesNames : Type 0
-AskLeavesNames = (j : Judge) (ls ks : List Literal) → names_of ls ≡ names_of ks → accepted (Ask ls) j ≡ accepted (Ask ks) j
+AskLeavesNames = (j : ScriptState) (ls ks : List Literal) → names_of ls ≡ names_of ks → accepted (Ask ls) j ≡ accepted (Ask ks) j
 
 -- no name past the limit
 abbrev pub HasPrintableNames : Outcome → Type 0
@@ -45,8 +45,8 @@ HasPrintableNames (Unsat core) = AllByRecursion (λ l. l.name ≤ var_limit) cor
 HasPrintableNames Unknown = Unit {0}
 
 -- different outcomes give different texts
-abbrev pub TextsTellOutcomes : Type 0
-TextsTellOutcomes =
+abbrev pub TextsDetermineOutcomes : Type 0
+TextsDetermineOutcomes =
     (commands : List Command) (ending : ScriptEnding) (vs ws : List Outcome)
     → OneEach (accepted_of start commands) vs → OneEach (accepted_of start commands) ws
     → AllByRecursion HasPrintableNames vs → AllByRecursion HasPrintableNames ws
@@ -56,12 +56,12 @@ TextsTellOutcomes =
 -- steps that the checker accepts and that match show right outcomes
 abbrev pub MatchingIsRight : Type 0
 MatchingIsRight = (commands : List Command) (outcomes : List Outcome) (steps : List Step)
-    → StepsMatch the_checking commands outcomes steps → AnswersAreRight commands outcomes
+    → StepsMatch checker_rules commands outcomes steps → AnswersAreRight commands outcomes
 
 -- the same of three texts, however a script is read: the answers are the text of right outcomes
 abbrev pub TextsThatMatchAreRight : Type 0
 TextsThatMatchAreRight =
     (reading : List ℕ → List Command × ScriptEnding) (script answers certificate : List ℕ)
-    → Matches the_checking reading script answers certificate
+    → Matches checker_rules reading script answers certificate
     → (outcomes : List Outcome) × (answers ≡ answers_text (reading script).0 (reading script).1 outcomes)
     × AnswersAreRight (reading script).0 outcomes

@@ -1,7 +1,7 @@
 -- Worked rows: scripts of a few commands, and what is answered.
 use Rattle.std.specs.Prelude.{ℕ, ◌≡◌, Bool, true, false, Some, None, List, [], ◌∷◌, ◌++◌}
 use Rattle.sat_base.specs.script.Script.{Literal, Command, Clause, Ask, Hide, Witness, Clean, Malformed}
-use Rattle.sat_base.specs.script.Judge.{Sampled, start, after_script, refusal_of, PastLimit, WitnessName}
+use Rattle.sat_base.specs.script.ScriptState.{Sampled, start, after_script, refusal_of, PastLimit, WitnessName}
 use Rattle.sat_base.specs.steps.Steps.{Step, UserVarName, ChangeSamplingMode, AddClause, AtClause, Model, Assumptions, End}
 use Rattle.sat_checker.specs.Stored.{is_known}
 use Rattle.sat_checker.specs.Accepts.{ready_after}
@@ -10,7 +10,7 @@ use Rattle.sat_checker.specs.matching.Expected.{Outcome, Sat, Unsat, Unknown, ex
 use Rattle.certify.specs.answers.RightAnswers.{AnswersAreRight}
 use Rattle.certify.specs.confirm.Matches.{StepsMatch, MatchesCommands}
 use Rattle.certify.specs.run.Certifies.{Certifies}
-use Rattle.sat_checker.specs.matching.ProofChecking.{the_checking}
+use Rattle.sat_checker.specs.matching.ProofChecking.{checker_rules}
 
 -- the positive literal of a name, and the negative one
 abbrev pub pos : ℕ → Literal
@@ -48,12 +48,12 @@ abbrev pub ClauseAndAskRight : Type 0
 ClauseAndAskRight = AnswersAreRight clause_and_ask (Sat (neg 1 ∷ pos 2 ∷ []) ∷ [])
 
 -- `1 0`, `-1 0`, `a 0`: the second clause records unsat, and the steps end there
-abbrev pub two_units : List Command
-two_units = Clause (pos 1 ∷ []) ∷ Clause (neg 1 ∷ []) ∷ Ask [] ∷ []
+abbrev pub two_unit_commands : List Command
+two_unit_commands = Clause (pos 1 ∷ []) ∷ Clause (neg 1 ∷ []) ∷ Ask [] ∷ []
 
 -- the empty core is a right answer
 abbrev pub TwoUnitsRight : Type 0
-TwoUnitsRight = AnswersAreRight two_units (Unsat [] ∷ [])
+TwoUnitsRight = AnswersAreRight two_unit_commands (Unsat [] ∷ [])
 
 -- `1 0`, `h 1 0`, `-1 0`, `a 0`: the name comes back with another identity
 abbrev pub hidden_and_back : List Command
@@ -109,29 +109,29 @@ EmptyText = answers_text [] Clean [] ≡ []
 
 -- Steps that match. A clause and an ask:
 abbrev pub ClauseAndAskSteps : Type 0
-ClauseAndAskSteps = StepsMatch the_checking clause_and_ask (Sat (neg 1 ∷ pos 2 ∷ []) ∷ [])
+ClauseAndAskSteps = StepsMatch checker_rules clause_and_ask (Sat (neg 1 ∷ pos 2 ∷ []) ∷ [])
     (UserVarName 0 (Some 0) ∷ UserVarName 1 (Some 1) ∷ AddClause (0 ∷ 2 ∷ []) ∷ Assumptions [] ∷ Model (1 ∷ 2 ∷ []) ∷ Assumptions [] ∷ End ∷ [])
 
 -- the second clause records unsat, and the steps end there
 abbrev pub TwoUnitsSteps : Type 0
-TwoUnitsSteps = StepsMatch the_checking two_units (Unsat [] ∷ []) (UserVarName 0 (Some 0) ∷ AddClause (0 ∷ []) ∷ AddClause (1 ∷ []) ∷ [])
+TwoUnitsSteps = StepsMatch checker_rules two_unit_commands (Unsat [] ∷ []) (UserVarName 0 (Some 0) ∷ AddClause (0 ∷ []) ∷ AddClause (1 ∷ []) ∷ [])
 
 -- The same as bytes: name steps, clause, assumptions, model, assumptions, end. What stands behind is of no matter.
 abbrev pub ClauseAndAskMatches : Type 0
 ClauseAndAskMatches = (rest : List ℕ)
-    → MatchesCommands the_checking clause_and_ask Clean clause_and_ask_text
+    → MatchesCommands checker_rules clause_and_ask Clean clause_and_ask_text
     (2 ∷ 0 ∷ 1 ∷ 2 ∷ 1 ∷ 2 ∷ 5 ∷ 2 ∷ 0 ∷ 2 ∷ 11 ∷ 0 ∷ 10 ∷ 2 ∷ 1 ∷ 2 ∷ 11 ∷ 0 ∷ 13 ∷ rest)
 
 -- the same as bytes, with the answers `s UNSATISFIABLE`, `f 0`: what the certificate has behind the second clause is of no matter
 abbrev pub TwoUnitsMatches : Type 0
 TwoUnitsMatches = (rest : List ℕ)
-    → MatchesCommands the_checking two_units Clean
+    → MatchesCommands checker_rules two_unit_commands Clean
     (115 ∷ 32 ∷ 85 ∷ 78 ∷ 83 ∷ 65 ∷ 84 ∷ 73 ∷ 83 ∷ 70 ∷ 73 ∷ 65 ∷ 66 ∷ 76 ∷ 69 ∷ 10 ∷ 102 ∷ 32 ∷ 48 ∷ 10 ∷ [])
     (2 ∷ 0 ∷ 1 ∷ 5 ∷ 1 ∷ 0 ∷ 5 ∷ 1 ∷ 1 ∷ rest)
 
 -- an empty script matches no answers and `End`
 abbrev pub EmptyMatches : Type 0
-EmptyMatches = (rest : List ℕ) → MatchesCommands the_checking [] Clean [] (13 ∷ rest)
+EmptyMatches = (rest : List ℕ) → MatchesCommands checker_rules [] Clean [] (13 ∷ rest)
 
 -- Where the hidden name comes back on its old variable, nothing matches: whatever is answered, and whatever a checker accepts that knows
 -- named variables.
@@ -147,20 +147,20 @@ NameOnOldVariable = (accepts : List Step → Step → Bool) (unsat : List Step �
     → ⊥
 
 -- `1 0`, `a 0`: no answers match with `End` alone
-abbrev pub EndAlone : Type 0
-EndAlone = (outcomes : List Outcome) → StepsMatch the_checking (Clause (pos 1 ∷ []) ∷ Ask [] ∷ []) outcomes (End ∷ []) → ⊥
+abbrev pub EndAloneMatches : Type 0
+EndAloneMatches = (outcomes : List Outcome) → StepsMatch checker_rules (Clause (pos 1 ∷ []) ∷ Ask [] ∷ []) outcomes (End ∷ []) → ⊥
 
 -- nor do empty answers with any certificate
 abbrev pub NoAnswers : Type 0
-NoAnswers = (certificate : List ℕ) → MatchesCommands the_checking clause_and_ask Clean [] certificate → ⊥
+NoAnswers = (certificate : List ℕ) → MatchesCommands checker_rules clause_and_ask Clean [] certificate → ⊥
 
 -- nor the right answers twice
 abbrev pub AnswersTwice : Type 0
-AnswersTwice = (certificate : List ℕ) → MatchesCommands the_checking clause_and_ask Clean (clause_and_ask_text ++ clause_and_ask_text) certificate → ⊥
+AnswersTwice = (certificate : List ℕ) → MatchesCommands checker_rules clause_and_ask Clean (clause_and_ask_text ++ clause_and_ask_text) certificate → ⊥
 
 -- Steps that a run may write, the newest first, and the rounds of its asks. A clause and an ask:
 abbrev pub ClauseAndAskCertified : Type 0
-ClauseAndAskCertified = Certifies the_checking
+ClauseAndAskCertified = Certifies checker_rules
     (End ∷ Assumptions [] ∷ Model (1 ∷ 2 ∷ []) ∷ Assumptions [] ∷ AddClause (0 ∷ 2 ∷ []) ∷ UserVarName 1 (Some 1) ∷ UserVarName 0 (Some 0) ∷ [])
     None [] (expected start clause_and_ask (Sat (neg 1 ∷ pos 2 ∷ []) ∷ [])) (1 ∷ [])
 
@@ -175,12 +175,12 @@ units_and_ask_steps = End ∷ Assumptions [] ∷ Assumptions [] ∷ UserVarName 
 
 -- a run may write these, with no round for the ask
 abbrev pub LeftOutCertified : Type 0
-LeftOutCertified = Certifies the_checking units_and_ask_steps None [] (expected start units_and_ask (Unsat [] ∷ [])) (0 ∷ [])
+LeftOutCertified = Certifies checker_rules units_and_ask_steps None [] (expected start units_and_ask (Unsat [] ∷ [])) (0 ∷ [])
 
 -- the ask took no round, and has no other outcome
 abbrev pub KnownWithoutRounds : Type 0
 KnownWithoutRounds = (o : Outcome) (n : ℕ)
-    → Certifies the_checking units_and_ask_steps None [] (expected start units_and_ask (o ∷ [])) (n ∷ []) → (o ≡ Unsat []) × (n ≡ 0)
+    → Certifies checker_rules units_and_ask_steps None [] (expected start units_and_ask (o ∷ [])) (n ∷ []) → (o ≡ Unsat []) × (n ≡ 0)
 
 -- `1 0`, `-1 2 0`, `-2 0`, `3 0`, `a 0`: no valuation is left by three clauses, and none of these records unsat, so the
 -- fourth one stands, and a derived clause
@@ -194,18 +194,18 @@ chain_steps = AddClause (4 ∷ []) ∷ UserVarName 2 (Some 2) ∷ AddClause (3 �
 
 -- the ask derives the empty clause in its one round
 abbrev pub ChainCertified : Type 0
-ChainCertified = (hashes : List ℕ) → Certifies the_checking (End ∷ Assumptions [] ∷ AtClause false [] hashes ∷ Assumptions [] ∷ chain_steps) None []
+ChainCertified = (hashes : List ℕ) → Certifies checker_rules (End ∷ Assumptions [] ∷ AtClause false [] hashes ∷ Assumptions [] ∷ chain_steps) None []
     (expected start chain_and_ask (Unsat [] ∷ [])) (1 ∷ [])
 
 -- Steps that it may not: what the ask records isn't answered
 abbrev pub UnknownUncertified : Type 0
 UnknownUncertified = (hashes counts : List ℕ)
-    → Certifies the_checking (End ∷ Assumptions [] ∷ AtClause false [] hashes ∷ Assumptions [] ∷ chain_steps) None []
+    → Certifies checker_rules (End ∷ Assumptions [] ∷ AtClause false [] hashes ∷ Assumptions [] ∷ chain_steps) None []
     (expected start chain_and_ask (Unknown ∷ [])) counts → ⊥
 
 -- the fourth clause isn't there
 abbrev pub EarlyUncertified : Type 0
-EarlyUncertified = (counts : List ℕ) → Certifies the_checking
+EarlyUncertified = (counts : List ℕ) → Certifies checker_rules
     (End ∷ Assumptions [] ∷ Assumptions [] ∷ UserVarName 2 (Some 2) ∷ AddClause (3 ∷ []) ∷ AddClause (1 ∷ 2 ∷ [])
     ∷ UserVarName 1 (Some 1) ∷ AddClause (0 ∷ []) ∷ UserVarName 0 (Some 0) ∷ [])
     None [] (expected start chain_and_ask (Unsat [] ∷ [])) counts → ⊥
@@ -213,24 +213,24 @@ EarlyUncertified = (counts : List ℕ) → Certifies the_checking
 -- `1 0`, `-1 0`, `a 1 0` with a core that isn't empty, whether its step stands or not
 abbrev pub CoreUncertified : Type 0
 CoreUncertified = (shown : List Step) (counts : List ℕ)
-    → Certifies the_checking (shown ++ Assumptions (0 ∷ []) ∷ AddClause (1 ∷ []) ∷ AddClause (0 ∷ []) ∷ UserVarName 0 (Some 0) ∷ []) None []
+    → Certifies checker_rules (shown ++ Assumptions (0 ∷ []) ∷ AddClause (1 ∷ []) ∷ AddClause (0 ∷ []) ∷ UserVarName 0 (Some 0) ∷ []) None []
     (expected start (Clause (pos 1 ∷ []) ∷ Clause (neg 1 ∷ []) ∷ Ask (pos 1 ∷ []) ∷ []) (Unsat (pos 1 ∷ []) ∷ [])) counts → ⊥
 
 -- `1 0`, `a 0` with `End` alone
 abbrev pub EndAloneUncertified : Type 0
 EndAloneUncertified = (outcomes : List Outcome) (counts : List ℕ)
-    → Certifies the_checking (End ∷ []) None [] (expected start (Clause (pos 1 ∷ []) ∷ Ask [] ∷ []) outcomes) counts → ⊥
+    → Certifies checker_rules (End ∷ []) None [] (expected start (Clause (pos 1 ∷ []) ∷ Ask [] ∷ []) outcomes) counts → ⊥
 
 -- `1 0` without its clause
 abbrev pub ClauseUncertified : Type 0
 ClauseUncertified = (counts : List ℕ)
-    → Certifies the_checking (End ∷ UserVarName 0 (Some 0) ∷ []) None [] (expected start (Clause (pos 1 ∷ []) ∷ []) []) counts → ⊥
+    → Certifies checker_rules (End ∷ UserVarName 0 (Some 0) ∷ []) None [] (expected start (Clause (pos 1 ∷ []) ∷ []) []) counts → ⊥
 
 -- `a 0`, satisfiable, without its model
 abbrev pub ModelUncertified : Type 0
 ModelUncertified = (counts : List ℕ)
-    → Certifies the_checking (End ∷ Assumptions [] ∷ Assumptions [] ∷ []) None [] (expected start (Ask [] ∷ []) (Sat [] ∷ [])) counts → ⊥
+    → Certifies checker_rules (End ∷ Assumptions [] ∷ Assumptions [] ∷ []) None [] (expected start (Ask [] ∷ []) (Sat [] ∷ [])) counts → ⊥
 
 -- an empty script with a step behind `End`
 abbrev pub BehindEndUncertified : Type 0
-BehindEndUncertified = (step : Step) (counts : List ℕ) → Certifies the_checking (step ∷ End ∷ []) None [] (expected start [] []) counts → ⊥
+BehindEndUncertified = (step : Step) (counts : List ℕ) → Certifies checker_rules (step ∷ End ∷ []) None [] (expected start [] []) counts → ⊥

@@ -2,7 +2,7 @@
 use Rattle.std.specs.Prelude.{ℕ, ◌≡◌, ◌≤◌, ◌<◌, ◌⊎◌, true, Option, MatchOption, List, [], ◌∷◌, length, codes, Result, IfOk}
 use Rattle.std.specs.Str.{all_ascii_digits}
 use Rattle.std.specs.Str.Parse.{digits_value}
-use Rattle.certify.specs.run.StepsLeft.{largest_count}
+use Rattle.certify.specs.run.RoundsLeft.{most_rounds}
 use Rattle.certify.specs.declared.program.call.Call.{Call}
 use Rattle.certify.specs.declared.program.call.Call.TheVariants as call
 use Rattle.certify.specs.declared.program.call.RunFiles.{RunFiles}
@@ -14,17 +14,17 @@ pub data Request : Type 0 where
   Hints : (certificate hints : List ℕ) → Request
   Check : (hints : List ℕ) → Request
 
--- a word is the digits of a number of steps
-pub record IsSteps (word : List ℕ) (steps : ℕ) : Type 0 where
+-- a word is the digits of a number of rounds
+pub record IsRoundCount (word : List ℕ) (steps : ℕ) : Type 0 where
   pub digits : all_ascii_digits word ≡ true
   pub some : 0 < length word
   pub value : steps ≡ digits_value 10 word
-  pub fits : steps ≤ largest_count
+  pub fits : steps ≤ most_rounds
 
 -- the usage: `run S A C [STEPS]`, `confirm S A C`, `hints C H` or `check H`
 abbrev pub IsUsage : List (List ℕ) → Request → Type 0
-IsUsage words (Run s a c budget) = ((words ≡ codes "run" ∷ s ∷ a ∷ c ∷ []) × (budget ≡ largest_count))
-    ⊎ ((steps : List ℕ) × (words ≡ codes "run" ∷ s ∷ a ∷ c ∷ steps ∷ []) × IsSteps steps budget)
+IsUsage words (Run s a c budget) = ((words ≡ codes "run" ∷ s ∷ a ∷ c ∷ []) × (budget ≡ most_rounds))
+    ⊎ ((steps : List ℕ) × (words ≡ codes "run" ∷ s ∷ a ∷ c ∷ steps ∷ []) × IsRoundCount steps budget)
 IsUsage words (Confirm s a c) = words ≡ codes "confirm" ∷ s ∷ a ∷ c ∷ []
 IsUsage words (Hints c h) = words ≡ codes "hints" ∷ c ∷ h ∷ []
 IsUsage words (Check h) = words ≡ codes "check" ∷ h ∷ []
@@ -64,7 +64,7 @@ pub record TellsUsage (words : List (List ℕ)) (status : ℕ) : Type 0 where
   pub told : IsMisuse words → status ≡ 2
   pub only : status ≡ 2 → IsMisuse words ⊎ MayOverlap words
 
--- a run over these files, with so many steps for each ask
+-- a run over these files, with at most so many rounds for each ask
 abbrev pub running : RunFiles → ℕ → Request
 running files budget = Run files.script.now files.answers.now files.certificate.now budget
 

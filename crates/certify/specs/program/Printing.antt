@@ -2,12 +2,12 @@
 use Rattle.std.specs.Prelude.{ℕ, ◌≡◌, ◌↔◌, ◌⊎◌, true, Bool, false, None, List, [], ◌∷◌, ◌++◌, codes, decimal}
 use Rattle.sat_base.specs.device.Device.{Reader, Writer, GaveEnough, WriterTakes}
 use Rattle.sat_base.specs.script.Script.{ScriptEnding, Clean, Malformed}
-use Rattle.sat_checker.specs.matching.ProofChecking.{the_checking}
+use Rattle.sat_checker.specs.matching.ProofChecking.{checker_rules}
 use Rattle.certify.specs.confirm.Matches.{Matches}
 use Rattle.certify.specs.confirm.VerdictPromises.{Exact}
 use Rattle.sat_base.specs.script.Language.{reading}
 use Rattle.certify.specs.run.FinishedRun.{AnswersRightly, TookCertificate}
-use Rattle.certify.specs.run.StepsLeft.{largest_count}
+use Rattle.certify.specs.run.RoundsLeft.{most_rounds}
 use Rattle.certify.specs.run.Unfinished.{TookBytes}
 use Rattle.certify.specs.declared.summary.Summary.{Summary}
 use Rattle.certify.specs.declared.verdict.Verdict.{Verdict}
@@ -83,22 +83,22 @@ yes_or_no_text (No ask why) = codes "no " ++ no_text ask why
 
 -- the verdict is yes exactly where the three texts match
 abbrev pub SaysExactly : Verdict → List ℕ → List ℕ → List ℕ → Type 0
-SaysExactly v script answers certificate = (v ≡ Yes) ↔ Matches the_checking reading script answers certificate
+SaysExactly v script answers certificate = (v ≡ Yes) ↔ Matches checker_rules reading script answers certificate
 
 -- does a fault of form end the script?
 abbrev pub is_malformed : ScriptEnding → Bool
 is_malformed Clean = false
 is_malformed Malformed = true
 
--- a run with all steps allowed answers a text so: each answer is right, and none is unknown but where all steps were spent
+-- a run with all rounds allowed answers a text so: each answer is right, and none is unknown unless all rounds were exhausted
 abbrev pub IsAnswered : List ℕ → List ℕ → Type 0
-IsAnswered text answers = (summary : Summary) × AnswersRightly text largest_count summary answers
+IsAnswered text answers = (summary : Summary) × AnswersRightly text most_rounds summary answers
 
 -- what a run wrote for a text in memory: right answers, and a certificate that matches
 pub record IsWritten (text : List ℕ) (w : Written) : Type 0 where
   pub malformed : w.malformed ≡ is_malformed (reading text).1
   pub answered : IsAnswered text w.answers.items
-  pub matches : Matches the_checking reading text w.answers.items w.certificate.items
+  pub matches : Matches checker_rules reading text w.answers.items w.certificate.items
 
 -- Right answers to a text were printed, and behind them that they are confirmed. The status is 0 exactly where the text isn't malformed.
 pub record Prints (status : ℕ) (text : List ℕ) (old new : Writer) : Type 0 where

@@ -39,15 +39,15 @@ abbrev pub AdvancesStored : Stored → List ℕ → Type 0
 AdvancesStored f clause = (literal : ℕ) × (is_among clause literal ≡ true) × LeavesOpen f (others_of literal clause) literal
 
 -- the step derives a clause that advances
-abbrev pub IsAdvancing : Stored → Step → Type 0
-IsAdvancing f (AtClause redundant clause hashes) = AdvancesStored f clause
-IsAdvancing f step = ⊥
+abbrev pub DerivesAdvancing : Stored → Step → Type 0
+DerivesAdvancing f (AtClause redundant clause hashes) = AdvancesStored f clause
+DerivesAdvancing f step = ⊥
 
 -- exactly so many of these steps are derived clauses that advance, each behind the steps before it
-abbrev pub AdvanceTimes : (earlier steps : List Step) → ℕ → Type 0
-AdvanceTimes earlier [] k = k ≡ 0
-AdvanceTimes earlier (step ∷ steps) k = (AdvanceTimes earlier steps k × (IsAdvancing (ready_after (steps ++ earlier)) step → ⊥))
-    ⊎ ((j : ℕ) × (k ≡ j + 1) × IsAdvancing (ready_after (steps ++ earlier)) step × AdvanceTimes earlier steps j)
+abbrev pub AdvanceTimesStored : (earlier steps : List Step) → ℕ → Type 0
+AdvanceTimesStored earlier [] k = k ≡ 0
+AdvanceTimesStored earlier (step ∷ steps) k = (AdvanceTimesStored earlier steps k × (DerivesAdvancing (ready_after (steps ++ earlier)) step → ⊥))
+    ⊎ ((j : ℕ) × (k ≡ j + 1) × DerivesAdvancing (ready_after (steps ++ earlier)) step × AdvanceTimesStored earlier steps j)
 
 -- none of them is expected of a script and its answers
 abbrev pub AreUnordered : List Step → Type 0

@@ -5,7 +5,7 @@ use Rattle.sat_solver.specs.solver.Adding.{ReplacesAssumptions}
 use Rattle.certify.specs.answers.Answers.{outcome_text}
 use Rattle.certify.specs.declared.summary.AskReport.{AskReport}
 use Rattle.certify.specs.run.SolverCalls.{Searched}
-use Rattle.certify.specs.run.Telling.{IsToldRight, outcome_for}
+use Rattle.certify.specs.run.Reporting.{IsReportedRight, outcome_for}
 use Rattle.certify.specs.run.Quiet.{Solver}
 
 -- its literals were assumed, an answer was searched, which is right, and this is its text
@@ -13,5 +13,5 @@ pub record AskEffect {C : Type 0} (seen : C → Writer) (budget : ℕ) (report :
   pub mid : Solver C
   pub opened : ReplacesAssumptions seen old mid user
   pub searched : Searched seen budget report mid new
-  pub right : IsToldRight report.answer new
+  pub right : IsReportedRight report.answer new
   pub text_is : text ≡ outcome_text (outcome_for report.answer new)

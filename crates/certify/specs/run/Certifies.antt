@@ -4,11 +4,11 @@ use Rattle.sat_base.specs.values.Clauses.{Valuation}
 use Rattle.sat_base.specs.script.Script.{Literal}
 use Rattle.sat_base.specs.steps.Steps.{Step}
 use Rattle.sat_checker.specs.Fold.{Holds}
-use Rattle.sat_checker.specs.matching.Checking.{Checking, is_ordered}
+use Rattle.sat_checker.specs.matching.Checking.{CheckerRules, is_ordered}
 use Rattle.sat_checker.specs.matching.Expected.{Outcome, Unsat, Expected, Opens, Adds, Shows, Fails, Closes, Fits}
 
 -- a checker that was fed these steps has recorded unsat, and no valuation satisfies their clauses
-pub record IsRecorded (k : Checking) (earlier : List Step) : Type 0 where
+pub record IsRecorded (k : CheckerRules) (earlier : List Step) : Type 0 where
   pub recorded : k.unsat earlier ≡ true
   pub none : (a : Valuation) → Holds earlier a → ⊥
 
@@ -33,7 +33,7 @@ pub record IsKnown (o : Outcome) (n : ℕ) : Type 0 where
 
 -- From the earlier steps up to all, these are what is expected, in order and content, among others. Behind the last that is expected
 -- there is none. The asks took so many rounds. At first the ask of this outcome is open, or none is.
-pub data Certifies (k : Checking) (all : List Step) : Option Outcome → List Step → List Expected → List ℕ → Type 0 where
+pub data Certifies (k : CheckerRules) (all : List Step) : Option Outcome → List Step → List Expected → List ℕ → Type 0 where
   complete : Certifies k all None all [] []
   left_out : {current : Option Outcome} {earlier : List Step} {e : Expected} {es : List Expected} {counts : List ℕ}
       → MayLack e → IsRecorded k earlier → Certifies k all current earlier es counts

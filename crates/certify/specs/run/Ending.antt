@@ -4,7 +4,7 @@ use Rattle.sat_base.specs.device.Device.{Writer, WriterTakes}
 use Rattle.sat_base.specs.steps.Steps.{End}
 use Rattle.sat_base.specs.device.Sink.{empty_sink}
 use Rattle.sat_solver.specs.declared.proof.format.ProofFormat.TheVariants.{Varisat}
-use Rattle.sat_solver.specs.proof.Counting.{start as uncounted}
+use Rattle.sat_solver.specs.proof.Counting.{nothing_counted as uncounted}
 use Rattle.sat_solver.specs.session.Making.{ComesBySteps, BreaksEmitting}
 use Rattle.sat_solver.specs.proof.ProofView.{Closed, Open, GivesWriter, TakesAll, is_open, target_of}
 use Rattle.sat_solver.specs.session.Session.{MayAll}
@@ -12,7 +12,7 @@ use Rattle.sat_solver.specs.solver.Fronts.{ReachesBySteps}
 use Rattle.sat_solver.specs.solver.Whole.{steps_in}
 use Rattle.certify.specs.Devices.{NoneFailed, OneFailed}
 use Rattle.certify.specs.declared.fault.RunFault.{RunFault}
-use Rattle.certify.specs.declared.run.session.Session.{Session}
+use Rattle.certify.specs.declared.run.session.RunState.{RunState}
 use Rattle.certify.specs.declared.summary.Summary.{Summary}
 use Rattle.certify.specs.run.Unfinished.{TookBytes, TookSteps}
 use Rattle.certify.specs.run.SolverCalls.{FaultSays, IsCaused, proof_in}
@@ -59,14 +59,14 @@ FinishesRun seen (Err e) s given before after = FaultSays e
     × IsCaused e ⊥ ⊥
 
 -- what a session says of itself
-pub record SumsUp {C : Type 0} (at : Option ℕ) (s : Session C) (summary : Summary) : Type 0 where
+pub record SumsUp {C : Type 0} (at : Option ℕ) (s : RunState C) (summary : Summary) : Type 0 where
   pub commands : summary.commands ≡ s.commands
   pub refused : summary.refused ≡ s.refused
   pub ends : summary.malformed ≡ at
   pub asks : summary.asks ≡ s.asks
 
 -- A run whose script was served so ends so: behind a fault nothing more is written.
-abbrev pub EndsRun : {C : Type 0} → (C → Writer) → Result (Option ℕ) RunFault → Result Summary RunFault → Session C → C → Writer → Writer → Type 0
+abbrev pub EndsRun : {C : Type 0} → (C → Writer) → Result (Option ℕ) RunFault → Result Summary RunFault → RunState C → C → Writer → Writer → Type 0
 EndsRun seen (Ok at) (Ok summary) s given before after = FinishesRun seen (Ok tt) s.solver given before after × SumsUp at s summary
 EndsRun seen (Ok at) (Err e) s given before after = FinishesRun seen (Err e) s.solver given before after
 EndsRun seen (Err e) r s given before after =

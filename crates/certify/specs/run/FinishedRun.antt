@@ -3,7 +3,7 @@ use Rattle.std.specs.Prelude.{ℕ, ◌+◌, ◌*◌, ◌^◌, ◌<◌, ◌≡◌
 use Rattle.std.specs.List.{AllByRecursion}
 use Rattle.sat_base.specs.device.Device.{Reader, Writer, GaveEnough, WriterTakes}
 use Rattle.sat_base.specs.script.Script.{Command, Clause, Ask, Hide, Witness, Sample, ScriptEnding, Clean, Malformed}
-use Rattle.sat_base.specs.script.Judge.{Judge, refusal_of, after_command, accepted, accepted_of, start}
+use Rattle.sat_base.specs.script.ScriptState.{ScriptState, refusal_of, after_command, accepted, accepted_of, start}
 use Rattle.sat_base.specs.steps.Steps.{Step, End}
 use Rattle.sat_base.specs.steps.StepText.{SpellsSteps}
 use Rattle.certify.specs.Devices.{gave, took}
@@ -12,12 +12,12 @@ use Rattle.sat_checker.specs.Accepts.{AcceptsAll}
 use Rattle.sat_checker.specs.Laws.{has_delete_var}
 use Rattle.sat_checker.specs.matching.Expected.{Outcome, Sat, Unsat, Unknown, expected}
 use Rattle.certify.specs.answers.RightAnswers.{AnswersAreRight}
-use Rattle.sat_checker.specs.matching.ProofChecking.{the_checking}
+use Rattle.sat_checker.specs.matching.ProofChecking.{checker_rules}
 use Rattle.sat_solver.specs.declared.proof.hash_bits.Counting.{Counting}
-use Rattle.sat_solver.specs.proof.Counting.{start as uncounted, TruncatesHashes}
+use Rattle.sat_solver.specs.proof.Counting.{nothing_counted as uncounted, TruncatesHashes}
 use Rattle.sat_base.specs.script.Language.{reading, written}
 use Rattle.certify.specs.run.Hiding.{HidesNothing}
-use Rattle.certify.specs.run.StepsLeft.{steps_left}
+use Rattle.certify.specs.run.RoundsLeft.{rounds_allowed}
 use Rattle.certify.specs.run.Learning.{EachLearns}
 use Rattle.certify.specs.run.Certifies.{Certifies}
 use Rattle.certify.specs.run.Stretches.{ServesCommands}
@@ -28,7 +28,7 @@ use Rattle.certify.specs.declared.summary.AskReport.{AskReport}
 use Rattle.certify.specs.declared.summary.Summary.{Summary}
 
 -- how many commands are refused
-abbrev pub refused_count : Judge → List Command → ℕ
+abbrev pub refused_count : ScriptState → List Command → ℕ
 refused_count j [] = 0
 refused_count j (command ∷ commands) =
     (if is_some (refusal_of j command) then 1 else 0) + refused_count (after_command command j) commands
@@ -44,18 +44,18 @@ answer_kind (Sat line) = kind.Sat
 answer_kind (Unsat core) = kind.Unsat
 answer_kind Unknown = kind.Unknown
 
--- An ask takes no more steps than are left, and has no answer only where it took all of them.
+-- An ask takes no more rounds than are left, and has no answer only if it took all of them.
 pub record SpendsWithinBudget (budget before : ℕ) (report : AskReport) : Type 0 where
-  pub within : report.steps ≤ steps_left budget before
-  pub unknown : report.answer ≡ kind.Unknown → report.steps ≡ steps_left budget before
+  pub within : report.steps ≤ rounds_allowed budget before
+  pub unknown : report.answer ≡ kind.Unknown → report.steps ≡ rounds_allowed budget before
 
--- Where n identities were given out once its names came in, it takes fewer than 2^(2n+3) steps, so it has an answer where as many are left.
+-- Where n identities were given out once its names came in, it takes fewer than 2^(2n+3) rounds, so it has an answer if as many are left.
 pub record IsBounded (n budget before : ℕ) (report : AskReport) : Type 0 where
   pub few : report.steps < 2 ^ (2 * n + 3)
-  pub answered : 2 ^ (2 * n + 3) ≤ steps_left budget before → report.answer ≡ kind.Unknown → ⊥
+  pub answered : 2 ^ (2 * n + 3) ≤ rounds_allowed budget before → report.answer ≡ kind.Unknown → ⊥
 
 -- how many identities were given out as each ask began, of commands that aren't refused
-abbrev pub identities_given : Judge → List Command → List ℕ
+abbrev pub identities_given : ScriptState → List Command → List ℕ
 identities_given j [] = []
 identities_given j (Ask ls ∷ commands) = (accepted (Ask ls) j).identity_count ∷ identities_given (accepted (Ask ls) j) commands
 identities_given j (Clause ls ∷ commands) = identities_given (accepted (Clause ls) j) commands
@@ -63,17 +63,17 @@ identities_given j (Hide names ∷ commands) = identities_given (accepted (Hide 
 identities_given j (Witness names ∷ commands) = identities_given (accepted (Witness names) j) commands
 identities_given j (Sample names ∷ commands) = identities_given (accepted (Sample names) j) commands
 
--- the steps of each ask
-abbrev pub asked_steps : List AskReport → List ℕ
-asked_steps reports = map (λ r. r.steps) reports
+-- the rounds of each ask
+abbrev pub rounds_of_asks : List AskReport → List ℕ
+rounds_of_asks reports = map (λ r. r.steps) reports
 
--- each ask's steps, over so many identities, the earlier ones having taken these before
-abbrev pub AreSpent : (budget before : ℕ) → (given : List ℕ) → List AskReport → Type 0
-AreSpent budget before [] [] = Unit {0}
-AreSpent budget before [] (report ∷ reports) = ⊥
-AreSpent budget before (n ∷ ns) [] = ⊥
-AreSpent budget before (n ∷ ns) (report ∷ reports) =
-    SpendsWithinBudget budget before report × IsBounded n budget before report × AreSpent budget (before + report.steps) ns reports
+-- each ask's rounds, over so many identities, the earlier ones having taken these before
+abbrev pub AreWithinBudget : (budget before : ℕ) → (given : List ℕ) → List AskReport → Type 0
+AreWithinBudget budget before [] [] = Unit {0}
+AreWithinBudget budget before [] (report ∷ reports) = ⊥
+AreWithinBudget budget before (n ∷ ns) [] = ⊥
+AreWithinBudget budget before (n ∷ ns) (report ∷ reports) =
+    SpendsWithinBudget budget before report × IsBounded n budget before report × AreWithinBudget budget (before + report.steps) ns reports
 
 -- What a finished run says of a text, and answered to it: one outcome for each accepted ask, each right, and their text.
 pub record AnswersRightly (text : List ℕ) (budget : ℕ) (summary : Summary) (answered : List ℕ) : Type 0 where
@@ -85,7 +85,7 @@ pub record AnswersRightly (text : List ℕ) (budget : ℕ) (summary : Summary) (
   pub malformed : summary.malformed ≡ malformed_at (length (reading text).0 + 1) (reading text).1
   -- one report for each outcome, of its kind
   pub kinds : map (λ r. r.answer) summary.asks.items ≡ map answer_kind outcomes
-  pub spent : AreSpent budget 0 (identities_given start (accepted_of start (reading text).0)) summary.asks.items
+  pub spent : AreWithinBudget budget 0 (identities_given start (accepted_of start (reading text).0)) summary.asks.items
 
 -- What its certificate is to the answers: it spells steps, the oldest first, which are, in order, those of the accepted commands and of
 -- these outcomes, which took the steps that the summary reports. Each is accepted in its turn. The list has the newest first.
@@ -95,15 +95,15 @@ pub record CertificateGuarantee (text : List ℕ) (budget : ℕ) (summary : Summ
   pub steps : List Step
   pub certificate : SpellsSteps (reverse steps) certified
   pub accepted : AcceptsAll steps
-  pub certifies : Certifies the_checking steps None []
-      (expected start (accepted_of start (reading text).0) is_answered.outcomes) (asked_steps summary.asks.items)
+  pub certifies : Certifies checker_rules steps None []
+      (expected start (accepted_of start (reading text).0) is_answered.outcomes) (rounds_of_asks summary.asks.items)
   -- what the solver made, up to the end, and how it was written
   pub made : List Step
-  pub follows : ServesCommands start [] made (accepted_of start (reading text).0) is_answered.outcomes (asked_steps summary.asks.items)
+  pub follows : ServesCommands start [] made (accepted_of start (reading text).0) is_answered.outcomes (rounds_of_asks summary.asks.items)
   pub counting : Counting
   pub cuts : TruncatesHashes uncounted (End ∷ made) steps counting
   -- each step that an ask took has derived a clause that advances, but for the one that answered, and no other clause of the ask does
-  pub learns : EachLearns steps 0 is_answered.outcomes (asked_steps summary.asks.items)
+  pub learns : EachLearns steps 0 is_answered.outcomes (rounds_of_asks summary.asks.items)
   -- where no accepted command hides a name, no variable is deleted
   pub keeps : AllByRecursion HidesNothing (accepted_of start (reading text).0) → has_delete_var steps ≡ false
 
@@ -121,9 +121,9 @@ TookCertificate budget summary script answers certificate = GaveEnough script.0 
     × WriterTakes answers.0 answers.1 answered × WriterTakes certificate.0 certificate.1 certified × CertificateGuarantee text budget summary answered certified)
 
 -- the same of what three devices were and are
-abbrev pub Backed : {S A C : Type 0} → Result Summary RunFault → ℕ → (S → Reader) → (A → Writer) → (C → Writer)
+abbrev pub CertificateIsGuaranteed : {S A C : Type 0} → Result Summary RunFault → ℕ → (S → Reader) → (A → Writer) → (C → Writer)
     → S × A × C → S × A × C → Type 0
-Backed r budget script answers certificate old new =
+CertificateIsGuaranteed r budget script answers certificate old new =
     IfOk r (λ s. TookCertificate budget s (gave script old.0 new.0) (took answers old.1 new.1) (took certificate old.2 new.2))
 
 -- no further call of the writer failed

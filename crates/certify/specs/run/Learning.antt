@@ -2,8 +2,8 @@
 use Rattle.std.specs.Prelude.{ℕ, ◌+◌, ◌*◌, ◌≡◌, List, [], ◌∷◌, ◌++◌}
 use Rattle.sat_base.specs.steps.Steps.{Step, Assumptions}
 use Rattle.sat_checker.specs.matching.Expected.{Outcome, Unknown}
-use Rattle.sat_checker.specs.matching.ProofChecking.{the_checking}
-use Rattle.certify.specs.run.Advancing.{AdvanceTimes, AreUnordered}
+use Rattle.sat_checker.specs.matching.ProofChecking.{checker_rules}
+use Rattle.certify.specs.run.Advancing.{AdvanceTimesStored, AreUnordered}
 use Rattle.certify.specs.run.Stretches.{LearnsEachRound}
 
 -- how often something is assumed: twice for each ask, its literals and, at its end, none
@@ -23,8 +23,8 @@ pub record LearnsIn (steps : List Step) (asks : ℕ) (o : Outcome) (rounds : ℕ
   pub place : assumed_times before ≡ 2 * asks
   pub only : assumed_times middle ≡ 0
   pub learned : ℕ
-  pub times : AdvanceTimes (Assumptions ask ∷ before) middle learned
-  pub counts : LearnsEachRound (the_checking.unsat (Assumptions ask ∷ before)) o rounds learned
+  pub times : AdvanceTimesStored (Assumptions ask ∷ before) middle learned
+  pub counts : LearnsEachRound (checker_rules.unsat (Assumptions ask ∷ before)) o rounds learned
   pub unordered : o ≡ Unknown → AreUnordered middle
 
 -- the same of each ask, which took so many rounds; so many stand before all of these

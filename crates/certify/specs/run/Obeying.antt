@@ -2,11 +2,11 @@
 use Rattle.std.specs.Prelude.{ℕ, ◌+◌, ◌≡◌, true, false, List, [], ◌∷◌, Result}
 use Rattle.sat_base.specs.device.Device.{Writer}
 use Rattle.sat_base.specs.script.Script.{Command, Hide, Witness, Sample}
-use Rattle.sat_base.specs.script.Judge.{Judge, Sampled, Witnessed, accepted}
+use Rattle.sat_base.specs.script.ScriptState.{ScriptState, Sampled, Witnessed, accepted}
 use Rattle.sat_base.specs.steps.Steps.{Step}
-use Rattle.sat_checker.specs.matching.ProofChecking.{the_checking}
+use Rattle.sat_checker.specs.matching.ProofChecking.{checker_rules}
 use Rattle.sat_solver.specs.declared.error.SolverError.{SolverError}
-use Rattle.sat_solver.specs.variables.Calls.{Agree}
+use Rattle.sat_solver.specs.variables.Calls.{NamesAgree}
 use Rattle.sat_solver.specs.variables.Coming.{MayHide, MaySet}
 use Rattle.sat_checker.specs.matching.Expected.{Expected, hiding, setting}
 use Rattle.sat_checker.specs.matching.Bridge.{Live}
@@ -15,7 +15,7 @@ use Rattle.sat_solver.specs.solver.Naming.{ChangesMode}
 use Rattle.sat_solver.specs.solver.Whole.{steps_in}
 use Rattle.certify.specs.declared.judge.NameState.{NameState}
 use Rattle.certify.specs.declared.judge.NameState.TheVariants as state
-use Rattle.certify.specs.run.SolverCalls.{IsReady, proof_in}
+use Rattle.certify.specs.run.SolverCalls.{IsReadySolver, proof_in}
 use Rattle.certify.specs.run.Stretches.{MayFor, Stretch, due_for}
 use Rattle.certify.specs.run.Quiet.{Solver}
 
@@ -26,7 +26,7 @@ command_to state.Sampled names = Sample names
 command_to state.Witnessed names = Witness names
 
 -- what a solver makes for it
-abbrev pub due_to : NameState → List ℕ → Judge → List Expected
+abbrev pub due_to : NameState → List ℕ → ScriptState → List Expected
 due_to state.Hidden names = hiding names
 due_to state.Sampled names = setting Sampled names
 due_to state.Witnessed names = setting Witnessed names
@@ -44,10 +44,10 @@ ChangesName seen r old new user st =
 
 -- a command that is no ask was carried out
 pub record Obeyed {C : Type 0} (seen : C → Writer) (c : Command) (old new : Solver C) : Type 0 where
-  pub ready : IsReady new
+  pub ready : IsReadySolver new
   pub took : ComesBySteps seen (proof_in old) (proof_in new)
   pub assumed : new.assumed ≡ old.assumed
   pub clock : new.clock ≡ old.clock
-  pub keeps : (j : Judge) (live : Live) → Agree old.names (steps_in old) j live
-      → (then : Live) × Agree new.names (steps_in new) (accepted c j) then
-      × Stretch (MayFor c) (steps_in old) (steps_in new) (due_for (the_checking.unsat (steps_in old)) c j)
+  pub keeps : (j : ScriptState) (live : Live) → NamesAgree old.names (steps_in old) j live
+      → (then : Live) × NamesAgree new.names (steps_in new) (accepted c j) then
+      × Stretch (MayFor c) (steps_in old) (steps_in new) (due_for (checker_rules.unsat (steps_in old)) c j)

@@ -6,7 +6,7 @@ use Rattle.sat_base.specs.device.Device.{Writer, WriterTakes}
 use Rattle.sat_base.specs.device.Reading.{Source}
 use Rattle.sat_base.specs.script.Script.{Command}
 use Rattle.sat_base.specs.script.Language.{Reading, onto_commands}
-use Rattle.sat_base.specs.script.Judge.{Judge, accepted_of, after_script}
+use Rattle.sat_base.specs.script.ScriptState.{ScriptState, accepted_of, after_script}
 use Rattle.sat_base.specs.steps.Steps.{Step}
 use Rattle.sat_checker.specs.matching.Expected.{Outcome}
 use Rattle.sat_solver.specs.session.Making.{ComesBySteps, BreaksEmitting}
@@ -18,23 +18,23 @@ use Rattle.certify.specs.confirm.Streams.{Covers, rest_in}
 use Rattle.certify.specs.declared.fault.RunFault.{RunFault}
 use Rattle.certify.specs.declared.fault.RunFault.TheVariants as fault
 use Rattle.certify.specs.declared.script.reader.ScriptReader.{ScriptReader}
-use Rattle.certify.specs.declared.run.session.Session.{Session}
+use Rattle.certify.specs.declared.run.session.RunState.{RunState}
 use Rattle.certify.specs.declared.summary.AskReport.{AskReport}
-use Rattle.certify.specs.script.Ahead.{FaultsAhead, TakesSomeOrEnds, TakesSome as TookOf}
+use Rattle.certify.specs.script.LastPiece.{FaultsAhead, TakesSomeOrEnds, TakesSome as TookOf}
 use Rattle.certify.specs.script.Commands.{ReaderMeans, MeansIf}
-use Rattle.certify.specs.run.FinishedRun.{refused_count, malformed_at, answer_kind, AreSpent, asked_steps, identities_given}
+use Rattle.certify.specs.run.FinishedRun.{refused_count, malformed_at, answer_kind, AreWithinBudget, rounds_of_asks, identities_given}
 use Rattle.certify.specs.run.Unfinished.{Exceeds, TookAnswersFront}
-use Rattle.certify.specs.run.SolverCalls.{IsCaused, IsReady, proof_in}
+use Rattle.certify.specs.run.SolverCalls.{IsCaused, IsReadySolver, proof_in}
 use Rattle.certify.specs.run.Serving.{RunPlace, Serves}
-use Rattle.certify.specs.run.Standing.{RunGoesOn, JudgeIsAt, place_in}
+use Rattle.certify.specs.run.Standing.{RunGoesOn, HasStateBetweenCommands, place_in}
 use Rattle.certify.specs.run.Stretches.{ServesCommands}
 use Rattle.certify.specs.run.Quiet.{Solver}
 
 -- These commands were served, one after another.
-pub record ServedAll {C : Type 0} (seen : C → Writer) (j : Judge) (commands : List Command)
-    (old new : Session C) (before after : Writer) : Type 0 where
-  pub judge : Judge
-  pub at : JudgeIsAt new judge
+pub record ServedAll {C : Type 0} (seen : C → Writer) (j : ScriptState) (commands : List Command)
+    (old new : RunState C) (before after : Writer) : Type 0 where
+  pub judge : ScriptState
+  pub at : HasStateBetweenCommands new judge
   pub judges : judge ≡ after_script commands j
   pub took : ComesBySteps seen (proof_in old.solver) (proof_in new.solver)
   pub counted : new.commands ≡ old.commands + length commands
@@ -56,12 +56,12 @@ pub record ServesTo (budget : ℕ) (a : RunPlace) (script : Reading) (to : List 
   pub says : answers_from a.number a.judge script.0 script.1 outcomes ≡ answered
   pub refuses : refused_count a.judge script.0 ≡ refused
   pub kinds : map (λ r. r.answer) reports ≡ map answer_kind outcomes
-  pub spent : AreSpent budget a.rounds (identities_given a.judge (accepted_of a.judge script.0)) reports
-  pub follows : ServesCommands a.judge a.steps to (accepted_of a.judge script.0) outcomes (asked_steps reports)
+  pub spent : AreWithinBudget budget a.rounds (identities_given a.judge (accepted_of a.judge script.0)) reports
+  pub follows : ServesCommands a.judge a.steps to (accepted_of a.judge script.0) outcomes (rounds_of_asks reports)
 
 -- The whole script was served, in which so many commands stand. It is malformed at this command, if it is.
-pub record ServesWhole {C : Type 0} (seen : C → Writer) (j : Judge) (script : Reading) (count : ℕ) (at : Option ℕ)
-    (old new : Session C) (before after : Writer) : Type 0 where
+pub record ServesWhole {C : Type 0} (seen : C → Writer) (j : ScriptState) (script : Reading) (count : ℕ) (at : Option ℕ)
+    (old new : RunState C) (before after : Writer) : Type 0 where
   pub took : ComesBySteps seen (proof_in old.solver) (proof_in new.solver)
   pub counted : new.commands ≡ old.commands + count
   pub ends : at ≡ malformed_at (old.commands + length script.0 + 1) script.1
@@ -75,8 +75,8 @@ pub record ServesWhole {C : Type 0} (seen : C → Writer) (j : Judge) (script : 
 
 -- Between two of these commands were served; behind them the reader of scripts stands where `left` says what is left, and `plain` what
 -- is left of the commands that stand in the text.
-pub record ServesThrough {C : Type 0} (seen : C → Writer) (j : Judge) (text counted : List ℕ → Reading) (a b : Source)
-    (reader : ScriptReader) (old new : Session C) (before after : Writer) : Type 0 where
+pub record ServesThrough {C : Type 0} (seen : C → Writer) (j : ScriptState) (text counted : List ℕ → Reading) (a b : Source)
+    (reader : ScriptReader) (old new : RunState C) (before after : Writer) : Type 0 where
   pub commands : List Command
   pub left : List ℕ → Reading
   pub means : ReaderMeans reader left
@@ -113,9 +113,9 @@ FailsWhole seen e a b old new before after = RunFaultSays e
 
 -- The script is served to its end; or there's a fault, and a front of right answers was written. It is none of store or counter without
 -- a cause.
-abbrev pub ServesScript : {C : Type 0} → (C → Writer) → Judge → (List ℕ → Reading) → (List ℕ → Reading) → Result (Option ℕ) RunFault
-    → Source → Source → Session C → Session C → Writer → Writer → Type 0
-ServesScript seen j text counted (Ok at) a b old new before after = TookOf false a b × IsReady new.solver × ((total : List ℕ) → Covers b total
+abbrev pub ServesScript : {C : Type 0} → (C → Writer) → ScriptState → (List ℕ → Reading) → (List ℕ → Reading) → Result (Option ℕ) RunFault
+    → Source → Source → RunState C → RunState C → Writer → Writer → Type 0
+ServesScript seen j text counted (Ok at) a b old new before after = TookOf false a b × IsReadySolver new.solver × ((total : List ℕ) → Covers b total
     → ServesWhole seen j (text (rest_in total a)) (length (counted (rest_in total a)).0) at old new before after)
 ServesScript seen j text counted (Err e) a b old new before after = FailsWhole seen e a b old.solver new.solver before after
     × ((total : List ℕ) → Covers b total → TookAnswersFront old.budget old.solver.clock.steps (old.commands + 1) j (text (rest_in total a)) before after)

@@ -1,18 +1,18 @@
 -- What a run makes of commands, one after another. Lists of steps have the newest first.
 use Rattle.std.specs.Prelude.{ℕ, ◌+◌, ◌≡◌, List, ◌++◌, map}
 use Rattle.sat_base.specs.script.Script.{Command, ScriptEnding}
-use Rattle.sat_base.specs.script.Judge.{Judge, accepted, accepted_of}
+use Rattle.sat_base.specs.script.ScriptState.{ScriptState, accepted, accepted_of}
 use Rattle.sat_base.specs.steps.Steps.{Step}
 use Rattle.sat_checker.specs.matching.Expected.{Outcome}
 use Rattle.certify.specs.answers.Answers.{answers_from}
 use Rattle.certify.specs.answers.RightAnswers.{AreRight}
-use Rattle.certify.specs.run.FinishedRun.{refused_count, answer_kind, AreSpent, asked_steps, identities_given}
+use Rattle.certify.specs.run.FinishedRun.{refused_count, answer_kind, AreWithinBudget, rounds_of_asks, identities_given}
 use Rattle.certify.specs.run.Stretches.{ServesCommands}
 use Rattle.certify.specs.declared.summary.AskReport.{AskReport}
 
 -- where a run stands: the judge's state, the number of the next command, the steps made so far and the rounds
 pub record RunPlace : Type 0 where
-  pub judge : Judge
+  pub judge : ScriptState
   pub number : ℕ
   pub steps : List Step
   pub rounds : ℕ
@@ -30,11 +30,11 @@ pub record Serves (budget : ℕ) (a b : RunPlace) (commands : List Command)
   pub refuses : (left : List Command) → refused_count a.judge (commands ++ left) ≡ refused + refused_count b.judge left
   pub kinds : map (λ r. r.answer) reports ≡ map answer_kind outcomes
   pub spent : (left : List Command) (rest : List AskReport)
-      → AreSpent budget b.rounds (identities_given b.judge (accepted_of b.judge left)) rest
-      → AreSpent budget a.rounds (identities_given a.judge (accepted_of a.judge (commands ++ left))) (reports ++ rest)
+      → AreWithinBudget budget b.rounds (identities_given b.judge (accepted_of b.judge left)) rest
+      → AreWithinBudget budget a.rounds (identities_given a.judge (accepted_of a.judge (commands ++ left))) (reports ++ rest)
   pub follows : (to : List Step) (left : List Command) (rest : List Outcome) (counts : List ℕ)
       → ServesCommands b.judge b.steps to (accepted_of b.judge left) rest counts
-      → ServesCommands a.judge a.steps to (accepted_of a.judge (commands ++ left)) (outcomes ++ rest) (asked_steps reports ++ counts)
+      → ServesCommands a.judge a.steps to (accepted_of a.judge (commands ++ left)) (outcomes ++ rest) (rounds_of_asks reports ++ counts)
 
 -- behind a command that isn't refused
 abbrev pub place_after : RunPlace → Command → List Step → ℕ → RunPlace

@@ -3,11 +3,11 @@ use Rattle.std.specs.Prelude.{ℕ, ◌+◌, ◌≡◌, Some, None, List, [], ◌
 use Rattle.std.specs.List.{AllByRecursion}
 use Rattle.sat_base.specs.values.Clauses.{Valuation, EachTrue, EachHolds}
 use Rattle.sat_base.specs.script.Script.{Literal, Command, Ask, Among}
-use Rattle.sat_base.specs.script.Judge.{Judge, Refusal, IsRightCore, accepted, over, refusal_of}
+use Rattle.sat_base.specs.script.ScriptState.{ScriptState, Refusal, IsRightCore, accepted, over, refusal_of}
 use Rattle.sat_base.specs.steps.Steps.{Step}
 use Rattle.sat_checker.specs.LiteralSets.{canonical}
 use Rattle.sat_checker.specs.matching.Expected.{Outcome}
-use Rattle.sat_checker.specs.matching.ProofChecking.{the_checking}
+use Rattle.sat_checker.specs.matching.ProofChecking.{checker_rules}
 use Rattle.certify.specs.answers.AnswerForms.{named_literals}
 use Rattle.certify.specs.answers.Answers.{refused_line, outcome_text}
 use Rattle.certify.specs.answers.RightAnswers.{IsRight}
@@ -29,7 +29,7 @@ RefusalServes = (budget : ℕ) (a : RunPlace) (c : Command) (r : Refusal) → re
 -- one that isn't refused and is no ask is answered by nothing, where what is due for it was made
 abbrev pub PlainServes : Type 0
 PlainServes = (budget : ℕ) (a : RunPlace) (c : Command) (steps : List Step) → IsNoAsk c → refusal_of a.judge c ≡ None
-    → Stretch (MayFor c) a.steps steps (due_for (the_checking.unsat a.steps) c a.judge)
+    → Stretch (MayFor c) a.steps steps (due_for (checker_rules.unsat a.steps) c a.judge)
     → Serves budget a (place_after a c steps a.rounds) (c ∷ []) [] [] 0
 
 -- an ask is answered by its outcome, where that is right and took no more rounds than there might be
@@ -42,6 +42,6 @@ AskServes = (budget : ℕ) (a : RunPlace) (ls : List Literal) (o : Outcome) (rep
 
 -- a core of an ask, whatever its order, is a right core once its literals are sorted
 abbrev pub CoresAreSorted : Type 0
-CoresAreSorted = (j : Judge) (ask : List Literal) (core : List ℕ) → AllByRecursion (λ l. Among l ask) (named_literals core)
+CoresAreSorted = (j : ScriptState) (ask : List Literal) (core : List ℕ) → AllByRecursion (λ l. Among l ask) (named_literals core)
     → ((a : Valuation) → EachTrue a (map (over j) (named_literals core)) → EachHolds a j.clauses → ⊥)
     → IsRightCore j ask (named_literals (canonical core))

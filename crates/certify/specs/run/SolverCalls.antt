@@ -1,17 +1,17 @@
 -- What a run's calls of its solver leave, and which faults they give.
 use Rattle.std.specs.Prelude.{ℕ, ◌+◌, ◌<◌, ◌≡◌, Bool, true, false, None, Result, IfErr, List}
 use Rattle.sat_base.specs.device.Device.{Writer}
-use Rattle.sat_base.specs.script.Judge.{Judge, accepted, refused_literal}
+use Rattle.sat_base.specs.script.ScriptState.{ScriptState, accepted, refused_literal}
 use Rattle.sat_base.specs.script.Script.{Command}
 use Rattle.sat_base.specs.values.Literals.{var_limit}
 use Rattle.sat_solver.specs.declared.error.SolverError.{SolverError}
 use Rattle.sat_solver.specs.declared.error.SolverError.TheVariants as errors
 use Rattle.sat_solver.specs.declared.state.State.{State}
 use Rattle.sat_solver.specs.declared.state.State.TheVariants as states
-use Rattle.sat_solver.specs.variables.Calls.{Agree}
+use Rattle.sat_solver.specs.variables.Calls.{NamesAgree}
 use Rattle.sat_checker.specs.matching.Bridge.{Live}
 use Rattle.sat_solver.specs.variables.Refusing.{names_in}
-use Rattle.sat_solver.specs.variables.Room.{HasRoom}
+use Rattle.sat_solver.specs.variables.VariableRoom.{HasVariablesFor}
 use Rattle.sat_solver.specs.session.Making.{ComesBySteps, BreaksEmitting}
 use Rattle.sat_solver.specs.proof.ProofView.{is_checked, is_drat, target_of}
 use Rattle.sat_solver.specs.solver.Calls.{Answered}
@@ -77,7 +77,7 @@ abbrev pub HasNoLines : {C : Type 0} → Proof C → Type 0
 HasNoLines {C} p = (seen : C → Writer) → is_drat (target_of seen p) ≡ false
 
 -- a solver that goes on, whose asks may have assumptions, with no checker of its own
-pub record IsReady {C : Type 0} (s : Solver C) : Type 0 where
+pub record IsReadySolver {C : Type 0} (s : Solver C) : Type 0 where
   pub solver : IsSolver s
   pub going : s.failed ≡ false
   pub no_lines : HasNoLines (proof_in s)
@@ -85,11 +85,11 @@ pub record IsReady {C : Type 0} (s : Solver C) : Type 0 where
 
 -- none of the names is refused, by a state of the judge that the solver agrees with
 abbrev pub IsAllowed : {C : Type 0} → Solver C → List ℕ → Type 0
-IsAllowed s user = (j : Judge) × (live : Live) × Agree s.names (steps_in s) j live × (refused_literal j (names_in user) ≡ None)
+IsAllowed s user = (j : ScriptState) × (live : Live) × NamesAgree s.names (steps_in s) j live × (refused_literal j (names_in user) ≡ None)
 
 -- a variable is lacking for a name that would be introduced with these
 abbrev pub LacksRoom : {C : Type 0} → Solver C → (users : List ℕ) → Type 0
-LacksRoom s users = HasRoom s.names users → ⊥
+LacksRoom s users = HasVariablesFor s.names users → ⊥
 
 -- so it was refused
 abbrev pub RefusedForRoom : {C : Type 0} → Solver C → Solver C → (users : List ℕ) → Type 0
@@ -98,12 +98,12 @@ RefusedForRoom old new users = LacksRoom old users × (new ≡ old)
 -- The command lacks variables for its names, after the steps that were made for it. With it, the judge would have given out more identities
 -- than there are variables.
 abbrev pub LacksFor : {C : Type 0} → Solver C → Solver C → Command → Type 0
-LacksFor old new c = (j : Judge) (live : Live) → Agree old.names (steps_in old) j live
+LacksFor old new c = (j : ScriptState) (live : Live) → NamesAgree old.names (steps_in old) j live
     → (var_limit < (accepted c j).identity_count) × CommandLacks j c (steps_in new)
 
 -- from here on a search makes at most so many rounds
 pub record Limited {C : Type 0} (budget : ℕ) (old new : Solver C) : Type 0 where
-  pub ready : IsReady new
+  pub ready : IsReadySolver new
   pub limit : new.core.config.max_steps ≡ budget
   pub proof : proof_in new ≡ proof_in old
   pub names : new.names ≡ old.names

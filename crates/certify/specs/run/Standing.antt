@@ -2,8 +2,8 @@
 use Rattle.std.specs.Prelude.{ℕ, ◌+◌, ◌≤◌, ◌≡◌, None, List, [], ◌∷◌, ◌++◌, IfErr, OnErr, Result, MatchResult}
 use Rattle.sat_base.specs.device.Device.{Writer, WriterTakes}
 use Rattle.sat_base.specs.script.Script.{Command}
-use Rattle.sat_base.specs.script.Judge.{Judge, Refusal, accepted, after_command, refusal_of}
-use Rattle.sat_solver.specs.variables.Calls.{Agree}
+use Rattle.sat_base.specs.script.ScriptState.{ScriptState, Refusal, accepted, after_command, refusal_of}
+use Rattle.sat_solver.specs.variables.Calls.{NamesAgree}
 use Rattle.sat_checker.specs.matching.Bridge.{Live}
 use Rattle.sat_solver.specs.session.Making.{ComesBySteps, BreaksEmitting}
 use Rattle.sat_solver.specs.solver.Whole.{HasFullStore, steps_in}
@@ -13,42 +13,42 @@ use Rattle.certify.specs.answers.Answers.{refused_line}
 use Rattle.certify.specs.declared.fault.RunFault.{RunFault}
 use Rattle.certify.specs.declared.judge.names.Names.{Names}
 use Rattle.certify.specs.declared.script.Command.{Command as Lent}
-use Rattle.certify.specs.declared.run.session.Session.{Session}
+use Rattle.certify.specs.declared.run.session.RunState.{RunState}
 use Rattle.certify.specs.declared.summary.AskReport.{AskReport}
-use Rattle.certify.specs.judge.Names.{NamesStand}
-use Rattle.sat_base.specs.script.JudgeLaws.{JudgeInvariant}
+use Rattle.certify.specs.judge.Names.{NamesHaveState}
+use Rattle.sat_base.specs.script.ScriptStateLaws.{ScriptStateInvariant}
 use Rattle.certify.specs.script.Commands.{kind_of}
 use Rattle.sat_base.specs.script.Language.{Reading, command_of, onto_commands}
 use Rattle.certify.specs.run.Unfinished.{Exceeds, TookAnswersFront}
-use Rattle.certify.specs.run.SolverCalls.{FaultSays, IsCaused, IsReady, LacksFor, proof_in}
+use Rattle.certify.specs.run.SolverCalls.{FaultSays, IsCaused, IsReadySolver, LacksFor, proof_in}
 use Rattle.certify.specs.run.Serving.{RunPlace, Serves}
 use Rattle.certify.specs.run.Quiet.{Solver}
 
 -- the judge's state is this, whatever names say of it
-pub record AgreesWithJudge {C : Type 0} (s : Solver C) (j : Judge) (live : Live) : Type 0 where
-  pub agree : Agree s.names (steps_in s) j live
-  pub kept : JudgeInvariant j
+pub record AgreesWithState {C : Type 0} (s : Solver C) (j : ScriptState) (live : Live) : Type 0 where
+  pub agree : NamesAgree s.names (steps_in s) j live
+  pub kept : ScriptStateInvariant j
 
 -- a run between commands, where the judge's state is this
-pub record JudgeIsAt {C : Type 0} (s : Session C) (j : Judge) : Type 0 where
+pub record HasStateBetweenCommands {C : Type 0} (s : RunState C) (j : ScriptState) : Type 0 where
   pub live : Live
-  pub means : AgreesWithJudge s.solver j live
-  pub names : NamesStand s.names j
+  pub means : AgreesWithState s.solver j live
+  pub names : NamesHaveState s.names j
 
 -- a run that goes on between commands, with nothing assumed
-pub record RunGoesOn {C : Type 0} (s : Session C) : Type 0 where
-  pub ready : IsReady s.solver
+pub record RunGoesOn {C : Type 0} (s : RunState C) : Type 0 where
+  pub ready : IsReadySolver s.solver
   pub free : s.solver.assumed.items ≡ []
   pub counted : s.refused ≤ s.commands
-  pub judge : Judge
-  pub at : JudgeIsAt s judge
+  pub judge : ScriptState
+  pub at : HasStateBetweenCommands s judge
 
 -- where a run stands, by the judge's state
-abbrev pub place_in : {C : Type 0} → Session C → Judge → RunPlace
+abbrev pub place_in : {C : Type 0} → RunState C → ScriptState → RunPlace
 place_in s j = record { judge = j; number = s.commands + 1; steps = steps_in s.solver; rounds = s.solver.clock.steps }
 
 -- where it stood before the last command that came, of which nothing was done yet but counting it
-abbrev pub last_place : {C : Type 0} → Session C → Judge → RunPlace
+abbrev pub last_place : {C : Type 0} → RunState C → ScriptState → RunPlace
 last_place s j = record { judge = j; number = s.commands; steps = steps_in s.solver; rounds = s.solver.clock.steps }
 
 -- the command that is lent, where no name is past the limit
@@ -57,11 +57,11 @@ spelled_by lent = command_of (kind_of lent.kind) (named_literals lent.literals.n
 
 -- no judge for whom the names stand refuses it
 abbrev pub NamesAllow : Names → Command → Type 0
-NamesAllow names c = (j : Judge) → NamesStand names j → refusal_of j c ≡ None
+NamesAllow names c = (j : ScriptState) → NamesHaveState names j → refusal_of j c ≡ None
 
 -- the last command that came was carried out by solver and answers; the names are told of it apart
-pub record CarriedOut {C : Type 0} (seen : C → Writer) (old new : Session C) (c : Command) (before after : Writer) : Type 0 where
-  pub ready : IsReady new.solver
+pub record CarriedOut {C : Type 0} (seen : C → Writer) (old new : RunState C) (c : Command) (before after : Writer) : Type 0 where
+  pub ready : IsReadySolver new.solver
   pub free : new.solver.assumed.items ≡ []
   pub took : ComesBySteps seen (proof_in old.solver) (proof_in new.solver)
   pub commands : new.commands ≡ old.commands
@@ -71,12 +71,12 @@ pub record CarriedOut {C : Type 0} (seen : C → Writer) (old new : Session C) (
   pub told : WriterTakes before after text
   pub reports : List AskReport
   pub asks : new.asks.items ≡ old.asks.items ++ reports
-  pub serves : (j : Judge) (live : Live) → AgreesWithJudge old.solver j live → refusal_of j c ≡ None
-      → (then : Live) × Agree new.solver.names (steps_in new.solver) (accepted c j) then
+  pub serves : (j : ScriptState) (live : Live) → AgreesWithState old.solver j live → refusal_of j c ≡ None
+      → (then : Live) × NamesAgree new.solver.names (steps_in new.solver) (accepted c j) then
       × Serves old.budget (last_place old j) (place_in new (accepted c j)) (c ∷ []) text reports 0
 
 -- a command was refused, the last that came
-pub record Refused {C : Type 0} (old new : Session C) (why : Refusal) (before after : Writer) : Type 0 where
+pub record Refused {C : Type 0} (old new : RunState C) (why : Refusal) (before after : Writer) : Type 0 where
   pub told : WriterTakes before after (refused_line old.commands why)
   pub solver : new.solver ≡ old.solver
   pub names : new.names ≡ old.names
@@ -86,7 +86,7 @@ pub record Refused {C : Type 0} (old new : Session C) (why : Refusal) (before af
   pub asks : new.asks ≡ old.asks
 
 -- the next command was served: refused, or taken
-pub record ServedNext {C : Type 0} (seen : C → Writer) (old new : Session C) (c : Command) (before after : Writer) : Type 0 where
+pub record ServedNext {C : Type 0} (seen : C → Writer) (old new : RunState C) (c : Command) (before after : Writer) : Type 0 where
   pub goes_on : RunGoesOn new
   pub took : ComesBySteps seen (proof_in old.solver) (proof_in new.solver)
   pub commands : new.commands ≡ old.commands + 1
@@ -97,28 +97,28 @@ pub record ServedNext {C : Type 0} (seen : C → Writer) (old new : Session C) (
   pub asks : new.asks.items ≡ old.asks.items ++ reports
   pub refused : ℕ
   pub refusals : new.refused ≡ old.refused + refused
-  pub serves : (j : Judge) → JudgeIsAt old j
-      → JudgeIsAt new (after_command c j) × Serves old.budget (place_in old j) (place_in new (after_command c j)) (c ∷ []) text reports refused
+  pub serves : (j : ScriptState) → HasStateBetweenCommands old j
+      → HasStateBetweenCommands new (after_command c j) × Serves old.budget (place_in old j) (place_in new (after_command c j)) (c ∷ []) text reports refused
 
 -- Where the last command, which isn't refused, wasn't carried out, a front of right answers to it and what is left was written.
-abbrev pub StopsCarrying : {T C : Type 0} → Result T RunFault → Session C → Command → Reading → Writer → Writer → Type 0
+abbrev pub StopsCarrying : {T C : Type 0} → Result T RunFault → RunState C → Command → Reading → Writer → Writer → Type 0
 StopsCarrying r old c left before after =
-    OnErr r ((j : Judge) (live : Live) → AgreesWithJudge old.solver j live → refusal_of j c ≡ None
+    OnErr r ((j : ScriptState) (live : Live) → AgreesWithState old.solver j live → refusal_of j c ≡ None
     → TookAnswersFront old.budget old.solver.clock.steps old.commands j (onto_commands (c ∷ []) left) before after)
 
 -- the same of a script that wasn't served from here on
-abbrev pub StopsOver : {T C : Type 0} → Result T RunFault → Session C → Reading → Writer → Writer → Type 0
+abbrev pub StopsOver : {T C : Type 0} → Result T RunFault → RunState C → Reading → Writer → Writer → Type 0
 StopsOver r old script before after =
-    OnErr r ((j : Judge) → JudgeIsAt old j → TookAnswersFront old.budget old.solver.clock.steps (old.commands + 1) j script before after)
+    OnErr r ((j : ScriptState) → HasStateBetweenCommands old j → TookAnswersFront old.budget old.solver.clock.steps (old.commands + 1) j script before after)
 
 -- why the last command, which isn't refused, wasn't carried out, but for devices and memory
-abbrev pub CausedBy : {T C : Type 0} → Result T RunFault → Session C → Session C → Command → Type 0
+abbrev pub CausedBy : {T C : Type 0} → Result T RunFault → RunState C → RunState C → Command → Type 0
 CausedBy r old new c = IfErr r (λ e. IsCaused e (HasFullStore new.solver) (LacksFor old.solver new.solver c))
 
 -- the same of a script that wasn't served from here on
-abbrev pub CausedOver : {T C : Type 0} → Result T RunFault → Session C → Session C → Reading → Type 0
+abbrev pub CausedOver : {T C : Type 0} → Result T RunFault → RunState C → RunState C → Reading → Type 0
 CausedOver r old new script =
-    IfErr r (λ e. IsCaused e (HasFullStore new.solver) ((j : Judge) → JudgeIsAt old j → Exceeds old.commands j script (steps_in new.solver)))
+    IfErr r (λ e. IsCaused e (HasFullStore new.solver) ((j : ScriptState) → HasStateBetweenCommands old j → Exceeds old.commands j script (steps_in new.solver)))
 
 -- what a part of a run did to the answers' writer and to the certificate: one call of one of them may have failed
 abbrev pub WritesBoth : {T C : Type 0} → Result T RunFault → (C → Writer) → Writer → Writer → Solver C → Solver C → Type 0

@@ -2,7 +2,7 @@
 use Rattle.std.specs.Prelude.{ℕ, ◌+◌, ◌-◌, ◌^◌, ◌<◌, ◌≤◌, ◌≡◌, ◌⊎◌, List, [], ◌∷◌, ◌++◌, map, length}
 use Rattle.std.specs.Io.KnownBytes.{Appends}
 use Rattle.sat_base.specs.device.Device.{Reader, Writer, CanFollow, GaveFront}
-use Rattle.sat_base.specs.script.Judge.{Judge, accepted_of, after_script, start}
+use Rattle.sat_base.specs.script.ScriptState.{ScriptState, accepted_of, after_script, start}
 use Rattle.sat_base.specs.script.Language.{Reading, reading}
 use Rattle.sat_base.specs.values.Literals.{var_limit}
 use Rattle.sat_base.specs.steps.Steps.{Step}
@@ -10,7 +10,7 @@ use Rattle.sat_checker.specs.Accepts.{AcceptsAll}
 use Rattle.sat_checker.specs.matching.Expected.{Outcome}
 use Rattle.sat_solver.specs.declared.proof.hash_bits.Counting.{Counting}
 use Rattle.sat_solver.specs.declared.proof.format.ProofFormat.TheVariants.{Varisat}
-use Rattle.sat_solver.specs.proof.Counting.{start as uncounted, TruncatesHashes}
+use Rattle.sat_solver.specs.proof.Counting.{nothing_counted as uncounted, TruncatesHashes}
 use Rattle.sat_solver.specs.proof.OutputView.{text_in}
 use Rattle.certify.specs.answers.Answers.{answers_from}
 use Rattle.certify.specs.answers.RightAnswers.{AreRight}
@@ -32,7 +32,7 @@ AreSpentSoFar budget before (n ∷ ns) (report ∷ reports) =
 
 -- Right answers to a script begin with these bytes, if its first command has this number and so many rounds were made before. They are the
 -- answers to the first asks, in the rounds that are reported: an answer is unknown only if these are exhausted.
-pub record BeginAnswers (budget before number : ℕ) (j : Judge) (script : Reading) (bytes : List ℕ) : Type 0 where
+pub record BeginAnswers (budget before number : ℕ) (j : ScriptState) (script : Reading) (bytes : List ℕ) : Type 0 where
   pub told : List Outcome
   pub later : List Outcome  -- of the other asks, as they might be
   pub right : AreRight j (accepted_of j script.0) (told ++ later)
@@ -44,7 +44,7 @@ pub record BeginAnswers (budget before number : ℕ) (j : Judge) (script : Readi
   pub spent : AreSpentSoFar budget before (identities_given j (accepted_of j script.0)) reports
 
 -- the writer took a prefix of them, and nothing else
-pub record TookAnswersFront (budget before number : ℕ) (j : Judge) (script : Reading) (old new : Writer) : Type 0 where
+pub record TookAnswersFront (budget before number : ℕ) (j : ScriptState) (script : Reading) (old new : Writer) : Type 0 where
   pub bytes : List ℕ
   pub took : TookBytes old new bytes
   pub front : BeginAnswers budget before number j script bytes
@@ -78,7 +78,7 @@ TookSteps certificate = ∥ StepsFront certificate.0 certificate.1 ∥₁
 
 -- After so many commands, these are more than are counted; or one of them lacks variables for its names, after these steps. The judge gives
 -- out more identities then than there are variables.
-abbrev pub Exceeds : (count : ℕ) → Judge → Reading → List Step → Type 0
+abbrev pub Exceeds : (count : ℕ) → ScriptState → Reading → List Step → Type 0
 Exceeds count j script steps =
     (2 ^ 64 - 1 ≤ count + length script.0) ⊎ ((var_limit < (after_script script.0 j).identity_count) × OneLacks j script.0 steps)
 

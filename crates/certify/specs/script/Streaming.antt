@@ -1,15 +1,15 @@
 -- What comes of the bytes of a script that is read as its commands are wanted, whatever would follow.
 use Rattle.std.specs.Prelude.{ℕ, ◌+◌, ◌-◌, ◌*◌, ◌<◌, ◌≡◌, Bool, true, false, Option, Some, None, List, [], ◌++◌, length, Result, Ok, Err}
 use Rattle.sat_base.specs.device.Device.{most_reads, piece_size}
-use Rattle.sat_base.specs.device.Reading.{Source, Passes, PassesToEnd}
+use Rattle.sat_base.specs.device.Reading.{Source, ConsumesBytes, ConsumesToEnd}
 use Rattle.sat_base.specs.script.Language.{Reading}
 use Rattle.sat_base.specs.text.Chunks.{Follows}
 use Rattle.sat_base.specs.declared.device.whole.ReadError.{ReadError}
 use Rattle.sat_base.specs.declared.device.whole.ReadError.TheVariants as errors
 use Rattle.certify.specs.confirm.Streams.{Covers, rest_in}
-use Rattle.certify.specs.script.Ahead.{FaultsAhead, TakesSome, waiting}
+use Rattle.certify.specs.script.LastPiece.{FaultsAhead, TakesSome, waiting_bytes}
 use Rattle.certify.specs.script.Commands.{EndsLast, MeansIf, TakesBytes, end_if}
-use Rattle.certify.specs.declared.script.ahead.Ahead.{Ahead}
+use Rattle.certify.specs.declared.script.ahead.LastPiece.{LastPiece}
 use Rattle.certify.specs.declared.script.Reached.{Reached}
 use Rattle.certify.specs.declared.script.Reached.TheVariants as reached
 use Rattle.certify.specs.declared.script.reader.ScriptReader.{ScriptReader}
@@ -19,8 +19,8 @@ use Rattle.certify.specs.declared.script.stream.Next.TheVariants as next
 
 -- bytes that waited were taken, at least one where one did; they came to this
 abbrev pub TakesWaiting : {E : Type 0} → Result Reached E → CommandStream → CommandStream → Type 0
-TakesWaiting (Ok r) old new = (text : List ℕ) × (waiting old.ahead ≡ text ++ waiting new.ahead) × (new.ahead.reads ≡ old.ahead.reads)
-    × (0 < length (waiting old.ahead) → 0 < length text) × TakesBytes r old.reader text new.reader
+TakesWaiting (Ok r) old new = (text : List ℕ) × (waiting_bytes old.ahead ≡ text ++ waiting_bytes new.ahead) × (new.ahead.reads ≡ old.ahead.reads)
+    × (0 < length (waiting_bytes old.ahead) → 0 < length text) × TakesBytes r old.reader text new.reader
 TakesWaiting (Err e) old new = new.ahead ≡ old.ahead
 
 -- the text is over
@@ -31,9 +31,9 @@ FinishesText (next.End e) old new = (asks : Bool) (before : List ℕ → Reading
 
 -- A command came, and the text goes on; or one did that is the last; or none is left, and the text ends so.
 abbrev pub Arrives : Next → Source → Source → ScriptReader → ScriptReader → Type 0
-Arrives next.Command a b old new = (text : List ℕ) × Passes a b text × (0 < length text) × TakesBytes reached.Command old text new
+Arrives next.Command a b old new = (text : List ℕ) × ConsumesBytes a b text × (0 < length text) × TakesBytes reached.Command old text new
 Arrives (next.Last e) a b old new =
-    (text : List ℕ) × PassesToEnd a b text
+    (text : List ℕ) × ConsumesToEnd a b text
     × ((asks : Bool) (before : List ℕ → Reading) → MeansIf asks old before → EndsLast asks true e new (before text))
 Arrives (next.End e) a b old new =
     TakesSome false a b × ((asks : Bool) (before : List ℕ → Reading) → MeansIf asks old before
@@ -41,7 +41,7 @@ Arrives (next.End e) a b old new =
 
 -- so, or nothing came of the bytes yet
 abbrev pub Brings : Result (Option Next) ReadError → Source → Source → ScriptReader → ScriptReader → Type 0
-Brings (Ok None) a b old new = (text : List ℕ) × Passes a b text × ((asks : Bool) → Follows (MeansIf asks) old text new)
+Brings (Ok None) a b old new = (text : List ℕ) × ConsumesBytes a b text × ((asks : Bool) → Follows (MeansIf asks) old text new)
 Brings (Ok (Some n)) a b old new = Arrives n a b old new
 Brings (Err errors.Failed) a b old new = FaultsAhead a b
 Brings (Err errors.OutOfMemory) a b old new = TakesSome true a b
@@ -53,11 +53,11 @@ NextComes (Err errors.Failed) a b old new = FaultsAhead a b
 NextComes (Err errors.OutOfMemory) a b old new = TakesSome true a b
 
 -- how many more times something can come of its bytes at most
-abbrev pub rounds_left : Ahead → ℕ
-rounds_left a = (piece_size + 1) * (most_reads - a.reads) + length (waiting a)
+abbrev pub turns_left : LastPiece → ℕ
+turns_left a = (piece_size + 1) * (most_reads - a.reads) + length (waiting_bytes a)
 
 -- where nothing came of them, fewer are left
-abbrev pub LeavesFewerRounds : {A E : Type 0} → Result (Option A) E → Ahead → Ahead → Type 0
-LeavesFewerRounds (Ok None) old new = rounds_left new < rounds_left old
-LeavesFewerRounds (Ok (Some x)) old new = Unit {0}
-LeavesFewerRounds (Err e) old new = Unit {0}
+abbrev pub LeavesFewerTurns : {A E : Type 0} → Result (Option A) E → LastPiece → LastPiece → Type 0
+LeavesFewerTurns (Ok None) old new = turns_left new < turns_left old
+LeavesFewerTurns (Ok (Some x)) old new = Unit {0}
+LeavesFewerTurns (Err e) old new = Unit {0}

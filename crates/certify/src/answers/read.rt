@@ -6,7 +6,7 @@ ghost use Rattle.certify.specs.answers.AnswerForms.{IsName};
 ghost use Rattle.certify.specs.answers.AnswerReading.{NoNameDigit, NoName, NoLiteral, NoLiterals, NoKind, NoLine};
 ghost use Rattle.certify.specs.answers.AnswerReading.{NoOutcome, StartsNoName, StartsNoLiteral, StartsNoLiterals};
 ghost use Rattle.certify.specs.answers.AnswerReading.{StartsNoKind, StartsNoLine, HasLine, IsHead, digits_so_far};
-ghost use Rattle.certify.specs.answers.AnswerReading.{first_line, literal_place, BeginsWithLiteral, BeginsWithLiterals};
+ghost use Rattle.certify.specs.answers.AnswerReading.{first_answer_line, literal_place, BeginsWithLiteral, BeginsWithLiterals};
 ghost use Rattle.certify.specs.answers.AnswerReading.{BeginsWithSecondLine, BeginsWithAnswer};
 ghost use Rattle.sat_base.specs.values.Literals.{var_limit};
 
@@ -217,7 +217,7 @@ pub fn begins_kind(bytes: &[u8]) -> bool
 
 /// Reads the first line of an answer. Returns its kind and the bytes after the line.
 pub fn read_kind(bytes: &[u8]) -> Result<(AnswerKind, &[u8]), AnswerFault>
-    ensures { MatchResult result (λ x. bytes.now ≡ first_line x.0 ++ x.1.now) (NoKind bytes.now) }
+    ensures { MatchResult result (λ x. bytes.now ≡ first_answer_line x.0 ++ x.1.now) (NoKind bytes.now) }
 {
     if bytes.is_empty() {
         return Err(AnswerFault::Missing);

@@ -1,6 +1,6 @@
 //! Writes the lines of refused commands.
 ghost use Rattle.std.specs.Prelude.{◌≡◌, ◌+◌, ◌++◌, OnOk};
-ghost use Rattle.sat_base.specs.script.Judge.{WitnessName};
+ghost use Rattle.sat_base.specs.script.ScriptState.{WitnessName};
 ghost use Rattle.certify.specs.answers.Answers.{refused_line};
 ghost use Rattle.certify.specs.judge.Names.{refusal_in};
 ghost use Rattle.certify.specs.confirm.Lines.{IsOneLine};

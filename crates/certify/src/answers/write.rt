@@ -4,7 +4,7 @@ ghost use Rattle.std.specs.Prelude.{◌≡◌, ◌<◌, ◌≤◌, ◌^◌, ◌+
 ghost use Rattle.certify.specs.answers.Answers.{literals_text, malformed_line, outcome_text, refused_line, word_of};
 ghost use Rattle.sat_checker.specs.matching.Expected.{Sat, Unsat, Unknown};
 ghost use Rattle.certify.specs.answers.AnswerForms.{named_literal, named_literals};
-ghost use Rattle.sat_base.specs.script.Judge.{PastLimit};
+ghost use Rattle.sat_base.specs.script.ScriptState.{PastLimit};
 
 use sat_base::Lit;
 use std::alloc::AllocError;

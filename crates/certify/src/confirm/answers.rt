@@ -9,7 +9,7 @@ ghost use Rattle.certify.specs.confirm.Stopping.{Replies, SaysSo};
 ghost use Rattle.certify.specs.confirm.Lines.{IsOneLine, IsReply, IsWantedLine, NextLine, ReadsFirst, ReadsSecond};
 ghost use Rattle.certify.specs.confirm.Lines.{answers_source};
 ghost use Rattle.certify.specs.judge.Names.{refusal_in};
-ghost use Rattle.certify.specs.script.Ahead.{IsNotAtEnd, waiting};
+ghost use Rattle.certify.specs.script.LastPiece.{IsNotAtEnd, waiting_bytes};
 
 use crate::answers::read::{AnswerFault, AnswerKind, read_kind, read_line};
 use crate::answers::refused::push_refused;
@@ -90,7 +90,7 @@ fn unanswered(fault: AnswerFault) -> Stop
 impl Answers {
     /// Returns the state before the first line.
     pub fn new(alloc: Global) -> Answers
-        ensures waiting { waiting result.lines.ahead ≡ [] }
+        ensures waiting { waiting_bytes result.lines.ahead ≡ [] }
         ensures reads { result.lines.ahead.reads ≡ 0 }
     {
         Answers {

@@ -1,7 +1,7 @@
 //! Matches a certificate step by step with what a script and its answers expect.
 ghost use Rattle.std.specs.Prelude.{◌≡◌, []};
 ghost use Rattle.sat_checker.specs.CheckerView.{kernel_of};
-ghost use Rattle.sat_checker.specs.KernelView.{looks_of};
+ghost use Rattle.sat_checker.specs.KernelView.{kernel_looks};
 ghost use Rattle.certify.specs.confirm.Streams.{Confirms, StepsGoOn, StepsGoOnIf, IsReadFew, SameLoan, stream_of};
 ghost use Rattle.certify.specs.confirm.Awaiting.{MeetsDue, SaysUnmet};
 ghost use Rattle.certify.specs.confirm.Comparing.{due_of};
@@ -9,7 +9,7 @@ ghost use Rattle.certify.specs.confirm.Comparing.{due_of};
 use crate::confirm::expect::{Expected, Known, excuse, fits};
 use crate::confirm::feed::feed;
 use crate::confirm::follow::follow;
-use crate::confirm::literals::Room;
+use crate::confirm::literals::LitScratch;
 use crate::confirm::ordered::{Awaited, await_ordered};
 use crate::confirm::stop::Stop;
 use crate::confirm::variables::NamedVars;
@@ -22,7 +22,7 @@ use std::alloc::Global;
 pub(crate) struct Certificate {
     pub checker: Checker,
     pub names: NamedVars,
-    room: Room,
+    room: LitScratch,
 }
 
 /// Returns an error unless the expected step can be missing once `unsat` is recorded.
@@ -41,12 +41,12 @@ impl Certificate {
     /// Returns the state before the first step.
     pub fn new(alloc: Global) -> Certificate
         ensures stands { CheckerIsAt (kernel_of result.checker) result.names [] }
-        ensures looks { looks_of (kernel_of result.checker) ≡ 0 }
+        ensures looks { kernel_looks (kernel_of result.checker) ≡ 0 }
     {
         Certificate {
             checker: Checker::new(alloc),
             names: NamedVars::new(alloc),
-            room: Room::new(alloc),
+            room: LitScratch::new(alloc),
         }
     }
 

@@ -1,18 +1,18 @@
 //! Confirms commands one by one.
 ghost use Rattle.std.specs.Prelude.{◌≡◌, ◌+◌, ◌^◌, ◌<◌, ℕ, List, [], true, false};
 ghost use Rattle.sat_base.specs.script.Script.{Clean, Command as Spelled};
-ghost use Rattle.sat_base.specs.script.Judge.{start};
+ghost use Rattle.sat_base.specs.script.ScriptState.{start};
 ghost use Rattle.sat_base.specs.steps.Steps.{Step};
 ghost use Rattle.sat_checker.specs.CheckerView.{kernel_of};
-ghost use Rattle.sat_checker.specs.KernelView.{looks_of};
+ghost use Rattle.sat_checker.specs.KernelView.{kernel_looks};
 ghost use Rattle.certify.specs.answers.AnswerForms.{named_literals};
 ghost use Rattle.certify.specs.confirm.Streams.{Confirms, StepsGoOn, StepsGoOnIf, IsReadFew, SameLoan, stream_of};
 ghost use Rattle.certify.specs.confirm.VerdictPromises.{numbers};
 ghost use Rattle.certify.specs.confirm.Confirming.{ConfirmsAnswer, ConfirmsContent, ConfirmsLast, ConfirmsNext};
 ghost use Rattle.certify.specs.confirm.Confirming.{HoldsAt, MeetsContent, MeetsOutcome, MeetsShown, table_of};
 ghost use Rattle.certify.specs.confirm.Lines.{outcome_in};
-ghost use Rattle.certify.specs.confirm.Sessions.{ConfirmsBoth, answers_in, stream_in};
-ghost use Rattle.certify.specs.script.Ahead.{IsNotAtEnd, waiting};
+ghost use Rattle.certify.specs.confirm.ConfirmStates.{ConfirmsBoth, answers_in, stream_in};
+ghost use Rattle.certify.specs.script.LastPiece.{IsNotAtEnd, waiting_bytes};
 ghost use Rattle.certify.specs.script.Commands.{IsLent, end_reading, kind_of};
 
 use crate::answers::read::AnswerKind;
@@ -28,7 +28,7 @@ use std::alloc::Global;
 
 /// The state after the certificate's steps and the script's names so far, and the current line of the answers.
 #[derive(Drop)]
-pub(crate) struct Session {
+pub(crate) struct ConfirmState {
     pub matching: Matching,
     answers: Answers,
     /// The number of the last command.
@@ -111,17 +111,17 @@ fn expect_content<C: CountedRead>(
     }
 }
 
-impl Session {
+impl ConfirmState {
     /// Returns the state before the first command.
-    pub fn new(alloc: Global) -> Session
+    pub fn new(alloc: Global) -> ConfirmState
         ensures stands { (rest : List ℕ) (step : Step) → HoldsAt (table_of result.matching)
             (record { checker = kernel_of result.matching.certificate.checker; step = step; rest = rest }) start [] }
-        ensures looks { looks_of (kernel_of result.matching.certificate.checker) ≡ 0 }
+        ensures looks { kernel_looks (kernel_of result.matching.certificate.checker) ≡ 0 }
         ensures number { result.number ≡ 0 }
-        ensures waiting { waiting result.answers.lines.ahead ≡ [] }
+        ensures waiting { waiting_bytes result.answers.lines.ahead ≡ [] }
         ensures reads { result.answers.lines.ahead.reads ≡ 0 }
     {
-        Session {
+        ConfirmState {
             matching: Matching {
                 certificate: Certificate::new(alloc),
                 names: Names::new(alloc),

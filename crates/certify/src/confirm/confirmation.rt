@@ -4,13 +4,13 @@ ghost use Rattle.sat_base.specs.script.Script.{Command as Spelled};
 ghost use Rattle.certify.specs.confirm.Streams.{StepsGoOn, IsReadFew, SameLoan};
 ghost use Rattle.certify.specs.confirm.VerdictPromises.{numbers};
 ghost use Rattle.certify.specs.confirm.Confirming.{ConfirmsLast, ConfirmsNext, table_of};
-ghost use Rattle.certify.specs.confirm.Sessions.{ConfirmsBoth, answers_in};
-ghost use Rattle.certify.specs.confirm.ConfirmedScript.{ConfirmsScript, script_in, confirm_place};
-ghost use Rattle.certify.specs.script.Ahead.{IsNotAtEnd};
+ghost use Rattle.certify.specs.confirm.ConfirmStates.{ConfirmsBoth, answers_in};
+ghost use Rattle.certify.specs.confirm.ConfirmedScript.{ConfirmsScript, script_source, confirm_place};
+ghost use Rattle.certify.specs.script.LastPiece.{IsNotAtEnd};
 ghost use Rattle.certify.specs.script.Commands.{HasWhole, ReaderMeans, end_reading};
 ghost use Rattle.sat_base.specs.script.Language.{onto_commands, reading};
 
-use crate::confirm::commands::Session;
+use crate::confirm::commands::ConfirmState;
 use crate::confirm::stop::{Stop, unread_script};
 use crate::script::ScriptEnd;
 use crate::script::stream::{CommandStream, Next};
@@ -21,7 +21,7 @@ use std::alloc::Global;
 #[derive(Drop)]
 pub(crate) struct Confirmation {
     pub script: CommandStream,
-    pub session: Session,
+    pub session: ConfirmState,
 }
 
 impl Confirmation {
@@ -80,7 +80,7 @@ impl Confirmation {
     ) -> Result<(), Stop>
         requires goes_on { StepsGoOn C.seen steps.old }
         requires open_yet { IsNotAtEnd (answers_in A.seen answers.old self.old.session) }
-        requires script_open { IsNotAtEnd (script_in S.seen script.old self.old) }
+        requires script_open { IsNotAtEnd (script_source S.seen script.old self.old) }
         requires reads { ReaderMeans self.old.script.reader reading }
         ensures same { SameLoan steps.old steps.new }
         ensures bound { IsReadFew C.seen steps.new }

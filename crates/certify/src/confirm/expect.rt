@@ -5,9 +5,9 @@ ghost use Rattle.sat_checker.specs.matching.Expected.{NewName, NoName, Adds, Ope
 ghost use Rattle.certify.specs.answers.AnswerForms.{named_literals};
 ghost use Rattle.certify.specs.confirm.SpeltLiterals.{AllAmong, AnswersWhether};
 ghost use Rattle.certify.specs.judge.Names.{ListsUsed};
-ghost use Rattle.certify.specs.confirm.Comparing.{Compares, ComparesLine, Excuses, due_of};
+ghost use Rattle.certify.specs.confirm.Comparing.{Compares, ComparesLine, ExcusesDue, due_of};
 
-use crate::confirm::literals::{Room, are_spelt_by, are_spelt_in, has_all};
+use crate::confirm::literals::{LitScratch, are_spelt_by, are_spelt_in, has_all};
 use crate::confirm::variables::NamedVars;
 use crate::judge::Names;
 use crate::verdict::Why;
@@ -101,7 +101,7 @@ fn compare_clause(
     known: Known<'_>,
     step: &ProofStep<'_>,
     literals: &[Lit],
-    room: &mut Room,
+    room: &mut LitScratch,
 ) -> Result<Option<Why>, AllocError>
     ensures { IfOk result (Compares (λ o ask. Adds (named_literals literals.now)) known.entry (step_of step.now)) }
 {
@@ -117,7 +117,7 @@ fn compare_ask(
     known: Known<'_>,
     step: &ProofStep<'_>,
     literals: &[Lit],
-    room: &mut Room,
+    room: &mut LitScratch,
 ) -> Result<Option<Why>, AllocError>
     ensures { IfOk result (Compares (λ o ask. Opens (named_literals literals.now) o) known.entry (step_of step.now)) }
 {
@@ -133,7 +133,7 @@ fn compare_core(
     known: Known<'_>,
     step: &ProofStep<'_>,
     core: &[Lit],
-    room: &mut Room,
+    room: &mut LitScratch,
 ) -> Result<Option<Why>, AllocError>
     ensures { IfOk result (Compares (λ o ask. Fails ask (named_literals core.now)) known.entry (step_of step.now)) }
 {
@@ -149,7 +149,12 @@ fn compare_core(
 }
 
 /// Whether a line lists the names in use, in order, and has the ask's literals.
-fn is_line(names: &Names, ask: &[Lit], line: &[Lit], room: &mut Room) -> Result<bool, AllocError>
+fn is_line(
+    names: &Names,
+    ask: &[Lit],
+    line: &[Lit],
+    room: &mut LitScratch,
+) -> Result<bool, AllocError>
     ensures { IfOk result (λ yes. AnswersWhether yes (ListsUsed names.now line.now × AllAmong ask.now line.now)) }
 {
     if names.are_listed(line) {
@@ -163,7 +168,7 @@ fn compare_line(
     known: Known<'_>,
     step: &ProofStep<'_>,
     line: &[Lit],
-    room: &mut Room,
+    room: &mut LitScratch,
 ) -> Result<Option<Why>, AllocError>
     ensures { IfOk result (ComparesLine known.entry line.now (step_of step.now)) }
 {
@@ -202,7 +207,7 @@ pub(crate) fn fits(
     known: Known<'_>,
     step: &ProofStep<'_>,
     expected: &Expected<'_>,
-    room: &mut Room,
+    room: &mut LitScratch,
 ) -> Result<Option<Why>, AllocError>
     ensures { IfOk result (Compares (due_of expected.now) known.entry (step_of step.now)) }
 {
@@ -228,7 +233,7 @@ pub(crate) fn fits(
 
 /// Whether this step can be missing once `unsat` is recorded: any but a model and a core that is not empty.
 pub(crate) fn excuse(expected: &Expected<'_>) -> Option<Why>
-    ensures { Excuses (due_of expected.now) result }
+    ensures { ExcusesDue (due_of expected.now) result }
 {
     match *expected {
         Expected::Model { names: _names, .. } => Some(Why::AnswerDiffers),

@@ -1,10 +1,10 @@
 //! Reads answers line by line.
 ghost use Rattle.std.specs.Prelude.{◌≡◌, ◌<◌, [], false, MatchOption};
-ghost use Rattle.certify.specs.confirm.Lines.{GoesUpToLine, IsWantedLine, IsWrong, MovesFront, ReadsLine, StartsNone};
-ghost use Rattle.certify.specs.script.Ahead.{source_in, waiting};
+ghost use Rattle.certify.specs.confirm.Lines.{GoesUpToLine, IsWantedLine, IsWrong, MovesFront, ReadsLineOfKind, StartsNone};
+ghost use Rattle.certify.specs.script.LastPiece.{source_in, waiting_bytes};
 
 use crate::answers::read::{AnswerKind, begins_kind, begins_line, is_front};
-use crate::script::ahead::Ahead;
+use crate::script::ahead::LastPiece;
 use sat_base::{CountedRead, ReadError};
 use std::alloc::{AllocError, Global};
 
@@ -27,7 +27,7 @@ pub(crate) enum Wanted {
 /// The current line of a text that is read in chunks of at most 4,096 bytes.
 #[derive(Drop)]
 pub(crate) struct Lines {
-    ahead: Ahead,
+    ahead: LastPiece,
     /// With its LF; at the end of the text there may be none.
     pub line: Vec<u8>,
 }
@@ -77,11 +77,11 @@ fn look(wanted: Wanted, due: &[u8], bytes: &[u8], limit: usize) -> Option<usize>
 impl Lines {
     /// Returns the state before the first line.
     pub fn new(alloc: Global) -> Lines
-        ensures waiting { waiting result.ahead ≡ [] }
+        ensures waiting { waiting_bytes result.ahead ≡ [] }
         ensures reads { result.ahead.reads ≡ 0 }
     {
         Lines {
-            ahead: Ahead::new(),
+            ahead: LastPiece::new(),
             line: Vec::new(alloc),
         }
     }
@@ -105,7 +105,7 @@ impl Lines {
         wanted: Wanted,
         due: &[u8],
     ) -> Result<(), ReadError>
-        ensures { ReadsLine (IsWantedLine wanted due.now) result (source_in A.seen answers.old self.old.ahead)
+        ensures { ReadsLineOfKind (IsWantedLine wanted due.now) result (source_in A.seen answers.old self.old.ahead)
             (source_in A.seen answers.new self.new.ahead) self.new.line.items }
     {
         self.line.clear();

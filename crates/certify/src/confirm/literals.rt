@@ -12,7 +12,7 @@ use std::alloc::{AllocError, Global};
 
 /// Buffers for comparisons, which are empty between them.
 #[derive(Drop)]
-pub(crate) struct Room {
+pub(crate) struct LitScratch {
     spelt: Vec<Lit>,
     sets: Sets,
 }
@@ -24,14 +24,14 @@ pub(crate) struct Sets {
     second: Vec<Lit>,
 }
 
-impl Room {
+impl LitScratch {
     /// Returns empty buffers. Never allocates.
-    pub fn new(alloc: Global) -> Room
+    pub fn new(alloc: Global) -> LitScratch
         ensures spelt { result.spelt.items ≡ [] }
         ensures first { result.sets.first.items ≡ [] }
         ensures second { result.sets.second.items ≡ [] }
     {
-        Room {
+        LitScratch {
             spelt: Vec::new(alloc),
             sets: Sets {
                 first: Vec::new(alloc),
@@ -63,7 +63,11 @@ fn are_same(xs: &[Lit], ys: &[Lit], sets: &mut Sets) -> Result<bool, AllocError>
 }
 
 /// Whether all of the literals are in the line.
-pub(crate) fn has_all(line: &[Lit], literals: &[Lit], room: &mut Room) -> Result<bool, AllocError>
+pub(crate) fn has_all(
+    line: &[Lit],
+    literals: &[Lit],
+    room: &mut LitScratch,
+) -> Result<bool, AllocError>
     ensures { IfOk result (λ yes. AnswersWhether yes (AllAmong literals.now line.now)) }
 {
     are_among(literals, line, &mut room.sets)
@@ -114,7 +118,7 @@ pub(crate) fn are_spelt_in(
     variables: &NamedVars,
     literals: &[Lit],
     codes: &[Lit],
-    room: &mut Room,
+    room: &mut LitScratch,
 ) -> Result<bool, AllocError>
     ensures { IfOk result
         (λ yes. AnswersWhether yes (EachSpelt (variable_in variables.now) (named_literals literals.now) codes.now)) }
@@ -131,7 +135,7 @@ pub(crate) fn are_spelt_by(
     variables: &NamedVars,
     literals: &[Lit],
     codes: &[Lit],
-    room: &mut Room,
+    room: &mut LitScratch,
 ) -> Result<bool, AllocError>
     ensures { IfOk result
         (λ yes. AnswersWhether yes (SameSet (variable_in variables.now) (named_literals literals.now) codes.now)) }

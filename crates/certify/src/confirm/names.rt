@@ -1,6 +1,6 @@
 //! Confirms how a certificate introduces and hides the names of a script's commands.
 ghost use Rattle.std.specs.Prelude.{◌+◌, ◌≤◌, map, OnOk};
-ghost use Rattle.sat_base.specs.script.Judge.{names_from};
+ghost use Rattle.sat_base.specs.script.ScriptState.{names_from};
 ghost use Rattle.sat_base.specs.script.Script.{names_of};
 ghost use Rattle.sat_base.specs.values.Literals.{var_limit};
 ghost use Rattle.sat_checker.specs.CheckerView.{kernel_of};

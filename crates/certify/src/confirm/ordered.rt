@@ -3,7 +3,7 @@ ghost use Rattle.std.specs.Prelude.{◌<◌, IfNone, IfOk};
 ghost use Rattle.sat_base.specs.steps.StepReading.{reader_source};
 ghost use Rattle.sat_checker.specs.CheckerView.{kernel_of};
 ghost use Rattle.certify.specs.confirm.Stepping.{is_fed, is_fed_so_far};
-ghost use Rattle.certify.specs.confirm.Streams.{StepsGoOn, StepsGoOnIf, IsReadFew, GoesOrStops, SameLoan, bytes_left};
+ghost use Rattle.certify.specs.confirm.Streams.{StepsGoOn, StepsGoOnIf, IsReadFew, GoesOrStops, SameLoan, most_bytes_left};
 ghost use Rattle.certify.specs.confirm.Streams.{stream_of};
 ghost use Rattle.certify.specs.declared.confirm.variables.NamedVars.{NamedVars};
 ghost use Rattle.certify.specs.confirm.Awaiting.{AwaitsNext, StepsOnce};
@@ -32,7 +32,7 @@ fn advance<R: CountedRead>(
     ensures bound { IsReadFew R.seen steps.new }
     ensures goes_on { StepsGoOnIf result R.seen steps.new }
     ensures takes { IfOk result (λ awaited. IfNone awaited
-        (bytes_left (reader_source R.seen steps.new) < bytes_left (reader_source R.seen steps.old))) }
+        (most_bytes_left (reader_source R.seen steps.new) < most_bytes_left (reader_source R.seen steps.old))) }
     ensures confirms { (names : NamedVars)
         → GoesOrStops is_fed_so_far result (stream_of R.seen steps.old (kernel_of checker.old))
         (stream_of R.seen steps.new (kernel_of checker.new)) (StepsOnce names) }

@@ -1,6 +1,6 @@
 //! Why a confirmation ends.
 ghost use Rattle.std.specs.Prelude.{◌≡◌};
-ghost use Rattle.sat_checker.specs.KernelView.{error_of};
+ghost use Rattle.sat_checker.specs.KernelView.{step_error};
 ghost use Rattle.certify.specs.confirm.Feeding.{stop_by};
 ghost use Rattle.certify.specs.confirm.Stopping.{answers_stop, script_stop};
 ghost use Rattle.certify.specs.confirm.Streams.{stop_of};
@@ -86,7 +86,7 @@ pub(crate) fn unread(error: StepError) -> Stop
 
 /// Returns why a step is not accepted. A checker that has not failed never returns `HasFailed`.
 pub(crate) fn refused_step(refusal: StepRefusal) -> Stop
-    ensures { result ≡ stop_by (error_of refusal) }
+    ensures { result ≡ stop_by (step_error refusal) }
 {
     match refusal {
         StepRefusal::CheckFailed => Stop::No(Why::StepRefused),

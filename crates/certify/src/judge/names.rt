@@ -3,11 +3,11 @@ ghost use Rattle.std.specs.Prelude.{◌≡◌, ◌+◌, ◌<◌, ◌≤◌, List
 ghost use Rattle.std.specs.Bool.{MatchBool};
 ghost use Rattle.sat_base.specs.values.Literals.{var_limit};
 ghost use Rattle.sat_base.specs.script.Script.{Command as Spelled, Literal, names_of};
-ghost use Rattle.sat_base.specs.script.Judge.{Judge, accepted, bring_in, names_from, new_names, refused_literal, start};
+ghost use Rattle.sat_base.specs.script.ScriptState.{ScriptState, accepted, bring_in, names_from, new_names, refused_literal, start};
 ghost use Rattle.certify.specs.script.Commands.{IsFront, IsLent, kind_of};
 ghost use Rattle.certify.specs.answers.AnswerForms.{named_literals};
-ghost use Rattle.certify.specs.judge.Names.{BringsNothing, Changes, ComesInUse, IsInUse, ListsUsed, NamesStand, TellsRefusal};
-ghost use Rattle.certify.specs.judge.Names.{changed, changed_to, is_of_literals, is_witnessed, limit_refusal, refusal_said};
+ghost use Rattle.certify.specs.judge.Names.{BringsNothing, Changes, ComesInUse, IsInUse, ListsUsed, NamesHaveState, ReportsRefusal};
+ghost use Rattle.certify.specs.judge.Names.{changed_state, changed_to, is_of_literals, is_witnessed, limit_refusal, refusal_said};
 ghost use Rattle.certify.specs.judge.Names.{state_in, states_of, taken};
 
 use super::{NameState, Refusal};
@@ -58,7 +58,7 @@ fn is_of_literals(kind: CommandKind) -> bool
 impl Names {
     /// Returns the names before the first command.
     pub fn new(alloc: Global) -> Names
-        ensures { NamesStand result start }
+        ensures { NamesHaveState result start }
     {
         Names {
             used: 0,
@@ -116,7 +116,7 @@ impl Names {
 
     /// Returns why a clause or an ask is refused, or `None`.
     fn literal_refusal(&self, literals: &[Lit], past_limit: bool) -> Option<Refusal>
-        ensures judges { (j : Judge) (ls : List Literal) → NamesStand self.now j → IsFront literals.now past_limit ls
+        ensures judges { (j : ScriptState) (ls : List Literal) → NamesHaveState self.now j → IsFront literals.now past_limit ls
             → refusal_said result ≡ refused_literal j (names_of ls) }
         ensures within { result ≡ None → past_limit ≡ false }
     {
@@ -131,7 +131,7 @@ impl Names {
 
     /// Returns why a command is refused, or `None`.
     pub fn refusal(&self, command: Command<'_>) -> Option<Refusal>
-        ensures judges { TellsRefusal result self.now command.entry }
+        ensures judges { ReportsRefusal result self.now command.entry }
         ensures within { result ≡ None → command.entry.past_limit ≡ false }
     {
         match command.kind {
@@ -146,7 +146,7 @@ impl Names {
     /// Returns the names that become new variables when a name is introduced, in order: all from the first one that was
     /// never used up to this name, or only the name itself if it is hidden.
     pub fn new_names(&self, var: Var) -> NewNames
-        ensures told { (j : Judge) → NamesStand self.now j
+        ensures told { (j : ScriptState) → NamesHaveState self.now j
             → new_names (var + 1) j ≡ names_from result.count (result.first + 1) }
         ensures within { result.first + result.count ≤ var_limit }
     {
@@ -232,7 +232,7 @@ impl Names {
     /// Applies an accepted command of this kind to a name in use.
     fn change(&mut self, kind: CommandKind, var: Var) -> Result<(), AllocError>
         ensures { OnOk result (IsInUse self.old (var + 1)
-            → Changes self.old self.new (changed (kind_of kind) (var + 1))) }
+            → Changes self.old self.new (changed_state (kind_of kind) (var + 1))) }
     {
         match kind {
             CommandKind::Clause => Ok(()),
@@ -254,8 +254,8 @@ impl Names {
     /// Applies an accepted command to all of its names.
     pub fn accept(&mut self, command: Command<'_>) -> Result<(), AllocError>
         requires { command.past_limit ≡ false }
-        ensures { OnOk result ((j : Judge) (c : Spelled) → NamesStand self.old j → IsLent command.entry c
-            → NamesStand self.new (accepted c j)) }
+        ensures { OnOk result ((j : ScriptState) (c : Spelled) → NamesHaveState self.old j → IsLent command.entry c
+            → NamesHaveState self.new (accepted c j)) }
     {
         if self.are_known(command.kind, command.literals) {
             return Ok(());

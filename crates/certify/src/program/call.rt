@@ -1,7 +1,7 @@
 //! Reads the arguments of the program.
 ghost use Rattle.std.specs.Prelude.{ℕ, [], ◌∷◌, map, MatchOption};
 ghost use Rattle.std.specs.String.{string_bytes};
-ghost use Rattle.certify.specs.program.Calls.{AllowsRequest, IsCallOf, IsSteps, running};
+ghost use Rattle.certify.specs.program.Calls.{AllowsRequest, IsCallOf, IsRoundCount, running};
 
 /// The files of a run: a script, its answers and their certificate.
 #[derive(Clone, Copy)]
@@ -35,8 +35,8 @@ pub(super) enum Call<'a> {
 }
 
 /// Returns the number that a word of digits spells, if it is below 2^64.
-fn steps_of(word: &str) -> Option<u64>
-    ensures { MatchOption result ((n : ℕ) → IsSteps word.now n → ⊥) (IsSteps word.now) }
+fn rounds_of(word: &str) -> Option<u64>
+    ensures { MatchOption result ((n : ℕ) → IsRoundCount word.now n → ⊥) (IsRoundCount word.now) }
 {
     for byte in word.as_bytes() {
         if !byte.is_ascii_digit() {
@@ -96,7 +96,7 @@ fn limited_run<'a>(name: &str, files: RunFiles<'a>, steps: &str) -> Option<Call<
     if name != "run" {
         return None;
     }
-    match steps_of(steps) {
+    match rounds_of(steps) {
         Some(budget) => run_of(files, budget),
         None => None,
     }

@@ -8,7 +8,7 @@ use crate::program::call::RunFiles;
 use crate::program::fault::{Fault, HintsFault};
 use crate::program::overlap::{is_one_file, overlaps};
 use crate::program::printing::misused;
-use crate::program::progress::tell_progress;
+use crate::program::progress::report_progress;
 use crate::program::texts::{check_text, confirm_given, run_text, write_hints};
 use crate::verdict::ConfirmFault;
 use sat_base::{Counted, CountedWrite};
@@ -79,7 +79,7 @@ pub(super) fn run_files<R: AllocGlobal + Files, E: CountedWrite>(
         &mut certificate,
         budget,
     )?;
-    tell_progress(errors, &progress);
+    report_progress(errors, &progress);
     Ok(status)
 }
 

@@ -19,7 +19,7 @@ const FAILED: u8 = 3;
 const USAGE: &str = "usage: certify [run S A C [STEPS] | confirm S A C | hints C H | check H]\n";
 
 /// Writes a line with this name to standard error. A fault there is ignored.
-pub(super) fn tell<E: CountedWrite>(errors: &mut E, name: &str) {
+pub(super) fn report<E: CountedWrite>(errors: &mut E, name: &str) {
     let _ = errors.write_all_counted(b"certify: ");
     let _ = errors.write_all_counted(name.as_bytes());
     let _ = errors.write_all_counted(b"\n");
@@ -39,7 +39,7 @@ pub(super) fn misused<E: CountedWrite>(errors: &mut E) -> u8
 pub(super) fn failed<E: CountedWrite>(errors: &mut E, fault: Fault) -> u8
     ensures { result ≡ 3 }
 {
-    tell(errors, fault.name());
+    report(errors, fault.name());
     FAILED
 }
 

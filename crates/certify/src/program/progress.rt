@@ -29,7 +29,7 @@ fn fill_line(line: &mut [u8], progress: &Progress) -> usize {
 }
 
 /// Logs the counts of a finished run's solver to standard error: one line, in one write. A fault there is ignored.
-pub(super) fn tell_progress<E: CountedWrite>(errors: &mut E, progress: &Progress) {
+pub(super) fn report_progress<E: CountedWrite>(errors: &mut E, progress: &Progress) {
     let mut line = [0; LINE];
     let count = fill_line(&mut line, progress).min(LINE);
     let _ = errors.write_all_counted(&line[..count]);

@@ -7,7 +7,7 @@ ghost use Rattle.certify.specs.program.Printing.{IsWritten, Prints, PrintsAtMost
 use crate::fault::RunFault;
 use crate::program::fault::Fault;
 use crate::program::printing::{flush_out, write_out};
-use crate::program::progress::tell_progress;
+use crate::program::progress::report_progress;
 use crate::program::verdict_line::{confirm_texts, status};
 use crate::run::run;
 use sat_base::{Counted, CountedRead, CountedWrite, read_whole};
@@ -63,7 +63,7 @@ pub(super) fn answer<I: CountedRead, O: CountedWrite, E: CountedWrite>(
 {
     let script = read_whole(alloc, input)?;
     let written = run_in_memory(alloc, &script)?;
-    tell_progress(errors, &written.progress);
+    report_progress(errors, &written.progress);
     print_confirmed(alloc, &script, &written, output)
 }
 

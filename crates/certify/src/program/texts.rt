@@ -10,7 +10,7 @@ ghost use Rattle.certify.specs.program.Printing.{PrintsLine, PrintsYesOrNo, Ran,
 use crate::confirm::confirm;
 use crate::program::fault::{Fault, HintsFault};
 use crate::program::hint_line::{hint_status, push_hint_verdict};
-use crate::program::printing::{DONE, REFUSED, print_line, tell};
+use crate::program::printing::{DONE, REFUSED, print_line, report};
 use crate::program::verdict_line::{push_yes_or_no, status};
 use crate::run::run;
 use crate::summary::Summary;
@@ -98,11 +98,11 @@ pub(super) fn write_hints<C: CountedRead, H: CountedWrite, E: CountedWrite>(
     match convert(alloc, certificate, hints) {
         Ok(()) => finish_hints(hints),
         Err(HintError::Refused(_)) => {
-            tell(errors, "Refused");
+            report(errors, "Refused");
             Ok(REFUSED)
         }
         Err(HintError::HasDeleteVar) => {
-            tell(errors, "HasDeleteVar");
+            report(errors, "HasDeleteVar");
             Ok(REFUSED)
         }
         Err(HintError::Read) => Err(Fault::Hints(HintsFault::Read)),

@@ -5,11 +5,11 @@ ghost use Rattle.sat_base.specs.script.Script.{Ask};
 ghost use Rattle.sat_solver.specs.solver.Whole.{HasFullStore};
 ghost use Rattle.certify.specs.answers.AnswerForms.{named_literals};
 ghost use Rattle.certify.specs.run.Asking.{AskEffect};
-ghost use Rattle.certify.specs.run.SolverCalls.{FailsIf, IsAllowed, IsCaused, IsReady, LacksFor};
+ghost use Rattle.certify.specs.run.SolverCalls.{FailsIf, IsAllowed, IsCaused, IsReadySolver, LacksFor};
 ghost use Rattle.certify.specs.run.Standing.{CarriedOut, CausedBy, StopsCarrying, WritesBoth};
 
 use super::page::Page;
-use super::session::Session;
+use super::session::RunState;
 use super::solver::{assume, search};
 use super::write::write_answer;
 use crate::fault::RunFault;
@@ -24,11 +24,11 @@ fn ask<C: CountedWrite + Drop>(
     budget: u64,
     page: &mut Page,
 ) -> Result<AskReport, RunFault>
-    requires ready { IsReady solver.old }
+    requires ready { IsReadySolver solver.old }
     requires allowed { IsAllowed solver.old literals.now }
     ensures sought { IfOk result (λ report. AskEffect C.seen budget report literals.now page.new.text.items solver.old
         solver.new) }
-    ensures ready { OnOk result (IsReady solver.new) }
+    ensures ready { OnOk result (IsReadySolver solver.new) }
     // Without names, none is refused.
     ensures allowed { OnOk result (IsAllowed solver.new []) }
     ensures fails { FailsIf result C.seen solver.old solver.new }
@@ -37,17 +37,17 @@ fn ask<C: CountedWrite + Drop>(
 {
     assume(solver, literals)?;
     let report = search(solver, budget)?;
-    page.tell(solver, report.answer)?;
+    page.push_answer(solver, report.answer)?;
     Ok(report)
 }
 
 /// Answers the last command, an ask under these literals, none of whose names is refused.
 pub fn answer_ask<A: CountedWrite, C: CountedWrite + Drop>(
-    session: &mut Session<C>,
+    session: &mut RunState<C>,
     answers: &mut A,
     literals: &[Lit],
 ) -> Result<(), RunFault>
-    requires ready { IsReady session.old.solver }
+    requires ready { IsReadySolver session.old.solver }
     requires allowed { IsAllowed session.old.solver literals.now }
     ensures carried { OnOk result (CarriedOut C.seen session.old session.new (Ask (named_literals literals.now))
         (A.seen answers.old) (A.seen answers.new)) }

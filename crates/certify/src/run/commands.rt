@@ -2,8 +2,8 @@
 ghost use Rattle.std.specs.Prelude.{◌≡◌, ◌<◌, ◌-◌, ◌^◌, ◌∷◌, [], false, OnOk};
 ghost use Rattle.sat_base.specs.script.Language.{Reading, onto_commands};
 ghost use Rattle.sat_base.specs.script.Script.{Command as Spelled};
-ghost use Rattle.sat_base.specs.script.Judge.{Judge, accepted};
-ghost use Rattle.certify.specs.judge.Names.{NamesStand};
+ghost use Rattle.sat_base.specs.script.ScriptState.{ScriptState, accepted};
+ghost use Rattle.certify.specs.judge.Names.{NamesHaveState};
 ghost use Rattle.certify.specs.script.Commands.{IsLent, IsSomeLent};
 ghost use Rattle.certify.specs.run.Standing.{NamesAllow, CarriedOut, CausedBy, CausedOver, RunGoesOn, ServedNext};
 ghost use Rattle.certify.specs.run.Standing.{StopsCarrying, StopsOver, WritesBoth, spelled_by};
@@ -11,7 +11,7 @@ ghost use Rattle.certify.specs.run.Standing.{StopsCarrying, StopsOver, WritesBot
 use super::ask::answer_ask;
 use super::names::set_names;
 use super::refuse::refuse;
-use super::session::Session;
+use super::session::RunState;
 use super::solver::add_clause;
 use crate::fault::RunFault;
 use crate::judge::NameState;
@@ -20,7 +20,7 @@ use sat_base::CountedWrite;
 
 /// Has the solver carry out the last command, which is not refused, and answers an ask.
 fn carry_out<A: CountedWrite, C: CountedWrite + Drop>(
-    session: &mut Session<C>,
+    session: &mut RunState<C>,
     answers: &mut A,
     command: Command<'_>,
 ) -> Result<(), RunFault>
@@ -48,7 +48,7 @@ fn carry_out<A: CountedWrite, C: CountedWrite + Drop>(
 
 /// Serves the last command, which is not refused.
 fn take_allowed<A: CountedWrite, C: CountedWrite + Drop>(
-    session: &mut Session<C>,
+    session: &mut RunState<C>,
     answers: &mut A,
     command: Command<'_>,
 ) -> Result<(), RunFault>
@@ -60,8 +60,8 @@ fn take_allowed<A: CountedWrite, C: CountedWrite + Drop>(
     ensures stops { (left : Reading)
         → StopsCarrying result session.old (spelled_by command.entry) left (A.seen answers.old) (A.seen answers.new) }
     ensures cause { CausedBy result session.old session.new (spelled_by command.entry) }
-    ensures names { OnOk result ((j : Judge) (c : Spelled) → NamesStand session.old.names j → IsLent command.entry c
-        → NamesStand session.new.names (accepted c j)) }
+    ensures names { OnOk result ((j : ScriptState) (c : Spelled) → NamesHaveState session.old.names j → IsLent command.entry c
+        → NamesHaveState session.new.names (accepted c j)) }
     ensures written { WritesBoth result C.seen (A.seen answers.old) (A.seen answers.new) session.old.solver
         session.new.solver }
 {
@@ -72,7 +72,7 @@ fn take_allowed<A: CountedWrite, C: CountedWrite + Drop>(
 
 /// Serves a command: refuses it, or has it carried out, and answers an ask.
 pub fn take_command<A: CountedWrite, C: CountedWrite + Drop>(
-    session: &mut Session<C>,
+    session: &mut RunState<C>,
     answers: &mut A,
     command: Command<'_>,
 ) -> Result<(), RunFault>

@@ -4,11 +4,11 @@ ghost use Rattle.sat_base.specs.device.Device.{WriterTakes};
 ghost use Rattle.sat_solver.specs.proof.ProofView.{GivesWriter, target_of};
 ghost use Rattle.certify.specs.Devices.{OneFailed};
 ghost use Rattle.certify.specs.run.Unfinished.{TookBytes};
-ghost use Rattle.certify.specs.run.SolverCalls.{IsReady, proof_in};
+ghost use Rattle.certify.specs.run.SolverCalls.{IsReadySolver, proof_in};
 ghost use Rattle.certify.specs.run.Ending.{EndsCertificate, EndsRun, FinishesRun, GivesFront, HasTarget, HasOpenTarget};
 
 use super::faults::fault_of;
-use super::session::Session;
+use super::session::RunState;
 use crate::fault::RunFault;
 use crate::summary::Summary;
 use sat_base::CountedWrite;
@@ -28,7 +28,7 @@ fn give_back<C: CountedWrite + Drop>(solver: Solver<C>) -> C
 
 /// Writes the certificate's last step, with all steps that are not written yet, and flushes its writer.
 fn close_certificate<C: CountedWrite + Drop>(solver: Solver<C>) -> (C, Result<(), RunFault>)
-    requires ready { IsReady solver }
+    requires ready { IsReadySolver solver }
     requires target { HasOpenTarget C.seen solver }
     ensures closes { EndsCertificate C.seen result.1 solver result.0 }
     ensures front { GivesFront C.seen solver result.0 }
@@ -63,7 +63,7 @@ fn finish<A: CountedWrite, C: CountedWrite + Drop>(
     solver: Solver<C>,
     answers: &mut A,
 ) -> (C, Result<(), RunFault>)
-    requires ready { IsReady solver }
+    requires ready { IsReadySolver solver }
     requires target { HasOpenTarget C.seen solver }
     ensures finishes { FinishesRun C.seen result.1 solver result.0 (A.seen answers.old) (A.seen answers.new) }
     ensures front { GivesFront C.seen solver result.0 }
@@ -77,17 +77,17 @@ fn finish<A: CountedWrite, C: CountedWrite + Drop>(
 
 /// Ends a run whose script was served so. Returns the certificate's writer and a summary.
 pub(crate) fn end_run<A: CountedWrite, C: CountedWrite + Drop>(
-    session: Session<C>,
+    session: RunState<C>,
     answers: &mut A,
     served: Result<Option<u64>, RunFault>,
 ) -> (C, Result<Summary, RunFault>)
-    requires ready { OnOk served (IsReady session.solver) }
+    requires ready { OnOk served (IsReadySolver session.solver) }
     requires target { OnOk served (HasOpenTarget C.seen session.solver) }
     requires some { HasTarget C.seen session.solver }
     ensures ends { EndsRun C.seen served result.1 session result.0 (A.seen answers.old) (A.seen answers.new) }
     ensures front { GivesFront C.seen session.solver result.0 }
 {
-    let Session {
+    let RunState {
         names: _names,
         solver,
         budget: _budget,

@@ -2,7 +2,7 @@
 ghost use Rattle.std.specs.Prelude.{◌≡◌, ◌+◌, [], ◌∷◌, IfErr, OnOk};
 ghost use Rattle.sat_solver.specs.variables.Refusing.{names_in};
 ghost use Rattle.sat_solver.specs.solver.Whole.{IsSolver};
-ghost use Rattle.certify.specs.run.SolverCalls.{FailsIf, IsCaused, IsReady, LacksFor, RefusedForRoom};
+ghost use Rattle.certify.specs.run.SolverCalls.{FailsIf, IsCaused, IsReadySolver, LacksFor, RefusedForRoom};
 ghost use Rattle.certify.specs.run.Obeying.{ChangesName, Obeyed, command_to};
 
 use super::faults::fault_of;
@@ -33,7 +33,7 @@ fn set_name<C: CountedWrite + Drop>(
     user: Var,
     state: NameState,
 ) -> Result<(), RunFault>
-    requires ready { IsReady solver.old }
+    requires ready { IsReadySolver solver.old }
     requires free { solver.old.assumed.items ≡ [] }
     ensures obeyed { OnOk result (Obeyed C.seen (command_to state ((user + 1) ∷ [])) solver.old solver.new) }
     ensures fails { FailsIf result C.seen solver.old solver.new }
@@ -52,7 +52,7 @@ pub(crate) fn set_names<C: CountedWrite + Drop>(
     literals: &[Lit],
     state: NameState,
 ) -> Result<(), RunFault>
-    requires ready { IsReady solver.old }
+    requires ready { IsReadySolver solver.old }
     requires free { solver.old.assumed.items ≡ [] }
     ensures obeyed { OnOk result (Obeyed C.seen (command_to state (names_in literals.now)) solver.old solver.new) }
     ensures fails { FailsIf result C.seen solver.old solver.new }

@@ -1,8 +1,8 @@
 //! Makes the text of an answer that a run's solver found.
 ghost use Rattle.std.specs.Prelude.{◌≡◌, ◌++◌, IfErr, OnOk, []};
 ghost use Rattle.certify.specs.answers.Answers.{outcome_text};
-ghost use Rattle.certify.specs.run.SolverCalls.{AnswerIs, IsReady};
-ghost use Rattle.certify.specs.run.Telling.{IsToldRight, outcome_for};
+ghost use Rattle.certify.specs.run.SolverCalls.{AnswerIs, IsReadySolver};
+ghost use Rattle.certify.specs.run.Reporting.{IsReportedRight, outcome_for};
 
 use crate::answers::write::{push_sat, push_unknown, push_unsat};
 use crate::fault::RunFault;
@@ -18,10 +18,10 @@ fn push_model<C: CountedWrite + Drop>(
     solver: &Solver<C>,
     alloc: Global,
 ) -> Result<(), RunFault>
-    requires ready { IsReady solver.now }
+    requires ready { IsReadySolver solver.now }
     requires sat { AnswerIs solver.now.state Answer.Sat }
     ensures text { OnOk result (text.new.items ≡ text.old.items ++ outcome_text (outcome_for Answer.Sat solver.now)) }
-    ensures right { OnOk result (IsToldRight Answer.Sat solver.now) }
+    ensures right { OnOk result (IsReportedRight Answer.Sat solver.now) }
     ensures memory { IfErr result (λ e. e ≡ RunFault.OutOfMemory) }
 {
     match solver.model(alloc) {
@@ -37,10 +37,10 @@ fn push_core<C: CountedWrite + Drop>(
     solver: &Solver<C>,
     core: &mut Vec<Lit>,
 ) -> Result<(), AllocError>
-    requires ready { IsReady solver.now }
+    requires ready { IsReadySolver solver.now }
     requires unsat { AnswerIs solver.now.state Answer.Unsat }
     ensures text { OnOk result (text.new.items ≡ text.old.items ++ outcome_text (outcome_for Answer.Unsat solver.now)) }
-    ensures right { OnOk result (IsToldRight Answer.Unsat solver.now) }
+    ensures right { OnOk result (IsReportedRight Answer.Unsat solver.now) }
 {
     match solver.failed_core() {
         Some(failed) => {
@@ -75,15 +75,15 @@ impl Page {
     }
 
     /// Replaces the text by that of an answer.
-    pub fn tell<C: CountedWrite + Drop>(
+    pub fn push_answer<C: CountedWrite + Drop>(
         &mut self,
         solver: &Solver<C>,
         answer: Answer,
     ) -> Result<(), RunFault>
-        requires ready { IsReady solver.now }
+        requires ready { IsReadySolver solver.now }
         requires answer { AnswerIs solver.now.state answer }
         ensures text { OnOk result (self.new.text.items ≡ outcome_text (outcome_for answer solver.now)) }
-        ensures right { OnOk result (IsToldRight answer solver.now) }
+        ensures right { OnOk result (IsReportedRight answer solver.now) }
         ensures memory { IfErr result (λ e. e ≡ RunFault.OutOfMemory) }
     {
         self.text.clear();

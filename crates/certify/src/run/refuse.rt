@@ -1,6 +1,6 @@
 //! Refuses commands.
 ghost use Rattle.std.specs.Prelude.{◌+◌, ◌<◌, ◌≡◌, ◌∷◌, [], Some, IfErr, OnErr, OnOk};
-ghost use Rattle.sat_base.specs.script.Judge.{Judge, refusal_of};
+ghost use Rattle.sat_base.specs.script.ScriptState.{ScriptState, refusal_of};
 ghost use Rattle.sat_base.specs.script.Language.{Reading, onto_commands};
 ghost use Rattle.sat_base.specs.script.Script.{Command as Spelled};
 ghost use Rattle.certify.specs.run.Unfinished.{TookAnswersFront};
@@ -8,7 +8,7 @@ ghost use Rattle.certify.specs.judge.Names.{refusal_in};
 ghost use Rattle.certify.specs.run.SolverCalls.{IsCaused};
 ghost use Rattle.certify.specs.run.Standing.{Refused, WritesBoth};
 
-use super::session::Session;
+use super::session::RunState;
 use super::write::write_answer;
 use crate::answers::refused::push_refused;
 use crate::fault::RunFault;
@@ -17,14 +17,14 @@ use sat_base::CountedWrite;
 
 /// Counts a refusal of the last command, and writes its line. The solver is not called.
 pub fn refuse<A: CountedWrite, C: CountedWrite + Drop>(
-    session: &mut Session<C>,
+    session: &mut RunState<C>,
     answers: &mut A,
     refusal: Refusal,
 ) -> Result<(), RunFault>
     requires { session.old.refused < session.old.commands }
     ensures refused { OnOk result (Refused session.old session.new (refusal_in refusal) (A.seen answers.old)
         (A.seen answers.new)) }
-    ensures stops { (j : Judge) (c : Spelled) (left : Reading) → refusal_of j c ≡ Some (refusal_in refusal)
+    ensures stops { (j : ScriptState) (c : Spelled) (left : Reading) → refusal_of j c ≡ Some (refusal_in refusal)
         → OnErr result (TookAnswersFront session.old.budget session.old.solver.clock.steps session.old.commands j
         (onto_commands (c ∷ []) left) (A.seen answers.old) (A.seen answers.new)) }
     // No clause is stored, and no name is introduced.

@@ -1,20 +1,20 @@
 //! Serves the commands of a script as they are read, and then its end.
 ghost use Rattle.std.specs.Prelude.{◌≡◌, ◌+◌, ◌∷◌, [], false, IfErr, IfOk, OnErr, OnOk};
 ghost use Rattle.sat_base.specs.device.Device.{WriterTakes};
-ghost use Rattle.sat_base.specs.script.Judge.{Judge, start};
+ghost use Rattle.sat_base.specs.script.ScriptState.{ScriptState, start};
 ghost use Rattle.sat_base.specs.script.Script.{Command as Spelled, Malformed};
 ghost use Rattle.certify.specs.answers.Answers.{malformed_line};
-ghost use Rattle.certify.specs.script.Ahead.{IsNotAtEnd, source_in};
+ghost use Rattle.certify.specs.script.LastPiece.{IsNotAtEnd, source_in};
 ghost use Rattle.certify.specs.script.Commands.{IsLent, IsSomeLent, ReaderMeans, MeansIf, end_reading};
 ghost use Rattle.sat_base.specs.script.Language.{Reading, onto_commands, reading, written};
 ghost use Rattle.certify.specs.run.Unfinished.{TookAnswersFront};
-ghost use Rattle.certify.specs.run.SolverCalls.{IsCaused, IsReady};
-ghost use Rattle.certify.specs.run.Standing.{CausedOver, RunGoesOn, JudgeIsAt, ServedNext, StopsOver, WritesBoth};
+ghost use Rattle.certify.specs.run.SolverCalls.{IsCaused, IsReadySolver};
+ghost use Rattle.certify.specs.run.Standing.{CausedOver, RunGoesOn, HasStateBetweenCommands, ServedNext, StopsOver, WritesBoth};
 ghost use Rattle.certify.specs.run.ServedScript.{ServesScript, ServesWhole, run_fault};
 
 use super::ask::answer_ask;
 use super::commands::take_command;
-use super::session::Session;
+use super::session::RunState;
 use super::write::write_answer;
 use crate::answers::write::push_malformed;
 use crate::fault::RunFault;
@@ -34,7 +34,7 @@ fn unread_script(error: ReadError) -> RunFault
 
 /// Serves the last command, if it can be counted.
 fn serve_next<A: CountedWrite, C: CountedWrite + Drop>(
-    session: &mut Session<C>,
+    session: &mut RunState<C>,
     answers: &mut A,
     command: Command<'_>,
 ) -> Result<(), RunFault>
@@ -56,14 +56,14 @@ fn serve_next<A: CountedWrite, C: CountedWrite + Drop>(
 }
 
 /// Writes that the text is malformed at the command that would have this number.
-fn tell_malformed<A: CountedWrite, C: CountedWrite + Drop>(
-    session: &mut Session<C>,
+fn report_malformed<A: CountedWrite, C: CountedWrite + Drop>(
+    session: &mut RunState<C>,
     answers: &mut A,
     number: u64,
 ) -> Result<(), RunFault>
     ensures told { OnOk result (WriterTakes (A.seen answers.old) (A.seen answers.new) (malformed_line number)) }
     ensures same { session.new ≡ record session.old { page = session.new.page } }
-    ensures stops { (j : Judge) → OnErr result
+    ensures stops { (j : ScriptState) → OnErr result
         (TookAnswersFront session.old.budget session.old.solver.clock.steps number j ([], Malformed)
         (A.seen answers.old) (A.seen answers.new)) }
     ensures cause { IfErr result (λ e. IsCaused e ⊥ ⊥) }
@@ -77,17 +77,17 @@ fn tell_malformed<A: CountedWrite, C: CountedWrite + Drop>(
 
 /// Serves the end of a script. Returns the number of the command at which it is malformed, or `None`.
 fn serve_end<A: CountedWrite, C: CountedWrite + Drop>(
-    session: &mut Session<C>,
+    session: &mut RunState<C>,
     answers: &mut A,
     end: ScriptEnd,
 ) -> Result<Option<u64>, RunFault>
     requires { RunGoesOn session.old }
-    ensures serves { (j : Judge) → JudgeIsAt session.old j
+    ensures serves { (j : ScriptState) → HasStateBetweenCommands session.old j
         → IfOk result (λ at. ServesWhole C.seen j (end_reading end) 0 at session.old session.new (A.seen answers.old)
         (A.seen answers.new)) }
     ensures stops { StopsOver result session.old (end_reading end) (A.seen answers.old) (A.seen answers.new) }
     ensures cause { CausedOver result session.old session.new (end_reading end) }
-    ensures ready { OnOk result (IsReady session.new.solver) }
+    ensures ready { OnOk result (IsReadySolver session.new.solver) }
     ensures written { WritesBoth result C.seen (A.seen answers.old) (A.seen answers.new) session.old.solver
         session.new.solver }
 {
@@ -101,7 +101,7 @@ fn serve_end<A: CountedWrite, C: CountedWrite + Drop>(
             let Some(number) = session.commands.checked_add(1) else {
                 return Err(RunFault::CounterEnd);
             };
-            tell_malformed(session, answers, number)?;
+            report_malformed(session, answers, number)?;
             Ok(Some(number))
         }
     }
@@ -109,14 +109,14 @@ fn serve_end<A: CountedWrite, C: CountedWrite + Drop>(
 
 /// Serves the last command, and the end.
 fn serve_last<A: CountedWrite, C: CountedWrite + Drop>(
-    session: &mut Session<C>,
+    session: &mut RunState<C>,
     answers: &mut A,
     command: Command<'_>,
     end: ScriptEnd,
 ) -> Result<Option<u64>, RunFault>
     requires goes_on { RunGoesOn session.old }
     requires whole { IsSomeLent command }
-    ensures serves { (c : Spelled) → IsLent command.entry c → (j : Judge) → JudgeIsAt session.old j
+    ensures serves { (c : Spelled) → IsLent command.entry c → (j : ScriptState) → HasStateBetweenCommands session.old j
         → IfOk result (λ at. ServesWhole C.seen j (onto_commands (c ∷ []) (end_reading end)) 1 at session.old
         session.new (A.seen answers.old) (A.seen answers.new)) }
     ensures stops { (c : Spelled) → IsLent command.entry c
@@ -124,7 +124,7 @@ fn serve_last<A: CountedWrite, C: CountedWrite + Drop>(
         (A.seen answers.new) }
     ensures cause { (c : Spelled) → IsLent command.entry c
         → CausedOver result session.old session.new (onto_commands (c ∷ []) (end_reading end)) }
-    ensures ready { OnOk result (IsReady session.new.solver) }
+    ensures ready { OnOk result (IsReadySolver session.new.solver) }
     ensures written { WritesBoth result C.seen (A.seen answers.old) (A.seen answers.new) session.old.solver
         session.new.solver }
 {
@@ -134,13 +134,13 @@ fn serve_last<A: CountedWrite, C: CountedWrite + Drop>(
 
 /// Serves all commands, and the end. Returns the number of the command at which the script is malformed, or `None`.
 pub(crate) fn serve_all<S: CountedRead, A: CountedWrite, C: CountedWrite + Drop>(
-    session: &mut Session<C>,
+    session: &mut RunState<C>,
     stream: &mut CommandStream,
     script: &mut S,
     answers: &mut A,
 ) -> Result<Option<u64>, RunFault>
     requires goes_on { RunGoesOn session.old }
-    requires at { JudgeIsAt session.old start }
+    requires at { HasStateBetweenCommands session.old start }
     requires open_yet { IsNotAtEnd (source_in S.seen script.old stream.old.ahead) }
     requires means { ReaderMeans stream.old.reader reading }
     requires counts { MeansIf false stream.old.reader written }

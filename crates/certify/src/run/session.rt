@@ -1,13 +1,13 @@
 //! The state of a run between commands.
 ghost use Rattle.std.specs.Prelude.{◌≡◌, [], ◌+◌};
 ghost use Rattle.sat_base.specs.device.Sink.{empty_sink};
-ghost use Rattle.sat_base.specs.script.Judge.{start};
-ghost use Rattle.sat_solver.specs.variables.Calls.{Agree};
-ghost use Rattle.sat_solver.specs.proof.Counting.{start as uncounted};
+ghost use Rattle.sat_base.specs.script.ScriptState.{start};
+ghost use Rattle.sat_solver.specs.variables.Calls.{NamesAgree};
+ghost use Rattle.sat_solver.specs.proof.Counting.{nothing_counted as uncounted};
 ghost use Rattle.sat_solver.specs.proof.ProofView.{Open, target_of};
 ghost use Rattle.sat_solver.specs.solver.Whole.{steps_in};
-ghost use Rattle.certify.specs.run.SolverCalls.{IsReady, proof_in};
-ghost use Rattle.certify.specs.run.Standing.{RunGoesOn, JudgeIsAt};
+ghost use Rattle.certify.specs.run.SolverCalls.{IsReadySolver, proof_in};
+ghost use Rattle.certify.specs.run.Standing.{RunGoesOn, HasStateBetweenCommands};
 
 use super::page::Page;
 use crate::judge::Names;
@@ -24,7 +24,7 @@ const REDUCE_MIDS_INTERVAL: u64 = 1_000;
 
 /// The state of a run between commands.
 #[derive(Drop)]
-pub struct Session<C: CountedWrite + Drop> {
+pub struct RunState<C: CountedWrite + Drop> {
     pub(crate) names: Names,
     pub(crate) solver: Solver<C>,
     /// The largest number of rounds for an ask.
@@ -38,8 +38,8 @@ pub struct Session<C: CountedWrite + Drop> {
 
 /// Returns a solver that writes its steps to this writer.
 fn solver_into<C: CountedWrite + Drop>(alloc: Global, certificate: C) -> Solver<C>
-    ensures ready { IsReady result }
-    ensures agree { Agree result.names [] start [] }
+    ensures ready { IsReadySolver result }
+    ensures agree { NamesAgree result.names [] start [] }
     ensures steps { steps_in result ≡ [] }
     ensures target { target_of C.seen (proof_in result)
         ≡ Open ProofFormat.Varisat uncounted (empty_sink (C.seen certificate)) }
@@ -57,11 +57,11 @@ fn solver_into<C: CountedWrite + Drop>(alloc: Global, certificate: C) -> Solver<
     solver
 }
 
-impl<C: CountedWrite + Drop> Session<C> {
+impl<C: CountedWrite + Drop> RunState<C> {
     /// Returns the state before the first command, with a certificate that is written to this writer.
-    pub fn new(alloc: Global, certificate: C, budget: u64) -> Session<C>
+    pub fn new(alloc: Global, certificate: C, budget: u64) -> RunState<C>
         ensures goes_on { RunGoesOn result }
-        ensures at { JudgeIsAt result start }
+        ensures at { HasStateBetweenCommands result start }
         ensures steps { steps_in result.solver ≡ [] }
         ensures target { target_of C.seen (proof_in result.solver)
             ≡ Open ProofFormat.Varisat uncounted (empty_sink (C.seen certificate)) }
@@ -71,7 +71,7 @@ impl<C: CountedWrite + Drop> Session<C> {
         ensures refused { result.refused ≡ 0 }
         ensures asks { result.asks.items ≡ [] }
     {
-        Session {
+        RunState {
             names: Names::new(alloc),
             solver: solver_into(alloc, certificate),
             budget,

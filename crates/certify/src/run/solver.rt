@@ -1,9 +1,9 @@
 //! Calls the solver of a run.
 ghost use Rattle.std.specs.Prelude.{IfOk, IfErr, OnOk};
-ghost use Rattle.sat_solver.specs.variables.Room.{users_in};
+ghost use Rattle.sat_solver.specs.variables.VariableRoom.{users_in};
 ghost use Rattle.sat_solver.specs.solver.Adding.{Added, ReplacesAssumptions};
 ghost use Rattle.sat_solver.specs.solver.Whole.{HasFullStore};
-ghost use Rattle.certify.specs.run.SolverCalls.{FailsIf, IsAllowed, IsCaused, IsReady, Limited, RefusedForRoom, Searched};
+ghost use Rattle.certify.specs.run.SolverCalls.{FailsIf, IsAllowed, IsCaused, IsReadySolver, Limited, RefusedForRoom, Searched};
 ghost use Rattle.certify.specs.run.SolverCalls.{Solved};
 
 use super::faults::{fault_of, is_interrupted};
@@ -17,7 +17,7 @@ pub fn add_clause<C: CountedWrite + Drop>(
     solver: &mut Solver<C>,
     literals: &[Lit],
 ) -> Result<(), RunFault>
-    requires ready { IsReady solver.old }
+    requires ready { IsReadySolver solver.old }
     requires allowed { IsAllowed solver.old literals.now }
     ensures added { OnOk result (Added C.seen solver.old solver.new literals.now) }
     ensures fails { FailsIf result C.seen solver.old solver.new }
@@ -35,7 +35,7 @@ pub fn assume<C: CountedWrite + Drop>(
     solver: &mut Solver<C>,
     literals: &[Lit],
 ) -> Result<(), RunFault>
-    requires ready { IsReady solver.old }
+    requires ready { IsReadySolver solver.old }
     requires allowed { IsAllowed solver.old literals.now }
     ensures assumed { OnOk result (ReplacesAssumptions C.seen solver.old solver.new literals.now) }
     ensures fails { FailsIf result C.seen solver.old solver.new }
@@ -50,7 +50,7 @@ pub fn assume<C: CountedWrite + Drop>(
 
 /// Limits every search from now on to `budget` rounds.
 fn limit_rounds<C: CountedWrite + Drop>(solver: &mut Solver<C>, budget: u64)
-    requires { IsReady solver.old }
+    requires { IsReadySolver solver.old }
     ensures { Limited budget solver.old solver.new }
 {
     let mut update = SolverConfigUpdate::new();
@@ -60,7 +60,7 @@ fn limit_rounds<C: CountedWrite + Drop>(solver: &mut Solver<C>, budget: u64)
 
 /// Searches for an answer, which is unknown if the rounds are exhausted.
 fn solve<C: CountedWrite + Drop>(solver: &mut Solver<C>) -> Result<Answer, RunFault>
-    requires { IsReady solver.old }
+    requires { IsReadySolver solver.old }
     ensures solved { IfOk result (λ answer. Solved C.seen answer solver.old solver.new) }
     ensures fails { FailsIf result C.seen solver.old solver.new }
     ensures cause { IfErr result (λ e. IsCaused e (HasFullStore solver.new) ⊥) }
@@ -82,7 +82,7 @@ pub fn search<C: CountedWrite + Drop>(
     solver: &mut Solver<C>,
     budget: u64,
 ) -> Result<AskReport, RunFault>
-    requires { IsReady solver.old }
+    requires { IsReadySolver solver.old }
     ensures searched { IfOk result (λ report. Searched C.seen budget report solver.old solver.new) }
     ensures fails { FailsIf result C.seen solver.old solver.new }
     ensures cause { IfErr result (λ e. IsCaused e (HasFullStore solver.new) ⊥) }

@@ -9,7 +9,7 @@ const PIECE: usize = 4096;
 
 /// The last chunk that a reader gave, of which the bytes from `at` to `end` are not consumed yet.
 #[derive(Drop)]
-pub(crate) struct Ahead {
+pub(crate) struct LastPiece {
     piece: [u8; PIECE],
     at: usize,
     end: usize,

@@ -1,14 +1,14 @@
 //! Reads scripts command by command.
 ghost use Rattle.std.specs.Prelude.{◌≡◌, [], false};
 ghost use Rattle.sat_base.specs.script.Script.{Command as SpelledCommand};
-ghost use Rattle.certify.specs.script.Ahead.{IsNotAtEnd, source_in, waiting};
+ghost use Rattle.certify.specs.script.LastPiece.{IsNotAtEnd, source_in, waiting_bytes};
 ghost use Rattle.certify.specs.script.Commands.{HasWhole, IsLent, LooksOn, MeansIf, ReaderMeans};
 ghost use Rattle.sat_base.specs.script.Language.{reading, written};
-ghost use Rattle.certify.specs.script.Streaming.{Brings, NextComes, LeavesFewerRounds, FinishesText, TakesWaiting};
+ghost use Rattle.certify.specs.script.Streaming.{Brings, NextComes, LeavesFewerTurns, FinishesText, TakesWaiting};
 
 use super::reader::ScriptReader;
 use super::{Command, Reached, ScriptEnd};
-use crate::script::ahead::Ahead;
+use crate::script::ahead::LastPiece;
 use sat_base::{CountedRead, ReadError};
 use std::alloc::{AllocError, Global};
 
@@ -27,7 +27,7 @@ pub(crate) enum Next {
 #[derive(Drop)]
 pub(crate) struct CommandStream {
     reader: ScriptReader,
-    ahead: Ahead,
+    ahead: LastPiece,
 }
 
 impl CommandStream {
@@ -35,12 +35,12 @@ impl CommandStream {
     pub fn new(alloc: Global) -> CommandStream
         ensures means { ReaderMeans result.reader reading }
         ensures counts { MeansIf false result.reader written }
-        ensures waiting { waiting result.ahead ≡ [] }
+        ensures waiting { waiting_bytes result.ahead ≡ [] }
         ensures reads { result.ahead.reads ≡ 0 }
     {
         CommandStream {
             reader: ScriptReader::new(alloc),
-            ahead: Ahead::new(),
+            ahead: LastPiece::new(),
         }
     }
 
@@ -74,11 +74,11 @@ impl CommandStream {
 
     /// Reads more bytes, if all are consumed and what follows is looked at. Returns `None` if there are some.
     fn refill<S: CountedRead>(&mut self, script: &mut S) -> Result<Option<Next>, ReadError>
-        requires waiting { waiting self.old.ahead ≡ [] }
+        requires waiting { waiting_bytes self.old.ahead ≡ [] }
         requires looks_on { LooksOn self.old.reader }
         ensures brings { Brings result (source_in S.seen script.old self.old.ahead)
             (source_in S.seen script.new self.new.ahead) self.old.reader self.new.reader }
-        ensures falls { LeavesFewerRounds result self.old.ahead self.new.ahead }
+        ensures falls { LeavesFewerTurns result self.old.ahead self.new.ahead }
     {
         if self.ahead.refill(script)? == 0 {
             return Ok(Some(self.finish()));
@@ -89,10 +89,10 @@ impl CommandStream {
     /// Reads more bytes, if all are consumed, unless the text has ended. Returns `None` if there are some.
     fn read_on<S: CountedRead>(&mut self, script: &mut S) -> Result<Option<Next>, ReadError>
         requires open_yet { IsNotAtEnd (source_in S.seen script.old self.old.ahead) }
-        requires waiting { waiting self.old.ahead ≡ [] }
+        requires waiting { waiting_bytes self.old.ahead ≡ [] }
         ensures brings { Brings result (source_in S.seen script.old self.old.ahead)
             (source_in S.seen script.new self.new.ahead) self.old.reader self.new.reader }
-        ensures falls { LeavesFewerRounds result self.old.ahead self.new.ahead }
+        ensures falls { LeavesFewerTurns result self.old.ahead self.new.ahead }
     {
         match self.reader.end_if_over() {
             Some(end) => Ok(Some(Next::End(end))),
@@ -106,7 +106,7 @@ impl CommandStream {
         requires { IsNotAtEnd (source_in S.seen script.old self.old.ahead) }
         ensures brings { Brings result (source_in S.seen script.old self.old.ahead)
             (source_in S.seen script.new self.new.ahead) self.old.reader self.new.reader }
-        ensures falls { LeavesFewerRounds result self.old.ahead self.new.ahead }
+        ensures falls { LeavesFewerTurns result self.old.ahead self.new.ahead }
     {
         if self.ahead.waiting().is_empty() {
             return self.read_on(script);

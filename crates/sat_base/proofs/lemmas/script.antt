@@ -1,5 +1,5 @@
 pub mod LiteralValues
-pub mod JudgeStates
+pub mod ScriptStates
 pub mod NamesListed
 pub mod ScriptSpellings
 pub mod ScriptRowsComputed

@@ -1,5 +1,5 @@
 pub mod Headers
-pub mod Spots
+pub mod Positions
 pub mod Words
 pub mod Places
 pub mod HeaderPlaces

@@ -129,8 +129,8 @@ pub record GaveEnough (old new : Reader) (P : List ℕ → Type 0) : Type 0 wher
   pub holds : (rest : List ℕ) → CanFollow old new rest → P (text ++ rest)
 
 -- what was given only grew, and no read was made for nothing
-abbrev pub Grew : Reader → Reader → Type 0
-Grew old new = (text : List ℕ) × GaveFront old new text × FewReads old new
+abbrev pub GaveMore : Reader → Reader → Type 0
+GaveMore old new = (text : List ℕ) × GaveFront old new text × FewReads old new
 
 -- a reader is read at most so often
 abbrev pub most_reads : ℕ
@@ -141,16 +141,16 @@ abbrev pub piece_size : ℕ
 piece_size = 4096
 
 -- one call failed, the last
-abbrev pub FailsLast : Reader → Reader → Type 0
-FailsLast old new = (new.failures ≡ old.failures + 1) × (new.failed ≡ true)
+abbrev pub LastCallFails : Reader → Reader → Type 0
+LastCallFails old new = (new.failures ≡ old.failures + 1) × (new.failed ≡ true)
 
 -- 2^48 reads were made, and none failed
-abbrev pub ReadsOut : Reader → Reader → Type 0
-ReadsOut old new = (new.failures ≡ old.failures) × (new.calls ≡ old.calls + most_reads)
+abbrev pub ReadsAreExhausted : Reader → Reader → Type 0
+ReadsAreExhausted old new = (new.failures ≡ old.failures) × (new.calls ≡ old.calls + most_reads)
 
 -- why a text could not be read: one read failed, which was the last, or 2^48 were made and none did; none was made for nothing
 abbrev pub ReadFails : Reader → Reader → Type 0
-ReadFails old new = (FailsLast old new ⊎ ReadsOut old new) × FewReads old new
+ReadFails old new = (LastCallFails old new ⊎ ReadsAreExhausted old new) × FewReads old new
 
 -- WHAT A WRITER TOOK
 
@@ -177,5 +177,5 @@ pub record WriterBreaks (old new : Writer) (text : List ℕ) : Type 0 where
   pub loans : new.loans ≡ old.loans
 
 -- a text was written, or a prefix of it
-abbrev pub Puts : {E : Type 0} → List ℕ → Result (Unit {0}) E → Writer → Writer → Type 0
-Puts text r old new = MatchResult r (λ _. WriterTakes old new text) (λ _. WriterBreaks old new text)
+abbrev pub WritesText : {E : Type 0} → List ℕ → Result (Unit {0}) E → Writer → Writer → Type 0
+WritesText text r old new = MatchResult r (λ _. WriterTakes old new text) (λ _. WriterBreaks old new text)

@@ -7,7 +7,7 @@ use Rattle.sat_base.specs.device.Waiting.{waiting}
 use Rattle.sat_base.specs.declared.steps.error.StepError.{StepError}
 use Rattle.sat_base.specs.declared.steps.error.StepError.TheVariants as errors
 use Rattle.sat_base.specs.device.Device.{Reader, most_reads, piece_size}
-use Rattle.sat_base.specs.steps.Formats.{Format, Open, IsProperFront}
+use Rattle.sat_base.specs.steps.Formats.{Format, BeginsText, IsProperFront}
 use Rattle.sat_base.specs.steps.Steps.{Step}
 use Rattle.sat_base.specs.steps.StepText.{tag_of, SpellsFields, SpellsStep}
 
@@ -31,12 +31,12 @@ abbrev pub source : {R : Type 0} → (R → Reader) → R → Ahead → Source
 source seen r a = record { reader = seen r; waiting = waiting a; reads = a.reads; names = [] }
 
 -- held by these borrows
-abbrev pub named : List ℕ → Source → Source
-named names s = record s { names = names }
+abbrev pub with_borrows : List ℕ → Source → Source
+with_borrows names s = record s { names = names }
 
 -- the source that an input reads, held by its two borrows
 abbrev pub source_of : {R : Type 0} → (R → Reader) → Input R → Source
-source_of seen i = named (i.reader.ghost_name ∷ i.ahead.ghost_name ∷ []) (source seen i.reader.now i.ahead.now)
+source_of seen i = with_borrows (i.reader.ghost_name ∷ i.ahead.ghost_name ∷ []) (source seen i.reader.now i.ahead.now)
 
 -- its reader was read for it, and the last read found the end
 abbrev pub AtEnd : Source → Type 0
@@ -44,7 +44,7 @@ AtEnd s = (0 < s.reads) × (s.reader.ended ≡ true)
 
 -- These bytes were taken, and no call failed. The pending bytes and those given since are those taken and those pending now. A read gave at
 -- most 4,096 bytes, and there were at most as many reads as bytes given, but for so many. Where there were no more, none found the end.
-pub record PassesBut (more : ℕ) (old new : Source) (text : List ℕ) : Type 0 where
+pub record ConsumesWithReads (more : ℕ) (old new : Source) (text : List ℕ) : Type 0 where
   pub fresh : List ℕ
   pub gave : new.reader.given ≡ old.reader.given ++ fresh
   pub flows : old.waiting ++ fresh ≡ text ++ new.waiting
@@ -58,8 +58,8 @@ pub record PassesBut (more : ℕ) (old new : Source) (text : List ℕ) : Type 0 
   pub going : more ≡ 0 → AtEnd new → AtEnd old
 
 -- no read was made for nothing
-abbrev pub Passes : Source → Source → List ℕ → Type 0
-Passes old new text = PassesBut 0 old new text
+abbrev pub ConsumesBytes : Source → Source → List ℕ → Type 0
+ConsumesBytes old new text = ConsumesWithReads 0 old new text
 
 -- all bytes are taken: the last read found the reader at its end, and none is pending
 pub record AllTaken (s : Source) : Type 0 where
@@ -69,25 +69,25 @@ pub record AllTaken (s : Source) : Type 0 where
   pub over : IsAtEnd (to_come s)
 
 -- these bytes were taken, and then one read found the end
-abbrev pub PassesToEnd : Source → Source → List ℕ → Type 0
-PassesToEnd old new text = PassesBut 1 old new text × AllTaken new
+abbrev pub ConsumesToEnd : Source → Source → List ℕ → Type 0
+ConsumesToEnd old new text = ConsumesWithReads 1 old new text × AllTaken new
 
 -- one call failed, the last; or none did, and 2^48 were made
-abbrev pub FailsLast : Source → Source → Type 0
-FailsLast old new = (new.reader.failures ≡ old.reader.failures + 1) × (new.reader.failed ≡ true)
+abbrev pub LastReadFails : Source → Source → Type 0
+LastReadFails old new = (new.reader.failures ≡ old.reader.failures + 1) × (new.reader.failed ≡ true)
 
 -- no read failed, and as many were made as may be
-abbrev pub ReadsOut : Source → Source → Type 0
-ReadsOut old new = (new.reader.failures ≡ old.reader.failures) × (most_reads ≤ new.reads)
+abbrev pub SourceReadsAreExhausted : Source → Source → Type 0
+SourceReadsAreExhausted old new = (new.reader.failures ≡ old.reader.failures) × (most_reads ≤ new.reads)
 
 -- These bytes were taken, which were all that was given, and then one read failed, the last, or there were 2^48 of them and none did.
-pub record Faults (old new : Source) (text : List ℕ) : Type 0 where
+pub record ConsumesAndFails (old new : Source) (text : List ℕ) : Type 0 where
   pub fresh : List ℕ
   pub gave : new.reader.given ≡ old.reader.given ++ fresh
   pub flows : old.waiting ++ fresh ≡ text
   pub none : new.waiting ≡ []
   pub bytes : Consumes (to_come old) (to_come new) text
-  pub cause : FailsLast old new ⊎ ReadsOut old new
+  pub cause : LastReadFails old new ⊎ SourceReadsAreExhausted old new
   pub calls : new.reader.calls + old.reads ≡ old.reader.calls + new.reads
   pub room : length fresh + piece_size * old.reads ≤ piece_size * new.reads
   pub few : new.reads ≤ old.reads + length fresh + 1
@@ -100,38 +100,38 @@ none_given n = if nat_eq n 0 then 1 else 0
 
 -- another piece was read, of this number of bytes: none only at the end
 abbrev pub Refills : Result (Unit {0}) StepError → ℕ → Source → Source → Type 0
-Refills (Ok u) n old new = PassesBut (none_given n) old new [] × (n ≡ 0 → AllTaken new)
-Refills (Err errors.Read) n old new = Faults old new []
+Refills (Ok u) n old new = ConsumesWithReads (none_given n) old new [] × (n ≡ 0 → AllTaken new)
+Refills (Err errors.Read) n old new = ConsumesAndFails old new []
 Refills (Err e) n old new = ⊥
 
 -- whoever holds them
 abbrev pub RefillsAlone : {R : Type 0} → (R → Reader) → Result (Unit {0}) StepError → R → Ahead → R → Ahead → Type 0
 RefillsAlone seen result r a s b =
-    (names : List ℕ) → Refills result b.end (named names (source seen r a)) (named names (source seen s b))
+    (names : List ℕ) → Refills result b.end (with_borrows names (source seen r a)) (with_borrows names (source seen s b))
 
 -- the next byte, or none at the end
 abbrev pub NextByte : Result (Option ℕ) StepError → Source → Source → Type 0
-NextByte (Ok (Some byte)) old new = Passes old new (byte ∷ [])
-NextByte (Ok None) old new = PassesToEnd old new []
-NextByte (Err errors.Read) old new = Faults old new []
+NextByte (Ok (Some byte)) old new = ConsumesBytes old new (byte ∷ [])
+NextByte (Ok None) old new = ConsumesToEnd old new []
+NextByte (Err errors.Read) old new = ConsumesAndFails old new []
 NextByte (Err e) old new = ⊥
 
 -- the next byte of a text that is not whole
 abbrev pub ByteWithin : Result ℕ StepError → Source → Source → Type 0
-ByteWithin (Ok byte) old new = Passes old new (byte ∷ [])
-ByteWithin (Err errors.Cut) old new = PassesToEnd old new []
-ByteWithin (Err errors.Read) old new = Faults old new []
+ByteWithin (Ok byte) old new = ConsumesBytes old new (byte ∷ [])
+ByteWithin (Err errors.Cut) old new = ConsumesToEnd old new []
+ByteWithin (Err errors.Read) old new = ConsumesAndFails old new []
 ByteWithin (Err e) old new = ⊥
 
 -- A value's text was taken; or a prefix of one, and the bytes have ended or cannot be read; or such a prefix and a byte after which no text
 -- can follow. Memory runs out where the bytes so far are a prefix of a text, or all of it.
 abbrev pub ReadsValue : {A : Type 0} → Format A → Result A StepError → Source → Source → Type 0
-ReadsValue F (Ok x) old new = (text : List ℕ) × Passes old new text × F x text
-ReadsValue F (Err errors.Cut) old new = (text : List ℕ) × PassesToEnd old new text × IsProperFront F text
+ReadsValue F (Ok x) old new = (text : List ℕ) × ConsumesBytes old new text × F x text
+ReadsValue F (Err errors.Cut) old new = (text : List ℕ) × ConsumesToEnd old new text × IsProperFront F text
 ReadsValue F (Err errors.BadByte) old new =
-    (front : List ℕ) × (byte : ℕ) × Passes old new (front ++ byte ∷ []) × IsProperFront F front × (Open F (front ++ byte ∷ []) → ⊥)
-ReadsValue F (Err errors.Read) old new = (text : List ℕ) × Faults old new text × IsProperFront F text
-ReadsValue F (Err errors.OutOfMemory) old new = (text : List ℕ) × Passes old new text × Open F text
+    (front : List ℕ) × (byte : ℕ) × ConsumesBytes old new (front ++ byte ∷ []) × IsProperFront F front × (BeginsText F (front ++ byte ∷ []) → ⊥)
+ReadsValue F (Err errors.Read) old new = (text : List ℕ) × ConsumesAndFails old new text × IsProperFront F text
+ReadsValue F (Err errors.OutOfMemory) old new = (text : List ℕ) × ConsumesBytes old new text × BeginsText F text
 ReadsValue F (Err errors.Ends) old new = ⊥
 ReadsValue F (Err errors.HasFailed) old new = ⊥
 
@@ -156,13 +156,13 @@ Behind tag step bytes = (tag_of step ≡ tag) × SpellsFields step bytes
 -- The answers of a reader of steps: as for any format, and `Ends` if the bytes end between steps, so that `Cut` is one within a
 -- step. Memory runs out within a step or at its end: the bytes so far are a prefix of its text, or all of it.
 abbrev pub AnswersStepRead : Result Step StepError → Source → Source → Type 0
-AnswersStepRead (Ok step) old new = (text : List ℕ) × Passes old new text × SpellsStep step text
-AnswersStepRead (Err errors.Ends) old new = PassesToEnd old new []
-AnswersStepRead (Err errors.Cut) old new = (tag : ℕ) × (more : List ℕ) × PassesToEnd old new (tag ∷ more) × IsProperFront SpellsStep (tag ∷ more)
+AnswersStepRead (Ok step) old new = (text : List ℕ) × ConsumesBytes old new text × SpellsStep step text
+AnswersStepRead (Err errors.Ends) old new = ConsumesToEnd old new []
+AnswersStepRead (Err errors.Cut) old new = (tag : ℕ) × (more : List ℕ) × ConsumesToEnd old new (tag ∷ more) × IsProperFront SpellsStep (tag ∷ more)
 AnswersStepRead (Err errors.BadByte) old new =
-    (front : List ℕ) × (byte : ℕ) × Passes old new (front ++ byte ∷ []) × IsProperFront SpellsStep front
-    × (Open SpellsStep (front ++ byte ∷ []) → ⊥)
-AnswersStepRead (Err errors.Read) old new = (text : List ℕ) × Faults old new text × IsProperFront SpellsStep text
+    (front : List ℕ) × (byte : ℕ) × ConsumesBytes old new (front ++ byte ∷ []) × IsProperFront SpellsStep front
+    × (BeginsText SpellsStep (front ++ byte ∷ []) → ⊥)
+AnswersStepRead (Err errors.Read) old new = (text : List ℕ) × ConsumesAndFails old new text × IsProperFront SpellsStep text
 AnswersStepRead (Err errors.OutOfMemory) old new =
-    (tag : ℕ) × (more : List ℕ) × Passes old new (tag ∷ more) × Open SpellsStep (tag ∷ more)
+    (tag : ℕ) × (more : List ℕ) × ConsumesBytes old new (tag ∷ more) × BeginsText SpellsStep (tag ∷ more)
 AnswersStepRead (Err errors.HasFailed) old new = ⊥

@@ -18,30 +18,30 @@ abbrev pub sink_of : {W P : Type 0} → (W → Writer) → (P → List ℕ) → 
 sink_of seen waiting o = record { writer = seen o.writer; waiting = waiting o.pending }
 
 -- A text was put after the pending bytes. The writer took a prefix of both, and the rest is pending.
-pub record Sent (old new : Sink) (text : List ℕ) : Type 0 where
+pub record AddsToSink (old new : Sink) (text : List ℕ) : Type 0 where
   pub fresh : List ℕ
   pub flows : old.waiting ++ text ≡ fresh ++ new.waiting
   pub takes : WriterTakes old.writer new.writer fresh
 
 -- Or one call failed, the last. The writer took a prefix of both, and the rest is lost.
-pub record Broken (old new : Sink) (text : List ℕ) : Type 0 where
+pub record SinkFails (old new : Sink) (text : List ℕ) : Type 0 where
   pub breaks : WriterBreaks old.writer new.writer (old.waiting ++ text)
   pub none : new.waiting ≡ []
 
 -- a text was sent, or one call failed
-abbrev pub Sends : {E : Type 0} → List ℕ → Result (Unit {0}) E → Sink → Sink → Type 0
-Sends text r old new = MatchResult r (λ _. Sent old new text) (λ _. Broken old new text)
+abbrev pub SendsText : {E : Type 0} → List ℕ → Result (Unit {0}) E → Sink → Sink → Type 0
+SendsText text r old new = MatchResult r (λ _. AddsToSink old new text) (λ _. SinkFails old new text)
 
 -- a value's text was sent
 abbrev pub Writes : {A E : Type 0} → Format A → A → List ℕ → Result (Unit {0}) E → Sink → Sink → Type 0
-Writes F x text r old new = MatchResult r (λ _. Sent old new text × F x text) (λ _. Broken old new text)
+Writes F x text r old new = MatchResult r (λ _. AddsToSink old new text × F x text) (λ _. SinkFails old new text)
 
 -- nothing is pending any more, and the last call was a flush
-pub record Emptied (old new : Sink) : Type 0 where
-  pub sent : Sent old new []
+pub record SinkIsFlushed (old new : Sink) : Type 0 where
+  pub sent : AddsToSink old new []
   pub none : new.waiting ≡ []
   pub flushed : new.writer.flushed ≡ true
 
 -- the pending bytes were written and flushed, or one call failed
 abbrev pub Flushes : {E : Type 0} → Result (Unit {0}) E → Sink → Sink → Type 0
-Flushes r old new = MatchResult r (λ _. Emptied old new) (λ _. Broken old new [])
+Flushes r old new = MatchResult r (λ _. SinkIsFlushed old new) (λ _. SinkFails old new [])

@@ -12,9 +12,9 @@ abbrev pub waiting : Ahead → List ℕ
 waiting a = drop a.at (take a.end a.piece)
 
 -- there is room for this many bytes more
-abbrev pub HasRoomFor : {P : Type 0} → ℕ → (P → List ℕ) → (P → ℕ) → P → Type 0
-HasRoomFor count waiting size p = length (waiting p) + count ≤ size p
+abbrev pub HasByteRoom : {P : Type 0} → ℕ → (P → List ℕ) → (P → ℕ) → P → Type 0
+HasByteRoom count waiting size p = length (waiting p) + count ≤ size p
 
 -- at most this many more bytes are pending, in room of the same size
-abbrev pub Takes : {P : Type 0} → ℕ → (P → List ℕ) → (P → ℕ) → P → P → Type 0
-Takes count waiting size old new = (length (waiting new) ≤ length (waiting old) + count) × (size new ≡ size old)
+abbrev pub UsesRoom : {P : Type 0} → ℕ → (P → List ℕ) → (P → ℕ) → P → P → Type 0
+UsesRoom count waiting size old new = (length (waiting new) ≤ length (waiting old) + count) × (size new ≡ size old)

@@ -7,7 +7,7 @@ use Rattle.sat_base.specs.declared.text.Token.{Token as CodeToken}
 use Rattle.sat_base.specs.declared.text.Token.TheVariants as code
 use Rattle.sat_base.specs.text.Text.{Token, Number, Letter, Header, Wrong}
 use Rattle.sat_base.specs.text.Tokenizing.{held}
-use Rattle.sat_base.specs.values.Formulas.{with_clause}
+use Rattle.sat_base.specs.values.Formulas.{with_formula_clause}
 use Rattle.sat_base.specs.dimacs.Dimacs.{Malformed, Limit, Hand, Turn, GoesOn, Ends, Fails, literals_in, turn}
 use Rattle.sat_base.specs.values.Literals.{var_limit}
 
@@ -35,17 +35,17 @@ header_behind (Header v c) header = Some (v, c)
 header_behind Wrong header = header
 
 -- the clauses are as they were
-abbrev pub Stay : Clauses → Clauses → Type 0
-Stay old new = (new.formula ≡ old.formula) × (new.count ≡ old.count)
+abbrev pub SameClausesAndCount : Clauses → Clauses → Type 0
+SameClausesAndCount old new = (new.formula ≡ old.formula) × (new.count ≡ old.count)
 
 -- so is the header
-abbrev pub AllStay : Clauses → Clauses → Type 0
-AllStay old new = Stay old new × (new.header ≡ old.header)
+abbrev pub SameClausesAndHeader : Clauses → Clauses → Type 0
+SameClausesAndHeader old new = SameClausesAndCount old new × (new.header ≡ old.header)
 
 -- a turn that is no fault was taken
 abbrev pub TakesTokenTurn : Turn → Clauses → Clauses → Type 0
-TakesTokenTurn (GoesOn hand) old new = Stay old new × (hand_in new ≡ hand)
-TakesTokenTurn (Ends clause) old new = (new.formula ≡ with_clause clause old.formula) × (new.count ≡ held (old.count + 1)) × (hand_in new ≡ None)
+TakesTokenTurn (GoesOn hand) old new = SameClausesAndCount old new × (hand_in new ≡ hand)
+TakesTokenTurn (Ends clause) old new = (new.formula ≡ with_formula_clause clause old.formula) × (new.count ≡ held (old.count + 1)) × (hand_in new ≡ None)
 TakesTokenTurn (Fails ending) old new = ⊥
 
 -- a number that is a literal
@@ -62,9 +62,9 @@ NeedsRoom t = (is_literal t ≡ true) ⊎ ((hand : Hand) (n : ℕ) → turn hand
 -- what a token is answered by, on whichever line it stands
 abbrev pub CollectsToken : Result (Unit {0}) Refusal → Clauses → Token → Clauses → Type 0
 CollectsToken (Ok u) old t new = ((n : ℕ) → TakesTokenTurn (turn (hand_in old) n t) old new) × (new.header ≡ header_behind t old.header)
-CollectsToken (Err refusal.Malformed) old t new = AllStay old new × ((n : ℕ) → turn (hand_in old) n t ≡ Fails (Malformed n))
-CollectsToken (Err refusal.Limit) old t new = AllStay old new × ((n : ℕ) → turn (hand_in old) n t ≡ Fails (Limit n))
-CollectsToken (Err refusal.OutOfMemory) old t new = AllStay old new × NeedsRoom t
+CollectsToken (Err refusal.Malformed) old t new = SameClausesAndHeader old new × ((n : ℕ) → turn (hand_in old) n t ≡ Fails (Malformed n))
+CollectsToken (Err refusal.Limit) old t new = SameClausesAndHeader old new × ((n : ℕ) → turn (hand_in old) n t ≡ Fails (Limit n))
+CollectsToken (Err refusal.OutOfMemory) old t new = SameClausesAndHeader old new × NeedsRoom t
 
 -- whether a clause has begun
 abbrev pub IsInside : Bool → Hand → Type 0

@@ -71,9 +71,9 @@ has_blank [] = false
 has_blank (b ∷ bs) = is_blank b || has_blank bs
 
 -- a text up to its last blank, so that each word in it has ended
-abbrev pub settled : List ℕ → List ℕ
-settled [] = []
-settled (b ∷ bs) = if has_blank (b ∷ bs) then b ∷ settled bs else []
+abbrev pub up_to_last_blank : List ℕ → List ℕ
+up_to_last_blank [] = []
+up_to_last_blank (b ∷ bs) = if has_blank (b ∷ bs) then b ∷ up_to_last_blank bs else []
 
 -- the text has these clauses, and ends so
 abbrev pub IsDimacs : List ℕ → List (List ℕ) → Ending → Type 0

@@ -2,16 +2,16 @@
 use Rattle.std.specs.Prelude.{◌≡◌, ℕ, ◌-◌, List, [], ◌∷◌, true, false, None, Some, codes}
 use Rattle.sat_base.specs.values.Literals.{coded}
 use Rattle.sat_base.specs.text.Text.{dimacs_header}
-use Rattle.sat_base.specs.dimacs.Dimacs.{Clean, Malformed, Limit, settled, IsDimacs}
+use Rattle.sat_base.specs.dimacs.Dimacs.{Clean, Malformed, Limit, up_to_last_blank, IsDimacs}
 use Rattle.sat_base.specs.dimacs.Parsing.{whole_lines}
 
 -- the literals that have these numbers
-abbrev pub plus : ℕ → ℕ
-plus n = coded (n - 1) true
+abbrev pub positive_lits : ℕ → ℕ
+positive_lits n = coded (n - 1) true
 
 -- the negation of the literal that has this number
-abbrev pub minus : ℕ → ℕ
-minus n = coded (n - 1) false
+abbrev pub negative_lit : ℕ → ℕ
+negative_lit n = coded (n - 1) false
 
 -- the text's header says these numbers of variables and clauses
 abbrev pub HasHeader : List ℕ → ℕ → ℕ → Type 0
@@ -21,24 +21,24 @@ HasHeader text v c = dimacs_header text ≡ Some (v, c)
 pub record CleanRows : Type 0 where
   pub empty : IsDimacs [] [] Clean
   pub header_alone : IsDimacs (codes "p cnf 0 0") [] Clean
-  pub header_and_clause : IsDimacs (codes "p cnf 2 1\n1 -2 0\n") ((plus 1 ∷ minus 2 ∷ []) ∷ []) Clean
-  pub fewer_than_said : IsDimacs (codes "p cnf 9 9\n1 0") ((plus 1 ∷ []) ∷ []) Clean
+  pub header_and_clause : IsDimacs (codes "p cnf 2 1\n1 -2 0\n") ((positive_lits 1 ∷ negative_lit 2 ∷ []) ∷ []) Clean
+  pub fewer_than_said : IsDimacs (codes "p cnf 9 9\n1 0") ((positive_lits 1 ∷ []) ∷ []) Clean
   pub no_clause : IsDimacs (codes "0 0\n") ([] ∷ [] ∷ []) Clean
-  pub over_lines : IsDimacs (codes "1\nc 3\n\t-2\r\n0 3 0") ((plus 1 ∷ minus 2 ∷ []) ∷ (plus 3 ∷ []) ∷ []) Clean
-  pub percent : IsDimacs (codes "1 0\n%\n0\n") ((plus 1 ∷ []) ∷ []) Clean
-  pub largest : IsDimacs (codes "-268435456 0") ((minus 268435456 ∷ []) ∷ []) Clean
+  pub over_lines : IsDimacs (codes "1\nc 3\n\t-2\r\n0 3 0") ((positive_lits 1 ∷ negative_lit 2 ∷ []) ∷ (positive_lits 3 ∷ []) ∷ []) Clean
+  pub percent : IsDimacs (codes "1 0\n%\n0\n") ((positive_lits 1 ∷ []) ∷ []) Clean
+  pub largest : IsDimacs (codes "-268435456 0") ((negative_lit 268435456 ∷ []) ∷ []) Clean
 
 -- texts with a fault, with the clauses before it and its line
 pub record FaultRows : Type 0 where
   pub minus_zero : IsDimacs (codes "1 2\n-0 0\n") [] (Malformed 2)
-  pub past_the_limit : IsDimacs (codes "1 0\n268435457 0\n") ((plus 1 ∷ []) ∷ []) (Limit 2)
+  pub past_the_limit : IsDimacs (codes "1 0\n268435457 0\n") ((positive_lits 1 ∷ []) ∷ []) (Limit 2)
   pub long_number : IsDimacs (codes "-99999999999999999999 0") [] (Limit 1)
-  pub inside_a_clause : IsDimacs (codes "1 0\n\n2\n") ((plus 1 ∷ []) ∷ []) (Malformed 3)
+  pub inside_a_clause : IsDimacs (codes "1 0\n\n2\n") ((positive_lits 1 ∷ []) ∷ []) (Malformed 3)
   pub inside_a_clause_at_percent : IsDimacs (codes "1\n%\n") [] (Malformed 2)
   pub letter : IsDimacs (codes "a 0") [] (Malformed 1)
   pub vertical_tab : IsDimacs (49 ∷ 11 ∷ 48 ∷ []) [] (Malformed 1)
   pub form_feed : IsDimacs (49 ∷ 32 ∷ 48 ∷ 12 ∷ []) [] (Malformed 1)
-  pub late_header : IsDimacs (codes "1 0\np cnf 1 1\n") ((plus 1 ∷ []) ∷ []) (Malformed 2)
+  pub late_header : IsDimacs (codes "1 0\np cnf 1 1\n") ((positive_lits 1 ∷ []) ∷ []) (Malformed 2)
   pub first_fault : IsDimacs (codes "268435457 x\n") [] (Limit 1)
 
 -- the headers of texts, if they have one
@@ -49,6 +49,6 @@ pub record HeaderRows : Type 0 where
 
 -- fronts of texts: up to the last blank, and up to the last LF
 pub record PartRows : Type 0 where
-  pub to_the_blank : settled (codes "1 0\n23") ≡ codes "1 0\n"
-  pub to_a_blank_alone : settled (codes "1 0 2") ≡ codes "1 0 "
+  pub to_the_blank : up_to_last_blank (codes "1 0\n23") ≡ codes "1 0\n"
+  pub to_a_blank_alone : up_to_last_blank (codes "1 0 2") ≡ codes "1 0 "
   pub to_the_LF : whole_lines (codes "1 0\n2 3") ≡ codes "1 0\n"

@@ -12,12 +12,12 @@ abbrev pub signed_number : ℕ → Token
 signed_number l = Number (not (is_positive l)) (variable l + 1)
 
 -- their numbers are at most 2^28
-abbrev pub AreWithin : List ℕ → Type 0
-AreWithin ls = AllByRecursion (λ l. variable l < var_limit) ls
+abbrev pub AreWithinLimit : List ℕ → Type 0
+AreWithinLimit ls = AllByRecursion (λ l. variable l < var_limit) ls
 
 -- a clause is the numbers of its literals and a zero
 abbrev pub SpellsClause : List ℕ → List Token → Type 0
-SpellsClause ls ts = (last : Token) × IsZero last × AreWithin ls × (ts ≡ map signed_number ls ++ last ∷ [])
+SpellsClause ls ts = (last : Token) × IsZero last × AreWithinLimit ls × (ts ≡ map signed_number ls ++ last ∷ [])
 
 -- clauses are spelled one after another
 abbrev pub SpellsClauses : List (List ℕ) → List Token → Type 0

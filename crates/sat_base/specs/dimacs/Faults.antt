@@ -5,7 +5,7 @@ use Rattle.sat_base.specs.declared.dimacs.error.DimacsError.{DimacsError}
 use Rattle.sat_base.specs.declared.dimacs.error.DimacsError.TheVariants as errors
 use Rattle.sat_base.specs.device.Device.{Reader, ReadsOnce}
 use Rattle.sat_base.specs.text.Text.{Token, Scan, scan, tokens, HasEnded}
-use Rattle.sat_base.specs.text.Spot.{onto}
+use Rattle.sat_base.specs.text.Position.{onto}
 use Rattle.sat_base.specs.text.WrongWords.{RightAhead}
 use Rattle.sat_base.specs.text.Tokenizing.{StandsBefore}
 use Rattle.sat_base.specs.dimacs.Dimacs.{Hand, Malformed, Limit, Fails, turn}

@@ -4,7 +4,7 @@ use Rattle.sat_base.specs.declared.dimacs.parser.Parser.{Parser}
 use Rattle.sat_base.specs.declared.dimacs.error.DimacsError.{DimacsError}
 use Rattle.sat_base.specs.declared.dimacs.error.DimacsError.TheVariants as errors
 use Rattle.sat_base.specs.text.Text.{is_blank, Token, Scan, scan, header_first, dimacs_header}
-use Rattle.sat_base.specs.text.Spot.{onto}
+use Rattle.sat_base.specs.text.Position.{onto}
 use Rattle.sat_base.specs.text.WrongWords.{RightAhead}
 use Rattle.sat_base.specs.text.Tokenizing.{held, StandsBefore, HoldsNoWord}
 use Rattle.sat_base.specs.values.Formulas.{vars_of}

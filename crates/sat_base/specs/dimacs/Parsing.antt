@@ -8,7 +8,7 @@ use Rattle.sat_base.specs.text.Text.{is_blank, Token, Number, scan, tokens, HasE
 use Rattle.sat_base.specs.text.WrongWords.{RightAhead}
 use Rattle.sat_base.specs.text.Tokenizing.{held}
 use Rattle.sat_base.specs.values.Formulas.{Formula, vars_of}
-use Rattle.sat_base.specs.dimacs.Dimacs.{Ending, Clean, Malformed, Limit, Hand, Turn, GoesOn, Ends, Fails, turn, dimacs, settled, IsDimacs}
+use Rattle.sat_base.specs.dimacs.Dimacs.{Ending, Clean, Malformed, Limit, Hand, Turn, GoesOn, Ends, Fails, turn, dimacs, up_to_last_blank, IsDimacs}
 use Rattle.sat_base.specs.declared.dimacs.error.DimacsError.{DimacsError}
 use Rattle.sat_base.specs.declared.dimacs.error.IncrementalError.{IncrementalError}
 use Rattle.sat_base.specs.declared.dimacs.error.IncrementalError.TheVariants as parts
@@ -39,7 +39,7 @@ at_its_end p = record p { stopped = true; ended = true }
 
 -- the bytes whose words have ended: up to the last blank, or all if the text has ended
 abbrev pub words_read : Progress → List ℕ
-words_read p = if p.ended then p.fed else settled p.fed
+words_read p = if p.ended then p.fed else up_to_last_blank p.fed
 
 -- the clauses read
 abbrev pub clauses_read : Progress → List (List ℕ)

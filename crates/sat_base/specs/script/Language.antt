@@ -83,20 +83,20 @@ abbrev pub onto_commands : List Command → Reading → Reading
 onto_commands commands reading = (commands ++ reading.0, reading.1)
 
 -- an end inside a command is malformed
-abbrev pub at_end : CommandHand → ScriptEnding
-at_end Nothing = Clean
-at_end (Within kind ls) = Malformed
+abbrev pub command_at_end : CommandHand → ScriptEnding
+command_at_end Nothing = Clean
+command_at_end (Within kind ls) = Malformed
 
 -- a turn, and then what more says; malformed text ends the reading
-abbrev pub behind_turn : CommandTurn → (CommandHand → Reading) → Reading
-behind_turn (GoesOn hand) more = more hand
-behind_turn (Ends command) more = onto_commands (command ∷ []) (more Nothing)
-behind_turn Fails more = ([], Malformed)
+abbrev pub behind_command_turn : CommandTurn → (CommandHand → Reading) → Reading
+behind_command_turn (GoesOn hand) more = more hand
+behind_command_turn (Ends command) more = onto_commands (command ∷ []) (more Nothing)
+behind_command_turn Fails more = ([], Malformed)
 
 -- the commands that the tokens spell, after what is in hand
 unfoldable pub commands_of : CommandHand → List Token → Reading
-commands_of hand [] = ([], at_end hand)
-commands_of hand (t ∷ ts) = behind_turn (command_turn hand t) (λ h. commands_of h ts)
+commands_of hand [] = ([], command_at_end hand)
+commands_of hand (t ∷ ts) = behind_command_turn (command_turn hand t) (λ h. commands_of h ts)
 
 -- the tokens without their lines
 abbrev pub spoken : List (ℕ × Token) → List Token

@@ -6,21 +6,21 @@ abbrev pub Format : Type 0 → Type 1
 Format A = A → List ℕ → Type 0
 
 -- the bytes begin a text
-abbrev pub Open : {A : Type 0} → Format A → List ℕ → Type 0
-Open {A} F bytes = (x : A) × (more : List ℕ) × F x (bytes ++ more)
+abbrev pub BeginsText : {A : Type 0} → Format A → List ℕ → Type 0
+BeginsText {A} F bytes = (x : A) × (more : List ℕ) × F x (bytes ++ more)
 
 -- the bytes begin a text that goes on
 abbrev pub IsProperFront : {A : Type 0} → Format A → List ℕ → Type 0
 IsProperFront {A} F bytes = (x : A) × (b : ℕ) × (more : List ℕ) × F x (bytes ++ b ∷ more)
 
 -- the first byte after which no text can follow
-pub record Spoilt {A : Type 0} (F : Format A) (bytes : List ℕ) : Type 0 where
+pub record IsFirstBadByte {A : Type 0} (F : Format A) (bytes : List ℕ) : Type 0 where
   pub front : List ℕ
   pub byte : ℕ
   pub behind : List ℕ
   pub whole : bytes ≡ front ++ byte ∷ behind
   pub live : IsProperFront F front
-  pub shut : Open F (front ++ byte ∷ []) → ⊥
+  pub shut : BeginsText F (front ++ byte ∷ []) → ⊥
 
 -- one format, and then another that may depend on the first value
 abbrev pub Then : {A B : Type 0} → Format A → (A → Format B) → Format (A × B)
@@ -44,5 +44,5 @@ abbrev pub ListOf : {A : Type 0} → Format ℕ → Format A → Format (List A)
 ListOf {A} C F xs bytes = (a : List ℕ) × (b : List ℕ) × C (length xs) a × Items F xs b × (bytes ≡ a ++ b)
 
 -- no text begins another, and each text has one value
-abbrev pub OneForm : {A : Type 0} → Format A → Type 0
-OneForm {A} F = (x y : A) (a b s t : List ℕ) → F x a → F y b → a ++ s ≡ b ++ t → (a ≡ b) × (x ≡ y)
+abbrev pub IsUniquelyDecodable : {A : Type 0} → Format A → Type 0
+IsUniquelyDecodable {A} F = (x y : A) (a b s t : List ℕ) → F x a → F y b → a ++ s ≡ b ++ t → (a ≡ b) × (x ≡ y)

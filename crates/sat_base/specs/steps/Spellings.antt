@@ -2,7 +2,7 @@
 use Rattle.std.specs.Prelude.{ℕ, Bool, Option, List, Result, ◌++◌}
 use Rattle.sat_base.specs.declared.device.output.Output.{Output}
 use Rattle.sat_base.specs.device.Device.{Writer}
-use Rattle.sat_base.specs.device.Sink.{Sent, Writes, sink_of}
+use Rattle.sat_base.specs.device.Sink.{AddsToSink, Writes, sink_of}
 use Rattle.sat_base.specs.steps.Formats.{Format, Both}
 use Rattle.sat_base.specs.steps.Steps.{Deletion, Step}
 use Rattle.sat_base.specs.steps.StepText.{IsVariable, IsOptionalVariable, IsLiteral, IsHash, IsFlag, IsWidth, IsDeletion, AreLiterals, AreHashes, AreHashedLiterals, SpellsFields, SpellsStep}
@@ -92,4 +92,4 @@ SendsSpelling s x r seen waiting old new = Writes s.format x (s.bytes x) r (sink
 
 -- a value's spelling is pending after the bytes that were
 abbrev pub Pushes : {A W P : Type 0} → Spelling A → A → (W → Writer) → (P → List ℕ) → Output W P → Output W P → Type 0
-Pushes s x seen waiting old new = Sent (sink_of seen waiting old) (sink_of seen waiting new) (s.bytes x) × s.format x (s.bytes x)
+Pushes s x seen waiting old new = AddsToSink (sink_of seen waiting old) (sink_of seen waiting new) (s.bytes x) × s.format x (s.bytes x)

@@ -10,7 +10,7 @@ use Rattle.sat_base.specs.declared.text.Token.{Token as CodeToken}
 use Rattle.sat_base.specs.declared.text.Token.TheVariants as code
 use Rattle.sat_base.specs.declared.text.Tokenizer.{Tokenizer}
 use Rattle.sat_base.specs.text.Text.{digits, Token, Number, Letter, Header, Wrong, token, Scan, is_letter}
-use Rattle.sat_base.specs.text.Spot.{Stage, Begun, Named, Format, Vars, Both, stage_behind, Spot, Fresh, Leading, Comment, Between, Within, HeaderBetween, HeaderWithin, Spoilt, Over, Solid, left, in_hand, ended_by_blank, behind_blank, behind_LF, onto}
+use Rattle.sat_base.specs.text.Position.{Stage, Begun, Named, Format, Vars, Both, stage_behind, Position, Fresh, Leading, Comment, Between, Within, HeaderBetween, HeaderWithin, Spoilt, Over, HasNoBlank, left, in_hand, ended_by_blank, behind_blank, behind_LF, onto}
 
 -- a count or a value is held at 2^64-1
 abbrev pub held : ℕ → ℕ
@@ -47,47 +47,47 @@ IsStage (stage.Vars vars) s = (v : ℕ) × (vars ≡ held v) × (s ≡ Vars v)
 IsStage (stage.Both vars clauses) s = (v : ℕ) × (c : ℕ) × (vars ≡ held v) × (clauses ≡ held c) × (s ≡ Both v c)
 
 -- the spots that a place in a header line can be
-abbrev pub IsAtHeader : HeaderPlace → Spot → Type 0
+abbrev pub IsAtHeader : HeaderPlace → Position → Type 0
 IsAtHeader (header.Between ended) spot = (s : Stage) × IsStage ended s × (spot ≡ HeaderBetween s)
 IsAtHeader header.P spot = spot ≡ HeaderWithin Begun 112 []
 IsAtHeader header.C spot = spot ≡ HeaderWithin Named 99 []
 IsAtHeader header.Cn spot = spot ≡ HeaderWithin Named 99 (110 ∷ [])
 IsAtHeader header.Cnf spot = spot ≡ HeaderWithin Named 99 (110 ∷ 102 ∷ [])
 IsAtHeader (header.Vars value) spot =
-    (x : ℕ) × (w : List ℕ) × Solid (x ∷ w) × SpellsHeld (x ∷ w) value × (spot ≡ HeaderWithin Format x w)
+    (x : ℕ) × (w : List ℕ) × HasNoBlank (x ∷ w) × SpellsHeld (x ∷ w) value × (spot ≡ HeaderWithin Format x w)
 IsAtHeader (header.Clauses vars value) spot =
     (v : ℕ) × (x : ℕ) × (w : List ℕ) × (vars ≡ held v)
-    × Solid (x ∷ w) × SpellsHeld (x ∷ w) value × (spot ≡ HeaderWithin (Vars v) x w)
+    × HasNoBlank (x ∷ w) × SpellsHeld (x ∷ w) value × (spot ≡ HeaderWithin (Vars v) x w)
 
 -- the spots that a place can be, with the bytes of the word in hand and the numbers of the header, of any size
-abbrev pub IsAt : Place → Spot → Type 0
+abbrev pub IsAt : Place → Position → Type 0
 IsAt (at.Fresh may) spot = spot ≡ Fresh may
 IsAt (at.Leading may) spot = spot ≡ Leading may
 IsAt (at.Comment may) spot = spot ≡ Comment may
 IsAt at.Between spot = spot ≡ Between
 IsAt at.Minus spot = spot ≡ Within 45 []
 IsAt (at.Digits false value) spot =
-    (x : ℕ) × (w : List ℕ) × Solid (x ∷ w) × SpellsHeld (x ∷ w) value
+    (x : ℕ) × (w : List ℕ) × HasNoBlank (x ∷ w) × SpellsHeld (x ∷ w) value
     × (x ≡ 45 → ⊥) × (is_letter x ≡ false) × (spot ≡ Within x w)
-IsAt (at.Digits true value) spot = (w : List ℕ) × Solid w × (w ≡ [] → ⊥) × SpellsHeld w value × (spot ≡ Within 45 w)
-IsAt (at.Letter b) spot = (Solid (b ∷ []) × (is_letter b ≡ true)) × (spot ≡ Within b [])
-IsAt at.Bad spot = (x : ℕ) × (w : List ℕ) × Solid (x ∷ w) × BeginsWrong (x ∷ w) × (spot ≡ Within x w)
+IsAt (at.Digits true value) spot = (w : List ℕ) × HasNoBlank w × (w ≡ [] → ⊥) × SpellsHeld w value × (spot ≡ Within 45 w)
+IsAt (at.Letter b) spot = (HasNoBlank (b ∷ []) × (is_letter b ≡ true)) × (spot ≡ Within b [])
+IsAt at.Bad spot = (x : ℕ) × (w : List ℕ) × HasNoBlank (x ∷ w) × BeginsWrong (x ∷ w) × (spot ≡ Within x w)
 IsAt (at.Header place) spot = IsAtHeader place spot
 IsAt at.Spoilt spot = spot ≡ Spoilt
 IsAt at.Over spot = spot ≡ Over
 
 -- a byte leads from a spot to a spot
-abbrev pub MovesSpot : Spot → ℕ → Spot → Type 0
-MovesSpot old byte new = (n : ℕ) (rest : List ℕ) → left old n (byte ∷ rest) ≡ left new n rest
+abbrev pub MovesPosition : Position → ℕ → Position → Type 0
+MovesPosition old byte new = (n : ℕ) (rest : List ℕ) → left old n (byte ∷ rest) ≡ left new n rest
 
 -- a byte that is no blank leads from a place to a place
 abbrev pub MovesPlace : Place → ℕ → Place → Type 0
-MovesPlace old byte new = (spot : Spot) → IsAt old spot → (next : Spot) × IsAt new next × MovesSpot spot byte next
+MovesPlace old byte new = (spot : Position) → IsAt old spot → (next : Position) × IsAt new next × MovesPosition spot byte next
 
 -- bytes lead from a place to a place
 abbrev pub MovesBy : Place → List ℕ → Place → Type 0
-MovesBy old bytes new = (spot : Spot) → IsAt old spot
-    → (next : Spot) × IsAt new next × ((n : ℕ) (rest : List ℕ) → left spot n (bytes ++ rest) ≡ left next n rest)
+MovesBy old bytes new = (spot : Position) → IsAt old spot
+    → (next : Position) × IsAt new next × ((n : ℕ) (rest : List ℕ) → left spot n (bytes ++ rest) ≡ left next n rest)
 
 -- a word may begin here
 abbrev pub BeginsWord : Place → Type 0
@@ -98,8 +98,8 @@ BeginsWord place = ⊥
 
 -- so in a header line, unless the word in hand is then not allowed there
 abbrev pub MovesHeader : HeaderPlace → ℕ → Option HeaderPlace → Type 0
-MovesHeader old byte None = (spot : Spot) → IsAtHeader old spot → MovesSpot spot byte Spoilt
-MovesHeader old byte (Some new) = (spot : Spot) → IsAtHeader old spot → (next : Spot) × IsAtHeader new next × MovesSpot spot byte next
+MovesHeader old byte None = (spot : Position) → IsAtHeader old spot → MovesPosition spot byte Spoilt
+MovesHeader old byte (Some new) = (spot : Position) → IsAtHeader old spot → (next : Position) × IsAtHeader new next × MovesPosition spot byte next
 
 -- a place in a word of only this byte
 abbrev pub Began : ℕ → Place → Type 0
@@ -117,14 +117,14 @@ IsHeldToken (Some t) tokens = (given : Token) × (t ≡ held_token given) × ((n
 
 -- when the line ends at this place, the token in hand is this one, or there is none
 abbrev pub SaysInHand : Option CodeToken → Place → Type 0
-SaysInHand given place = (spot : Spot) → IsAt place spot → IsHeldToken given (in_hand spot)
+SaysInHand given place = (spot : Position) → IsAt place spot → IsHeldToken given (in_hand spot)
 
 -- where a blank inside a line comes at this place, it ends this token, or none
 abbrev pub SaysAtBlank : Option CodeToken → Place → Type 0
-SaysAtBlank given place = (spot : Spot) → IsAt place spot → IsHeldToken given (ended_by_blank spot)
+SaysAtBlank given place = (spot : Position) → IsAt place spot → IsHeldToken given (ended_by_blank spot)
 
 -- the words of a header line that have ended where the one in hand does
-abbrev pub ended_stage : Spot → Option Stage
+abbrev pub ended_stage : Position → Option Stage
 ended_stage (HeaderBetween s) = Some s
 ended_stage (HeaderWithin s x w) = stage_behind s (x ∷ w)
 ended_stage spot = None
@@ -136,7 +136,7 @@ IsStageIf (Some ended) given = (s : Stage) × IsStage ended s × (given ≡ Some
 
 -- the place after a blank that ends no line
 abbrev pub LeadsBehind : Place → Place → Type 0
-LeadsBehind old new = (spot : Spot) → IsAt old spot → IsAt new (behind_blank spot)
+LeadsBehind old new = (spot : Position) → IsAt old spot → IsAt new (behind_blank spot)
 
 -- with no word in hand
 abbrev pub IsQuiet : Place → Type 0
@@ -156,11 +156,11 @@ may_come place = false
 
 -- the place after LF
 abbrev pub LeadsBelow : Place → Place → Type 0
-LeadsBelow old new = (spot : Spot) → IsAt old spot → IsAt new (behind_LF spot)
+LeadsBelow old new = (spot : Position) → IsAt old spot → IsAt new (behind_LF spot)
 
 -- the machine is at a place of a text: `left_of` says what is still to be read, whatever bytes come
 unfoldable pub StandsBefore : Tokenizer → (List ℕ → Scan) → Type 0
-StandsBefore machine left_of = (spot : Spot) × (n : ℕ) × IsAt machine.place spot × (machine.lines ≡ held n)
+StandsBefore machine left_of = (spot : Position) × (n : ℕ) × IsAt machine.place spot × (machine.lines ≡ held n)
     × ((rest : List ℕ) → left_of rest ≡ left spot n rest)
 
 -- what a byte gives: the token that it ended, on the line of this byte, or none

@@ -22,12 +22,12 @@ vars_of [] = 0
 vars_of (c ∷ cs) = max (vars_in c) (vars_of cs)
 
 -- with one clause more, whose variables are covered
-abbrev pub with_clause : List ℕ → Formula → Formula
-with_clause clause f = record { var_count = max f.var_count (vars_in clause); clauses = f.clauses ++ clause ∷ [] }
+abbrev pub with_formula_clause : List ℕ → Formula → Formula
+with_formula_clause clause f = record { var_count = max f.var_count (vars_in clause); clauses = f.clauses ++ clause ∷ [] }
 
 -- with at least this number of variables
-abbrev pub with_count : ℕ → Formula → Formula
-with_count count f = record f { var_count = max f.var_count count }
+abbrev pub with_at_least_vars : ℕ → Formula → Formula
+with_at_least_vars count f = record f { var_count = max f.var_count count }
 
 -- with one variable more, which has the index that was the count
 abbrev pub with_next_variable : Formula → Formula

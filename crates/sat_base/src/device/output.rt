@@ -1,6 +1,6 @@
 //! Bytes on their way to a writer, through a buffer.
 ghost use Rattle.std.specs.Prelude.{◌≡◌, ◌<◌, ◌∷◌, [], is_ok};
-ghost use Rattle.sat_base.specs.device.Sink.{Sends, Flushes, sink_of, empty_sink};
+ghost use Rattle.sat_base.specs.device.Sink.{SendsText, Flushes, sink_of, empty_sink};
 
 use crate::CountedWrite;
 use crate::device::kept_error::{WriteFailed, keep_error};
@@ -32,7 +32,7 @@ impl<W: CountedWrite, P: Room> Output<W, P> {
 
     /// Writes out the pending bytes.
     fn write_out(&mut self) -> Result<(), WriteFailed>
-        ensures sends { Sends [] result (sink_of W.seen P.waiting self.old) (sink_of W.seen P.waiting self.new) }
+        ensures sends { SendsText [] result (sink_of W.seen P.waiting self.old) (sink_of W.seen P.waiting self.new) }
         ensures none { P.waiting self.new.pending ≡ [] }
         ensures size { P.size self.new.pending ≡ P.size self.old.pending }
     {
@@ -44,7 +44,7 @@ impl<W: CountedWrite, P: Room> Output<W, P> {
     /// Puts a byte. If there is no room, the pending bytes are written out first.
     #[inline(always)]
     pub(crate) fn put(&mut self, byte: u8) -> Result<(), WriteFailed>
-        ensures { Sends (byte ∷ []) result (sink_of W.seen P.waiting self.old) (sink_of W.seen P.waiting self.new) }
+        ensures { SendsText (byte ∷ []) result (sink_of W.seen P.waiting self.old) (sink_of W.seen P.waiting self.new) }
     {
         if self.pending.free() == 0 {
             return self.put_behind(byte);
@@ -56,7 +56,7 @@ impl<W: CountedWrite, P: Room> Output<W, P> {
     /// Writes out the pending bytes, and puts a byte.
     fn put_behind(&mut self, byte: u8) -> Result<(), WriteFailed>
         requires { 0 < P.size self.old.pending }
-        ensures { Sends (byte ∷ []) result (sink_of W.seen P.waiting self.old) (sink_of W.seen P.waiting self.new) }
+        ensures { SendsText (byte ∷ []) result (sink_of W.seen P.waiting self.old) (sink_of W.seen P.waiting self.new) }
     {
         self.write_out()?;
         self.pending.push(byte);
@@ -65,7 +65,7 @@ impl<W: CountedWrite, P: Room> Output<W, P> {
 
     /// Puts bytes, or writes them at once if there is no room for them.
     pub(crate) fn put_all(&mut self, bytes: &[u8]) -> Result<(), WriteFailed>
-        ensures { Sends bytes.now result (sink_of W.seen P.waiting self.old) (sink_of W.seen P.waiting self.new) }
+        ensures { SendsText bytes.now result (sink_of W.seen P.waiting self.old) (sink_of W.seen P.waiting self.new) }
     {
         if bytes.len() <= self.pending.free() {
             self.pending.push_all(bytes);
@@ -78,7 +78,7 @@ impl<W: CountedWrite, P: Room> Output<W, P> {
     /// Puts bytes if none are pending, or writes them at once.
     fn put_first(&mut self, bytes: &[u8]) -> Result<(), WriteFailed>
         requires { P.waiting self.old.pending ≡ [] }
-        ensures { Sends bytes.now result (sink_of W.seen P.waiting self.old) (sink_of W.seen P.waiting self.new) }
+        ensures { SendsText bytes.now result (sink_of W.seen P.waiting self.old) (sink_of W.seen P.waiting self.new) }
     {
         if bytes.len() <= self.pending.free() {
             self.pending.push_all(bytes);
@@ -90,7 +90,7 @@ impl<W: CountedWrite, P: Room> Output<W, P> {
 
     /// Writes out the pending bytes, if there are any.
     pub(crate) fn write_rest(&mut self) -> Result<(), WriteFailed>
-        ensures sends { Sends [] result (sink_of W.seen P.waiting self.old) (sink_of W.seen P.waiting self.new) }
+        ensures sends { SendsText [] result (sink_of W.seen P.waiting self.old) (sink_of W.seen P.waiting self.new) }
         ensures none { P.waiting self.new.pending ≡ [] }
         ensures idle { P.waiting self.old.pending ≡ [] → W.seen self.new.writer ≡ W.seen self.old.writer }
     {

@@ -1,7 +1,7 @@
 //! Reading to the end of a reader.
 ghost use Rattle.std.specs.Prelude.{◌≡◌, ◌+◌, ◌<◌, ◌≤◌, ◌++◌, ℕ, List, [], length, IfOk, IfErr, OnOk, IsErrOf};
 ghost use Rattle.std.specs.Io.{ReadsAtMost};
-ghost use Rattle.sat_base.specs.device.Device.{most_reads, ReadFails, ReadsOnce, GaveAll, Grew};
+ghost use Rattle.sat_base.specs.device.Device.{most_reads, ReadFails, ReadsOnce, GaveAll, GaveMore};
 
 use crate::CountedRead;
 use crate::device::ahead::PIECE;
@@ -70,7 +70,7 @@ pub fn read_into<R: CountedRead, F: Feed>(reader: &mut R, taker: &mut F) -> Resu
     requires { F.was_fed taker.old [] }
     ensures gave { OnOk result ((text : List ℕ) × GaveAll (R.seen reader.old) (R.seen reader.new) text
         × F.was_fed taker.new text) }
-    ensures front { Grew (R.seen reader.old) (R.seen reader.new) }
+    ensures front { GaveMore (R.seen reader.old) (R.seen reader.new) }
     ensures kept { OnOk result ((R.seen reader.new).failures ≡ (R.seen reader.old).failures) }
     // No failed read is repeated.
     ensures failed { IsErrOf result ReadError.Failed → ReadFails (R.seen reader.old) (R.seen reader.new) }
@@ -96,7 +96,7 @@ pub fn read_into<R: CountedRead, F: Feed>(reader: &mut R, taker: &mut F) -> Resu
 /// an error, what was read is lost.
 pub fn read_whole<R: CountedRead>(alloc: Global, reader: &mut R) -> Result<Vec<u8>, ReadError>
     ensures gave { IfOk result (λ v. GaveAll (R.seen reader.old) (R.seen reader.new) v.items) }
-    ensures front { Grew (R.seen reader.old) (R.seen reader.new) }
+    ensures front { GaveMore (R.seen reader.old) (R.seen reader.new) }
     ensures kept { OnOk result ((R.seen reader.new).failures ≡ (R.seen reader.old).failures) }
     // No failed read is repeated.
     ensures failed { IsErrOf result ReadError.Failed → ReadFails (R.seen reader.old) (R.seen reader.new) }

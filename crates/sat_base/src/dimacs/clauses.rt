@@ -1,9 +1,9 @@
 //! Clauses from tokens.
 ghost use Rattle.std.specs.Prelude.{◌≡◌, None, MatchResult};
-ghost use Rattle.sat_base.specs.values.Formulas.{no_formula, with_count};
+ghost use Rattle.sat_base.specs.values.Formulas.{no_formula, with_at_least_vars};
 ghost use Rattle.sat_base.specs.dimacs.Dimacs.{Ends, literals_in};
 ghost use Rattle.sat_base.specs.declared.dimacs.clauses.Refusal.TheVariants.{OutOfMemory};
-ghost use Rattle.sat_base.specs.dimacs.Collecting.{token_of, hand_in, is_literal, AllStay, TakesTokenTurn};
+ghost use Rattle.sat_base.specs.dimacs.Collecting.{token_of, hand_in, is_literal, SameClausesAndHeader, TakesTokenTurn};
 ghost use Rattle.sat_base.specs.dimacs.Collecting.{CollectsToken, IsInside};
 
 use crate::var::MAX_COUNT;
@@ -85,7 +85,7 @@ impl Clauses {
     /// Ends the clause in hand, at a zero.
     fn end_clause(&mut self) -> Result<(), Refusal>
         ensures { MatchResult result (λ _. TakesTokenTurn (Ends (literals_in (hand_in self.old))) self.old self.new
-            × (self.new.header ≡ self.old.header)) (λ e. (e ≡ OutOfMemory) × AllStay self.old self.new) }
+            × (self.new.header ≡ self.old.header)) (λ e. (e ≡ OutOfMemory) × SameClausesAndHeader self.old self.new) }
     {
         self.formula.add_clause(&self.hand)?;
         self.hand.clear();
@@ -130,7 +130,7 @@ impl Clauses {
     /// Takes the clauses. The next ones are collected in a formula that has as many variables already.
     pub(crate) fn take_formula(&mut self, alloc: Global) -> CnfFormula
         ensures formula { result ≡ self.old.formula }
-        ensures rest { self.new ≡ record self.old { formula = with_count self.old.formula.var_count no_formula } }
+        ensures rest { self.new ≡ record self.old { formula = with_at_least_vars self.old.formula.var_count no_formula } }
     {
         let mut next = CnfFormula::new(alloc);
         next.set_var_count(self.formula.var_count());

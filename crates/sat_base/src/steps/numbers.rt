@@ -2,7 +2,7 @@
 ghost use Rattle.std.specs.Prelude.{◌≡◌, ◌+◌, ◌++◌, ◌-◌, ◌*◌, ◌^◌, ◌<◌, ◌≤◌, ℕ, Some, None, OnOk, length};
 ghost use Rattle.sat_base.specs.device.Reading.{ReadsFromInput};
 ghost use Rattle.sat_base.specs.device.TakenAhead.{TakesNumber, StandsBetween};
-ghost use Rattle.sat_base.specs.device.Sink.{Sends, sink_of};
+ghost use Rattle.sat_base.specs.device.Sink.{SendsText, sink_of};
 ghost use Rattle.sat_base.specs.steps.StepBytes.{number_bytes};
 ghost use Rattle.sat_base.specs.steps.Numbers.{IsBelow};
 
@@ -223,7 +223,7 @@ impl<W: CountedWrite, P: Room> Output<W, P> {
     /// Puts the bytes of a number. If there is room for the longest number, it is not tested for every byte.
     #[inline(always)] // each literal and each hash goes through it
     pub(super) fn put_number(&mut self, number: u64) -> Result<(), WriteFailed>
-        ensures { Sends (number_bytes number) result (sink_of W.seen P.waiting self.old)
+        ensures { SendsText (number_bytes number) result (sink_of W.seen P.waiting self.old)
             (sink_of W.seen P.waiting self.new) }
     {
         if self.pending.free() < LONGEST {
@@ -236,7 +236,7 @@ impl<W: CountedWrite, P: Room> Output<W, P> {
     /// Puts a number byte by byte: pending bytes may have to be written out before one of them.
     #[inline(never)] // so that numbers for which there is room pay nothing for it
     fn put_by_bytes(&mut self, number: u64) -> Result<(), WriteFailed>
-        ensures { Sends (number_bytes number) result (sink_of W.seen P.waiting self.old)
+        ensures { SendsText (number_bytes number) result (sink_of W.seen P.waiting self.old)
             (sink_of W.seen P.waiting self.new) }
     {
         let mut rest = number;

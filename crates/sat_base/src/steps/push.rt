@@ -1,7 +1,7 @@
 //! Steps for whose bytes there is room among the pending ones: they call no writer, and have no error.
 ghost use Rattle.std.specs.Prelude.{◌≡◌, ◌+◌, ◌*◌, ◌≤◌, length, true, false};
-ghost use Rattle.sat_base.specs.device.Sink.{Sent, sink_of};
-ghost use Rattle.sat_base.specs.device.Waiting.{HasRoomFor, Takes};
+ghost use Rattle.sat_base.specs.device.Sink.{AddsToSink, sink_of};
+ghost use Rattle.sat_base.specs.device.Waiting.{HasByteRoom, UsesRoom};
 ghost use Rattle.sat_base.specs.steps.Spellings as spelling;
 ghost use Rattle.sat_base.specs.steps.StepBytes.{number_bytes, items_in};
 ghost use Rattle.sat_base.specs.steps.StepViews.{step_of, deletion_of};
@@ -40,10 +40,10 @@ impl<W: CountedWrite, P: Room> Output<W, P> {
     /// Pushes a number.
     #[inline(always)]
     fn push_one(&mut self, number: u64)
-        requires { HasRoomFor 10 P.waiting P.size self.old.pending }
-        ensures sends { Sent (sink_of W.seen P.waiting self.old) (sink_of W.seen P.waiting self.new)
+        requires { HasByteRoom 10 P.waiting P.size self.old.pending }
+        ensures sends { AddsToSink (sink_of W.seen P.waiting self.old) (sink_of W.seen P.waiting self.new)
             (number_bytes number) }
-        ensures room { Takes 10 P.waiting P.size self.old.pending self.new.pending }
+        ensures room { UsesRoom 10 P.waiting P.size self.old.pending self.new.pending }
     {
         push_number(&mut self.pending, number);
     }
@@ -51,9 +51,9 @@ impl<W: CountedWrite, P: Room> Output<W, P> {
     /// Pushes a variable.
     #[inline(always)]
     fn push_variable(&mut self, var: Var)
-        requires { HasRoomFor 10 P.waiting P.size self.old.pending }
+        requires { HasByteRoom 10 P.waiting P.size self.old.pending }
         ensures sends { spelling.Pushes spelling.a_variable var W.seen P.waiting self.old self.new }
-        ensures room { Takes 10 P.waiting P.size self.old.pending self.new.pending }
+        ensures room { UsesRoom 10 P.waiting P.size self.old.pending self.new.pending }
     {
         self.push_one(var.index() as u64);
     }
@@ -61,9 +61,9 @@ impl<W: CountedWrite, P: Room> Output<W, P> {
     /// Pushes a variable or none.
     #[inline(always)]
     fn push_optional(&mut self, var: Option<Var>)
-        requires { HasRoomFor 10 P.waiting P.size self.old.pending }
+        requires { HasByteRoom 10 P.waiting P.size self.old.pending }
         ensures sends { spelling.Pushes spelling.an_optional_variable var W.seen P.waiting self.old self.new }
-        ensures room { Takes 10 P.waiting P.size self.old.pending self.new.pending }
+        ensures room { UsesRoom 10 P.waiting P.size self.old.pending self.new.pending }
     {
         match var {
             None => self.push_one(0),
@@ -74,9 +74,9 @@ impl<W: CountedWrite, P: Room> Output<W, P> {
     /// Pushes a flag.
     #[inline(always)]
     fn push_flag(&mut self, flag: bool)
-        requires { HasRoomFor 10 P.waiting P.size self.old.pending }
+        requires { HasByteRoom 10 P.waiting P.size self.old.pending }
         ensures sends { spelling.Pushes spelling.a_flag flag W.seen P.waiting self.old self.new }
-        ensures room { Takes 10 P.waiting P.size self.old.pending self.new.pending }
+        ensures room { UsesRoom 10 P.waiting P.size self.old.pending self.new.pending }
     {
         if flag {
             self.push_one(1)
@@ -88,9 +88,9 @@ impl<W: CountedWrite, P: Room> Output<W, P> {
     /// Pushes a number of bits.
     #[inline(always)]
     fn push_width(&mut self, bits: HashBits)
-        requires { HasRoomFor 10 P.waiting P.size self.old.pending }
+        requires { HasByteRoom 10 P.waiting P.size self.old.pending }
         ensures sends { spelling.Pushes spelling.a_width bits W.seen P.waiting self.old self.new }
-        ensures room { Takes 10 P.waiting P.size self.old.pending self.new.pending }
+        ensures room { UsesRoom 10 P.waiting P.size self.old.pending self.new.pending }
     {
         self.push_one(bits.get() as u64);
     }
@@ -98,9 +98,9 @@ impl<W: CountedWrite, P: Room> Output<W, P> {
     /// Pushes why a clause is deleted.
     #[inline(always)]
     fn push_deletion(&mut self, proof: DeleteClauseProof)
-        requires { HasRoomFor 10 P.waiting P.size self.old.pending }
+        requires { HasByteRoom 10 P.waiting P.size self.old.pending }
         ensures sends { spelling.Pushes spelling.a_deletion (deletion_of proof) W.seen P.waiting self.old self.new }
-        ensures room { Takes 10 P.waiting P.size self.old.pending self.new.pending }
+        ensures room { UsesRoom 10 P.waiting P.size self.old.pending self.new.pending }
     {
         match proof {
             DeleteClauseProof::Redundant => self.push_one(0),
@@ -112,9 +112,9 @@ impl<W: CountedWrite, P: Room> Output<W, P> {
     /// Pushes a list of literals.
     #[inline(always)]
     fn push_literals(&mut self, lits: &[Lit])
-        requires { HasRoomFor (10 * (length lits.now + 1)) P.waiting P.size self.old.pending }
+        requires { HasByteRoom (10 * (length lits.now + 1)) P.waiting P.size self.old.pending }
         ensures sends { spelling.Pushes spelling.literals lits.now W.seen P.waiting self.old self.new }
-        ensures room { Takes (10 * (length lits.now + 1)) P.waiting P.size self.old.pending self.new.pending }
+        ensures room { UsesRoom (10 * (length lits.now + 1)) P.waiting P.size self.old.pending self.new.pending }
     {
         self.push_one(lits.len() as u64);
         for lit in lits {
@@ -125,9 +125,9 @@ impl<W: CountedWrite, P: Room> Output<W, P> {
     /// Pushes a list of hashes.
     #[inline(always)]
     fn push_hashes(&mut self, hashes: &[ClauseHash])
-        requires { HasRoomFor (10 * (length hashes.now + 1)) P.waiting P.size self.old.pending }
+        requires { HasByteRoom (10 * (length hashes.now + 1)) P.waiting P.size self.old.pending }
         ensures sends { spelling.Pushes spelling.hashes hashes.now W.seen P.waiting self.old self.new }
-        ensures room { Takes (10 * (length hashes.now + 1)) P.waiting P.size self.old.pending self.new.pending }
+        ensures room { UsesRoom (10 * (length hashes.now + 1)) P.waiting P.size self.old.pending self.new.pending }
     {
         self.push_one(hashes.len() as u64);
         for hash in hashes {
@@ -138,10 +138,10 @@ impl<W: CountedWrite, P: Room> Output<W, P> {
     /// Pushes a literal and its hash.
     #[inline(always)]
     fn push_unit(&mut self, unit: (Lit, ClauseHash))
-        requires { HasRoomFor 20 P.waiting P.size self.old.pending }
+        requires { HasByteRoom 20 P.waiting P.size self.old.pending }
         ensures sends { spelling.Pushes (spelling.both spelling.a_literal spelling.a_hash) unit W.seen P.waiting
             self.old self.new }
-        ensures room { Takes 20 P.waiting P.size self.old.pending self.new.pending }
+        ensures room { UsesRoom 20 P.waiting P.size self.old.pending self.new.pending }
     {
         let (lit, hash) = unit;
         self.push_one(lit.code() as u64);
@@ -150,9 +150,9 @@ impl<W: CountedWrite, P: Room> Output<W, P> {
 
     /// Pushes a list of units.
     fn push_units(&mut self, units: &[(Lit, ClauseHash)])
-        requires { HasRoomFor (20 * length units.now + 10) P.waiting P.size self.old.pending }
+        requires { HasByteRoom (20 * length units.now + 10) P.waiting P.size self.old.pending }
         ensures sends { spelling.Pushes spelling.units units.now W.seen P.waiting self.old self.new }
-        ensures room { Takes (20 * length units.now + 10) P.waiting P.size self.old.pending self.new.pending }
+        ensures room { UsesRoom (20 * length units.now + 10) P.waiting P.size self.old.pending self.new.pending }
     {
         self.push_one(units.len() as u64);
         for unit in units {
@@ -163,7 +163,7 @@ impl<W: CountedWrite, P: Room> Output<W, P> {
     /// Pushes a variable, and another or none.
     #[inline(always)]
     fn push_variables(&mut self, first: Var, second: Option<Var>)
-        requires { HasRoomFor 20 P.waiting P.size self.old.pending }
+        requires { HasByteRoom 20 P.waiting P.size self.old.pending }
         ensures { spelling.Pushes spelling.variables (first, second) W.seen P.waiting self.old self.new }
     {
         self.push_variable(first);
@@ -173,7 +173,7 @@ impl<W: CountedWrite, P: Room> Output<W, P> {
     /// Pushes a variable, and whether it is sampled.
     #[inline(always)]
     fn push_mode(&mut self, var: Var, sample: bool)
-        requires { HasRoomFor 20 P.waiting P.size self.old.pending }
+        requires { HasByteRoom 20 P.waiting P.size self.old.pending }
         ensures { spelling.Pushes spelling.a_mode (var, sample) W.seen P.waiting self.old self.new }
     {
         self.push_variable(var);
@@ -183,7 +183,7 @@ impl<W: CountedWrite, P: Room> Output<W, P> {
     /// Pushes a list of literals, and then one of hashes.
     #[inline(always)]
     fn push_both_lists(&mut self, lits: &[Lit], hashes: &[ClauseHash])
-        requires { HasRoomFor (10 * (length lits.now + length hashes.now + 2)) P.waiting P.size self.old.pending }
+        requires { HasByteRoom (10 * (length lits.now + length hashes.now + 2)) P.waiting P.size self.old.pending }
         ensures { spelling.Pushes spelling.both_lists (lits.now, hashes.now) W.seen P.waiting self.old self.new }
     {
         self.push_literals(lits);
@@ -193,7 +193,7 @@ impl<W: CountedWrite, P: Room> Output<W, P> {
     /// Pushes a derived clause.
     #[inline(always)]
     fn push_derived(&mut self, redundant: bool, clause: &[Lit], hashes: &[ClauseHash])
-        requires { HasRoomFor (10 * (length clause.now + length hashes.now + 3)) P.waiting P.size self.old.pending }
+        requires { HasByteRoom (10 * (length clause.now + length hashes.now + 3)) P.waiting P.size self.old.pending }
         ensures { spelling.Pushes spelling.a_derived (redundant, (clause.now, hashes.now)) W.seen P.waiting self.old
             self.new }
     {
@@ -204,7 +204,7 @@ impl<W: CountedWrite, P: Room> Output<W, P> {
     /// Pushes a clause, and why it is deleted.
     #[inline(always)]
     fn push_deleted(&mut self, clause: &[Lit], proof: DeleteClauseProof)
-        requires { HasRoomFor (10 * (length clause.now + 2)) P.waiting P.size self.old.pending }
+        requires { HasByteRoom (10 * (length clause.now + 2)) P.waiting P.size self.old.pending }
         ensures { spelling.Pushes spelling.a_deleted (clause.now, deletion_of proof) W.seen P.waiting self.old
             self.new }
     {
@@ -215,7 +215,7 @@ impl<W: CountedWrite, P: Room> Output<W, P> {
     /// Pushes the fields of a step.
     #[inline(always)]
     fn push_fields(&mut self, step: &ProofStep<'_>)
-        requires { HasRoomFor (10 * (items_in (step_of step.now) + 3)) P.waiting P.size self.old.pending }
+        requires { HasByteRoom (10 * (items_in (step_of step.now) + 3)) P.waiting P.size self.old.pending }
         ensures { spelling.Pushes spelling.fields (step_of step.now) W.seen P.waiting self.old self.new }
     {
         match *step {
@@ -246,7 +246,7 @@ impl<W: CountedWrite, P: Room> Output<W, P> {
     /// three numbers and its tag.
     #[inline(always)]
     fn has_room(&self, step: &ProofStep<'_>) -> bool
-        ensures { result ≡ true → HasRoomFor (10 * (items_in (step_of step.now) + 4)) P.waiting P.size
+        ensures { result ≡ true → HasByteRoom (10 * (items_in (step_of step.now) + 4)) P.waiting P.size
             self.now.pending }
     {
         let spare = self.pending.free() / LONGEST;
@@ -257,7 +257,7 @@ impl<W: CountedWrite, P: Room> Output<W, P> {
     /// Pushes the bytes of a step, for which there is room.
     #[inline(always)]
     fn push_step(&mut self, step: &ProofStep<'_>)
-        requires { HasRoomFor (10 * (items_in (step_of step.now) + 4)) P.waiting P.size self.old.pending }
+        requires { HasByteRoom (10 * (items_in (step_of step.now) + 4)) P.waiting P.size self.old.pending }
         ensures { spelling.Pushes spelling.a_step (step_of step.now) W.seen P.waiting self.old self.new }
     {
         self.pending.push(tag(step));

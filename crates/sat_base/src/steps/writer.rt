@@ -1,7 +1,7 @@
 //! Writing proof steps.
 ghost use Rattle.std.specs.Prelude.{◌≡◌, [], OnOk, true, false};
-ghost use Rattle.sat_base.specs.device.Device.{Puts};
-ghost use Rattle.sat_base.specs.device.Sink.{Sends, Sent, Flushes, empty_sink};
+ghost use Rattle.sat_base.specs.device.Device.{WritesText};
+ghost use Rattle.sat_base.specs.device.Sink.{SendsText, AddsToSink, Flushes, empty_sink};
 ghost use Rattle.sat_base.specs.steps.StepBytes.{step_bytes};
 ghost use Rattle.sat_base.specs.steps.StepText.{SpellsStep};
 ghost use Rattle.sat_base.specs.steps.StepViews.{step_of};
@@ -36,7 +36,7 @@ impl<W: CountedWrite> StepWriter<W> {
     /// Writes a step. After an error, a prefix of the pending bytes and of those of the step may have been written, and
     /// no bytes are pending.
     pub fn write(&mut self, step: &ProofStep<'_>) -> io::Result<()>
-        ensures sends { Sends (step_bytes (step_of step.now)) result (steps_sink W.seen self.old)
+        ensures sends { SendsText (step_bytes (step_of step.now)) result (steps_sink W.seen self.old)
             (steps_sink W.seen self.new) }
         ensures spells { OnOk result (SpellsStep (step_of step.now) (step_bytes (step_of step.now))) }
     {
@@ -51,7 +51,7 @@ impl<W: CountedWrite> StepWriter<W> {
     /// writer.
     #[inline(always)] // so that a caller's step needs no space in memory
     pub fn try_write(&mut self, step: &ProofStep<'_>) -> bool
-        ensures sends { result ≡ true → Sent (steps_sink W.seen self.old) (steps_sink W.seen self.new)
+        ensures sends { result ≡ true → AddsToSink (steps_sink W.seen self.old) (steps_sink W.seen self.new)
             (step_bytes (step_of step.now)) }
         ensures spells { result ≡ true → SpellsStep (step_of step.now) (step_bytes (step_of step.now)) }
         ensures stays { result ≡ false → self.new ≡ self.old }
@@ -69,7 +69,7 @@ impl<W: CountedWrite> StepWriter<W> {
 
     /// Writes out the pending bytes, if there are any. Returns the writer, and whether that succeeded.
     pub fn into_inner(self) -> (W, io::Result<()>)
-        ensures puts { Puts (steps_sink W.seen self).waiting result.1 (steps_sink W.seen self).writer
+        ensures puts { WritesText (steps_sink W.seen self).waiting result.1 (steps_sink W.seen self).writer
             (W.seen result.0) }
         ensures idle { (steps_sink W.seen self).waiting ≡ [] → W.seen result.0 ≡ (steps_sink W.seen self).writer }
     {
@@ -91,7 +91,7 @@ impl<W: CountedWrite> StepWriter<W> {
 /// Writes the bytes of a step, in pieces of 64 bytes, so that most steps take one write. Does not allocate. After an
 /// error a prefix of the bytes may have been written.
 pub fn write_step<W: CountedWrite>(writer: &mut W, step: &ProofStep<'_>) -> io::Result<()>
-    ensures puts { Puts (step_bytes (step_of step.now)) result (W.seen writer.old) (W.seen writer.new) }
+    ensures puts { WritesText (step_bytes (step_of step.now)) result (W.seen writer.old) (W.seen writer.new) }
     ensures spells { OnOk result (SpellsStep (step_of step.now) (step_bytes (step_of step.now))) }
 {
     let mut output: Output<&mut W, Pending<SHORT_PIECE>> = Output::new(writer, Pending::new());

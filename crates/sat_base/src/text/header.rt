@@ -1,7 +1,7 @@
 //! Places in a header line, `p cnf` and two numbers.
 ghost use Rattle.std.specs.Prelude.{◌≡◌, false};
 ghost use Rattle.sat_base.specs.text.Text.{is_blank};
-ghost use Rattle.sat_base.specs.text.Spot.{Spot};
+ghost use Rattle.sat_base.specs.text.Position.{Position};
 ghost use Rattle.sat_base.specs.text.Tokenizing.{BeganHeader, MovesHeader, IsAtHeader, IsStageIf, ended_stage};
 
 use super::{grown, is_digit};
@@ -117,7 +117,7 @@ pub(crate) fn next_in_header(place: HeaderPlace, byte: u8) -> Option<HeaderPlace
 
 /// Returns the words that have ended if the one in hand ends here, if it is allowed then.
 pub(crate) fn ended_in(place: HeaderPlace) -> Option<Stage>
-    ensures { (spot : Spot) → IsAtHeader place spot → IsStageIf result (ended_stage spot) }
+    ensures { (spot : Position) → IsAtHeader place spot → IsStageIf result (ended_stage spot) }
 {
     match place {
         HeaderPlace::Between(ended) => Some(ended),

@@ -1,4 +1,4 @@
-pub mod Told
+pub mod Notices
 pub mod Clauses
 pub mod Others
 pub mod Sorted

@@ -38,10 +38,10 @@ is_sample Witness = false
 is_sample Hide = false
 
 -- whether a variable of this mode is a witness; a hidden one isn't
-abbrev pub is_witness : Mode → Bool
-is_witness Sample = false
-is_witness Witness = true
-is_witness Hide = false
+abbrev pub has_witness_mode : Mode → Bool
+has_witness_mode Sample = false
+has_witness_mode Witness = true
+has_witness_mode Hide = false
 
 -- a variable gets a name
 abbrev pub naming : ℕ → ℕ → Variable → List Announcement
@@ -56,7 +56,7 @@ renaming v None x = UserVar v None ∷ []
 abbrev pub mode_change : ℕ → Bool → Mode → Option ℕ → List Announcement
 mode_change v sampling mode None = []
 mode_change v sampling mode (Some name) =
-    if (if sampling then is_sample mode else is_witness mode) then [] else UserVar v (Some (record { name = name; sampling = sampling; is_new = false })) ∷ []
+    if (if sampling then is_sample mode else has_witness_mode mode) then [] else UserVar v (Some (record { name = name; sampling = sampling; is_new = false })) ∷ []
 
 -- the id of a clause that was found
 abbrev pub id_of : Option StoredClause → Option ℕ
@@ -150,19 +150,19 @@ abbrev pub delayed : Stored → List Announcement
 delayed f = delayed_by f.next_id f.conflict
 
 -- An announcement, and the variables that can be looked up meanwhile: those from before the step.
-pub record Told : Type 0 where
+pub record Notice : Type 0 where
   pub announcement : Announcement
   pub variables : ℕ → Variable
 
 -- announcements, all with the variables of what is stored
-abbrev pub told_over : Stored → List Announcement → List Told
-told_over f = map (λ a. record { announcement = a; variables = f.variables })
+abbrev pub notices_over : Stored → List Announcement → List Notice
+notices_over f = map (λ a. record { announcement = a; variables = f.variables })
 
 -- What is announced of accepted steps, in order. The empty clause of a unit conflict comes before the next step.
-abbrev pub told_after : List Step → List Told
-told_after [] = []
-told_after (step ∷ earlier) = told_after earlier ++ told_over (stored_after earlier) (delayed (stored_after earlier)) ++ told_over (ready_after earlier) (announced (ready_after earlier) step)
+abbrev pub notices_after : List Step → List Notice
+notices_after [] = []
+notices_after (step ∷ earlier) = notices_after earlier ++ notices_over (stored_after earlier) (delayed (stored_after earlier)) ++ notices_over (ready_after earlier) (announced (ready_after earlier) step)
 
 -- what is announced once nothing is delayed any more, which is all that a refused step announces
-abbrev pub all_told_after : List Step → List Told
-all_told_after steps = told_after steps ++ told_over (stored_after steps) (delayed (stored_after steps))
+abbrev pub all_notices_after : List Step → List Notice
+all_notices_after steps = notices_after steps ++ notices_over (stored_after steps) (delayed (stored_after steps))

@@ -7,7 +7,7 @@ use Rattle.sat_checker.specs.Storing.{unit_id}
 use Rattle.sat_checker.specs.inner.Walk.{Verdict, falsified, opens, rests, verdict}
 
 -- What a conflict rests on, followed backwards: true literals, and the clauses needed, in the order passed, the falsified one last.
-pub record Ground : Type 0 where
+pub record ConflictCauses : Type 0 where
   pub literals : List ℕ
   pub clauses : List StoredClause
 
@@ -16,20 +16,20 @@ abbrev pub others_denied : ℕ → List ℕ → List ℕ
 others_denied l clause = map negated (filter (λ m. not (m == l)) clause)
 
 -- A clause that implied a literal is needed if the literal is; then so are the negations of its other literals.
-abbrev pub with_reason : ℕ → StoredClause → Ground → Ground
-with_reason l c g =
+abbrev pub with_cause : ℕ → StoredClause → ConflictCauses → ConflictCauses
+with_cause l c g =
     if is_among g.literals l then record { literals = others_denied l c.literals ++ g.literals; clauses = c ∷ g.clauses } else g
 
 -- by what a clause is: falsified, it is the conflict; unit, its open literal is true for the clauses after it
-abbrev pub ground_by : Verdict → StoredClause → List ℕ → (List ℕ → Ground) → Ground
-ground_by falsified c assumed behind = record { literals = map negated c.literals; clauses = c ∷ [] }
-ground_by (opens l) c assumed behind = with_reason l c (behind (l ∷ assumed))
-ground_by rests c assumed behind = behind assumed
+abbrev pub causes_by : Verdict → StoredClause → List ℕ → (List ℕ → ConflictCauses) → ConflictCauses
+causes_by falsified c assumed behind = record { literals = map negated c.literals; clauses = c ∷ [] }
+causes_by (opens l) c assumed behind = with_cause l c (behind (l ∷ assumed))
+causes_by rests c assumed behind = behind assumed
 
 -- what the first conflict of these clauses rests on, if every clause that is unit in its turn is used
-abbrev pub ground : List ℕ → List StoredClause → Ground
-ground assumed [] = record { literals = []; clauses = [] }
-ground assumed (c ∷ cs) = ground_by (verdict assumed c.literals) c assumed (λ more. ground more cs)
+abbrev pub conflict_causes : List ℕ → List StoredClause → ConflictCauses
+conflict_causes assumed [] = record { literals = []; clauses = [] }
+conflict_causes assumed (c ∷ cs) = causes_by (verdict assumed c.literals) c assumed (λ more. conflict_causes more cs)
 
 -- the stored clauses of the named buckets, in the order named and by id in every bucket
 abbrev pub clauses_named : List ℕ → Stored → List StoredClause
@@ -37,11 +37,11 @@ clauses_named [] f = []
 clauses_named (hash ∷ hashes) f = filter (λ c. hash_by f.solver_names f.width c.literals == hash) f.clauses ++ clauses_named hashes f
 
 -- the units needed, by increasing id: not those that the negated clause holds
-abbrev pub needed_units : List ℕ → Ground → List StoredUnit → List StoredUnit
+abbrev pub needed_units : List ℕ → ConflictCauses → List StoredUnit → List StoredUnit
 needed_units denied g = filter (λ u. is_among g.literals u.literal && not (is_among denied u.literal))
 
 -- the ids of the units needed, and then those of the clauses needed
-abbrev pub conflict_ids : List ℕ → Ground → List StoredUnit → List ℕ
+abbrev pub conflict_ids : List ℕ → ConflictCauses → List StoredUnit → List ℕ
 conflict_ids denied g units = map (λ u. u.id) (needed_units denied g units) ++ map (λ c. c.id) g.clauses
 
 -- this one, or the other if it is none
@@ -63,4 +63,4 @@ unit_alone None ids = ids
 abbrev pub propagations : Stored → List ℕ → List ℕ → List ℕ
 propagations f clause hashes =
     let denied : List ℕ = map negated clause in
-    if is_tautology clause then [] else unit_alone (true_unit (canonical clause) f.units) (conflict_ids denied (ground (denied ++ unit_literals f) (clauses_named hashes f)) f.units)
+    if is_tautology clause then [] else unit_alone (true_unit (canonical clause) f.units) (conflict_ids denied (conflict_causes (denied ++ unit_literals f) (clauses_named hashes f)) f.units)

@@ -9,8 +9,8 @@ use Rattle.sat_checker.specs.Propagation.{IsFalsified, IsUnit, UnitInTurn}
 use Rattle.sat_checker.specs.Stored.{StoredClause, StoredUnit, Last, Empty, Stored, unit_literals}
 use Rattle.sat_checker.specs.Storing.{with_units}
 use Rattle.sat_checker.specs.Accepts.{PassesByHashes, Accepts, AcceptsAll, stored_after, ready_after}
-use Rattle.sat_checker.specs.announcements.Needed.{Ground, ground, clauses_named, conflict_ids, true_unit, propagations}
-use Rattle.sat_checker.specs.announcements.Announcements.{Announcement, AddClause, AtClause, one, last_id, announced, delayed, Told, told_over, told_after, all_told_after}
+use Rattle.sat_checker.specs.announcements.Needed.{ConflictCauses, conflict_causes, clauses_named, conflict_ids, true_unit, propagations}
+use Rattle.sat_checker.specs.announcements.Announcements.{Announcement, AddClause, AtClause, one, last_id, announced, delayed, Notice, notices_over, notices_after, all_notices_after}
 
 -- it's in the list
 abbrev pub IsOneOf : {A : Type 0} → A → List A → Type 0
@@ -38,12 +38,12 @@ pub record Reason : Type 0 where
   pub literal : ℕ
 
 -- Clauses are passed in order, under assumed literals, up to a conflict: the first that is falsified is the conflict, one that is unit in its turn makes its literal true from there on, and any other is passed over.
-pub data Passing : List ℕ → List StoredClause → List Reason → StoredClause → Type 0 where
-  is_conflict : (assumed : List ℕ) (c : StoredClause) (cs : List StoredClause) → IsFalsified assumed c.literals → Passing assumed (c ∷ cs) [] c
+pub data ClauseWalk : List ℕ → List StoredClause → List Reason → StoredClause → Type 0 where
+  is_conflict : (assumed : List ℕ) (c : StoredClause) (cs : List StoredClause) → IsFalsified assumed c.literals → ClauseWalk assumed (c ∷ cs) [] c
   is_unit : (assumed : List ℕ) (c : StoredClause) (cs : List StoredClause) (l : ℕ) (reasons : List Reason) (last : StoredClause) →
-      IsUnit assumed c.literals l → Passing (l ∷ assumed) cs reasons last → Passing assumed (c ∷ cs) (record { clause = c; literal = l } ∷ reasons) last
+      IsUnit assumed c.literals l → ClauseWalk (l ∷ assumed) cs reasons last → ClauseWalk assumed (c ∷ cs) (record { clause = c; literal = l } ∷ reasons) last
   is_neither : (assumed : List ℕ) (c : StoredClause) (cs : List StoredClause) (reasons : List Reason) (last : StoredClause) →
-      (IsFalsified assumed c.literals → ⊥) → ((l : ℕ) → IsUnit assumed c.literals l → ⊥) → Passing assumed cs reasons last → Passing assumed (c ∷ cs) reasons last
+      (IsFalsified assumed c.literals → ⊥) → ((l : ℕ) → IsUnit assumed c.literals l → ⊥) → ClauseWalk assumed cs reasons last → ClauseWalk assumed (c ∷ cs) reasons last
 
 -- The literals that a conflict rests on, followed backwards: the negations of the falsified clause's literals, and if a clause implied one of them, those of its other literals.
 pub data IsNeededLiteral (reasons : List Reason) (last : StoredClause) : ℕ → Type 0 where
@@ -51,10 +51,10 @@ pub data IsNeededLiteral (reasons : List Reason) (last : StoredClause) : ℕ →
   of_reason : (r : Reason) (l : ℕ) → IsOneOf r reasons → IsNeededLiteral reasons last r.literal → is_among r.clause.literals l ≡ true → l ≢ r.literal → IsNeededLiteral reasons last (negated l)
 
 -- just those literals, and just the clauses that made one of them true, in the order passed, the falsified one last
-pub record IsGround (assumed : List ℕ) (cs : List StoredClause) (g : Ground) : Type 0 where
+pub record IsConflictCauses (assumed : List ℕ) (cs : List StoredClause) (g : ConflictCauses) : Type 0 where
   pub reasons : List Reason
   pub last : StoredClause
-  pub passing : Passing assumed cs reasons last
+  pub passing : ClauseWalk assumed cs reasons last
   pub literals : (m : ℕ) → (is_among g.literals m ≡ true) ↔ IsNeededLiteral reasons last m
   pub clauses : g.clauses ≡ map (λ r. r.clause) (filter (λ r. is_among g.literals r.literal) reasons) ++ last ∷ []
 
@@ -64,7 +64,7 @@ ConflictIsFollowedBackwards = (steps : List Step) (front clause hashes : List �
     is_tautology clause ≡ false → list_any (is_among (unit_literals (with_units front (ready_after steps)))) clause ≡ false →
     (let f : Stored = with_units front (ready_after steps) in
     let assumed : List ℕ = map negated clause ++ unit_literals f in
-    (propagations f clause hashes ≡ conflict_ids (map negated clause) (ground assumed (clauses_named hashes f)) f.units) × IsGround assumed (clauses_named hashes f) (ground assumed (clauses_named hashes f)))
+    (propagations f clause hashes ≡ conflict_ids (map negated clause) (conflict_causes assumed (clauses_named hashes f)) f.units) × IsConflictCauses assumed (clauses_named hashes f) (conflict_causes assumed (clauses_named hashes f)))
 
 -- one with both signs of a variable rests on nothing
 abbrev pub TautologiesRestOnNothing : Type 0
@@ -81,9 +81,9 @@ DeletionsRest = (steps : List Step) (clause : List ℕ) → AcceptsAll steps →
     × (Accepts (ready_after steps) (DeleteClause clause Simplified) → IsNoEmpty (ready_after steps).last → RestsOn (ready_after steps) clause (one (last_id (ready_after steps).last)))
 
 -- what a step announces comes after all that was announced or delayed before it, and what was delayed is announced once
-abbrev pub ToldInOrder : Type 0
-ToldInOrder = (steps : List Step) (step : Step) →
-    (told_after (step ∷ steps) ≡ all_told_after steps ++ told_over (ready_after steps) (announced (ready_after steps) step)) × (delayed (ready_after steps) ≡ [])
+abbrev pub NoticesInOrder : Type 0
+NoticesInOrder = (steps : List Step) (step : Step) →
+    (notices_after (step ∷ steps) ≡ all_notices_after steps ++ notices_over (ready_after steps) (announced (ready_after steps) step)) × (delayed (ready_after steps) ≡ [])
 
 -- the clause was announced under this id: as one of the formula, or as a derived one
 abbrev pub IsAnnouncedAs : ℕ → List ℕ → Announcement → Type 0
@@ -92,11 +92,11 @@ IsAnnouncedAs id clause (AtClause i redundant ls ids) = (i ≡ id) × (ls ≡ cl
 IsAnnouncedAs id clause other = ⊥
 
 -- one of these announcements is of the clause, under this id
-abbrev pub IsAnnounced : ℕ → List ℕ → List Told → Type 0
-IsAnnounced id clause told = (t : Told) × IsOneOf t told × IsAnnouncedAs id clause t.announcement
+abbrev pub IsAnnounced : ℕ → List ℕ → List Notice → Type 0
+IsAnnounced id clause told = (t : Notice) × IsOneOf t told × IsAnnouncedAs id clause t.announcement
 
 -- What is stored was announced under its id, an empty clause too that is the last irredundant one. A unit conflict is one of a stored unit and of one that was announced as its negation.
-pub record AreAnnounced (f : Stored) (told : List Told) : Type 0 where
+pub record AreAnnounced (f : Stored) (told : List Notice) : Type 0 where
   pub clauses : AllByRecursion (λ c. IsAnnounced c.id c.literals told) f.clauses
   pub units : AllByRecursion (λ u. IsAnnounced u.id (u.literal ∷ []) told) f.units
   pub last : (id : ℕ) → f.last ≡ Empty id → IsAnnounced id [] told
@@ -104,14 +104,14 @@ pub record AreAnnounced (f : Stored) (told : List Told) : Type 0 where
 
 -- whatever the steps, accepted or not
 abbrev pub IdsAreAnnounced : Type 0
-IdsAreAnnounced = (steps : List Step) → AreAnnounced (stored_after steps) (told_after steps)
+IdsAreAnnounced = (steps : List Step) → AreAnnounced (stored_after steps) (notices_after steps)
 
 -- the empty clause of a unit conflict names two units that were announced, one the negation of the other
 abbrev pub ConflictIsAnnounced : Type 0
 ConflictIsAnnounced = (steps : List Step) (id i j : ℕ) → delayed (stored_after steps) ≡ AtClause id false [] (i ∷ j ∷ []) ∷ [] →
-    (l : ℕ) × IsAnnounced i (l ∷ []) (told_after steps) × IsAnnounced j (negated l ∷ []) (told_after steps)
+    (l : ℕ) × IsAnnounced i (l ∷ []) (notices_after steps) × IsAnnounced j (negated l ∷ []) (notices_after steps)
 
 -- a clause that is deleted as simplified names one that was announced, an empty one too, and that is a part of it
 abbrev pub SimplifiedIsAnnounced : Type 0
 SimplifiedIsAnnounced = (steps : List Step) (clause : List ℕ) → Accepts (ready_after steps) (DeleteClause clause Simplified) →
-    (id : ℕ) × (part : List ℕ) × (one (last_id (ready_after steps).last) ≡ id ∷ []) × (is_part part clause ≡ true) × IsAnnounced id part (all_told_after steps)
+    (id : ℕ) × (part : List ℕ) × (one (last_id (ready_after steps).last) ≡ id ∷ []) × (is_part part clause ≡ true) × IsAnnounced id part (all_notices_after steps)

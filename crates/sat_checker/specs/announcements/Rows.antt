@@ -4,57 +4,57 @@ use Rattle.sat_base.specs.values.Hashes.{hash_of}
 use Rattle.sat_base.specs.steps.Steps.{Step, Redundant, Simplified, Satisfied, SolverVarName, UserVarName, DeleteVar, ChangeSamplingMode, ChangeHashBits, End}
 use Rattle.sat_base.specs.steps.Steps as steps
 use Rattle.sat_checker.specs.Rows.{behind, four_clauses, refuted, named_twice, colliding, conflict_and_unit, AllAccepted}
-use Rattle.sat_checker.specs.announcements.Announcements.{Announcement, UserVar, AddClause, DuplicatedClause, TautologicalClause, AtClause, MakeIrredundant, DeleteClause, DeleteAtClause, Model, Assumptions, FailedAssumptions, Told, told_after, all_told_after}
+use Rattle.sat_checker.specs.announcements.Announcements.{Announcement, UserVar, AddClause, DuplicatedClause, TautologicalClause, AtClause, MakeIrredundant, DeleteClause, DeleteAtClause, Model, Assumptions, FailedAssumptions, Notice, notices_after, all_notices_after}
 use Rattle.sat_checker.specs.announcements.Announcements as tells
 use Rattle.sat_checker.specs.announcements.Transcripts.{Transcribed, transcripts}
 use Rattle.sat_checker.specs.announcements.Transcripts as transcript
 
 -- without the variables that can be looked up meanwhile
-abbrev pub announcements_of : List Told → List Announcement
+abbrev pub announcements_of : List Notice → List Announcement
 announcements_of = map (λ t. t.announcement)
 
 -- by the end of these steps
-abbrev pub told_by : List Step → List Announcement
-told_by ss = announcements_of (told_after (behind ss []))
+abbrev pub announcements_by : List Step → List Announcement
+announcements_by ss = announcements_of (notices_after (behind ss []))
 
 -- and once delayed ones were announced
-abbrev pub all_told_by : List Step → List Announcement
-all_told_by ss = announcements_of (all_told_after (behind ss []))
+abbrev pub all_announcements_by : List Step → List Announcement
+all_announcements_by ss = announcements_of (all_notices_after (behind ss []))
 
 -- the transcript, once delayed ones were announced
 abbrev pub transcribed_by : List Step → List Transcribed
-transcribed_by ss = transcripts (all_told_after (behind ss []))
+transcribed_by ss = transcripts (all_notices_after (behind ss []))
 
 -- what the last step announces, if it and those before it are accepted
-abbrev pub LastTells : List Step → Step → List Announcement → Type 0
-LastTells before last told = AllAccepted (before ++ last ∷ []) × (told_by (before ++ last ∷ []) ≡ told_by before ++ told)
+abbrev pub LastAnnounces : List Step → Step → List Announcement → Type 0
+LastAnnounces before last told = AllAccepted (before ++ last ∷ []) × (announcements_by (before ++ last ∷ []) ≡ announcements_by before ++ told)
 
 -- and what the transcript says of it
 abbrev pub LastReads : List Step → Step → List Transcribed → Type 0
-LastReads before last read = AllAccepted (before ++ last ∷ []) × (transcripts (told_after (behind (before ++ last ∷ []) [])) ≡ transcripts (told_after (behind before [])) ++ read)
+LastReads before last read = AllAccepted (before ++ last ∷ []) × (transcripts (notices_after (behind (before ++ last ∷ []) [])) ≡ transcripts (notices_after (behind before [])) ++ read)
 
 -- [1, 2], [1, -2], [-1, 2], [-1, -2]
-abbrev pub four_told : List Announcement
-four_told = AddClause 0 (0 ∷ 2 ∷ []) ∷ AddClause 1 (0 ∷ 3 ∷ []) ∷ AddClause 2 (1 ∷ 2 ∷ []) ∷ AddClause 3 (1 ∷ 3 ∷ []) ∷ []
+abbrev pub four_announced : List Announcement
+four_announced = AddClause 0 (0 ∷ 2 ∷ []) ∷ AddClause 1 (0 ∷ 3 ∷ []) ∷ AddClause 2 (1 ∷ 2 ∷ []) ∷ AddClause 3 (1 ∷ 3 ∷ []) ∷ []
 
 -- [1] rests on the first two, the empty clause on [1] and the last two
-abbrev pub RefutedTold : Type 0
-RefutedTold = told_by refuted ≡ four_told ++ AtClause 4 false (0 ∷ []) (0 ∷ 1 ∷ []) ∷ AtClause 5 false [] (4 ∷ 2 ∷ 3 ∷ []) ∷ []
+abbrev pub RefutedAnnounced : Type 0
+RefutedAnnounced = announcements_by refuted ≡ four_announced ++ AtClause 4 false (0 ∷ []) (0 ∷ 1 ∷ []) ∷ AtClause 5 false [] (4 ∷ 2 ∷ 3 ∷ []) ∷ []
 
 -- the same at width 0
-abbrev pub RefutedAtZeroTold : Type 0
-RefutedAtZeroTold = told_by (four_clauses ++ ChangeHashBits 0 ∷ steps.AtClause false (0 ∷ []) (0 ∷ []) ∷ steps.AtClause false [] (0 ∷ []) ∷ [])
-    ≡ four_told ++ AtClause 4 false (0 ∷ []) (0 ∷ 1 ∷ []) ∷ AtClause 5 false [] (4 ∷ 2 ∷ 3 ∷ []) ∷ []
+abbrev pub RefutedAtZeroAnnounced : Type 0
+RefutedAtZeroAnnounced = announcements_by (four_clauses ++ ChangeHashBits 0 ∷ steps.AtClause false (0 ∷ []) (0 ∷ []) ∷ steps.AtClause false [] (0 ∷ []) ∷ [])
+    ≡ four_announced ++ AtClause 4 false (0 ∷ []) (0 ∷ 1 ∷ []) ∷ AtClause 5 false [] (4 ∷ 2 ∷ 3 ∷ []) ∷ []
 
 -- the one bucket is passed twice: [1, 2], then [-2, -4], then [-2, 3, 4] is falsified
-abbrev pub NamedTwiceTold : Type 0
-NamedTwiceTold = told_by named_twice
+abbrev pub NamedTwiceAnnounced : Type 0
+NamedTwiceAnnounced = announcements_by named_twice
     ≡ AddClause 0 (3 ∷ 4 ∷ 6 ∷ []) ∷ AddClause 1 (0 ∷ 2 ∷ []) ∷ AddClause 2 (3 ∷ 7 ∷ []) ∷ AtClause 3 false (0 ∷ 4 ∷ []) (1 ∷ 2 ∷ 0 ∷ []) ∷ []
 
 -- the four clauses over two names, with units in between; the buckets' other clauses aren't needed
-abbrev pub CollidingTold : Type 0
-CollidingTold = told_by colliding
-    ≡ UserVar 0 (Some (record { name = 0; sampling = true; is_new = true })) ∷ UserVar 1 (Some (record { name = 1; sampling = true; is_new = true })) ∷ four_told
+abbrev pub CollidingAnnounced : Type 0
+CollidingAnnounced = announcements_by colliding
+    ≡ UserVar 0 (Some (record { name = 0; sampling = true; is_new = true })) ∷ UserVar 1 (Some (record { name = 1; sampling = true; is_new = true })) ∷ four_announced
     ++ Assumptions [] ∷ AtClause 4 false (0 ∷ []) (0 ∷ 1 ∷ []) ∷ AtClause 5 false (2 ∷ []) (4 ∷ 2 ∷ []) ∷ AtClause 6 false [] (4 ∷ 5 ∷ 3 ∷ []) ∷ Assumptions [] ∷ []
 
 -- a name for an unknown variable, and two clauses whose units contradict each other: the empty clause is announced once delayed steps are
@@ -62,33 +62,33 @@ abbrev pub contradicting : List Step
 contradicting = UserVarName 0 (Some 0) ∷ steps.AddClause (0 ∷ []) ∷ steps.AddClause (1 ∷ []) ∷ []
 
 -- the name, and the two clauses
-abbrev pub contradiction_told : List Announcement
-contradiction_told = UserVar 0 (Some (record { name = 0; sampling = true; is_new = true })) ∷ AddClause 0 (0 ∷ []) ∷ AddClause 1 (1 ∷ []) ∷ []
+abbrev pub contradiction_announced : List Announcement
+contradiction_announced = UserVar 0 (Some (record { name = 0; sampling = true; is_new = true })) ∷ AddClause 0 (0 ∷ []) ∷ AddClause 1 (1 ∷ []) ∷ []
 
 -- the empty clause, by their two units
-abbrev pub empty_told : List Announcement
-empty_told = AtClause 2 false [] (0 ∷ 1 ∷ []) ∷ []
+abbrev pub empty_announced : List Announcement
+empty_announced = AtClause 2 false [] (0 ∷ 1 ∷ []) ∷ []
 
 -- it's announced before the next step, or once delayed ones are, and is read as unsat
 abbrev pub Contradiction : Type 0
-Contradiction = AllAccepted contradicting × (told_by contradicting ≡ contradiction_told) × (all_told_by contradicting ≡ contradiction_told ++ empty_told)
-    × (told_by (contradicting ++ steps.Assumptions [] ∷ []) ≡ contradiction_told ++ empty_told ++ Assumptions [] ∷ [])
-    × (all_told_by (contradicting ++ End ∷ []) ≡ contradiction_told ++ empty_told)
+Contradiction = AllAccepted contradicting × (announcements_by contradicting ≡ contradiction_announced) × (all_announcements_by contradicting ≡ contradiction_announced ++ empty_announced)
+    × (announcements_by (contradicting ++ steps.Assumptions [] ∷ []) ≡ contradiction_announced ++ empty_announced ++ Assumptions [] ∷ [])
+    × (all_announcements_by (contradicting ++ End ∷ []) ≡ contradiction_announced ++ empty_announced)
     × (transcribed_by contradicting ≡ transcript.AddClause (0 ∷ []) ∷ transcript.AddClause (1 ∷ []) ∷ transcript.Unsat ∷ [])
 
 -- [1], [-1, 2] and [-1, -2] in one bucket, then the units -1, -1 and 3 in one step: the empty clause comes after all of them
-abbrev pub ConflictAndUnitTold : Type 0
-ConflictAndUnitTold = all_told_by conflict_and_unit
+abbrev pub ConflictAndUnitAnnounced : Type 0
+ConflictAndUnitAnnounced = all_announcements_by conflict_and_unit
     ≡ AddClause 0 (0 ∷ []) ∷ AddClause 1 (1 ∷ 2 ∷ []) ∷ AddClause 2 (1 ∷ 3 ∷ []) ∷ AtClause 3 false (1 ∷ []) (1 ∷ 2 ∷ []) ∷ AtClause 4 false (1 ∷ []) (1 ∷ 2 ∷ [])
     ∷ AtClause 5 false (4 ∷ []) (0 ∷ 1 ∷ 2 ∷ []) ∷ AtClause 6 false [] (0 ∷ 3 ∷ []) ∷ []
 
 -- the four ways of [1, 2] as an input clause: new, stored before, also if it was only stored as redundant, and a tautology; and one more once unsat is recorded
 abbrev pub InputNew : Type 0
-InputNew = LastTells [] (steps.AddClause (2 ∷ 0 ∷ 0 ∷ [])) (AddClause 0 (0 ∷ 2 ∷ []) ∷ [])
+InputNew = LastAnnounces [] (steps.AddClause (2 ∷ 0 ∷ 0 ∷ [])) (AddClause 0 (0 ∷ 2 ∷ []) ∷ [])
 
 -- [1, 2] was stored before, under id 0
 abbrev pub InputDuplicate : Type 0
-InputDuplicate = LastTells (steps.AddClause (0 ∷ 2 ∷ []) ∷ []) (steps.AddClause (2 ∷ 0 ∷ 0 ∷ [])) (DuplicatedClause 1 0 (0 ∷ 2 ∷ []) ∷ [])
+InputDuplicate = LastAnnounces (steps.AddClause (0 ∷ 2 ∷ []) ∷ []) (steps.AddClause (2 ∷ 0 ∷ 0 ∷ [])) (DuplicatedClause 1 0 (0 ∷ 2 ∷ []) ∷ [])
 
 -- [1], and [1, 2] as redundant
 abbrev pub as_redundant : List Step
@@ -96,76 +96,76 @@ as_redundant = steps.AddClause (0 ∷ []) ∷ steps.AtClause true (0 ∷ 2 ∷ [
 
 -- stored before only as redundant, which is announced as a duplicate, too
 abbrev pub InputRedundant : Type 0
-InputRedundant = LastTells as_redundant (steps.AddClause (0 ∷ 2 ∷ [])) (DuplicatedClause 2 1 (0 ∷ 2 ∷ []) ∷ [])
+InputRedundant = LastAnnounces as_redundant (steps.AddClause (0 ∷ 2 ∷ [])) (DuplicatedClause 2 1 (0 ∷ 2 ∷ []) ∷ [])
 
 -- a unit stored before is announced as a duplicate
 abbrev pub InputUnitAgain : Type 0
-InputUnitAgain = LastTells (steps.AddClause (0 ∷ []) ∷ []) (steps.AddClause (0 ∷ 0 ∷ [])) (DuplicatedClause 1 0 (0 ∷ []) ∷ [])
+InputUnitAgain = LastAnnounces (steps.AddClause (0 ∷ []) ∷ []) (steps.AddClause (0 ∷ 0 ∷ [])) (DuplicatedClause 1 0 (0 ∷ []) ∷ [])
 
 -- a tautology, which is announced as one
 abbrev pub InputTautology : Type 0
-InputTautology = LastTells [] (steps.AddClause (2 ∷ 1 ∷ 0 ∷ [])) (TautologicalClause 0 (0 ∷ 1 ∷ 2 ∷ []) ∷ [])
+InputTautology = LastAnnounces [] (steps.AddClause (2 ∷ 1 ∷ 0 ∷ [])) (TautologicalClause 0 (0 ∷ 1 ∷ 2 ∷ []) ∷ [])
 
 -- once unsat is recorded, nothing is announced of an input clause
 abbrev pub InputBehindUnsat : Type 0
-InputBehindUnsat = LastTells (steps.AddClause [] ∷ []) (steps.AddClause (0 ∷ 1 ∷ [])) []
+InputBehindUnsat = LastAnnounces (steps.AddClause [] ∷ []) (steps.AddClause (0 ∷ 1 ∷ [])) []
 
 -- a derived clause that is new, one that becomes irredundant, and those of which nothing is announced: a clause or unit stored before, and a tautology
 abbrev pub DerivedNew : Type 0
-DerivedNew = LastTells (steps.AddClause (0 ∷ []) ∷ []) (steps.AtClause true (2 ∷ 0 ∷ []) []) (AtClause 1 true (0 ∷ 2 ∷ []) (0 ∷ []) ∷ [])
+DerivedNew = LastAnnounces (steps.AddClause (0 ∷ []) ∷ []) (steps.AtClause true (2 ∷ 0 ∷ []) []) (AtClause 1 true (0 ∷ 2 ∷ []) (0 ∷ []) ∷ [])
 
 -- as irredundant if it was only redundant
 abbrev pub DerivedIrredundant : Type 0
-DerivedIrredundant = LastTells as_redundant (steps.AtClause false (2 ∷ 0 ∷ []) []) (MakeIrredundant 1 (0 ∷ 2 ∷ []) ∷ [])
+DerivedIrredundant = LastAnnounces as_redundant (steps.AtClause false (2 ∷ 0 ∷ []) []) (MakeIrredundant 1 (0 ∷ 2 ∷ []) ∷ [])
 
 -- as redundant if it was redundant: nothing is announced
 abbrev pub DerivedRedundantAgain : Type 0
-DerivedRedundantAgain = LastTells as_redundant (steps.AtClause true (2 ∷ 0 ∷ []) []) []
+DerivedRedundantAgain = LastAnnounces as_redundant (steps.AtClause true (2 ∷ 0 ∷ []) []) []
 
 -- as irredundant if it was irredundant: nothing is announced
 abbrev pub DerivedIrredundantAgain : Type 0
-DerivedIrredundantAgain = LastTells (steps.AddClause (0 ∷ []) ∷ steps.AddClause (0 ∷ 2 ∷ []) ∷ []) (steps.AtClause false (0 ∷ 2 ∷ []) []) []
+DerivedIrredundantAgain = LastAnnounces (steps.AddClause (0 ∷ []) ∷ steps.AddClause (0 ∷ 2 ∷ []) ∷ []) (steps.AtClause false (0 ∷ 2 ∷ []) []) []
 
 -- of a derived unit that was stored before nothing is announced
 abbrev pub DerivedUnitAgain : Type 0
-DerivedUnitAgain = LastTells (steps.AddClause (0 ∷ []) ∷ []) (steps.AtClause false (0 ∷ []) []) []
+DerivedUnitAgain = LastAnnounces (steps.AddClause (0 ∷ []) ∷ []) (steps.AtClause false (0 ∷ []) []) []
 
 -- of a derived tautology nothing is announced
 abbrev pub DerivedTautology : Type 0
-DerivedTautology = LastTells [] (steps.AtClause false (0 ∷ 1 ∷ []) []) []
+DerivedTautology = LastAnnounces [] (steps.AtClause false (0 ∷ 1 ∷ []) []) []
 
 -- a redundant count is removed: the last of all, or one besides an irredundant one
 abbrev pub RedundantGone : Type 0
-RedundantGone = LastTells as_redundant (steps.DeleteClause (2 ∷ 0 ∷ []) Redundant) (DeleteClause 1 (0 ∷ 2 ∷ []) ∷ [])
+RedundantGone = LastAnnounces as_redundant (steps.DeleteClause (2 ∷ 0 ∷ []) Redundant) (DeleteClause 1 (0 ∷ 2 ∷ []) ∷ [])
 
 -- one besides an irredundant one: nothing is announced
 abbrev pub RedundantStays : Type 0
-RedundantStays = LastTells (as_redundant ++ steps.AtClause false (0 ∷ 2 ∷ []) [] ∷ []) (steps.DeleteClause (0 ∷ 2 ∷ []) Redundant) []
+RedundantStays = LastAnnounces (as_redundant ++ steps.AtClause false (0 ∷ 2 ∷ []) [] ∷ []) (steps.DeleteClause (0 ∷ 2 ∷ []) Redundant) []
 
 -- an irredundant count is taken: the last one, with or without redundant ones, or one of two
 abbrev pub SatisfiedGone : Type 0
-SatisfiedGone = LastTells (steps.AddClause (2 ∷ []) ∷ steps.AddClause (0 ∷ []) ∷ steps.AddClause (2 ∷ 0 ∷ []) ∷ []) (steps.DeleteClause (2 ∷ 0 ∷ []) Satisfied) (DeleteAtClause 2 false (0 ∷ 2 ∷ []) (1 ∷ []) ∷ [])
+SatisfiedGone = LastAnnounces (steps.AddClause (2 ∷ []) ∷ steps.AddClause (0 ∷ []) ∷ steps.AddClause (2 ∷ 0 ∷ []) ∷ []) (steps.DeleteClause (2 ∷ 0 ∷ []) Satisfied) (DeleteAtClause 2 false (0 ∷ 2 ∷ []) (1 ∷ []) ∷ [])
 
 -- the last one, if a redundant one is left: the clause stays as redundant
 abbrev pub SatisfiedKept : Type 0
-SatisfiedKept = LastTells (as_redundant ++ steps.AtClause false (0 ∷ 2 ∷ []) [] ∷ []) (steps.DeleteClause (0 ∷ 2 ∷ []) Satisfied) (DeleteAtClause 1 true (0 ∷ 2 ∷ []) (0 ∷ []) ∷ [])
+SatisfiedKept = LastAnnounces (as_redundant ++ steps.AtClause false (0 ∷ 2 ∷ []) [] ∷ []) (steps.DeleteClause (0 ∷ 2 ∷ []) Satisfied) (DeleteAtClause 1 true (0 ∷ 2 ∷ []) (0 ∷ []) ∷ [])
 
 -- [1, 2, 3] is deleted by [1, 2], the last irredundant clause stored
 abbrev pub SimplifiedGone : Type 0
-SimplifiedGone = LastTells (steps.AddClause (0 ∷ 2 ∷ 4 ∷ []) ∷ steps.AddClause (0 ∷ 2 ∷ []) ∷ []) (steps.DeleteClause (4 ∷ 2 ∷ 0 ∷ []) Simplified) (DeleteAtClause 0 false (0 ∷ 2 ∷ 4 ∷ []) (1 ∷ []) ∷ [])
+SimplifiedGone = LastAnnounces (steps.AddClause (0 ∷ 2 ∷ 4 ∷ []) ∷ steps.AddClause (0 ∷ 2 ∷ []) ∷ []) (steps.DeleteClause (4 ∷ 2 ∷ 0 ∷ []) Simplified) (DeleteAtClause 0 false (0 ∷ 2 ∷ 4 ∷ []) (1 ∷ []) ∷ [])
 
 -- an empty clause is the last irredundant one, too: an input clause with id 1, or a derived one with id 5
 abbrev pub SimplifiedByEmpty : Type 0
-SimplifiedByEmpty = LastTells (steps.AddClause (0 ∷ 2 ∷ []) ∷ steps.AddClause [] ∷ []) (steps.DeleteClause (2 ∷ 0 ∷ []) Simplified) (DeleteAtClause 0 false (0 ∷ 2 ∷ []) (1 ∷ []) ∷ [])
-    × LastTells refuted (steps.DeleteClause (0 ∷ 3 ∷ []) Simplified) (DeleteAtClause 1 false (0 ∷ 3 ∷ []) (5 ∷ []) ∷ [])
+SimplifiedByEmpty = LastAnnounces (steps.AddClause (0 ∷ 2 ∷ []) ∷ steps.AddClause [] ∷ []) (steps.DeleteClause (2 ∷ 0 ∷ []) Simplified) (DeleteAtClause 0 false (0 ∷ 2 ∷ []) (1 ∷ []) ∷ [])
+    × LastAnnounces refuted (steps.DeleteClause (0 ∷ 3 ∷ []) Simplified) (DeleteAtClause 1 false (0 ∷ 3 ∷ []) (5 ∷ []) ∷ [])
 
 -- one of two: nothing is announced
 abbrev pub SatisfiedStays : Type 0
-SatisfiedStays = LastTells (steps.AddClause (0 ∷ []) ∷ steps.AddClause (0 ∷ 2 ∷ []) ∷ steps.AddClause (0 ∷ 2 ∷ []) ∷ []) (steps.DeleteClause (0 ∷ 2 ∷ []) Satisfied) []
+SatisfiedStays = LastAnnounces (steps.AddClause (0 ∷ []) ∷ steps.AddClause (0 ∷ 2 ∷ []) ∷ steps.AddClause (0 ∷ 2 ∷ []) ∷ []) (steps.DeleteClause (0 ∷ 2 ∷ []) Satisfied) []
 
 -- names: of an unknown variable, of a known one, removed; and a solver's name
 abbrev pub NameNew : Type 0
-NameNew = LastTells [] (UserVarName 0 (Some 7)) (UserVar 0 (Some (record { name = 7; sampling = true; is_new = true })) ∷ [])
+NameNew = LastAnnounces [] (UserVarName 0 (Some 7)) (UserVar 0 (Some (record { name = 7; sampling = true; is_new = true })) ∷ [])
 
 -- 1 is known, and a witness variable without a name
 abbrev pub as_witness : List Step
@@ -177,47 +177,47 @@ named_seven = UserVarName 0 (Some 7) ∷ []
 
 -- a name for 1, a known witness variable: it isn't new
 abbrev pub NameOfKnown : Type 0
-NameOfKnown = LastTells (as_witness) (UserVarName 0 (Some 7)) (UserVar 0 (Some (record { name = 7; sampling = false; is_new = false })) ∷ [])
+NameOfKnown = LastAnnounces (as_witness) (UserVarName 0 (Some 7)) (UserVar 0 (Some (record { name = 7; sampling = false; is_new = false })) ∷ [])
 
 -- the name of 1 is removed
 abbrev pub NameRemoved : Type 0
-NameRemoved = LastTells named_seven (UserVarName 0 None) (UserVar 0 None ∷ [])
+NameRemoved = LastAnnounces named_seven (UserVarName 0 None) (UserVar 0 None ∷ [])
 
 -- of a solver's name nothing is announced
 abbrev pub SolverNameSet : Type 0
-SolverNameSet = LastTells [] (SolverVarName 0 (Some 7)) []
+SolverNameSet = LastAnnounces [] (SolverVarName 0 (Some 7)) []
 
 -- modes: of a variable that has a name, and the same again; of one that has none
 abbrev pub ModeChanged : Type 0
-ModeChanged = LastTells named_seven (ChangeSamplingMode 0 false) (UserVar 0 (Some (record { name = 7; sampling = false; is_new = false })) ∷ [])
+ModeChanged = LastAnnounces named_seven (ChangeSamplingMode 0 false) (UserVar 0 (Some (record { name = 7; sampling = false; is_new = false })) ∷ [])
 
 -- the mode that it has already: nothing is announced
 abbrev pub ModeLeft : Type 0
-ModeLeft = LastTells named_seven (ChangeSamplingMode 0 true) []
+ModeLeft = LastAnnounces named_seven (ChangeSamplingMode 0 true) []
 
 -- of a variable that has no name: nothing is announced
 abbrev pub ModeOfNameless : Type 0
-ModeOfNameless = LastTells (steps.Assumptions (0 ∷ []) ∷ []) (ChangeSamplingMode 0 false) []
+ModeOfNameless = LastAnnounces (steps.Assumptions (0 ∷ []) ∷ []) (ChangeSamplingMode 0 false) []
 
 -- models, assumptions and cores; a core is the sorted set, and one with both signs of a variable rests on nothing
-abbrev pub Modelled : Type 0
-Modelled = LastTells (steps.AddClause (0 ∷ 2 ∷ []) ∷ []) (steps.Model (2 ∷ 1 ∷ [])) (Model (2 ∷ 1 ∷ []) ∷ [])
+abbrev pub ModelAnnounced : Type 0
+ModelAnnounced = LastAnnounces (steps.AddClause (0 ∷ 2 ∷ []) ∷ []) (steps.Model (2 ∷ 1 ∷ [])) (Model (2 ∷ 1 ∷ []) ∷ [])
 
 -- assumptions, as the step has them
-abbrev pub Assumed : Type 0
-Assumed = LastTells [] (steps.Assumptions (2 ∷ 0 ∷ 2 ∷ [])) (Assumptions (2 ∷ 0 ∷ 2 ∷ []) ∷ [])
+abbrev pub AssumedAnnounced : Type 0
+AssumedAnnounced = LastAnnounces [] (steps.Assumptions (2 ∷ 0 ∷ 2 ∷ [])) (Assumptions (2 ∷ 0 ∷ 2 ∷ []) ∷ [])
 
 -- a core, which rests on the clause that it falsifies
 abbrev pub CoreFailed : Type 0
-CoreFailed = LastTells (steps.AddClause (1 ∷ 3 ∷ []) ∷ steps.Assumptions (2 ∷ 0 ∷ []) ∷ []) (steps.FailedAssumptions (2 ∷ 0 ∷ 2 ∷ []) (hash_of (1 ∷ 3 ∷ []) ∷ [])) (FailedAssumptions (0 ∷ 2 ∷ []) (0 ∷ []) ∷ [])
+CoreFailed = LastAnnounces (steps.AddClause (1 ∷ 3 ∷ []) ∷ steps.Assumptions (2 ∷ 0 ∷ []) ∷ []) (steps.FailedAssumptions (2 ∷ 0 ∷ 2 ∷ []) (hash_of (1 ∷ 3 ∷ []) ∷ [])) (FailedAssumptions (0 ∷ 2 ∷ []) (0 ∷ []) ∷ [])
 
 -- a core with both signs of a variable rests on nothing
 abbrev pub CoreOfBothSigns : Type 0
-CoreOfBothSigns = LastTells (steps.AddClause (1 ∷ []) ∷ steps.Assumptions (0 ∷ 1 ∷ []) ∷ []) (steps.FailedAssumptions (1 ∷ 0 ∷ []) []) (FailedAssumptions (0 ∷ 1 ∷ []) [] ∷ [])
+CoreOfBothSigns = LastAnnounces (steps.AddClause (1 ∷ []) ∷ steps.Assumptions (0 ∷ 1 ∷ []) ∷ []) (steps.FailedAssumptions (1 ∷ 0 ∷ []) []) (FailedAssumptions (0 ∷ 1 ∷ []) [] ∷ [])
 
 -- other steps
-abbrev pub OthersTell : Type 0
-OthersTell = LastTells [] (ChangeHashBits 8) [] × LastTells [] End [] × LastTells (steps.AddClause (0 ∷ []) ∷ []) (DeleteVar 0) (tells.DeleteVar 0 ∷ [])
+abbrev pub OthersAnnounce : Type 0
+OthersAnnounce = LastAnnounces [] (ChangeHashBits 8) [] × LastAnnounces [] End [] × LastAnnounces (steps.AddClause (0 ∷ []) ∷ []) (DeleteVar 0) (tells.DeleteVar 0 ∷ [])
 
 -- units 1 and 2 with ids 0 and 1, and at width 0 the clauses [-2, 3, 5], [-1, 4], [6, 7], [-3, -4, 5] with ids 2 to 5
 abbrev pub units_and_clauses : List Step
@@ -225,19 +225,19 @@ units_and_clauses = steps.AddClause (0 ∷ []) ∷ steps.AddClause (2 ∷ []) �
 
 -- the units first, by increasing id, whatever the order in which the clauses need them
 abbrev pub UnitsFirst : Type 0
-UnitsFirst = LastTells units_and_clauses (steps.AtClause true (8 ∷ 14 ∷ []) (0 ∷ [])) (AtClause 6 true (8 ∷ 14 ∷ []) (0 ∷ 1 ∷ 2 ∷ 3 ∷ 5 ∷ []) ∷ [])
+UnitsFirst = LastAnnounces units_and_clauses (steps.AtClause true (8 ∷ 14 ∷ []) (0 ∷ [])) (AtClause 6 true (8 ∷ 14 ∷ []) (0 ∷ 1 ∷ 2 ∷ 3 ∷ 5 ∷ []) ∷ [])
 
 -- the negated clause holds 1 and 2 itself, so that their units aren't needed
 abbrev pub UnitsHeld : Type 0
-UnitsHeld = LastTells units_and_clauses (steps.AtClause true (8 ∷ 1 ∷ 3 ∷ []) (0 ∷ [])) (AtClause 6 true (1 ∷ 3 ∷ 8 ∷ []) (2 ∷ 3 ∷ 5 ∷ []) ∷ [])
+UnitsHeld = LastAnnounces units_and_clauses (steps.AtClause true (8 ∷ 1 ∷ 3 ∷ []) (0 ∷ [])) (AtClause 6 true (1 ∷ 3 ∷ 8 ∷ []) (2 ∷ 3 ∷ 5 ∷ []) ∷ [])
 
 -- a clause that is passed, [6, 7] under not 6, isn't needed
 abbrev pub PassedNotNeeded : Type 0
-PassedNotNeeded = LastTells units_and_clauses (steps.AtClause true (8 ∷ 10 ∷ []) (0 ∷ [])) (AtClause 6 true (8 ∷ 10 ∷ []) (0 ∷ 1 ∷ 2 ∷ 3 ∷ 5 ∷ []) ∷ [])
+PassedNotNeeded = LastAnnounces units_and_clauses (steps.AtClause true (8 ∷ 10 ∷ []) (0 ∷ [])) (AtClause 6 true (8 ∷ 10 ∷ []) (0 ∷ 1 ∷ 2 ∷ 3 ∷ 5 ∷ []) ∷ [])
 
 -- a unit that satisfies the clause, of several that of the lowest literal
 abbrev pub UnitAlone : Type 0
-UnitAlone = LastTells (steps.AddClause (2 ∷ []) ∷ steps.AddClause (0 ∷ []) ∷ steps.AddClause (1 ∷ 3 ∷ []) ∷ []) (steps.AtClause true (4 ∷ 2 ∷ 0 ∷ []) (hash_of (1 ∷ 3 ∷ []) ∷ [])) (AtClause 3 true (0 ∷ 2 ∷ 4 ∷ []) (1 ∷ []) ∷ [])
+UnitAlone = LastAnnounces (steps.AddClause (2 ∷ []) ∷ steps.AddClause (0 ∷ []) ∷ steps.AddClause (1 ∷ 3 ∷ []) ∷ []) (steps.AtClause true (4 ∷ 2 ∷ 0 ∷ []) (hash_of (1 ∷ 3 ∷ []) ∷ [])) (AtClause 3 true (0 ∷ 2 ∷ 4 ∷ []) (1 ∷ []) ∷ [])
 
 -- transcripts of names and modes
 abbrev pub NameNewRead : Type 0

@@ -2,7 +2,7 @@
 use Rattle.std.specs.Prelude.{ℕ, ◌+◌, ◌*◌, ◌%◌, List, [], ◌∷◌, Option, None, Some, if◌then◌else◌}
 use Rattle.sat_base.specs.values.Literals.{variable}
 use Rattle.sat_checker.specs.Stored.{Mode, Variable}
-use Rattle.sat_checker.specs.announcements.Announcements.{UserVariable, Announcement, UserVar, DeleteVar, DuplicatedClause, TautologicalClause, AtClause, MakeIrredundant, DeleteClause, DeleteAtClause, DeleteRatClause, Assumptions, is_sample, Told}
+use Rattle.sat_checker.specs.announcements.Announcements.{UserVariable, Announcement, UserVar, DeleteVar, DuplicatedClause, TautologicalClause, AtClause, MakeIrredundant, DeleteClause, DeleteAtClause, DeleteRatClause, Assumptions, is_sample, Notice}
 use Rattle.sat_checker.specs.announcements.Announcements as told
 
 -- a step of a transcript, over user's names
@@ -37,9 +37,9 @@ in_user_names variables [] = []
 in_user_names variables (l ∷ ls) = onto_named l (user_from_proof_var variables (variable l)) (in_user_names variables ls)
 
 -- a name was removed, which the variable had until then
-abbrev pub hiding : Option ℕ → Option Transcribed
-hiding None = None
-hiding (Some name) = Some (HideVar name)
+abbrev pub name_was_removed : Option ℕ → Option Transcribed
+name_was_removed None = None
+name_was_removed (Some name) = Some (HideVar name)
 
 -- A name was set if the variable had none before; otherwise its mode was changed.
 abbrev pub naming_transcript : UserVariable → Option ℕ → Option Transcribed
@@ -53,7 +53,7 @@ deriving_of (l ∷ ls) = None
 
 -- the transcript of an announcement, by the variables from before the step
 abbrev pub transcript : (ℕ → Variable) → Announcement → Option Transcribed
-transcript variables (UserVar v None) = hiding (variables v).name
+transcript variables (UserVar v None) = name_was_removed (variables v).name
 transcript variables (UserVar v (Some u)) = naming_transcript u (variables v).name
 transcript variables (DeleteVar v) = None
 transcript variables (told.AddClause id clause) = Some (AddClause (in_user_names variables clause))
@@ -74,6 +74,6 @@ with_transcript None ts = ts
 with_transcript (Some t) ts = t ∷ ts
 
 -- the transcript of what was announced, in order
-abbrev pub transcripts : List Told → List Transcribed
+abbrev pub transcripts : List Notice → List Transcribed
 transcripts [] = []
 transcripts (t ∷ ts) = with_transcript (transcript t.variables t.announcement) (transcripts ts)

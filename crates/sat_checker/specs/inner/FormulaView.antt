@@ -7,7 +7,7 @@ use Rattle.sat_base.specs.steps.Steps.{Step}
 use Rattle.sat_checker.specs.Accepts.{Accepts, effect}
 use Rattle.sat_checker.specs.Spent.{IsSpent}
 use Rattle.sat_checker.specs.inner.Reasons.{ExplainsCheck}
-use Rattle.sat_checker.specs.inner.Room.{RoomStays, HasRoomForStored}
+use Rattle.sat_checker.specs.inner.AssumedRoom.{RoomStays, HasStoredRoom}
 use Rattle.sat_checker.specs.inner.SlotView.{slot_ids}
 use Rattle.sat_checker.specs.inner.StoreView.{KeepsClauses, KeepsHashed, AreIdsInOrder, refiled}
 use Rattle.sat_checker.specs.declared.store.StoreError.{StoreError}
@@ -64,8 +64,8 @@ pub record KeepsParts (formula : Formula) (kept : List StoredClause) (solver_nam
   pub units : formula.units.units ≡ stored
   pub status : standing_in formula.status ≡ standing
   pub numbered : AreNumbered (slot_ids formula.store.clauses) stored formula.status.last standing.next_id
-  pub room : HasRoomForStored formula.units.room kept
-  pub marks : HasRoomForStored formula.marks.room kept
+  pub room : HasStoredRoom formula.units.room kept
+  pub marks : HasStoredRoom formula.marks.room kept
 
 -- it has what is stored, but for the variables and what is assumed
 abbrev pub KeepsFormula : Formula → Stored → Type 0
@@ -82,20 +82,20 @@ KeepsOrSpends (Err OutOfMemory) kept g = Unit {0}
 KeepsOrSpends (Err CounterEnd) kept g = IsSpent g
 
 -- the formula is changed so
-abbrev pub Becomes : {T : Type 0} → Result T StoreError → Formula → (Stored → Stored) → Formula → Type 0
-Becomes result old change new = (f : Stored) → KeepsFormula old f → KeepsOrSpends result (KeepsFormula new (change f)) (change f)
+abbrev pub FormulaEffect : {T : Type 0} → Result T StoreError → Formula → (Stored → Stored) → Formula → Type 0
+FormulaEffect result old change new = (f : Stored) → KeepsFormula old f → KeepsOrSpends result (KeepsFormula new (change f)) (change f)
 
 -- It is accepted, and changed in this way, or it isn't; an error is returned only if it would be accepted.
-abbrev pub TurnsIf : Result Bool StoreError → Type 0 → Type 0 → Stored → Type 0
-TurnsIf (Ok accepted) accepts kept g = MatchBool accepted (accepts × kept) (accepts → ⊥)
-TurnsIf (Err OutOfMemory) accepts kept g = accepts
-TurnsIf (Err CounterEnd) accepts kept g = accepts × IsSpent g
+abbrev pub FormulaEffectIf : Result Bool StoreError → Type 0 → Type 0 → Stored → Type 0
+FormulaEffectIf (Ok accepted) accepts kept g = MatchBool accepted (accepts × kept) (accepts → ⊥)
+FormulaEffectIf (Err OutOfMemory) accepts kept g = accepts
+FormulaEffectIf (Err CounterEnd) accepts kept g = accepts × IsSpent g
 
 -- It has these clauses and units, whatever their ids, and room for the clauses' literals: all that a propagation check needs.
 pub record ChecksAs (formula : Formula) (f : Stored) : Type 0 where
   pub clauses : KeepsClauses formula.store f
   pub units : map (λ u. u.literal) formula.units.units ≡ unit_literals f
-  pub room : HasRoomForStored formula.units.room f.clauses
+  pub room : HasStoredRoom formula.units.room f.clauses
 
 -- but for notes, marks and more room it's the same
 pub record ChecksBeside (old new : Formula) : Type 0 where
@@ -106,8 +106,8 @@ pub record ChecksBeside (old new : Formula) : Type 0 where
   pub marks : RoomStays old.marks.room new.marks.room
 
 -- a deletion is accepted, and what it leaves is kept, or it's refused
-abbrev pub Deletes : Bool → Formula → Step → Formula → Type 0
-Deletes accepted old step new = (f : Stored) → KeepsFormula old f → MatchBool accepted (Accepts f step × KeepsFormula new (effect step f)) (Accepts f step → ⊥)
+abbrev pub DeletionEffect : Bool → Formula → Step → Formula → Type 0
+DeletionEffect accepted old step new = (f : Stored) → KeepsFormula old f → MatchBool accepted (Accepts f step × KeepsFormula new (effect step f)) (Accepts f step → ⊥)
 
 -- what the last propagation check noted explains why the clause passes under these hashes
 abbrev pub Explained : Formula → List ℕ → List ℕ → Type 0

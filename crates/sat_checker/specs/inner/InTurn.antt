@@ -5,7 +5,7 @@ use Rattle.sat_checker.specs.LiteralSets.{is_among}
 use Rattle.sat_checker.specs.Stored.{Stored, is_unit, unit_literals}
 use Rattle.sat_checker.specs.Storing.{with_unit}
 use Rattle.sat_checker.specs.Accepts.{PassInTurn}
-use Rattle.sat_checker.specs.inner.Room.{LiteralsAndRoom, AgreesOn}
+use Rattle.sat_checker.specs.inner.AssumedRoom.{LiteralsAndRoom, AgreesOn}
 
 -- a unit is assumed if there is room for it, and neither it nor its negation is assumed
 abbrev pub with_supposed : ℕ → LiteralsAndRoom → List ℕ

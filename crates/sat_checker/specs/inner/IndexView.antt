@@ -19,7 +19,7 @@ abbrev pub pairs_of : List Slot → List Pair
 pairs_of slots = pairs_from 0 slots
 
 -- the clauses that aren't removed are found by their mixed hashes, and every slot has its place
-pub record Files (index : Indexed) (slots : List Slot) : Type 0 where
+pub record IndexesSlots (index : Indexed) (slots : List Slot) : Type 0 where
   pub filed : (hash : ℕ) → places_in (mixed hash) index.pairs ≡ places_of hash slots
   pub places : index.places ≡ length slots
   pub in_order : AreInOrder index.pairs

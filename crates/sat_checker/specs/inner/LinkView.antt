@@ -54,8 +54,8 @@ abbrev pub part_at : List ℕ → List Link → ℕ → List Pair
 part_at heads links top = rest links (head_at heads top)
 
 -- all pairs
-abbrev pub listed : List ℕ → List Link → List Pair
-listed heads links = joined (part_at heads links) (length heads)
+abbrev pub listed_pairs : List ℕ → List Link → List Pair
+listed_pairs heads links = joined (part_at heads links) (length heads)
 
 -- the links from a place lead to the end, and over pairs in order
 pub record IsWalk (links : List Link) (at : ℕ) : Type 0 where
@@ -73,13 +73,13 @@ pub record IsPairChain (links : List Link) (shift count top at : ℕ) (ps : List
 -- every head's pairs are linked
 pub record AreLinked (heads : List ℕ) (links : List Link) (shift : ℕ) : Type 0 where
   pub few : length links ≤ nowhere
-  pub count : length (listed heads links) ≤ length links
+  pub count : length (listed_pairs heads links) ≤ length links
   pub parts : (top : ℕ) → top < length heads → IsPairChain links shift (length heads) top (head_at heads top) (part_at heads links top)
 
 -- this is linked, and lists these pairs
-pub record Lists (heads : List ℕ) (links : List Link) (shift : ℕ) (pairs : List Pair) : Type 0 where
+pub record LinksListPairs (heads : List ℕ) (links : List Link) (shift : ℕ) (pairs : List Pair) : Type 0 where
   pub linked : AreLinked heads links shift
-  pub is : listed heads links ≡ pairs
+  pub is : listed_pairs heads links ≡ pairs
 
 -- the pairs whose hash is at most this one
 abbrev pub up_to : ℕ → List Pair → List Pair

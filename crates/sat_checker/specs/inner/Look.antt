@@ -1,6 +1,6 @@
 -- What the results of the walk's functions mean.
 use Rattle.std.specs.Prelude.{ℕ, ◌≡◌, ◌≢◌, ◌-◌, ◌≤◌, List, [], length, drop, None, Some}
-use Rattle.sat_checker.specs.inner.Room.{LiteralsAndRoom, RoomStays}
+use Rattle.sat_checker.specs.inner.AssumedRoom.{LiteralsAndRoom, RoomStays}
 use Rattle.sat_checker.specs.inner.Walk.{walk}
 pub use Rattle.sat_checker.specs.Verdicts.{verdict_of}
 use Rattle.sat_checker.specs.declared.rup.Walked.{Walked}

@@ -9,8 +9,8 @@ use Rattle.sat_checker.specs.declared.units.assigned.Mark.TheVariants as mark
 pub use Rattle.sat_checker.specs.SortedSets.{NoRepeats, IsIncreasing}
 
 -- all of these literals are among those
-abbrev pub AreWithin : List ℕ → List ℕ → Type 0
-AreWithin part whole = (l : ℕ) → is_among part l ≡ true → is_among whole l ≡ true
+abbrev pub AreAmong : List ℕ → List ℕ → Type 0
+AreAmong part whole = (l : ℕ) → is_among part l ≡ true → is_among whole l ≡ true
 
 -- what is marked of a literal
 abbrev pub mark_at : Table Mark → ℕ → Mark

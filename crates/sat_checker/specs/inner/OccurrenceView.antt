@@ -1,7 +1,7 @@
 -- How often literals occur in clauses, and what is stored of it.
 use Rattle.std.specs.Prelude.{ℕ, ◌≡◌, ◌+◌, ◌==◌, List, [], ◌∷◌, if◌then◌else◌}
 use Rattle.sat_base.specs.values.Tables.{value_at}
-use Rattle.sat_checker.specs.inner.IndexView.{Files}
+use Rattle.sat_checker.specs.inner.IndexView.{IndexesSlots}
 use Rattle.sat_checker.specs.inner.PairView.{Indexed}
 use Rattle.sat_checker.specs.inner.SlotView.{Slot, is_gone}
 use Rattle.sat_checker.specs.declared.store.occurrences.Occurrences.{Occurrences}
@@ -22,5 +22,5 @@ count_at kept l = value_at 0 kept.counts l
 
 -- the clauses that aren't gone are found by their hashes, and their literals are counted
 pub record SlotsInvariant (slots : List Slot) (index : Indexed) (kept : Occurrences) : Type 0 where
-  pub files : Files index slots
+  pub files : IndexesSlots index slots
   pub counted : (l : ℕ) → count_at kept l ≡ times_stored l slots

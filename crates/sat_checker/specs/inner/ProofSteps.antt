@@ -5,14 +5,14 @@ use Rattle.std.specs.List.{AllByRecursion}
 use Rattle.sat_base.specs.declared.steps.error.StepError.{StepError}
 use Rattle.sat_base.specs.declared.steps.error.StepError.TheVariants as unread
 use Rattle.sat_base.specs.device.Device.{most_reads, piece_size}
-use Rattle.sat_base.specs.device.Reading.{Source, Passes, PassesToEnd, Faults}
-use Rattle.sat_base.specs.steps.Formats.{IsProperFront, Open}
+use Rattle.sat_base.specs.device.Reading.{Source, ConsumesBytes, ConsumesToEnd, ConsumesAndFails}
+use Rattle.sat_base.specs.steps.Formats.{IsProperFront, BeginsText}
 use Rattle.sat_base.specs.steps.Steps.{Step, End}
 use Rattle.sat_base.specs.steps.StepText.{SpellsStep, SpellsSteps}
 use Rattle.sat_checker.specs.Accepts.{Accepts, stored_after, ready_after}
 use Rattle.sat_checker.specs.Looks.{most_looks}
-use Rattle.sat_checker.specs.CheckerView.{Seen, looks_of, HasAccepted, FailsRefusing, FailsBeforeStep, BreaksAt, StarvesAt}
-use Rattle.sat_checker.specs.announcements.Announcements.{Told}
+use Rattle.sat_checker.specs.CheckerView.{CheckerView, looks_of, HasAccepted, FailsRefusing, FailsBeforeStep, BreaksAt, StarvesAt}
+use Rattle.sat_checker.specs.announcements.Announcements.{Notice}
 use Rattle.sat_checker.specs.ProofView.{taken_after, most_looks_behind, StandsUnfailed}
 use Rattle.sat_checker.specs.Spent.{SpentBy}
 use Rattle.sat_checker.specs.declared.error.CheckerError.{CheckerError}
@@ -21,13 +21,13 @@ use Rattle.sat_checker.specs.declared.processing.ProcessingError.{ProcessingErro
 use Rattle.sat_checker.specs.declared.processing.ProcessingError.TheVariants as faults
 
 -- the error if no step was read
-abbrev pub error_of : StepError → CheckerError
-error_of unread.Ends = errors.ProofIncomplete
-error_of unread.Cut = errors.ProofIncomplete
-error_of unread.BadByte = errors.ParseError
-error_of unread.Read = errors.IoError
-error_of unread.OutOfMemory = errors.OutOfMemory
-error_of unread.HasFailed = errors.HasFailed
+abbrev pub read_error : StepError → CheckerError
+read_error unread.Ends = errors.ProofIncomplete
+read_error unread.Cut = errors.ProofIncomplete
+read_error unread.BadByte = errors.ParseError
+read_error unread.Read = errors.IoError
+read_error unread.OutOfMemory = errors.OutOfMemory
+read_error unread.HasFailed = errors.HasFailed
 
 -- the checker has failed then if memory ran out
 abbrev pub is_final : StepError → Bool
@@ -48,17 +48,17 @@ CountsReads old new = new.reader.calls + old.reads ≡ old.reader.calls + new.re
 
 -- a checker, and the source of its steps
 pub record CheckerAtSource (L : Type 0) : Type 0 where
-  pub checker : Seen L
+  pub checker : CheckerView L
   pub source : Source
 
 -- this checker, and this source of its steps
-abbrev pub at_source : {L : Type 0} → Seen L → Source → CheckerAtSource L
+abbrev pub at_source : {L : Type 0} → CheckerView L → Source → CheckerAtSource L
 at_source c s = record { checker = c; source = s }
 
 -- this step was read and checked
 pub record TriesStep {L : Type 0} (a b : CheckerAtSource L) (earlier : List Step) (step : Step) : Type 0 where
   pub text : List ℕ
-  pub passes : Passes a.source b.source text
+  pub passes : ConsumesBytes a.source b.source text
   pub spelt : SpellsStep step text
   pub looks : looks_of b.checker ≤ looks_of a.checker + most_looks (ready_after earlier) step
 
@@ -66,11 +66,11 @@ pub record TriesStep {L : Type 0} (a b : CheckerAtSource L) (earlier : List Step
 pub record Starves {L : Type 0} (a b : CheckerAtSource L) : Type 0 where
   pub tag : ℕ
   pub more : List ℕ
-  pub passes : Passes a.source b.source (tag ∷ more)
-  pub begins : Open SpellsStep (tag ∷ more)
+  pub passes : ConsumesBytes a.source b.source (tag ∷ more)
+  pub begins : BeginsText SpellsStep (tag ∷ more)
   pub looks : looks_of b.checker ≡ looks_of a.checker
 
-module _ {L : Type 0} (Hears : L → Told → Result Unit ProcessingError → L → Type 0) (before : List Told) (begun : L) where
+module _ {L : Type 0} (Hears : L → Notice → Result Unit ProcessingError → L → Type 0) (before : List Notice) (begun : L) where
   -- no step was read, and nothing is changed
   pub record Waits (a b : CheckerAtSource L) (earlier : List Step) : Type 0 where
     pub goes_on : StandsUnfailed Hears before begun b.checker earlier
@@ -86,23 +86,23 @@ module _ {L : Type 0} (Hears : L → Told → Result Unit ProcessingError → L 
       ⊎ ((step : Step) × TriesStep a b earlier step × StarvesAt Hears before begun b.checker step earlier)
   StepsOn (Err (errors.ProofProcessorError cause)) a b earlier = (step : Step) × TriesStep a b earlier step × BreaksAt Hears before begun (faults.ProofProcessorError cause) b.checker step earlier
   StepsOn (Err errors.ProofIncomplete) a b earlier =
-      (text : List ℕ) × PassesToEnd a.source b.source text × IsProperFront SpellsStep text × Waits a b earlier
+      (text : List ℕ) × ConsumesToEnd a.source b.source text × IsProperFront SpellsStep text × Waits a b earlier
   StepsOn (Err errors.ParseError) a b earlier =
-      (front : List ℕ) × (byte : ℕ) × Passes a.source b.source (front ++ byte ∷ []) × IsProperFront SpellsStep front
-      × (Open SpellsStep (front ++ byte ∷ []) → ⊥) × Waits a b earlier
-  StepsOn (Err errors.IoError) a b earlier = (text : List ℕ) × Faults a.source b.source text × IsProperFront SpellsStep text × Waits a b earlier
+      (front : List ℕ) × (byte : ℕ) × ConsumesBytes a.source b.source (front ++ byte ∷ []) × IsProperFront SpellsStep front
+      × (BeginsText SpellsStep (front ++ byte ∷ []) → ⊥) × Waits a b earlier
+  StepsOn (Err errors.IoError) a b earlier = (text : List ℕ) × ConsumesAndFails a.source b.source text × IsProperFront SpellsStep text × Waits a b earlier
   StepsOn (Err errors.HasFailed) a b earlier = ⊥
 
   -- These steps were accepted, none of them the end.
   pub record TakesStepsBeforeEnd (a b : CheckerAtSource L) (earlier passed : List Step) : Type 0 where
     pub text : List ℕ
-    pub passes : Passes a.source b.source text
+    pub passes : ConsumesBytes a.source b.source text
     pub spelt : SpellsSteps passed text
     pub unended : AllByRecursion (λ step. step ≢ End) passed
     pub goes_on : StandsUnfailed Hears before begun b.checker (taken_after passed earlier)
     pub looks : looks_of b.checker ≤ looks_of a.checker + most_looks_behind passed earlier
 
-module _ {L : Type 0} (Hears : L → Told → Result Unit ProcessingError → L → Type 0) where
+module _ {L : Type 0} (Hears : L → Notice → Result Unit ProcessingError → L → Type 0) where
   -- the result for the next step means this, whatever was accepted and announced earlier
   abbrev pub TurnsOn : Result Bool CheckerError → CheckerAtSource L → CheckerAtSource L → Type 0
-  TurnsOn result a b = (before : List Told) (begun : L) (earlier : List Step) → HasAccepted Hears before begun a.checker earlier → StepsOn Hears before begun result a b earlier
+  TurnsOn result a b = (before : List Notice) (begun : L) (earlier : List Step) → HasAccepted Hears before begun a.checker earlier → StepsOn Hears before begun result a b earlier

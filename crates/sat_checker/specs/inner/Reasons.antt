@@ -5,7 +5,7 @@ use Rattle.sat_base.specs.values.Literals.{negated}
 use Rattle.sat_checker.specs.LiteralSets.{is_among, is_tautology}
 use Rattle.sat_checker.specs.Looks.{total_length}
 use Rattle.sat_checker.specs.Stored.{StoredClause}
-use Rattle.sat_checker.specs.announcements.Needed.{Ground, ground}
+use Rattle.sat_checker.specs.announcements.Needed.{ConflictCauses, conflict_causes}
 use Rattle.sat_checker.specs.announcements.Promises.{Reason}
 use Rattle.sat_checker.specs.announcements.Following.{followed_back}
 use Rattle.sat_checker.specs.inner.SlotView.{Slot, slot_at, literals_at, is_filed}
@@ -36,7 +36,7 @@ abbrev pub reasons_in : List Slot → WalkNotes → List Reason
 reasons_in slots passed = map (reason_in slots) passed.reasons
 
 -- what the falsified clause rests on by itself
-abbrev pub conflict_at : List Slot → Option ℕ → Ground
+abbrev pub conflict_at : List Slot → Option ℕ → ConflictCauses
 conflict_at slots None = record { literals = []; clauses = [] }
 conflict_at slots (Some place) = record { literals = map negated (clause_at slots place).literals; clauses = clause_at slots place ∷ [] }
 
@@ -61,13 +61,13 @@ noted_length slots passed = total_length (map (λ r. literals_at slots r.place) 
 -- From the old notes, under the assumed literals and before these clauses, the walk came to the new notes, under more literals and before those that are left: what the conflict rests on is the same.
 pub record KeepsGround (slots : List Slot) (old : WalkNotes) (assumed : List ℕ) (clauses : List StoredClause) (new : WalkNotes) (more : List ℕ) (left : List StoredClause) : Type 0 where
   pub same : (rest : List StoredClause) →
-      followed_back (reasons_in slots old) (ground assumed (clauses ++ rest)) ≡ followed_back (reasons_in slots new) (ground more (left ++ rest))
+      followed_back (reasons_in slots old) (conflict_causes assumed (clauses ++ rest)) ≡ followed_back (reasons_in slots new) (conflict_causes more (left ++ rest))
   pub there : AreNotedPlaces slots old → AreNotedPlaces slots new
 
 -- The walk met its conflict in these clauses, and the notes explain it.
 pub record MeetsConflict (slots : List Slot) (old : WalkNotes) (assumed : List ℕ) (clauses : List StoredClause) (new : WalkNotes) : Type 0 where
   pub same : (rest : List StoredClause) →
-      followed_back (reasons_in slots old) (ground assumed (clauses ++ rest)) ≡ followed_back (reasons_in slots new) (conflict_at slots new.conflict)
+      followed_back (reasons_in slots old) (conflict_causes assumed (clauses ++ rest)) ≡ followed_back (reasons_in slots new) (conflict_at slots new.conflict)
   pub there : AreNotedPlaces slots old → AreNotedPlaces slots new
   pub met : IsConflictPlace slots new.conflict
 
@@ -83,15 +83,15 @@ RecordsWalk slots Conflict old assumed clauses new more = MeetsConflict slots ol
 RecordsWalk slots Open old assumed clauses new more = KeepsGround slots old assumed clauses new more []
 
 -- The notes explain what the conflict of these clauses rests on, under the assumed literals.
-pub record Explains (slots : List Slot) (passed : WalkNotes) (whole : Ground) : Type 0 where
+pub record Explains (slots : List Slot) (passed : WalkNotes) (whole : ConflictCauses) : Type 0 where
   pub same : whole ≡ followed_back (reasons_in slots passed) (conflict_at slots passed.conflict)
   pub there : AreNotedPlaces slots passed
   pub met : IsConflictPlace slots passed.conflict
 
 -- They do so unless the clause has both signs of a variable or a unit in it.
-abbrev pub ExplainsUnless : List Slot → WalkNotes → List ℕ → List ℕ → Ground → Type 0
+abbrev pub ExplainsUnless : List Slot → WalkNotes → List ℕ → List ℕ → ConflictCauses → Type 0
 ExplainsUnless slots passed units clause whole = list_any (is_among units) clause ≡ false → is_tautology clause ≡ false → Explains slots passed whole
 
 -- They do so of the check of a clause by these hashes, under the assumed literals.
 abbrev pub ExplainsCheck : List Slot → WalkNotes → List ℕ → List ℕ → List ℕ → Type 0
-ExplainsCheck slots passed assumed clause hashes = ExplainsUnless slots passed assumed clause (ground (map negated clause ++ assumed) (named hashes slots))
+ExplainsCheck slots passed assumed clause hashes = ExplainsUnless slots passed assumed clause (conflict_causes (map negated clause ++ assumed) (named hashes slots))

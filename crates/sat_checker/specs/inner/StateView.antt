@@ -6,7 +6,7 @@ use Rattle.sat_checker.specs.LiteralSets.{canonical}
 use Rattle.sat_checker.specs.Stored.{Stored}
 use Rattle.sat_checker.specs.Accepts.{Accepts, effect}
 use Rattle.sat_checker.specs.Looks.{most_looks}
-use Rattle.sat_checker.specs.inner.FormulaView.{KeepsFormula, refiled_in, TurnsIf, KeepsOrSpends}
+use Rattle.sat_checker.specs.inner.FormulaView.{KeepsFormula, refiled_in, FormulaEffectIf, KeepsOrSpends}
 use Rattle.sat_checker.specs.inner.Looking.{LooksOver}
 use Rattle.sat_checker.specs.inner.VariablesView.{KeepsVariables}
 use Rattle.sat_checker.specs.declared.state.State.{State}
@@ -25,8 +25,8 @@ pub record KeepsFiled (state : State) (f : Stored) : Type 0 where
   pub assumed : state.assumed ≡ canonical f.assumed
 
 -- Whatever state was kept, a step that it accepts is one that the definition accepts, and what the step leaves is kept then. One that it refuses is one that the definition refuses, and it gives an error only for one that the definition accepts.
-abbrev pub Decides : Result Bool StoreError → State → Step → State → Type 0
-Decides result old step new = (f : Stored) → KeepsStored old f → TurnsIf result (Accepts f step) (KeepsStored new (effect step f)) (effect step f)
+abbrev pub DecidesStep : Result Bool StoreError → State → Step → State → Type 0
+DecidesStep result old step new = (f : Stored) → KeepsStored old f → FormulaEffectIf result (Accepts f step) (KeepsStored new (effect step f)) (effect step f)
 
 -- what the result says if the state, all of whose clauses are filed, is changed in this way
 abbrev pub ChangesStored : {T : Type 0} → Result T StoreError → State → (Stored → Stored) → State → Type 0
@@ -37,8 +37,8 @@ abbrev pub with_derived : Bool → List ℕ → Stored → Stored
 with_derived redundant clause f = with_stored redundant clause (with_literals_known clause f)
 
 -- a clause of the formula is stored, and its variables are known
-abbrev pub with_added : List ℕ → Stored → Stored
-with_added clause f = with_input clause (with_literals_known clause f)
+abbrev pub with_added_clause : List ℕ → Stored → Stored
+with_added_clause clause f = with_input clause (with_literals_known clause f)
 
 -- no more looks than the step may take, and none are lost
 abbrev pub LooksWithin : State → Step → ℕ → ℕ → Type 0

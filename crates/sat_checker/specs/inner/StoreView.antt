@@ -31,8 +31,8 @@ abbrev pub refiled : Store → Store
 refiled store = record store { clauses = (if store.stale then hashed_anew store.hasher store.clauses else store.clauses); stale = false }
 
 -- the redundant (true) or the irredundant count of a clause, 0 if it isn't stored
-abbrev pub count_in : Bool → Option StoredClause → ℕ
-count_in redundant c = if redundant then redundant_count c else irredundant_count c
+abbrev pub store_count_in : Bool → Option StoredClause → ℕ
+store_count_in redundant c = if redundant then redundant_count c else irredundant_count c
 
 -- one count less of these literals
 abbrev pub with_less : Bool → List ℕ → Stored → Stored
@@ -40,7 +40,7 @@ with_less redundant literals f = record f { clauses = without_clause redundant l
 
 -- a count is taken of these literals, and this is kept, or they have none
 abbrev pub TakesCount : Bool → Bool → List ℕ → Stored → Type 0 → Type 0
-TakesCount taken redundant literals f kept = MatchBool taken ((0 < count_in redundant (clause_with literals f.clauses)) × kept) (0 < count_in redundant (clause_with literals f.clauses) → ⊥)
+TakesCount taken redundant literals f kept = MatchBool taken ((0 < store_count_in redundant (clause_with literals f.clauses)) × kept) (0 < store_count_in redundant (clause_with literals f.clauses) → ⊥)
 
 -- what was found of a clause with these literals
 abbrev pub found_in : List ℕ → Option Found → Option StoredClause
@@ -53,7 +53,7 @@ id_in None id = id
 id_in (Some c) id = c.id
 
 -- what storing a clause leaves, and what it returns
-pub record Stores (store : Store) (f : Stored) (id : ℕ) (redundant : Bool) (literals : List ℕ) (stored_id : ℕ) (is_new : Bool) : Type 0 where
+pub record StoreEffect (store : Store) (f : Stored) (id : ℕ) (redundant : Bool) (literals : List ℕ) (stored_id : ℕ) (is_new : Bool) : Type 0 where
   pub stored : KeepsClauses store (record f { clauses = with_stored_clause redundant id literals f.clauses })
   pub id_is : stored_id ≡ id_in (clause_with literals f.clauses) id
   pub new_is : is_new ≡ not (is_some (clause_with literals f.clauses))

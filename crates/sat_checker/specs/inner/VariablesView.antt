@@ -20,8 +20,8 @@ mode_in code.Witness = stored.Witness
 mode_in code.Hide = stored.Hide
 
 -- a variable as the code has it
-abbrev pub variable_of : VarData → Variable
-variable_of d = record { known = d.known; mode = mode_in d.mode; name = d.name }
+abbrev pub variable_of_data : VarData → Variable
+variable_of_data d = record { known = d.known; mode = mode_in d.mode; name = d.name }
 
 -- what the code has of a variable that no step has made known
 abbrev pub unknown_data : VarData
@@ -29,7 +29,7 @@ unknown_data = record { known = stored.unknown.known; mode = code.Sample; name =
 
 -- what is stored of a variable, or an unknown one if nothing is
 abbrev pub variable_at : Variables → ℕ → Variable
-variable_at vs v = variable_of (value_at unknown_data vs.data v)
+variable_at vs v = variable_of_data (value_at unknown_data vs.data v)
 
 -- the variable that has this name, if one has
 abbrev pub holder_at : Variables → ℕ → Option ℕ

@@ -4,10 +4,10 @@ use Rattle.std.specs.List.{AllByRecursion}
 use Rattle.sat_base.specs.values.Literals.{variable}
 use Rattle.sat_base.specs.values.Clauses.{Valuation, EachHolds}
 use Rattle.sat_base.specs.script.Script.{Among}
-use Rattle.sat_base.specs.script.Judge.{Judge, identity_of}
+use Rattle.sat_base.specs.script.ScriptState.{ScriptState, identity_of}
 use Rattle.sat_base.specs.steps.Steps.{Step}
 use Rattle.sat_checker.specs.Fold.{Holds}
-use Rattle.sat_checker.specs.matching.Checking.{variable_of, Checking, Accepted}
+use Rattle.sat_checker.specs.matching.Checking.{variable_of, CheckerRules, Accepted}
 
 -- live proof variables with their identities
 abbrev pub Live : Type 0
@@ -18,18 +18,18 @@ abbrev pub AgreesOnLive : Live → Valuation → Valuation → Type 0
 AgreesOnLive live a b = AllByRecursion (λ p. a p.0 ≡ b p.1) live
 
 -- every proof variable once
-abbrev pub Apart : Live → Type 0
-Apart [] = Unit {0}
-Apart (p ∷ ps) = AllByRecursion (λ q. q.0 ≡ p.0 → ⊥) ps × Apart ps
+abbrev pub AreDistinctVariables : Live → Type 0
+AreDistinctVariables [] = Unit {0}
+AreDistinctVariables (p ∷ ps) = AllByRecursion (λ q. q.0 ≡ p.0 → ⊥) ps × AreDistinctVariables ps
 
 -- some valuation of identities agrees with it and satisfies the accepted clauses
-abbrev pub Meant : Judge → Live → Valuation → Type 0
-Meant j live a = (b : Valuation) × AgreesOnLive live a b × EachHolds b j.clauses
+abbrev pub HasAcceptedModel : ScriptState → Live → Valuation → Type 0
+HasAcceptedModel j live a = (b : Valuation) × AgreesOnLive live a b × EachHolds b j.clauses
 
 -- of the names in use, and of what the steps mean
-pub record IsBridge (k : Checking) (j : Judge) (earlier : List Step) (live : Live) : Type 0 where
+pub record IsBridge (k : CheckerRules) (j : ScriptState) (earlier : List Step) (live : Live) : Type 0 where
   pub accepted : Accepted k earlier
-  pub once : Apart live
+  pub once : AreDistinctVariables live
   pub known : AllByRecursion (λ p. k.knows earlier p.0 ≡ true) live
   pub below : AllByRecursion (λ p. p.1 < j.identity_count) live
   pub clauses_below : AllByRecursion (AllByRecursion (λ l. variable l < j.identity_count)) j.clauses
@@ -38,5 +38,5 @@ pub record IsBridge (k : Checking) (j : Judge) (earlier : List Step) (live : Liv
   -- every name in use has one
   pub in_use : (name i : ℕ) → identity_of j name ≡ Some i → (v : ℕ) × (variable_of earlier name ≡ Some v) × Among (v, i) live
   pub distinct : (m n v : ℕ) → variable_of earlier m ≡ Some v → variable_of earlier n ≡ Some v → m ≡ n
-  pub to : (a : Valuation) → Holds earlier a → Meant j live a
-  pub back : (a : Valuation) → Meant j live a → Holds earlier a
+  pub to : (a : Valuation) → Holds earlier a → HasAcceptedModel j live a
+  pub back : (a : Valuation) → HasAcceptedModel j live a → Holds earlier a

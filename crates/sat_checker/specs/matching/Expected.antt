@@ -3,7 +3,7 @@ use Rattle.std.specs.Prelude.{ℕ, ◌+◌, ◌≡◌, Bool, false, Option, Some
 use Rattle.std.specs.List.{AllByRecursion}
 use Rattle.sat_base.specs.values.Literals.{coded}
 use Rattle.sat_base.specs.script.Script.{Literal, Command, Clause, Ask, Hide, Witness, Sample, names_of, Among}
-use Rattle.sat_base.specs.script.Judge.{Judge, Mode, Sampled, Witnessed, new_names, bring_in, without_name, with_mode, accepted}
+use Rattle.sat_base.specs.script.ScriptState.{ScriptState, NameMode, Sampled, Witnessed, new_names, bring_in, without_name, with_mode, accepted}
 use Rattle.sat_base.specs.steps.Steps.{Step, UserVarName, AddClause, Model, Assumptions, FailedAssumptions, End}
 use Rattle.sat_checker.specs.matching.Checking.{variable_of}
 
@@ -25,28 +25,28 @@ pub data Expected : Type 0 where
   Finish : Expected
 
 -- for names that are introduced from left to right
-abbrev pub bringing : List ℕ → Judge → List Expected
+abbrev pub bringing : List ℕ → ScriptState → List Expected
 bringing [] j = []
 bringing (name ∷ names) j = map NewName (new_names name j) ++ bringing names (bring_in name j)
 
 -- for names that are hidden
-abbrev pub hiding : List ℕ → Judge → List Expected
+abbrev pub hiding : List ℕ → ScriptState → List Expected
 hiding [] j = []
 hiding (name ∷ names) j = map NewName (new_names name j) ++ (NoName name ∷ hiding names (without_name name (bring_in name j)))
 
 -- for names whose mode is set
-abbrev pub setting : Mode → List ℕ → Judge → List Expected
+abbrev pub setting : NameMode → List ℕ → ScriptState → List Expected
 setting mode [] j = []
 setting mode (name ∷ names) j = map NewName (new_names name j) ++ setting mode names (with_mode mode name (bring_in name j))
 
 -- the step that shows an outcome, if one does
-abbrev pub showing : Judge → List Literal → Outcome → List Expected
+abbrev pub showing : ScriptState → List Literal → Outcome → List Expected
 showing j ask (Sat line) = Shows (map (λ n. n.name) j.in_use) ask line ∷ []
 showing j ask (Unsat core) = Fails ask core ∷ []
 showing j ask Unknown = []
 
 -- for commands that aren't refused and their outcomes
-abbrev pub expected : Judge → List Command → List Outcome → List Expected
+abbrev pub expected : ScriptState → List Command → List Outcome → List Expected
 expected j [] outcomes = Finish ∷ []
 expected j (Clause ls ∷ commands) outcomes = bringing (names_of ls) j ++ (Adds ls ∷ expected (accepted (Clause ls) j) commands outcomes)
 expected j (Ask ls ∷ commands) [] = Finish ∷ []

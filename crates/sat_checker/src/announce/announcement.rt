@@ -1,9 +1,9 @@
 //! What the checker announces of the steps that it accepts.
 ghost use Rattle.std.specs.Prelude.{◌≡◌};
 ghost use Rattle.sat_checker.specs.announcements.Transcripts.{user_from_proof_var};
-ghost use Rattle.sat_checker.specs.inner.TellingSteps.{put_back, was_of};
-ghost use Rattle.sat_checker.specs.inner.VariablesView.{variable_at, variable_of};
-ghost use Rattle.sat_checker.specs.telling.AnnouncementView.{variables_of};
+ghost use Rattle.sat_checker.specs.inner.NotifyingSteps.{put_back, was_of};
+ghost use Rattle.sat_checker.specs.inner.VariablesView.{variable_at, variable_of_data};
+ghost use Rattle.sat_checker.specs.listeners.AnnouncementView.{variables_of};
 
 use crate::variables::{SamplingMode, VarData, Variables};
 use sat_base::{Lit, Var};
@@ -148,7 +148,7 @@ impl<'a> CheckerData<'a> {
 
     /// Returns the data of a variable before the step.
     fn data(self, proof_var: Var) -> VarData
-        ensures { variable_of result ≡ variables_of self.entry proof_var }
+        ensures { variable_of_data result ≡ variables_of self.entry proof_var }
     {
         if let Some(was) = self.was {
             if proof_var == was.var {

@@ -4,14 +4,14 @@ ghost use Rattle.sat_checker.specs.Looks.{literal_count};
 ghost use Rattle.sat_checker.specs.Stored.{Stored};
 ghost use Rattle.sat_checker.specs.announcements.Announcements as told;
 ghost use Rattle.sat_checker.specs.announcements.Announcements.{id_of_set, input_set, irredundant_deleted};
-ghost use Rattle.sat_checker.specs.announcements.Announcements.{is_sample, is_witness, last_id, mode_change, naming};
+ghost use Rattle.sat_checker.specs.announcements.Announcements.{is_sample, has_witness_mode, last_id, mode_change, naming};
 ghost use Rattle.sat_checker.specs.announcements.Announcements.{one, redundant_deleted, renaming};
 ghost use Rattle.sat_checker.specs.inner.FormulaView.{last_in, KeepsFormula};
 ghost use Rattle.sat_checker.specs.inner.Looking.{LooksOver};
 ghost use Rattle.sat_checker.specs.inner.StoreView.{found_in};
-ghost use Rattle.sat_checker.specs.inner.VariablesView.{mode_in, variable_of};
-ghost use Rattle.sat_checker.specs.telling.AnnouncementView.{is_sampling};
-ghost use Rattle.sat_checker.specs.telling.AnnouncingView.{stored_as, change_in, deletion_told};
+ghost use Rattle.sat_checker.specs.inner.VariablesView.{mode_in, variable_of_data};
+ghost use Rattle.sat_checker.specs.listeners.AnnouncementView.{is_sampling};
+ghost use Rattle.sat_checker.specs.listeners.AnnouncingView.{stored_as, change_in, deletion_announced};
 
 use crate::announce::announcement::{CheckedSamplingMode, CheckedUserVar};
 use crate::announce::news::News;
@@ -109,7 +109,7 @@ impl LastClause {
 
 /// Whether the mode is `Sample`, or, if that is not asked, `Witness`.
 fn has_mode(mode: SamplingMode, sampling: bool) -> bool
-    ensures { result ≡ (if sampling then is_sample (mode_in mode) else is_witness (mode_in mode)) }
+    ensures { result ≡ (if sampling then is_sample (mode_in mode) else has_witness_mode (mode_in mode)) }
 {
     match mode {
         SamplingMode::Sample => sampling,
@@ -204,7 +204,7 @@ impl News {
 
     /// Adds the announcement of a deleted clause with these literals.
     pub fn deleted(&mut self, literals: &[Lit], deletion: Deletion) -> Result<(), AllocError>
-        ensures ok { OnOk result (self.new ≡ self.old ++ deletion_told literals.now deletion) }
+        ensures ok { OnOk result (self.new ≡ self.old ++ deletion_announced literals.now deletion) }
         ensures err { OnErr result (self.new ≡ self.old) }
     {
         if deletion.redundant {
@@ -215,7 +215,7 @@ impl News {
 
     /// Adds the announcement that a variable with this data gets a name.
     pub fn naming(&mut self, var: Var, name: Var, before: VarData) -> Result<(), AllocError>
-        ensures ok { OnOk result (self.new ≡ self.old ++ naming var name (variable_of before)) }
+        ensures ok { OnOk result (self.new ≡ self.old ++ naming var name (variable_of_data before)) }
         ensures err { OnErr result (self.new ≡ self.old) }
     {
         let user = CheckedUserVar {
@@ -233,7 +233,7 @@ impl News {
         user: Option<Var>,
         before: VarData,
     ) -> Result<(), AllocError>
-        ensures ok { OnOk result (self.new ≡ self.old ++ renaming var user (variable_of before)) }
+        ensures ok { OnOk result (self.new ≡ self.old ++ renaming var user (variable_of_data before)) }
         ensures err { OnErr result (self.new ≡ self.old) }
     {
         match user {

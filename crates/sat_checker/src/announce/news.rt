@@ -3,8 +3,8 @@ ghost use Rattle.std.specs.Prelude.{true, ◌≡◌, ◌<◌, ◌++◌, ◌∷�
 ghost use Rattle.std.specs.Option.{option_map};
 ghost use Rattle.sat_checker.specs.announcements.Announcements as told;
 ghost use Rattle.sat_checker.specs.announcements.Announcements.{Announcement};
-ghost use Rattle.sat_checker.specs.telling.AnnouncementView.{announcement_of, user_of};
-ghost use Rattle.sat_checker.specs.telling.NewsView.{announcement_with};
+ghost use Rattle.sat_checker.specs.listeners.AnnouncementView.{announcement_of, announced_user};
+ghost use Rattle.sat_checker.specs.listeners.NewsView.{announcement_with};
 
 use crate::announce::announcement::{CheckedProofStep, CheckedUserVar};
 use sat_base::{FlatLists, Lit, Var};
@@ -103,7 +103,7 @@ impl Model for News {
     ghost use Rattle.std.specs.Prelude.{List, map};
     ghost use Rattle.std.specs.List.{All};
     ghost use Rattle.sat_checker.specs.announcements.Announcements.{Announcement};
-    ghost use Rattle.sat_checker.specs.telling.NewsView.{announcement_at, IsItem};
+    ghost use Rattle.sat_checker.specs.listeners.NewsView.{announcement_at, IsItem};
 
     ghost Value = { List Announcement };
 
@@ -183,7 +183,7 @@ impl News {
 
     /// Adds a `UserVar`.
     pub fn user_var(&mut self, var: Var, user: Option<CheckedUserVar>) -> Result<(), AllocError>
-        ensures ok { OnOk result (self.new ≡ self.old ++ told.UserVar var (option_map user_of user) ∷ []) }
+        ensures ok { OnOk result (self.new ≡ self.old ++ told.UserVar var (option_map announced_user user) ∷ []) }
         ensures err { OnErr result (self.new ≡ self.old) }
     {
         self.push(Kind::UserVar(var, user), &[], &[])

@@ -14,9 +14,9 @@ ghost use Rattle.sat_checker.specs.inner.FormulaView.{Explained, KeepsFormula};
 ghost use Rattle.sat_checker.specs.inner.Looking.{LooksOver, LooksUpTo};
 ghost use Rattle.sat_checker.specs.inner.Marks.{IsIncreasing};
 ghost use Rattle.sat_checker.specs.inner.Reasons.{noted_length};
-ghost use Rattle.sat_checker.specs.inner.VariablesView.{mode_in, variable_of};
-ghost use Rattle.sat_checker.specs.telling.AnnouncingView.{stored_as, deletion_told, AreLong};
-ghost use Rattle.sat_checker.specs.telling.NotedView.{AppendsNews};
+ghost use Rattle.sat_checker.specs.inner.VariablesView.{mode_in, variable_of_data};
+ghost use Rattle.sat_checker.specs.listeners.AnnouncingView.{stored_as, deletion_announced, AreLong};
+ghost use Rattle.sat_checker.specs.listeners.NotedView.{AppendsNews};
 
 use crate::announce::announcing::{Change, Deletion};
 use crate::announce::news::News;
@@ -79,7 +79,7 @@ impl Notes {
         user: Option<Var>,
         before: VarData,
     ) -> Result<(), AllocError>
-        ensures { OnOk result (AppendsNews self.old (renaming var user (variable_of before)) self.new) }
+        ensures { OnOk result (AppendsNews self.old (renaming var user (variable_of_data before)) self.new) }
     {
         if !self.hears {
             return Ok(());
@@ -135,7 +135,7 @@ impl Notes {
 
     /// Notes that a clause with these literals was deleted.
     pub fn deleted(&mut self, literals: &[Lit], deletion: Deletion) -> Result<(), AllocError>
-        ensures { OnOk result (AppendsNews self.old (deletion_told literals.now deletion) self.new) }
+        ensures { OnOk result (AppendsNews self.old (deletion_announced literals.now deletion) self.new) }
     {
         if !self.hears {
             return Ok(());
@@ -198,7 +198,7 @@ impl Formula {
     ) -> Deletion
         ensures told { IsTrue notes.now.hears → (f : Stored) → KeepsFormula self.now f
             → (clause : List ℕ) → literals.now ≡ canonical clause
-            → deletion_told literals.now result ≡ announced f (DeleteClause clause (deletion_of proof)) }
+            → deletion_announced literals.now result ≡ announced f (DeleteClause clause (deletion_of proof)) }
         ensures looks { LooksOver (KeepsFormula self.now) literal_count looks.old looks.new }
     {
         if !notes.hears {
@@ -221,7 +221,7 @@ impl Formula {
         looks: &mut Looks,
     ) -> Deletion
         ensures told { (f : Stored) → KeepsFormula self.now f → (clause : List ℕ) → literals.now ≡ canonical clause
-            → deletion_told literals.now result ≡ announced f (DeleteClause clause (deletion_of proof)) }
+            → deletion_announced literals.now result ≡ announced f (DeleteClause clause (deletion_of proof)) }
         ensures looks { LooksOver (KeepsFormula self.now) literal_count looks.old looks.new }
     {
         let stored = self.store.stored(literals, looks);

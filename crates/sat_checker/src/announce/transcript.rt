@@ -5,8 +5,8 @@ ghost use Rattle.anyhow.specs.declared.error.Error.{Error};
 ghost use Rattle.sat_checker.specs.announcements.Transcripts.{Transcribed, SampleVar, WitnessVar, deriving_of};
 ghost use Rattle.sat_checker.specs.announcements.Transcripts.{in_user_names, transcript};
 ghost use Rattle.sat_checker.specs.announcements.Announcements.{UserVar};
-ghost use Rattle.sat_checker.specs.telling.AnnouncementView.{announcement_of, user_of, variables_of};
-ghost use Rattle.sat_checker.specs.telling.TranscriptView.{transcribed_of};
+ghost use Rattle.sat_checker.specs.listeners.AnnouncementView.{announcement_of, announced_user, variables_of};
+ghost use Rattle.sat_checker.specs.listeners.TranscriptView.{transcribed_of};
 
 use crate::announce::announcement::{
     CheckedProofStep, CheckedSamplingMode, CheckedUserVar, CheckerData,
@@ -126,7 +126,7 @@ fn name_change<'s>(
     user_var: Option<CheckedUserVar>,
 ) -> Option<ProofTranscriptStep<'s>>
     ensures { option_map transcribed_of result ≡ transcript (variables_of names.entry)
-        (UserVar var (option_map user_of user_var)) }
+        (UserVar var (option_map announced_user user_var)) }
 {
     let explicit = names.explicit_name(var);
     let Some(user) = user_var else {
@@ -145,7 +145,7 @@ fn name_change<'s>(
 /// Returns what is said if a mode changes.
 fn mode_change<'s>(user: CheckedUserVar) -> ProofTranscriptStep<'s>
     ensures { transcribed_of result
-        ≡ (if (user_of user).sampling then SampleVar user.user_var else WitnessVar user.user_var) }
+        ≡ (if (announced_user user).sampling then SampleVar user.user_var else WitnessVar user.user_var) }
 {
     let var = user.user_var;
     match user.sampling_mode {

@@ -5,10 +5,10 @@ ghost use Rattle.sat_base.specs.dimacs.Parsing.{all_taken, no_progress};
 ghost use Rattle.sat_checker.specs.CheckerView.{has_failed, kernel_of, seen_of, FailsAgain};
 ghost use Rattle.sat_checker.specs.declared.error.CheckerDimacsError.TheVariants as errors;
 ghost use Rattle.sat_checker.specs.declared.error.CheckerError.TheVariants.{HasFailed};
-ghost use Rattle.sat_checker.specs.DimacsView.{AddsDimacs, DimacsFaultsOfSomebody};
-ghost use Rattle.sat_checker.specs.KernelView.{looks_of};
-ghost use Rattle.sat_checker.specs.inner.DimacsPieces.{AddsRead, is_want};
-ghost use Rattle.sat_checker.specs.telling.ProcessingView.{HearsEach};
+ghost use Rattle.sat_checker.specs.DimacsView.{AddsDimacs, DimacsFaultNeedsListener};
+ghost use Rattle.sat_checker.specs.KernelView.{kernel_looks};
+ghost use Rattle.sat_checker.specs.inner.DimacsPieces.{AddsRead, is_out_of_memory};
+ghost use Rattle.sat_checker.specs.listeners.ProcessingView.{HearsEach};
 
 use crate::announce::transcript::ProofTranscriptProcessor;
 use crate::checker::Checker;
@@ -24,7 +24,7 @@ const MAX_READS: u64 = 1 << 48;
 
 /// Whether the checker has failed after this error, since memory ran out.
 fn is_want(error: DimacsError) -> bool
-    ensures { result ≡ is_want error }
+    ensures { result ≡ is_out_of_memory error }
 {
     match error {
         DimacsError::OutOfMemory => true,
@@ -46,8 +46,8 @@ impl<P: ProofProcessor, T: ProofTranscriptProcessor> Checker<P, T> {
         ensures adds { AddsDimacs (HearsEach P.takes T.reads)
             result (seen_of self.old) (seen_of self.new) (R.seen reader.old) (R.seen reader.new) }
         ensures reads { (R.seen reader.new).calls ≤ (R.seen reader.old).calls + most_reads }
-        ensures rise { looks_of (kernel_of self.old) ≤ looks_of (kernel_of self.new) }
-        ensures faults { DimacsFaultsOfSomebody result self.old }
+        ensures rise { kernel_looks (kernel_of self.old) ≤ kernel_looks (kernel_of self.new) }
+        ensures faults { DimacsFaultNeedsListener result self.old }
         ensures failed { FailsAgain (errors.Checker HasFailed) result self.old self.new }
     {
         if self.kernel.failed {
@@ -68,7 +68,7 @@ impl<P: ProofProcessor, T: ProofTranscriptProcessor> Checker<P, T> {
         ensures adds { AddsDimacs (HearsEach P.takes T.reads)
             result (seen_of self.old) (seen_of self.new) (R.seen reader.old) (R.seen reader.new) }
         ensures reads { (R.seen reader.new).calls ≤ (R.seen reader.old).calls + most_reads }
-        ensures rise { looks_of (kernel_of self.old) ≤ looks_of (kernel_of self.new) }
+        ensures rise { kernel_looks (kernel_of self.old) ≤ kernel_looks (kernel_of self.new) }
     {
         let mut piece = [0; PIECE];
         for _ in 0..MAX_READS {
@@ -96,7 +96,7 @@ impl<P: ProofProcessor, T: ProofTranscriptProcessor> Checker<P, T> {
         ensures taken { parser.new ≡ all_taken parser.old }
         ensures adds { AddsRead (HearsEach P.takes T.reads)
             result answer parser.old (seen_of self.old) (seen_of self.new) }
-        ensures rise { looks_of (kernel_of self.old) ≤ looks_of (kernel_of self.new) }
+        ensures rise { kernel_looks (kernel_of self.old) ≤ kernel_looks (kernel_of self.new) }
     {
         let formula = parser.take_formula();
         if let Err(error) = self.add_formula(&formula) {

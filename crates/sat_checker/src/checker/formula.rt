@@ -1,9 +1,9 @@
 //! Adds a formula, clause by clause.
 ghost use Rattle.std.specs.Prelude.{◌≤◌};
-ghost use Rattle.sat_checker.specs.CheckerView.{kernel_of, seen_of, FaultsOfSomebody, FailsAgain};
-ghost use Rattle.sat_checker.specs.KernelView.{looks_of};
+ghost use Rattle.sat_checker.specs.CheckerView.{kernel_of, seen_of, FaultIsFromListener, FailsAgain};
+ghost use Rattle.sat_checker.specs.KernelView.{kernel_looks};
 ghost use Rattle.sat_checker.specs.declared.error.CheckerError.TheVariants.{HasFailed};
-ghost use Rattle.sat_checker.specs.telling.ProcessingView.{HearsEach};
+ghost use Rattle.sat_checker.specs.listeners.ProcessingView.{HearsEach};
 ghost use Rattle.sat_checker.specs.ClausesView.{AddsClauses};
 
 use crate::announce::transcript::ProofTranscriptProcessor;
@@ -17,8 +17,8 @@ impl<P: ProofProcessor, T: ProofTranscriptProcessor> Checker<P, T> {
     pub fn add_formula(&mut self, formula: &CnfFormula) -> Result<(), CheckerError>
         ensures adds { AddsClauses (HearsEach P.takes T.reads)
             result (seen_of self.old) (seen_of self.new) formula.now.clauses }
-        ensures rise { looks_of (kernel_of self.old) ≤ looks_of (kernel_of self.new) }
-        ensures faults { FaultsOfSomebody result self.old }
+        ensures rise { kernel_looks (kernel_of self.old) ≤ kernel_looks (kernel_of self.new) }
+        ensures faults { FaultIsFromListener result self.old }
         ensures failed { FailsAgain HasFailed result self.old self.new }
     {
         if self.kernel.failed {

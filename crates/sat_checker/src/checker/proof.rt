@@ -5,14 +5,14 @@ ghost use Rattle.sat_base.specs.device.Reading.{unread, AtEnd};
 ghost use Rattle.sat_base.specs.steps.Steps.{End};
 ghost use Rattle.sat_base.specs.steps.StepReading.{reader_source, reader_name, has_reader_failed as is_stopped};
 ghost use Rattle.sat_base.specs.steps.StepViews.{step_of};
-ghost use Rattle.sat_checker.specs.KernelView.{has_failed, looks_of};
-ghost use Rattle.sat_checker.specs.CheckerView.{kernel_of, seen_of, seen_with, FaultsOfSomebody, FailsAgain};
+ghost use Rattle.sat_checker.specs.KernelView.{kernel_has_failed, kernel_looks};
+ghost use Rattle.sat_checker.specs.CheckerView.{kernel_of, seen_of, seen_with, FaultIsFromListener, FailsAgain};
 ghost use Rattle.sat_checker.specs.declared.error.CheckerError.TheVariants.{HasFailed, OutOfMemory};
-ghost use Rattle.sat_checker.specs.announcements.Announcements.{Told};
+ghost use Rattle.sat_checker.specs.announcements.Announcements.{Notice};
 ghost use Rattle.sat_checker.specs.ProofView.{ChecksProof, FoundNoEnd};
-ghost use Rattle.sat_checker.specs.inner.ProofSteps.{TurnsOn, CountsReads, error_of, is_final, at_source, bytes_left};
-ghost use Rattle.sat_checker.specs.telling.Hearing.{HearsFirst};
-ghost use Rattle.sat_checker.specs.telling.ProcessingView.{HearsEach};
+ghost use Rattle.sat_checker.specs.inner.ProofSteps.{TurnsOn, CountsReads, read_error, is_final, at_source, bytes_left};
+ghost use Rattle.sat_checker.specs.listeners.Hearing.{HearsFirst};
+ghost use Rattle.sat_checker.specs.listeners.ProcessingView.{HearsEach};
 
 use crate::announce::transcript::ProofTranscriptProcessor;
 use crate::checker::Checker;
@@ -22,7 +22,7 @@ use sat_base::{CountedRead, ProofStep, StepError, StepReader};
 
 /// Returns the checker's error if no step was read.
 fn unread_error(error: StepError) -> CheckerError
-    ensures { result ≡ error_of error }
+    ensures { result ≡ read_error error }
 {
     match error {
         StepError::Ends => CheckerError::ProofIncomplete,
@@ -62,8 +62,8 @@ impl<P: ProofProcessor, T: ProofTranscriptProcessor> Checker<P, T> {
         ensures proof { ChecksProof (HearsEach P.takes T.reads)
             result (seen_of self.old) (seen_of self.new) (R.seen reader.old) (R.seen reader.new) }
         ensures unended { IsErrOf result OutOfMemory → FoundNoEnd (R.seen reader.old) (R.seen reader.new) }
-        ensures rise { looks_of (kernel_of self.old) ≤ looks_of (kernel_of self.new) }
-        ensures faults { FaultsOfSomebody result self.old }
+        ensures rise { kernel_looks (kernel_of self.old) ≤ kernel_looks (kernel_of self.new) }
+        ensures faults { FaultIsFromListener result self.old }
         ensures failed { FailsAgain HasFailed result self.old self.new }
     {
         let mut nobody = Nobody {};
@@ -79,7 +79,7 @@ impl<P: ProofProcessor, T: ProofTranscriptProcessor> Checker<P, T> {
         ensures proof { ChecksProof (HearsFirst O.takes (HearsEach P.takes T.reads))
             result (seen_with own.old self.old) (seen_with own.new self.new) (R.seen reader.old) (R.seen reader.new) }
         ensures unended { IsErrOf result OutOfMemory → FoundNoEnd (R.seen reader.old) (R.seen reader.new) }
-        ensures rise { looks_of (kernel_of self.old) ≤ looks_of (kernel_of self.new) }
+        ensures rise { kernel_looks (kernel_of self.old) ≤ kernel_looks (kernel_of self.new) }
         ensures failed { FailsAgain HasFailed result self.old self.new }
     {
         self.check_proof_by(reader, own, true)
@@ -92,11 +92,11 @@ impl<P: ProofProcessor, T: ProofTranscriptProcessor> Checker<P, T> {
         own: &mut O,
         has_own: bool,
     ) -> Result<(), CheckerError>
-        requires { has_own ≡ false → (v : _) (t : Told) → O.takes v t (Ok tt) v }
+        requires { has_own ≡ false → (v : _) (t : Notice) → O.takes v t (Ok tt) v }
         ensures proof { ChecksProof (HearsFirst O.takes (HearsEach P.takes T.reads))
             result (seen_with own.old self.old) (seen_with own.new self.new) (R.seen reader.old) (R.seen reader.new) }
         ensures unended { IsErrOf result OutOfMemory → FoundNoEnd (R.seen reader.old) (R.seen reader.new) }
-        ensures rise { looks_of (kernel_of self.old) ≤ looks_of (kernel_of self.new) }
+        ensures rise { kernel_looks (kernel_of self.old) ≤ kernel_looks (kernel_of self.new) }
         ensures failed { FailsAgain HasFailed result self.old self.new }
     {
         if self.kernel.failed {
@@ -113,8 +113,8 @@ impl<P: ProofProcessor, T: ProofTranscriptProcessor> Checker<P, T> {
         own: &mut O,
         has_own: bool,
     ) -> Result<(), CheckerError>
-        requires quiet { has_own ≡ false → (v : _) (t : Told) → O.takes v t (Ok tt) v }
-        requires well { has_failed (kernel_of self.old) ≡ false }
+        requires quiet { has_own ≡ false → (v : _) (t : Notice) → O.takes v t (Ok tt) v }
+        requires well { kernel_has_failed (kernel_of self.old) ≡ false }
         requires fresh { reader_source R.seen steps.old ≡ unread (reader_source R.seen steps.old).reader }
         requires open_yet { is_stopped steps.old ≡ false }
         ensures same { reader_name steps.new ≡ reader_name steps.old }
@@ -123,7 +123,7 @@ impl<P: ProofProcessor, T: ProofTranscriptProcessor> Checker<P, T> {
             (reader_source R.seen steps.old).reader (reader_source R.seen steps.new).reader }
         ensures unended { IsErrOf result OutOfMemory
             → FoundNoEnd (reader_source R.seen steps.old).reader (reader_source R.seen steps.new).reader }
-        ensures rise { looks_of (kernel_of self.old) ≤ looks_of (kernel_of self.new) }
+        ensures rise { kernel_looks (kernel_of self.old) ≤ kernel_looks (kernel_of self.new) }
     {
         loop {
             if self.check_next(steps, own, has_own)? {
@@ -139,12 +139,12 @@ impl<P: ProofProcessor, T: ProofTranscriptProcessor> Checker<P, T> {
         own: &mut O,
         has_own: bool,
     ) -> Result<bool, CheckerError>
-        requires quiet { has_own ≡ false → (v : _) (t : Told) → O.takes v t (Ok tt) v }
-        requires well { has_failed (kernel_of self.old) ≡ false }
+        requires quiet { has_own ≡ false → (v : _) (t : Notice) → O.takes v t (Ok tt) v }
+        requires well { kernel_has_failed (kernel_of self.old) ≡ false }
         requires open_yet { is_stopped steps.old ≡ false }
         ensures same { reader_name steps.new ≡ reader_name steps.old }
         ensures bound { (reader_source R.seen steps.new).reads ≤ most_reads }
-        ensures goes_on { OnOk result ((has_failed (kernel_of self.new) ≡ false) × (is_stopped steps.new ≡ false)) }
+        ensures goes_on { OnOk result ((kernel_has_failed (kernel_of self.new) ≡ false) × (is_stopped steps.new ≡ false)) }
         ensures takes { OnOk result (bytes_left (reader_source R.seen steps.new)
             < bytes_left (reader_source R.seen steps.old)) }
         ensures steps_on { TurnsOn (HearsFirst O.takes (HearsEach P.takes T.reads))
@@ -155,7 +155,7 @@ impl<P: ProofProcessor, T: ProofTranscriptProcessor> Checker<P, T> {
             → AtEnd (reader_source R.seen steps.old)) }
         ensures starved { IsErrOf result OutOfMemory
             → AtEnd (reader_source R.seen steps.new) → AtEnd (reader_source R.seen steps.old) }
-        ensures rise { looks_of (kernel_of self.old) ≤ looks_of (kernel_of self.new) }
+        ensures rise { kernel_looks (kernel_of self.old) ≤ kernel_looks (kernel_of self.new) }
     {
         if let Err(error) = steps.advance() {
             self.kernel.failed = is_final(error);

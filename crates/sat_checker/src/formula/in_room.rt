@@ -14,8 +14,8 @@ ghost use Rattle.sat_checker.specs.Storing.{last_literals, clause_with};
 ghost use Rattle.sat_checker.specs.inner.FormulaView.{KeepsFormula, refiled_in, ChecksBeside};
 ghost use Rattle.sat_checker.specs.inner.Looking.{LooksOver};
 ghost use Rattle.sat_checker.specs.inner.ModelTests.{are_all_true};
-ghost use Rattle.sat_checker.specs.inner.Room.{AgreesOn};
-ghost use Rattle.sat_checker.specs.inner.StoreView.{count_in};
+ghost use Rattle.sat_checker.specs.inner.AssumedRoom.{AgreesOn};
+ghost use Rattle.sat_checker.specs.inner.StoreView.{store_count_in};
 ghost use Rattle.sat_checker.specs.declared.store.StoreError.TheVariants.{OutOfMemory};
 
 use crate::formula::Formula;
@@ -155,8 +155,8 @@ impl Formula {
     fn marked_has_count(&self, redundant: bool, clause: &[Lit], looks: &mut Looks) -> bool
         requires { (l : ℕ) → is_among self.now.marks.literals l ≡ is_among clause.now l }
         ensures found { (f : Stored) → KeepsFormula self.now f
-            → MatchBool result (0 < count_in redundant (clause_with (canonical clause.now) f.clauses))
-            (0 < count_in redundant (clause_with (canonical clause.now) f.clauses) → ⊥) }
+            → MatchBool result (0 < store_count_in redundant (clause_with (canonical clause.now) f.clauses))
+            (0 < store_count_in redundant (clause_with (canonical clause.now) f.clauses) → ⊥) }
         ensures looks { LooksOver (KeepsFormula self.now) literal_count looks.old looks.new }
     {
         self.store.assumed_count(redundant, &self.marks, looks) > 0

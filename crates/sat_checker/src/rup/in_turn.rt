@@ -8,7 +8,7 @@ ghost use Rattle.sat_checker.specs.Stored.{Stored, is_unit};
 ghost use Rattle.sat_checker.specs.inner.InTurn.{with_supposed, stands_first, AssumesUnits, PassBehind};
 ghost use Rattle.sat_checker.specs.inner.Look.{AssumesMore};
 ghost use Rattle.sat_checker.specs.inner.Looking.{LooksOver};
-ghost use Rattle.sat_checker.specs.inner.Room.{HasRoomForStored};
+ghost use Rattle.sat_checker.specs.inner.AssumedRoom.{HasStoredRoom};
 ghost use Rattle.sat_checker.specs.inner.StoreView.{KeepsClauses};
 
 use crate::looks::Looks;
@@ -60,12 +60,12 @@ fn passes(
     looks: &mut Looks,
 ) -> Result<bool, AllocError>
     ensures exact { IfOk result (λ yes. (f : Stored) → KeepsClauses store.now f
-        → HasRoomForStored assigned.old.room f.clauses → AssumesUnits assigned.old (map (λ u. u.0) before.now) f
+        → HasStoredRoom assigned.old.room f.clauses → AssumesUnits assigned.old (map (λ u. u.0) before.now) f
         → IsTrue yes ↔ PassesByHashes f (unit.0 ∷ []) (unit.1 ∷ [])) }
     ensures short { OnErr result ((f : Stored) → KeepsClauses store.now f
-        → HasRoomForStored assigned.old.room f.clauses → ⊥) }
+        → HasStoredRoom assigned.old.room f.clauses → ⊥) }
     ensures extends { AssumesMore assigned.old assigned.new }
-    ensures same { (f : Stored) → KeepsClauses store.now f → HasRoomForStored assigned.old.room f.clauses
+    ensures same { (f : Stored) → KeepsClauses store.now f → HasStoredRoom assigned.old.room f.clauses
         → assigned.new ≡ assigned.old }
     ensures looks { LooksOver (KeepsClauses store.now) literal_count looks.old looks.new }
 {
@@ -97,10 +97,10 @@ pub(crate) fn pass_in_turn(
     looks: &mut Looks,
 ) -> Result<bool, AllocError>
     ensures exact { IfOk result (λ pass. (f : Stored) → KeepsClauses store.now f
-        → ((l : ℕ) → is_among assigned.old.literals l ≡ is_unit f l) → HasRoomForStored assigned.old.room f.clauses
+        → ((l : ℕ) → is_among assigned.old.literals l ≡ is_unit f l) → HasStoredRoom assigned.old.room f.clauses
         → IsTrue pass ↔ PassBehind f units.now) }
     ensures short { OnErr result ((f : Stored) → KeepsClauses store.now f
-        → HasRoomForStored assigned.old.room f.clauses → ⊥) }
+        → HasStoredRoom assigned.old.room f.clauses → ⊥) }
     ensures extends { AssumesMore assigned.old assigned.new }
     ensures looks { LooksOver (KeepsClauses store.now)
         (λ f. (length units.now - 1) * literal_count f) looks.old looks.new }

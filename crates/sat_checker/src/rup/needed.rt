@@ -2,7 +2,7 @@
 ghost use Rattle.std.specs.Prelude.{ℕ, ◌≡◌, ◌+◌, ◌<◌, ◌==◌, ◌||◌, ◌++◌, [], map, length, reverse, OnOk, Some, true, false};
 ghost use Rattle.sat_base.specs.values.Literals.{negated};
 ghost use Rattle.sat_checker.specs.LiteralSets.{is_among};
-ghost use Rattle.sat_checker.specs.announcements.Needed.{Ground, others_denied, with_reason, needed_units};
+ghost use Rattle.sat_checker.specs.announcements.Needed.{ConflictCauses, others_denied, with_cause, needed_units};
 ghost use Rattle.sat_checker.specs.announcements.Needed.{conflict_ids};
 ghost use Rattle.sat_checker.specs.inner.Looking.{LooksUpTo};
 ghost use Rattle.sat_checker.specs.inner.Marks.{IsIncreasing};
@@ -71,7 +71,7 @@ fn list_units(
     ids: &mut Vec<u64>,
 ) -> Result<(), AllocError>
     requires { ids.old.items ≡ [] }
-    ensures { OnOk result ((g : Ground) → ((m : ℕ) → is_among marked.now.literals m ≡ is_among g.literals m)
+    ensures { OnOk result ((g : ConflictCauses) → ((m : ℕ) → is_among marked.now.literals m ≡ is_among g.literals m)
         → IsIncreasing (map (λ u. u.id) units.now.units)
         → ids.new.items ≡ map (λ u. u.id) (needed_units denied.now.literals g units.now.units)) }
 {
@@ -129,8 +129,8 @@ impl Needed {
         looks: &mut Looks,
     ) -> Result<(), AllocError>
         requires { reason.place < length clauses.now }
-        ensures followed { OnOk result ((g : Ground) → IsFollowed self.old g
-            → IsFollowed self.new (with_reason reason.lit (clause_at clauses.now reason.place) g)) }
+        ensures followed { OnOk result ((g : ConflictCauses) → IsFollowed self.old g
+            → IsFollowed self.new (with_cause reason.lit (clause_at clauses.now reason.place) g)) }
         ensures looks { LooksUpTo (length (literals_at clauses.now reason.place)) looks.old looks.new }
     {
         if !self.marked.is_true(reason.lit) {
@@ -156,7 +156,7 @@ impl Needed {
         requires met { IsConflictPlace clauses.now passed.now.conflict }
         requires whole { passed.now.lost ≡ false }
         ensures followed { OnOk result
-            ((whole : Ground) → Explains clauses.now passed.now whole → IsFollowed self.new whole) }
+            ((whole : ConflictCauses) → Explains clauses.now passed.now whole → IsFollowed self.new whole) }
         ensures looks { LooksUpTo (noted_length clauses.now passed.now) looks.old looks.new }
     {
         let Some(place) = passed.conflict() else {
@@ -202,7 +202,7 @@ impl Needed {
         ids: &mut Vec<u64>,
     ) -> Result<(), AllocError>
         requires { ids.old.items ≡ [] }
-        ensures { OnOk result ((g : Ground) → IsFollowed self.old g
+        ensures { OnOk result ((g : ConflictCauses) → IsFollowed self.old g
             → IsIncreasing (map (λ u. u.id) units.now.units)
             → ids.new.items ≡ conflict_ids denied.now.literals g units.now.units) }
     {

@@ -4,7 +4,7 @@ ghost use Rattle.std.specs.Prelude.{ℕ, List, ◌≡◌, ◌+◌, ◌++◌, [],
 ghost use Rattle.sat_base.specs.values.Literals.{negated};
 ghost use Rattle.sat_checker.specs.LiteralSets.{canonical};
 ghost use Rattle.sat_checker.specs.Stored.{Stored};
-ghost use Rattle.sat_checker.specs.announcements.Needed.{Ground, ground, conflict_ids, propagations};
+ghost use Rattle.sat_checker.specs.announcements.Needed.{ConflictCauses, conflict_causes, conflict_ids, propagations};
 ghost use Rattle.sat_checker.specs.inner.Looking.{LooksUpTo};
 ghost use Rattle.sat_checker.specs.inner.Marks.{IsIncreasing};
 ghost use Rattle.sat_checker.specs.inner.Reasons.{named, noted_length, AreNotedPlaces, IsConflictPlace, Explains};
@@ -61,13 +61,13 @@ impl Propagations {
         looks: &mut Looks,
     ) -> Result<(), AllocError>
         requires canonical { literals.now ≡ canonical clause.now }
-        requires explained { passed.now.lost ≡ false → (whole : Ground)
+        requires explained { passed.now.lost ≡ false → (whole : ConflictCauses)
             × ExplainsUnless store.now.clauses passed.now (map (λ u. u.literal) units.now.units) clause.now whole }
         ensures listed { OnOk result
             ((f : Stored) (hashes : List ℕ) → KeepsClauses store.now f → units.now.units ≡ f.units
             → (passed.now.lost ≡ false
             → ExplainsUnless store.now.clauses passed.now (map (λ u. u.literal) units.now.units) clause.now
-            (ground (map negated clause.now ++ map (λ u. u.literal) units.now.units) (named hashes store.now.clauses)))
+            (conflict_causes (map negated clause.now ++ map (λ u. u.literal) units.now.units) (named hashes store.now.clauses)))
             → IsIncreasing (map (λ u. u.id) f.units) → self.new.ids.items ≡ propagations f clause.now hashes) }
         ensures looks { LooksUpTo (noted_length store.now.clauses passed.now) looks.old looks.new }
     {
@@ -98,7 +98,7 @@ impl Propagations {
         requires whole { passed.now.lost ≡ false }
         requires there { AreNotedPlaces store.now.clauses passed.now }
         requires met { IsConflictPlace store.now.clauses passed.now.conflict }
-        ensures listed { OnOk result ((whole : Ground) → Explains store.now.clauses passed.now whole
+        ensures listed { OnOk result ((whole : ConflictCauses) → Explains store.now.clauses passed.now whole
             → IsIncreasing (map (λ u. u.id) units.now.units)
             → self.new.ids.items ≡ conflict_ids (map negated clause.now) whole units.now.units) }
         ensures looks { LooksUpTo (noted_length store.now.clauses passed.now) looks.old looks.new }

@@ -12,9 +12,9 @@ ghost use Rattle.sat_checker.specs.inner.SlotView.{MayDrop, IsPresentAt, slot_id
 ghost use Rattle.sat_checker.specs.inner.SlotView.{found_among, hashed_anew, live, live_length};
 ghost use Rattle.sat_checker.specs.Storing.{clause_numbered, clause_with};
 ghost use Rattle.sat_checker.specs.LiteralSets.{mentions, is_among, canonical};
-ghost use Rattle.sat_checker.specs.inner.StoreView.{count_in};
+ghost use Rattle.sat_checker.specs.inner.StoreView.{store_count_in};
 ghost use Rattle.sat_checker.specs.inner.PairView.{inserted_all, first_of, places_behind};
-ghost use Rattle.sat_checker.specs.inner.IndexView.{Files, pairs_of};
+ghost use Rattle.sat_checker.specs.inner.IndexView.{IndexesSlots, pairs_of};
 ghost use Rattle.sat_checker.specs.inner.OccurrenceView.{SlotsInvariant};
 
 use crate::hash::{ClauseHasher, mixed};
@@ -71,7 +71,7 @@ impl Clauses {
 
     /// Lends the sorted list of the mixed hashes and places of the clauses that are not removed.
     pub fn index(&self) -> &SortedPairs
-        ensures { Files result.now self.now }
+        ensures { IndexesSlots result.now self.now }
     {
         &self.index
     }
@@ -197,7 +197,7 @@ impl Clauses {
     /// Returns how often the clause of exactly the assumed literals is stored as redundant, or as irredundant. It is
     /// found without its hash.
     pub fn assumed_count(&self, redundant: bool, assigned: &Assigned, looks: &mut Looks) -> u64
-        ensures found { result ≡ count_in redundant (clause_with (canonical assigned.now.literals) (live self.now)) }
+        ensures found { result ≡ store_count_in redundant (clause_with (canonical assigned.now.literals) (live self.now)) }
         ensures looks { LooksUpTo (live_length self.now) looks.old looks.new }
     {
         for place in 0..self.slots.len() {
@@ -324,7 +324,7 @@ fn add(
 /// Files the clauses that are not removed by the places that they have once the others are dropped, from the last to
 /// the first.
 fn file_standing(slots: &Slots, index: &SortedPairs, next: &mut SortedPairs)
-    requires filed { Files index.now slots.now }
+    requires filed { IndexesSlots index.now slots.now }
     requires none { next.old.pairs ≡ [] }
     requires places { next.old.places ≡ length (slots_present slots.now) }
     ensures { next.new ≡ record { pairs = inserted_all (pairs_of (slots_present slots.now)); places = next.old.places } }
@@ -343,9 +343,9 @@ fn file_standing(slots: &Slots, index: &SortedPairs, next: &mut SortedPairs)
 
 /// Drops the removed clauses, and files the others by their new places. If memory runs out, all stay.
 fn drop_gone(alloc: Global, slots: &mut Slots, index: &mut SortedPairs) -> Result<(), AllocError>
-    requires { Files index.old slots.old }
+    requires { IndexesSlots index.old slots.old }
     ensures left { OnOk result (slots.new ≡ slots_present slots.old) }
-    ensures filed { OnOk result (Files index.new (slots_present slots.old)) }
+    ensures filed { OnOk result (IndexesSlots index.new (slots_present slots.old)) }
     ensures err { OnErr result ((slots.new ≡ slots.old) × (index.new ≡ index.old)) }
 {
     let mut left = Slots::new(alloc);
@@ -361,7 +361,7 @@ fn drop_gone(alloc: Global, slots: &mut Slots, index: &mut SortedPairs) -> Resul
 fn file_all(slots: &mut Slots, hasher: &ClauseHasher, index: &mut SortedPairs, looks: &mut Looks)
     requires places { index.old.places ≡ length slots.old }
     ensures hashed { slots.new ≡ hashed_anew hasher.now slots.old }
-    ensures filed { Files index.new (hashed_anew hasher.now slots.old) }
+    ensures filed { IndexesSlots index.new (hashed_anew hasher.now slots.old) }
     ensures looks { LooksUpTo (live_length slots.old) looks.old looks.new }
 {
     index.clear();

@@ -3,7 +3,7 @@
 ghost use Rattle.std.specs.Prelude.{All, ℕ, ◌≡◌, ◌+◌, ◌<◌, ◌≤◌, ◌++◌, length, OnOk, OnErr, None};
 ghost use Rattle.std.specs.List.{AllByRecursion, IsDistinct};
 ghost use Rattle.sat_checker.specs.inner.PairView.{AreInOrder, inserted, without_pair, places_in, first_of, same_place};
-ghost use Rattle.sat_checker.specs.inner.LinkView.{rest, listed, top_of, head_at, IsWalk, AreLinked, Lists, up_to};
+ghost use Rattle.sat_checker.specs.inner.LinkView.{rest, listed_pairs, top_of, head_at, IsWalk, AreLinked, LinksListPairs, up_to};
 ghost use Rattle.sat_checker.specs.inner.LinkView.{below, last_or, place_before, nowhere};
 
 use sat_base::ClauseHash;
@@ -123,8 +123,8 @@ pub(crate) fn put(
     requires some { 0 < length heads.old }
     requires few { length links.old.items < nowhere }
     requires shift { shift < 64 }
-    ensures ok { OnOk result (Lists heads.new links.new.items shift
-        (inserted (record { hash = hash; place = length links.old.items }) (listed heads.old links.old.items))) }
+    ensures ok { OnOk result (LinksListPairs heads.new links.new.items shift
+        (inserted (record { hash = hash; place = length links.old.items }) (listed_pairs heads.old links.old.items))) }
     ensures longer { OnOk result (length links.new.items ≡ length links.old.items + 1) }
     ensures err { OnErr result ((heads.new ≡ heads.old) × (links.new.items ≡ links.old.items)) }
 {
@@ -151,7 +151,7 @@ pub(crate) fn take(heads: &mut [u32], links: &mut [Link], shift: u32, place: usi
     requires some { 0 < length heads.old }
     requires inside { place < length links.old }
     requires shift { shift < 64 }
-    ensures { Lists heads.new links.new shift (without_pair place (listed heads.old links.old)) }
+    ensures { LinksListPairs heads.new links.new shift (without_pair place (listed_pairs heads.old links.old)) }
 {
     let link = links[place];
     let top = top(link.hash, shift, heads.len());
@@ -193,7 +193,7 @@ pub(crate) fn list_all(
     list: &mut Vec<Pair>,
 ) -> Result<(), AllocError>
     requires { (t : ℕ) → t < length heads.now → IsWalk links.now (head_at heads.now t) }
-    ensures { OnOk result (list.new.items ≡ list.old.items ++ listed heads.now links.now) }
+    ensures { OnOk result (list.new.items ≡ list.old.items ++ listed_pairs heads.now links.now) }
 {
     for head in heads {
         list_from(links, *head, list)?;
@@ -211,7 +211,7 @@ pub(crate) fn link_all(heads: &mut [u32], links: &mut [Link], shift: u32, pairs:
     requires within { All (λ p. p.place < length links.old) pairs.now }
     requires count { length pairs.now ≤ length links.old }
     requires shift { shift < 64 }
-    ensures { Lists heads.new links.new shift pairs.now }
+    ensures { LinksListPairs heads.new links.new shift pairs.now }
 {
     let count = pairs.len();
     for done in 0..count {
@@ -230,10 +230,10 @@ pub(crate) fn link_before(heads: &mut [u32], links: &mut [Link], shift: u32, pai
     requires linked { AreLinked heads.old links.old shift }
     requires some { 0 < length heads.old }
     requires inside { pair.place < length links.old }
-    requires above { AllByRecursion (λ q. pair.place < q.place) (listed heads.old links.old) }
-    requires room { length (listed heads.old links.old) < length links.old }
+    requires above { AllByRecursion (λ q. pair.place < q.place) (listed_pairs heads.old links.old) }
+    requires room { length (listed_pairs heads.old links.old) < length links.old }
     requires shift { shift < 64 }
-    ensures lists { Lists heads.new links.new shift (inserted pair (listed heads.old links.old)) }
+    ensures lists { LinksListPairs heads.new links.new shift (inserted pair (listed_pairs heads.old links.old)) }
     ensures heads { length heads.new ≡ length heads.old }
     ensures links { length links.new ≡ length links.old }
 {

@@ -5,7 +5,7 @@ ghost use Rattle.std.specs.List.{AllByRecursion};
 ghost use Rattle.sat_checker.specs.LiteralSets.{is_among};
 ghost use Rattle.sat_checker.specs.inner.PairView.{AreInOrder, inserted, without_pair, places_in, first_of};
 ghost use Rattle.sat_checker.specs.inner.PairView.{places_behind};
-ghost use Rattle.sat_checker.specs.inner.LinkView.{listed, AreKeptPairs, Lists, nowhere};
+ghost use Rattle.sat_checker.specs.inner.LinkView.{listed_pairs, AreKeptPairs, LinksListPairs, nowhere};
 
 use crate::store::links::{
     Link, NOWHERE, Pair, first_from, link_all, link_before, list_all, put, take, top,
@@ -57,7 +57,7 @@ fn grow(
     shift: u32,
 ) -> Result<u32, AllocError>
     requires { AreKeptPairs heads.old.items links.old shift }
-    ensures ok { IfOk result (λ s. Lists heads.new.items links.new s (listed heads.old.items links.old)) }
+    ensures ok { IfOk result (λ s. LinksListPairs heads.new.items links.new s (listed_pairs heads.old.items links.old)) }
     ensures some { OnOk result (0 < length heads.new.items) }
     ensures few { IfOk result (λ s. 33 ≤ s) }
     ensures below { IfOk result (λ s. s < 64) }
@@ -80,7 +80,7 @@ fn make_heads(
     shift: u32,
 ) -> Result<u32, AllocError>
     requires { AreKeptPairs heads.old.items links.old shift }
-    ensures ok { IfOk result (λ s. Lists heads.new.items links.new s (listed heads.old.items links.old)) }
+    ensures ok { IfOk result (λ s. LinksListPairs heads.new.items links.new s (listed_pairs heads.old.items links.old)) }
     ensures some { OnOk result (0 < length heads.new.items) }
     ensures few { IfOk result (λ s. 33 ≤ s) }
     ensures below { IfOk result (λ s. s < 64) }
@@ -108,11 +108,11 @@ pub struct SortedPairs {
 impl Model for SortedPairs {
     ghost use Rattle.std.specs.Prelude.{length};
     ghost use Rattle.sat_checker.specs.inner.PairView.{Indexed};
-    ghost use Rattle.sat_checker.specs.inner.LinkView.{listed, AreKeptPairs};
+    ghost use Rattle.sat_checker.specs.inner.LinkView.{listed_pairs, AreKeptPairs};
 
     ghost Value = { Indexed };
 
-    ghost view = { λ s. record { pairs = listed s.heads.items s.links.items; places = length s.links.items } };
+    ghost view = { λ s. record { pairs = listed_pairs s.heads.items s.links.items; places = length s.links.items } };
 
     ghost invariant = { λ s. AreKeptPairs s.heads.items s.links.items s.shift };
 }

@@ -2,7 +2,7 @@
 ghost use Rattle.std.specs.Prelude.{◌≡◌, ◌+◌, ◌-◌, ◌<◌, ◌≤◌, List, [], ◌∷◌, drop, length, OnOk, OnErr, IfSome};
 ghost use Rattle.std.specs.Prelude.{true, false, reverse, ℕ, ◌==◌, get_or, if◌then◌else◌, ◌&&◌, not};
 ghost use Rattle.sat_checker.specs.inner.Marks.{is_assumed, mark_at, AreNear, NoRepeats, LosesAt};
-ghost use Rattle.sat_checker.specs.inner.Room.{with_room, AgreesOn, AssumesOnce, HasRoomFor, RoomStays};
+ghost use Rattle.sat_checker.specs.inner.AssumedRoom.{with_room, AgreesOn, AssumesOnce, HasClauseRoom, RoomStays};
 ghost use Rattle.sat_checker.specs.inner.Look.{AssumesMore};
 ghost use Rattle.sat_base.specs.values.Tables.{HasPlaceFor, KeepsRoom};
 ghost use Rattle.sat_checker.specs.LiteralSets.{is_among};
@@ -35,7 +35,7 @@ pub struct Assigned {
 
 impl Model for Assigned {
     ghost use Rattle.std.specs.Prelude.{reverse, vec_capacity};
-    ghost use Rattle.sat_checker.specs.inner.Room.{LiteralsAndRoom};
+    ghost use Rattle.sat_checker.specs.inner.AssumedRoom.{LiteralsAndRoom};
     ghost use Rattle.sat_checker.specs.inner.Marks.{AreMarks, HoldsRoom};
 
     ghost Value = { LiteralsAndRoom };
@@ -225,8 +225,8 @@ impl Assigned {
 
 /// Makes room for the literals of a clause, and for their negations.
 pub fn make_room_for(assigned: &mut Assigned, clause: &[Lit]) -> Result<(), AllocError>
-    ensures room { OnOk result (HasRoomFor assigned.new.room clause.now) }
-    ensures short { OnErr result (HasRoomFor assigned.old.room clause.now → ⊥) }
+    ensures room { OnOk result (HasClauseRoom assigned.new.room clause.now) }
+    ensures short { OnErr result (HasClauseRoom assigned.old.room clause.now → ⊥) }
     ensures literals { assigned.new.literals ≡ assigned.old.literals }
     ensures stays { RoomStays assigned.old.room assigned.new.room }
 {

@@ -4,7 +4,7 @@ ghost use Rattle.std.specs.List.{list_any};
 ghost use Rattle.sat_checker.specs.LiteralSets.{is_among, is_part, mentions, canonical, same_literals};
 ghost use Rattle.sat_checker.specs.Accepts.{VariablesApart};
 ghost use Rattle.sat_checker.specs.inner.Marks.{IsIncreasing};
-ghost use Rattle.sat_checker.specs.inner.Room.{RoomStays};
+ghost use Rattle.sat_checker.specs.inner.AssumedRoom.{RoomStays};
 
 use crate::units::assigned::{Assigned, assume_if_roomy};
 use sat_base::{Lit, Var};

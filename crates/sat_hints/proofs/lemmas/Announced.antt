@@ -11,7 +11,7 @@ use Rattle.sat_checker.specs.Storing.{clause_with, irredundant_count, redundant_
 use Rattle.sat_checker.specs.Accepts.{PassInTurn, MayBeDeleted, Accepts, AcceptsAll, effect, stored_after, ready_after}
 use Rattle.sat_checker.specs.Invariants.{EachOnce, IsProper, AlwaysTidy}
 use Rattle.sat_checker.specs.announcements.Needed.{true_unit, propagations}
-use Rattle.sat_checker.specs.announcements.Announcements.{Announcement, is_sample, is_witness, mode_change, id_of_set, input_set, input, redundant_alone, derived_set, derived, derived_units, redundant_deleted, irredundant_deleted, one, last_id, announced, delayed_by, delayed, Told, told_over, told_after, all_told_after}
+use Rattle.sat_checker.specs.announcements.Announcements.{Announcement, is_sample, has_witness_mode, mode_change, id_of_set, input_set, input, redundant_alone, derived_set, derived, derived_units, redundant_deleted, irredundant_deleted, one, last_id, announced, delayed_by, delayed, Notice, notices_over, notices_after, all_notices_after}
 use Rattle.sat_checker.specs.announcements.Promises.{IsOneOf, RestsOn, PropagationsInTurn, TautologiesRestOnNothing}
 use Rattle.sat_checker.proofs.lemmas.propagation.Soundness.{negated-negated}
 use Rattle.sat_checker.proofs.lemmas.propagation.Members.{same_runs}
@@ -20,9 +20,9 @@ use Rattle.sat_checker.proofs.lemmas.sets.Rising.{canonical_stays}
 use Rattle.sat_checker.proofs.lemmas.meaning.Clauses.{same, same_from}
 use Rattle.sat_hints.specs.Lines.{Line, Input, Derived, Gone, Core, Fresh}
 use Rattle.sat_hints.specs.Hints.{and_clauses, is_unit_over, unless_unit_over, clause_under, clauses_under, is_long, FollowsLines}
-use Rattle.sat_hints.specs.Conversion.{gone_unless, with_line, lines_told, lines_of}
+use Rattle.sat_hints.specs.Conversion.{gone_unless, with_line, announced_lines, lines_of}
 use Rattle.sat_hints.proofs.lemmas.Sound.{still}
-use Rattle.sat_hints.proofs.lemmas.Mirrored.{lines_by, told_lines, lines-append, by-append, each_more, one_each, IsUnder, HasAccepted, Mirrors, aside, NewLine, new_input, empty_new, set_same, set_new}
+use Rattle.sat_hints.proofs.lemmas.Mirrored.{lines_by, reported_lines, lines-append, by-append, each_more, one_each, IsUnder, HasAccepted, Mirrors, aside, NewLine, new_input, empty_new, set_same, set_new}
 
 -- WHAT A CLAUSE RESTS ON IS PRESENT
 module _ (f : Stored) (lines : List Line) (m : Mirrors f lines) where
@@ -492,9 +492,9 @@ one_from_all : (f : Stored) → AllByRecursion IsProper (map (λ c. c.literals) 
 one_from_all f h = all_long f.clauses h
 
 -- what is told up to a step, and by it
-lines_next : (step : Step) (earlier : List Step) → lines_told (told_after (step ∷ earlier)) [] ≡ lines_by (announced (ready_after earlier) step) (lines_of earlier)
+lines_next : (step : Step) (earlier : List Step) → announced_lines (notices_after (step ∷ earlier)) [] ≡ lines_by (announced (ready_after earlier) step) (lines_of earlier)
 lines_next step earlier =
-    lines-append (all_told_after earlier) (told_over (ready_after earlier) (announced (ready_after earlier) step)) [] ∙ told_lines (ready_after earlier) (announced (ready_after earlier) step) (lines_of earlier)
+    lines-append (all_notices_after earlier) (notices_over (ready_after earlier) (announced (ready_after earlier) step)) [] ∙ reported_lines (ready_after earlier) (announced (ready_after earlier) step) (lines_of earlier)
 
 settled_has_none : (f : Stored) → (settled f).conflict ≡ None
 settled_has_none f = go f.conflict refl
@@ -524,7 +524,7 @@ module _ (tidy : AlwaysTidy) (in_turn : PropagationsInTurn) (nothing : Tautologi
     where
       mode_mirrors : (mode : Mode) (name : Option ℕ) → Mirrors (effect (ChangeSamplingMode v sample) before) (lines_by (mode_change v sample mode name) lines)
       mode_mirrors mode None = aside before (effect (ChangeSamplingMode v sample) before) lines refl refl refl (omega arith) m
-      mode_mirrors mode (Some name) = told (cond sample (is_sample mode) (is_witness mode))
+      mode_mirrors mode (Some name) = told (cond sample (is_sample mode) (has_witness_mode mode))
         where
           told : (b : Bool) → Mirrors (effect (ChangeSamplingMode v sample) before) (lines_by (cond b [] (Rattle.sat_checker.specs.announcements.Announcements.UserVar v (Some (record { name = name; sampling = sample; is_new = false })) ∷ [])) lines)
           told true = aside before (effect (ChangeSamplingMode v sample) before) lines refl refl refl (omega arith) m
@@ -553,17 +553,17 @@ module _ (tidy : AlwaysTidy) (in_turn : PropagationsInTurn) (nothing : Tautologi
   step_mirrors step a = aside before (effect step before) lines refl refl refl (omega arith) m
 
 module _ (tidy : AlwaysTidy) (in_turn : PropagationsInTurn) (nothing : TautologiesRestOnNothing) where
-  settled_behind : (steps : List Step) → Mirrors (stored_after steps) (lines_told (told_after steps) []) → Mirrors (ready_after steps) (lines_of steps)
+  settled_behind : (steps : List Step) → Mirrors (stored_after steps) (announced_lines (notices_after steps) []) → Mirrors (ready_after steps) (lines_of steps)
   settled_behind steps m =
-      subst (Mirrors (ready_after steps)) (sym (lines-append (told_after steps) (told_over (stored_after steps) (delayed (stored_after steps))) [] ∙ told_lines (stored_after steps) (delayed (stored_after steps)) (lines_told (told_after steps) [])))
-      (settled_mirrors (stored_after steps) (lines_told (told_after steps) []) (stored_after steps).conflict refl m)
+      subst (Mirrors (ready_after steps)) (sym (lines-append (notices_after steps) (notices_over (stored_after steps) (delayed (stored_after steps))) [] ∙ reported_lines (stored_after steps) (delayed (stored_after steps)) (announced_lines (notices_after steps) [])))
+      (settled_mirrors (stored_after steps) (announced_lines (notices_after steps) []) (stored_after steps).conflict refl m)
 
-  told_mirrors : (steps : List Step) → AcceptsAll steps → Mirrors (stored_after steps) (lines_told (told_after steps) [])
-  told_mirrors [] ok = record { derivation = tt; clauses = tt; units = tt; long = λ id c u l. absurd cc; least = omega arith; conflict = λ ids e. absurd cc }
-  told_mirrors (step ∷ earlier) ok =
-      let ready = settled_behind earlier (told_mirrors earlier ok.0) in
+  reported_mirrors : (steps : List Step) → AcceptsAll steps → Mirrors (stored_after steps) (announced_lines (notices_after steps) [])
+  reported_mirrors [] ok = record { derivation = tt; clauses = tt; units = tt; long = λ id c u l. absurd cc; least = omega arith; conflict = λ ids e. absurd cc }
+  reported_mirrors (step ∷ earlier) ok =
+      let ready = settled_behind earlier (reported_mirrors earlier ok.0) in
       let next = step_mirrors tidy in_turn nothing earlier ok.0 (lines_of earlier) ready step ok.1 in
       subst (Mirrors (stored_after (step ∷ earlier))) (sym (lines_next step earlier)) next
 
   pub all_mirrors : (steps : List Step) → AcceptsAll steps → Mirrors (ready_after steps) (lines_of steps)
-  all_mirrors steps ok = settled_behind steps (told_mirrors steps ok)
+  all_mirrors steps ok = settled_behind steps (reported_mirrors steps ok)

@@ -10,11 +10,11 @@ use Rattle.sat_checker.specs.Accepts.{Accepts, AcceptsAll, ready_after}
 use Rattle.sat_checker.specs.ProofView.{taken_after}
 use Rattle.sat_checker.specs.declared.error.CheckerError.TheVariants as errors
 use Rattle.sat_hints.specs.Conversion.{hint_text}
-use Rattle.sat_hints.specs.Converts.{Gave}
+use Rattle.sat_hints.specs.Converts.{GaveAcceptedSteps}
 use Rattle.sat_hints.specs.Laws.{IsCertificate, AcceptedConverts}
 use Rattle.sat_hints.specs.declared.error.HintError.TheVariants.{Refused, HasDeleteVar, Read, Write, OutOfMemory}
 use Rattle.sat_hints.proofs.lemmas.Certificates.{accepted_at, taken_append, Left, left_of, Next, next_of, none_left, cut_at}
-use Rattle.sat_hints.proofs.lemmas.Rechecked.{told_left}
+use Rattle.sat_hints.proofs.lemmas.Rechecked.{reported_left}
 
 at_end : (now : Option (List ℕ)) (ys : List ℕ) → now ≡ Some ys → IsAtEnd now → ys ≡ []
 at_end now ys e h = subst (λ o. IsAtEnd o) e h
@@ -28,9 +28,9 @@ module _ (steps : List Step) (text more : List ℕ) (from to : Reader) (cert : I
     of_last : SpellsSteps last second
     left : Left steps passed (second ++ (rest ++ to_come)) more
 
-  read_of : (passed last : List Step) (rest : List ℕ) → Gave from to passed last rest → Readings passed last rest
+  read_of : (passed last : List Step) (rest : List ℕ) → GaveAcceptedSteps from to passed last rest → Readings passed last rest
   read_of passed last rest g =
-      let t = told_left (text ++ more) from.to_come to.to_come (g.steps.text ++ rest) told g.steps.front.told in
+      let t = reported_left (text ++ more) from.to_come to.to_come (g.steps.text ++ rest) told g.steps.front.told in
       let c = cut_at passed last g.steps.text g.steps.spelt in
       let e : c.first ++ (c.second ++ (rest ++ t.0)) ≡ text ++ more =
       sym (append_assoc c.first c.second (rest ++ t.0)) ∙ ap (λ x. x ++ (rest ++ t.0)) (sym c.whole) ∙ sym (append_assoc g.steps.text rest t.0) ∙ sym t.2 in

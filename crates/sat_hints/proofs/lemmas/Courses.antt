@@ -6,12 +6,12 @@ use Rattle.sat_base.specs.values.Literals.{negated}
 use Rattle.sat_checker.specs.LiteralSets.{is_among}
 use Rattle.sat_checker.specs.Propagation.{IsFalsified, IsUnit, UnitInTurn}
 use Rattle.sat_checker.specs.SortedSets.{NoRepeats}
-use Rattle.sat_checker.specs.inner.Room.{AgreesOn, HasRoomFor, HasRoomForAll}
+use Rattle.sat_checker.specs.inner.AssumedRoom.{AgreesOn, HasClauseRoom, HasClausesRoom}
 use Rattle.sat_checker.specs.Verdicts.{Verdict, falsified, opens, rests, verdict, verdict_of_open, not_false}
 use Rattle.sat_hints.specs.Checks.{SomeIsNotUnit, LastIsNotFalsified}
 use Rattle.sat_hints.specs.declared.answer.HintWhy.{HintWhy}
 use Rattle.sat_hints.specs.declared.answer.HintWhy.TheVariants.{NotUnit, NotFalsified}
-use Rattle.sat_hints.specs.inner.Course.{at_last, at_turn, course}
+use Rattle.sat_hints.specs.inner.Course.{falsified_failure, unit_failure, refutation_failure}
 
 abbrev IsFalse : List ℕ → ℕ → Type 0
 IsFalse assumed l = is_among assumed (negated l) ≡ true
@@ -137,35 +137,35 @@ says_further (Some NotUnit) assumed c d ds l u h = inr (l, u, h)
 says_further (Some NotFalsified) assumed c d ds l u h = (l, u, h)
 says_further (Some e) assumed c d ds l u h = h
 
-pub course_says : (cs : List (List ℕ)) (assumed : List ℕ) → AllByRecursion NoRepeats cs → Says (course assumed cs) assumed cs
+pub course_says : (cs : List (List ℕ)) (assumed : List ℕ) → AllByRecursion NoRepeats cs → Says (refutation_failure assumed cs) assumed cs
 course_says [] assumed n = tt
 course_says (c ∷ []) assumed n = go (verdict assumed c) refl
   where
-    go : (v : Verdict) → verdict assumed c ≡ v → Says (at_last v) assumed (c ∷ [])
+    go : (v : Verdict) → verdict assumed c ≡ v → Says (falsified_failure v) assumed (c ∷ [])
     go falsified e = is_falsified assumed c e
     go (opens l) e = λ f. let g = falsifies assumed c f in absurd cc
     go rests e = λ f. let g = falsifies assumed c f in absurd cc
 course_says (c ∷ d ∷ ds) assumed n = go (λ l. course_says (d ∷ ds) (l ∷ assumed) n.1) (verdict assumed c) refl
   where
-    go : ((l : ℕ) → Says (course (l ∷ assumed) (d ∷ ds)) (l ∷ assumed) (d ∷ ds)) → (v : Verdict) → verdict assumed c ≡ v → Says (at_turn v (λ l. course (l ∷ assumed) (d ∷ ds))) assumed (c ∷ d ∷ ds)
+    go : ((l : ℕ) → Says (refutation_failure (l ∷ assumed) (d ∷ ds)) (l ∷ assumed) (d ∷ ds)) → (v : Verdict) → verdict assumed c ≡ v → Says (unit_failure v (λ l. refutation_failure (l ∷ assumed) (d ∷ ds))) assumed (c ∷ d ∷ ds)
     go ih falsified e = inl (λ l u. let g = unit_opens assumed c l n.0 u in absurd cc)
-    go ih (opens l) e = says_further (course (l ∷ assumed) (d ∷ ds)) assumed c d ds l (is_unit assumed c l e) (ih l)
+    go ih (opens l) e = says_further (refutation_failure (l ∷ assumed) (d ∷ ds)) assumed c d ds l (is_unit assumed c l e) (ih l)
     go ih rests e = inl (λ l u. let g = unit_opens assumed c l n.0 u in absurd cc)
 
 -- IT DEPENDS ON WHICH LITERALS OF THE CLAUSES ARE ASSUMED
-pub room_in : (room c : List ℕ) (l : ℕ) → HasRoomFor room c → is_among c l ≡ true → (is_among room l ≡ true) × (is_among room (negated l) ≡ true)
+pub room_in : (room c : List ℕ) (l : ℕ) → HasClauseRoom room c → is_among c l ≡ true → (is_among room l ≡ true) × (is_among room (negated l) ≡ true)
 room_in room [] l h m = absurd cc
 room_in room (x ∷ xs) l h m = elim (or_cases (eqb x l) (is_among xs l) m) [
   | inl e ↦ subst (λ y. (is_among room y ≡ true) × (is_among room (negated y) ≡ true)) (eqb-true x l e) h.0
   | inr k ↦ room_in room xs l h.1 k
 ]
 
-same_open : (room us vs clause : List ℕ) → HasRoomFor room clause → AgreesOn room us vs → not_false us clause ≡ not_false vs clause
+same_open : (room us vs clause : List ℕ) → HasClauseRoom room clause → AgreesOn room us vs → not_false us clause ≡ not_false vs clause
 same_open room us vs [] h same = refl
 same_open room us vs (l ∷ ls) h same =
     ap (λ b. cond (not b) (l ∷ not_false us ls) (not_false us ls)) (same (negated l) h.0.1) ∙ ap (λ ms. cond (not (is_among vs (negated l))) (l ∷ ms) ms) (same_open room us vs ls h.1 same)
 
-same_verdict : (room us vs clause : List ℕ) → HasRoomFor room clause → AgreesOn room us vs → verdict us clause ≡ verdict vs clause
+same_verdict : (room us vs clause : List ℕ) → HasClauseRoom room clause → AgreesOn room us vs → verdict us clause ≡ verdict vs clause
 same_verdict room us vs clause h same = ap (verdict_of_open us) (same_open room us vs clause h same) ∙ go (not_false vs clause) refl
   where
     go : (ns : List ℕ) → not_false vs clause ≡ ns → verdict_of_open us ns ≡ verdict_of_open vs ns
@@ -173,13 +173,13 @@ same_verdict room us vs clause h same = ap (verdict_of_open us) (same_open room 
     go (l ∷ []) e = ap (λ b. cond b rests (opens l)) (same l (room_in room clause l h (one_open vs clause l e).within).0)
     go (l ∷ m ∷ ls) e = refl
 
-pub same_course : (cs : List (List ℕ)) (room us vs : List ℕ) → HasRoomForAll room cs → AgreesOn room us vs → course us cs ≡ course vs cs
+pub same_course : (cs : List (List ℕ)) (room us vs : List ℕ) → HasClausesRoom room cs → AgreesOn room us vs → refutation_failure us cs ≡ refutation_failure vs cs
 same_course [] room us vs h same = refl
-same_course (c ∷ []) room us vs h same = ap at_last (same_verdict room us vs c h.0 same)
+same_course (c ∷ []) room us vs h same = ap falsified_failure (same_verdict room us vs c h.0 same)
 same_course (c ∷ d ∷ ds) room us vs h same =
-    ap (λ v. at_turn v (λ l. course (l ∷ us) (d ∷ ds))) (same_verdict room us vs c h.0 same) ∙ go (λ l. same_course (d ∷ ds) room (l ∷ us) (l ∷ vs) h.1 (λ m r. ap (λ b. eqb l m || b) (same m r))) (verdict vs c)
+    ap (λ v. unit_failure v (λ l. refutation_failure (l ∷ us) (d ∷ ds))) (same_verdict room us vs c h.0 same) ∙ go (λ l. same_course (d ∷ ds) room (l ∷ us) (l ∷ vs) h.1 (λ m r. ap (λ b. eqb l m || b) (same m r))) (verdict vs c)
   where
-    go : ((l : ℕ) → course (l ∷ us) (d ∷ ds) ≡ course (l ∷ vs) (d ∷ ds)) → (v : Verdict) → at_turn v (λ l. course (l ∷ us) (d ∷ ds)) ≡ at_turn v (λ l. course (l ∷ vs) (d ∷ ds))
+    go : ((l : ℕ) → refutation_failure (l ∷ us) (d ∷ ds) ≡ refutation_failure (l ∷ vs) (d ∷ ds)) → (v : Verdict) → unit_failure v (λ l. refutation_failure (l ∷ us) (d ∷ ds)) ≡ unit_failure v (λ l. refutation_failure (l ∷ vs) (d ∷ ds))
     go ih falsified = refl
     go ih (opens l) = ih l
     go ih rests = refl

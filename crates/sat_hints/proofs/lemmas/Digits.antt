@@ -7,7 +7,7 @@ use Rattle.std.specs.List.{AllByRecursion}
 use Rattle.std.specs.Str.Parse.{AllDigits, digits_value}
 use Rattle.std.proofs.lemmas.Int.Digits.{digits_value_push}
 use Rattle.std.proofs.lemmas.Str.{digit_value_digit}
-use Rattle.sat_hints.specs.inner.LineReading.{IsNumberUpTo, digits_so_far, NoDigit, NoWord}
+use Rattle.sat_hints.specs.inner.LineReading.{IsNumberUpTo, number_digits_so_far, NoDigit, NoWord}
 
 -- no space
 abbrev pub Plain : List ℕ → Type 0
@@ -28,14 +28,14 @@ digit_behind [] b more d = digit_from_value b d.0
 digit_behind (c ∷ ds) b more d = digit_behind ds b more d.1
 
 -- the digits of a number that has begun
-pub so_far : (m : ℕ) → 1 ≤ m → digits_so_far m ≡ decimal m
+pub so_far : (m : ℕ) → 1 ≤ m → number_digits_so_far m ≡ decimal m
 so_far zero h = absurd (omega arith)
 so_far (suc m) h = refl
 
 module _ (limit : ℕ) (fits : limit < 2 ^ 64) where
   -- a byte that is no digit
   pub no_digit : (number b : ℕ) → ((48 ≤ b) × (b ≤ 57) → ⊥) → NoDigit limit number b
-  no_digit number b wrong n more h e = let k : n < 2 ^ 64 = omega arith in wrong (digit_behind (digits_so_far number) b more (subst (AllDigits 10) e (are_digits n k)))
+  no_digit number b wrong n more h e = let k : n < 2 ^ 64 = omega arith in wrong (digit_behind (number_digits_so_far number) b more (subst (AllDigits 10) e (are_digits n k)))
 
   -- a leading zero
   pub no_zero : (number b : ℕ) → 48 ≤ b → 10 * number + (b - 48) ≡ 0 → NoDigit limit number b
@@ -47,7 +47,7 @@ module _ (limit : ℕ) (fits : limit < 2 ^ 64) where
   no_zero (suc number) b low z n more h e = absurd (omega arith)
 
   -- a digit behind those of a number
-  pub next_digit : (number b : ℕ) → 48 ≤ b → b ≤ 57 → 10 * number + (b - 48) < 2 ^ 64 → 0 < 10 * number + (b - 48) → decimal (10 * number + (b - 48)) ≡ digits_so_far number ++ (b ∷ [])
+  pub next_digit : (number b : ℕ) → 48 ≤ b → b ≤ 57 → 10 * number + (b - 48) < 2 ^ 64 → 0 < 10 * number + (b - 48) → decimal (10 * number + (b - 48)) ≡ number_digits_so_far number ++ (b ∷ [])
   next_digit zero b low high small more =
       let e : 10 * 0 + (b - 48) ≡ b - 48 = omega arith in
       let f : 48 + (b - 48) ≡ b = omega arith in
@@ -71,7 +71,7 @@ module _ (limit : ℕ) (fits : limit < 2 ^ 64) where
       let s = value_of n k in
       omega arith
 
-  begun_value : (number : ℕ) → number < 2 ^ 64 → digits_value 10 (digits_so_far number) ≡ number
+  begun_value : (number : ℕ) → number < 2 ^ 64 → digits_value 10 (number_digits_so_far number) ≡ number
   begun_value zero h = refl
   begun_value (suc number) h = value_of (suc number) h
 
@@ -79,15 +79,15 @@ module _ (limit : ℕ) (fits : limit < 2 ^ 64) where
   pub past_limit : (number b : ℕ) → number < 2 ^ 64 → 48 ≤ b → b ≤ 57 → limit < 10 * number + (b - 48) → NoDigit limit number b
   past_limit number b h low high past n more k e =
       let small : n < 2 ^ 64 = omega arith in
-      let f : decimal n ≡ (digits_so_far number ++ (b ∷ [])) ++ more = e ∙ sym (append_assoc (digits_so_far number) (b ∷ []) more) in
-      let g = begun_below (digits_so_far number ++ (b ∷ [])) n more small f in
-      let p = digits_value_push 10 (digits_so_far number) b in
+      let f : decimal n ≡ (number_digits_so_far number ++ (b ∷ [])) ++ more = e ∙ sym (append_assoc (number_digits_so_far number) (b ∷ []) more) in
+      let g = begun_below (number_digits_so_far number ++ (b ∷ [])) n more small f in
+      let p = digits_value_push 10 (number_digits_so_far number) b in
       let v = begun_value number (omega arith) in
       let d = digit_value_digit b (low, high) in
       let i : n ≤ limit = k.1 in
       omega arith
 
-pub plain_so_far : (number : ℕ) → number < 2 ^ 64 → Plain (digits_so_far number)
+pub plain_so_far : (number : ℕ) → number < 2 ^ 64 → Plain (number_digits_so_far number)
 plain_so_far zero h = tt
 plain_so_far (suc number) h = plain_number (suc number) h
 
@@ -119,21 +119,21 @@ first_byte (c ∷ cs) b x y h e = (cs, let r : c ≡ b = cc in ap (λ c. c ∷ c
 
 module _ (limit : ℕ) (fits : limit < 2 ^ 64) where
   -- a number goes on behind the digits so far
-  pub number_goes_on : (number b : ℕ) (x : List ℕ) (n : ℕ) (tail : List ℕ) → number < 2 ^ 64 → (b ≡ 32 → number ≡ 0) → IsNumberUpTo limit n → digits_so_far number ++ (b ∷ x) ≡ decimal n ++ (32 ∷ tail) → (more : List ℕ) × (decimal n ≡ digits_so_far number ++ (b ∷ more))
+  pub number_goes_on : (number b : ℕ) (x : List ℕ) (n : ℕ) (tail : List ℕ) → number < 2 ^ 64 → (b ≡ 32 → number ≡ 0) → IsNumberUpTo limit n → number_digits_so_far number ++ (b ∷ x) ≡ decimal n ++ (32 ∷ tail) → (more : List ℕ) × (decimal n ≡ number_digits_so_far number ++ (b ∷ more))
   number_goes_on zero b x n tail small space k e = first_byte (decimal n) b x tail (decimal_nonempty n (omega arith)) e
   number_goes_on (suc number) b x n tail small space k e = goes_on (decimal (suc number)) (decimal n) b x tail (plain_so_far (suc number) small) (λ s. let z : suc number ≡ 0 = space s in omega arith) e
 
   -- where no digit of a number comes next
-  pub no_number_so : (number b : ℕ) (bytes x : List ℕ) → number ≤ limit → (b ≡ 32 → number ≡ 0) → NoDigit limit number b → bytes ≡ digits_so_far number ++ (b ∷ x) → NoWord decimal (IsNumberUpTo limit) bytes
+  pub no_number_so : (number b : ℕ) (bytes x : List ℕ) → number ≤ limit → (b ≡ 32 → number ≡ 0) → NoDigit limit number b → bytes ≡ number_digits_so_far number ++ (b ∷ x) → NoWord decimal (IsNumberUpTo limit) bytes
   no_number_so number b bytes x h space none e n tail k f =
       let r = number_goes_on number b x n tail (omega arith) space k (sym e ∙ f) in
       none n r.0 k r.1
 
   -- where the bytes are over
-  pub no_number_past : (number : ℕ) (bytes : List ℕ) → number < 2 ^ 64 → bytes ≡ digits_so_far number ++ [] → NoWord decimal (IsNumberUpTo limit) bytes
-  no_number_past number bytes small e n tail k f = no_space (digits_so_far number) (decimal n) tail (plain_so_far number small) (sym (append-nil (digits_so_far number)) ∙ sym e ∙ f)
+  pub no_number_past : (number : ℕ) (bytes : List ℕ) → number < 2 ^ 64 → bytes ≡ number_digits_so_far number ++ [] → NoWord decimal (IsNumberUpTo limit) bytes
+  no_number_past number bytes small e n tail k f = no_space (number_digits_so_far number) (decimal n) tail (plain_so_far number small) (sym (append-nil (number_digits_so_far number)) ∙ sym e ∙ f)
 
-  pub no_number_end : (number : ℕ) (bytes : List ℕ) → number ≤ limit → bytes ≡ digits_so_far number ++ [] → NoWord decimal (IsNumberUpTo limit) bytes
+  pub no_number_end : (number : ℕ) (bytes : List ℕ) → number ≤ limit → bytes ≡ number_digits_so_far number ++ [] → NoWord decimal (IsNumberUpTo limit) bytes
   no_number_end number bytes h e = no_number_past number bytes (omega arith) e
 
 -- DIGIT BY DIGIT
@@ -147,13 +147,13 @@ grows i zero b h other low = go (b - 48) refl
 grows i (suc number) b h other low = omega arith
 
 -- one more was read
-pub one_digit_more : (bytes : List ℕ) (i number b : ℕ) → i < length bytes → b ≡ get_or bytes i 0 → 48 ≤ b → b ≤ 57 → 10 * number + (b - 48) < 2 ^ 64 → i + 1 ≤ 10 * number + (b - 48) → bytes ≡ digits_so_far number ++ drop i bytes
-    → bytes ≡ digits_so_far (10 * number + (b - 48)) ++ drop (i + 1) bytes
+pub one_digit_more : (bytes : List ℕ) (i number b : ℕ) → i < length bytes → b ≡ get_or bytes i 0 → 48 ≤ b → b ≤ 57 → 10 * number + (b - 48) < 2 ^ 64 → i + 1 ≤ 10 * number + (b - 48) → bytes ≡ number_digits_so_far number ++ drop i bytes
+    → bytes ≡ number_digits_so_far (10 * number + (b - 48)) ++ drop (i + 1) bytes
 one_digit_more bytes i number b inside is low high small more e =
     let n : suc i ≡ i + 1 = omega arith in
     let p : 0 < 10 * number + (b - 48) = omega arith in
-    let d : decimal (10 * number + (b - 48)) ≡ digits_so_far number ++ (b ∷ []) = next_digit 0 (omega arith) number b low high small p in
+    let d : decimal (10 * number + (b - 48)) ≡ number_digits_so_far number ++ (b ∷ []) = next_digit 0 (omega arith) number b low high small p in
     e
-    ∙ ap (λ t. digits_so_far number ++ t) (drop-cons bytes i 0 inside ∙ ap (λ c. c ∷ drop (suc i) bytes) (sym is) ∙ ap (λ m. b ∷ drop m bytes) n)
-    ∙ sym (append_assoc (digits_so_far number) (b ∷ []) (drop (i + 1) bytes))
+    ∙ ap (λ t. number_digits_so_far number ++ t) (drop-cons bytes i 0 inside ∙ ap (λ c. c ∷ drop (suc i) bytes) (sym is) ∙ ap (λ m. b ∷ drop m bytes) n)
+    ∙ sym (append_assoc (number_digits_so_far number) (b ∷ []) (drop (i + 1) bytes))
     ∙ ap (λ ds. ds ++ drop (i + 1) bytes) (sym d ∙ sym (so_far (10 * number + (b - 48)) (omega arith)))

@@ -2,7 +2,7 @@
 use Rattle.std.proofs.Common.{ℕ, ◌≡◌, Bool, true, false, List, [], ◌∷◌, ◌++◌, Result, Ok, Err, sym, ◌∙◌, ap, subst, append_assoc, append-nil, inl, inr}
 use Rattle.std.specs.Borrow.{MutBor}
 use Rattle.sat_base.specs.device.Device.{Reader, Writer, WriterBreaks, lent_writer}
-use Rattle.sat_base.specs.device.Sink.{Sent, Broken}
+use Rattle.sat_base.specs.device.Sink.{AddsToSink, SinkFails}
 use Rattle.sat_base.specs.steps.Steps.{Step, End}
 use Rattle.sat_base.proofs.lemmas.device.Sending.{sent_more, sends_breaks, all_out}
 use Rattle.sat_base.proofs.lemmas.device.Writes.{lent_puts}
@@ -27,7 +27,7 @@ front_took a b text e s =
       takes = w.takes;
     }
 
-breaks_of : (a b : Outlet) (text : List ℕ) → a.sink.waiting ≡ [] → Broken a.sink b.sink text → WriterBreaks a.sink.writer b.sink.writer text
+breaks_of : (a b : Outlet) (text : List ℕ) → a.sink.waiting ≡ [] → SinkFails a.sink b.sink text → WriterBreaks a.sink.writer b.sink.writer text
 breaks_of a b text e k = subst (λ x. WriterBreaks a.sink.writer b.sink.writer (x ++ text)) e k.breaks
 
 breaks_behind : (a b : Outlet) (step : Step) (steps : List Step) → a.sink.waiting ≡ [] → BrokenBehind a b step steps → BreaksBehind a.sink.writer b.sink.writer step steps
@@ -50,13 +50,13 @@ put_by text a b f e d h = subst (λ x. PutBy x text a.sink b.sink) d (subst (λ 
 pub ok_converts : (from to : Reader) (a b c : Outlet) → a.sink.waiting ≡ [] → WritesLines (Ok tt) from to a b → PutsText [] b c → c.failed ≡ false → c.sink.waiting ≡ [] → Converts (Ok tt) from to a.sink.writer c.sink.writer
 ok_converts from to a b c e w p f none =
     let text : List ℕ = hint_text (End ∷ taken_after w.0 []) in
-    let s : Sent a.sink c.sink (text ++ []) = sent_more a.sink b.sink c.sink text [] w.4.sent (put_by [] b c false w.4.well f p) in
-    (w.0, w.1, w.2, w.3, all_out {E = HintError} a.sink c.sink text (Ok tt) e none (subst (Sent a.sink c.sink) (append-nil text) s))
+    let s : AddsToSink a.sink c.sink (text ++ []) = sent_more a.sink b.sink c.sink text [] w.4.sent (put_by [] b c false w.4.well f p) in
+    (w.0, w.1, w.2, w.3, all_out {E = HintError} a.sink c.sink text (Ok tt) e none (subst (AddsToSink a.sink c.sink) (append-nil text) s))
 
 pub write_converts : (from to : Reader) (a b c : Outlet) → a.sink.waiting ≡ [] → WritesLines (Ok tt) from to a b → PutsText [] b c → c.failed ≡ true → Converts (Err Write) from to a.sink.writer c.sink.writer
 write_converts from to a b c e w p f =
     let text : List ℕ = hint_text (End ∷ taken_after w.0 []) in
-    let k : Broken a.sink c.sink (text ++ []) = sends_breaks a.sink b.sink c.sink text [] w.4.sent (put_by [] b c true w.4.well f p) in
+    let k : SinkFails a.sink c.sink (text ++ []) = sends_breaks a.sink b.sink c.sink text [] w.4.sent (put_by [] b c true w.4.well f p) in
     (w.0, End, w.1, w.2.none_failed, w.2.gave, inr (w.2.ends, subst (WriterBreaks a.sink.writer c.sink.writer) (ap (λ x. x ++ (text ++ [])) e ∙ append-nil text) k.breaks))
 
 -- A LENT WRITER

@@ -6,9 +6,9 @@ use Rattle.std.specs.List.{AllByRecursion}
 use Rattle.std.specs.Str.Parse.{AllDigits}
 use Rattle.sat_base.specs.values.Literals.{variable, is_positive}
 use Rattle.sat_base.specs.dimacs.DimacsText.{number_text}
-use Rattle.sat_hints.specs.Lines.{Line, Input, Derived, Gone, Core, Fresh, IsLine, words, id_text, id_words, literal_words, line_text, HasNoEnd, SpellsLine}
+use Rattle.sat_hints.specs.Lines.{Line, Input, Derived, Gone, Core, Fresh, IsLine, spaced_words, id_text, id_words, literal_words, line_text, HasNoEnd, SpellsLine}
 use Rattle.sat_hints.specs.Checks.{IsFaultOf, IsAtFault}
-use Rattle.sat_hints.specs.inner.LineReading.{IsId, IsLiteralCode, ReadsLine, BeginsWithNoLine}
+use Rattle.sat_hints.specs.inner.LineReading.{IsId, IsLiteralCode, BeginsWithHintLine, BeginsWithNoLine}
 use Rattle.sat_hints.specs.inner.Judging.{HasTakenLines, TakesLine, TakesNext}
 use Rattle.sat_hints.specs.inner.Holding.{IsWholeLine, JudgesLineBytes, ReadsFurther}
 use Rattle.sat_hints.specs.declared.answer.HintWhy.{HintWhy}
@@ -36,9 +36,9 @@ no_end_literal l p = go (is_positive l) refl
     go true e = rw e digits
     go false e = rw e ((λ f. omega arith), digits)
 
-no_end_words : (word : ℕ → List ℕ) (P : ℕ → Type 0) → ((x : ℕ) → P x → HasNoEnd (word x)) → (xs : List ℕ) → AllByRecursion P xs → HasNoEnd (words word xs)
+no_end_words : (word : ℕ → List ℕ) (P : ℕ → Type 0) → ((x : ℕ) → P x → HasNoEnd (word x)) → (xs : List ℕ) → AllByRecursion P xs → HasNoEnd (spaced_words word xs)
 no_end_words word P h [] p = tt
-no_end_words word P h (x ∷ xs) p = no_end_both (word x) (32 ∷ words word xs) (h x p.0) ((λ e. omega arith), no_end_words word P h xs p.1)
+no_end_words word P h (x ∷ xs) p = no_end_both (word x) (32 ∷ spaced_words word xs) (h x p.0) ((λ e. omega arith), no_end_words word P h xs p.1)
 
 end_whole : IsWholeLine (48 ∷ 10 ∷ [])
 end_whole = record { front = 48 ∷ []; inside = ((λ e. omega arith), tt); ended = refl }
@@ -72,7 +72,7 @@ only_front (c ∷ front) (x ∷ xs) rest h never e =
     let more : front ++ (10 ∷ []) ≡ xs ++ rest = cc in
     only_front front xs rest h.1 (λ k. never (subst (λ b. b ≡ 10 → ⊥) (sym same) h.0, k)) more
 
-pub spells_whole : (bytes rest : List ℕ) (line : Line) → IsWholeLine bytes → ReadsLine bytes line rest → SpellsLine bytes line
+pub spells_whole : (bytes rest : List ℕ) (line : Line) → IsWholeLine bytes → BeginsWithHintLine bytes line rest → SpellsLine bytes line
 spells_whole bytes rest line w r =
     let e : rest ≡ [] = only_front w.front (line_text line) rest w.inside (line_has_end line) (sym w.ended ∙ r.1) in
     (r.0, r.1 ∙ ap (λ t. line_text line ++ t) e ∙ append-nil (line_text line))
@@ -89,12 +89,12 @@ judged : (why : Option HintWhy) (old new : Judge) (lines : List Line) (bytes : L
 judged None old new lines bytes line s t = (line, s, t.0, t.1)
 judged (Some why) old new lines bytes line s t = (at_fault why lines bytes line s t.0, t.1)
 
-pub taken_whole : {E : Type 0} (r : Result (Option HintWhy) E) (old new : Judge) (bytes rest : List ℕ) (line : Line) → ReadsLine bytes line rest → IfOk r (λ why. TakesNext why old new line)
+pub taken_whole : {E : Type 0} (r : Result (Option HintWhy) E) (old new : Judge) (bytes rest : List ℕ) (line : Line) → BeginsWithHintLine bytes line rest → IfOk r (λ why. TakesNext why old new line)
     → IfOk r (λ why. IsWholeLine bytes → (lines : List Line) → HasTakenLines old lines → JudgesLineBytes why old new lines bytes)
 taken_whole (Ok why) old new bytes rest line read t = λ w lines taken. judged why old new lines bytes line (spells_whole bytes rest line w read) (t lines taken)
 taken_whole (Err e) old new bytes rest line read t = tt
 
-pub reads_line : (why : Option HintWhy) (old new : Checking) (bytes rest : List ℕ) (line : Line) → old.held.items ≡ [] → new.held.items ≡ old.held.items → new.place ≡ old.place → ReadsLine bytes line rest → TakesNext why old.judge new.judge line → ReadsFurther why old (line_text line) new
+pub reads_line : (why : Option HintWhy) (old new : Checking) (bytes rest : List ℕ) (line : Line) → old.held.items ≡ [] → new.held.items ≡ old.held.items → new.place ≡ old.place → BeginsWithHintLine bytes line rest → TakesNext why old.judge new.judge line → ReadsFurther why old (line_text line) new
 reads_line why old new bytes rest line none e at r t = line_passes old new (line_text line) (line_is_whole line r.0) why none e at (λ lines taken. judged why old.judge new.judge lines (line_text line) line (r.0, refl) (t lines taken))
 
 -- PIECES

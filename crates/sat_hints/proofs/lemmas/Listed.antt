@@ -7,7 +7,7 @@ use Rattle.std.proofs.lemmas.List.Sorted.{searched}
 use Rattle.std.specs.List.Sorted.{IsBinarySearchResult}
 use Rattle.std.specs.Ordering.{nat_cmp}
 use Rattle.sat_checker.specs.SortedSets.{IsIncreasing}
-use Rattle.sat_hints.specs.inner.Clauses.{FindsOne, listed, clause_in, clause_at, times_long, times_kept, times_at, AllBelow, IsStore, AddsPresentClause, Loses, SamePresentClauses}
+use Rattle.sat_hints.specs.inner.Clauses.{FindsPresentClause, listed_clause, clause_in, present_clause_at, times_long, times_kept, times_at, AllBelow, IsStore, AddsPresentClause, Loses, SamePresentClauses}
 use Rattle.sat_hints.proofs.lemmas.Counting.{times-snoc, times-gone, times-more, times_whole, set_at, sets-snoc}
 
 -- two numbers that differ
@@ -23,7 +23,7 @@ below_tail x xs k h = λ i l. h (suc i) (omega arith)
 
 -- one more behind lists of one length
 pub listed-snoc : (id i : ℕ) (c : List ℕ) (g : Bool) (ids : List ℕ) (cs : List (List ℕ)) (gs : List Bool) → length cs ≡ length ids → length gs ≡ length ids → AllBelow ids i
-    → listed id (ids ++ (i ∷ [])) (cs ++ (c ∷ [])) (gs ++ (g ∷ [])) ≡ cond (eqb id i) (cond g None (Some c)) (listed id ids cs gs)
+    → listed_clause id (ids ++ (i ∷ [])) (cs ++ (c ∷ [])) (gs ++ (g ∷ [])) ≡ cond (eqb id i) (cond g None (Some c)) (listed_clause id ids cs gs)
 listed-snoc id i c g [] [] [] p q h = refl
 listed-snoc id i c g [] [] (b ∷ gs) p q h = absurd (omega arith)
 listed-snoc id i c g [] (d ∷ cs) gs p q h = absurd (omega arith)
@@ -31,8 +31,8 @@ listed-snoc id i c g (x ∷ ids) [] gs p q h = absurd (omega arith)
 listed-snoc id i c g (x ∷ ids) (d ∷ cs) [] p q h = absurd (omega arith)
 listed-snoc id i c g (x ∷ ids) (d ∷ cs) (b ∷ gs) p q h = go (eqb id x) refl (listed-snoc id i c g ids cs gs (omega arith) (omega arith) (below_tail x ids i h))
   where
-    go : (t : Bool) → eqb id x ≡ t → listed id (ids ++ (i ∷ [])) (cs ++ (c ∷ [])) (gs ++ (g ∷ [])) ≡ cond (eqb id i) (cond g None (Some c)) (listed id ids cs gs)
-        → cond t (cond b None (Some d)) (listed id (ids ++ (i ∷ [])) (cs ++ (c ∷ [])) (gs ++ (g ∷ []))) ≡ cond (eqb id i) (cond g None (Some c)) (cond t (cond b None (Some d)) (listed id ids cs gs))
+    go : (t : Bool) → eqb id x ≡ t → listed_clause id (ids ++ (i ∷ [])) (cs ++ (c ∷ [])) (gs ++ (g ∷ [])) ≡ cond (eqb id i) (cond g None (Some c)) (listed_clause id ids cs gs)
+        → cond t (cond b None (Some d)) (listed_clause id (ids ++ (i ∷ [])) (cs ++ (c ∷ [])) (gs ++ (g ∷ []))) ≡ cond (eqb id i) (cond g None (Some c)) (cond t (cond b None (Some d)) (listed_clause id ids cs gs))
     go true e ih =
         let same = eqb-true id x e in
         let l : x < i = h 0 (omega arith) in
@@ -41,7 +41,7 @@ listed-snoc id i c g (x ∷ ids) (d ∷ cs) (b ∷ gs) p q h = go (eqb id x) ref
     go false e ih = ih
 
 -- an id that is not among them
-pub listed-none : (id : ℕ) (ids : List ℕ) (cs : List (List ℕ)) (gs : List Bool) → ((i : ℕ) → i < length ids → get_or ids i 0 ≡ id → ⊥) → listed id ids cs gs ≡ None
+pub listed-none : (id : ℕ) (ids : List ℕ) (cs : List (List ℕ)) (gs : List Bool) → ((i : ℕ) → i < length ids → get_or ids i 0 ≡ id → ⊥) → listed_clause id ids cs gs ≡ None
 listed-none id [] cs gs h = refl
 listed-none id (x ∷ ids) [] gs h = refl
 listed-none id (x ∷ ids) (c ∷ cs) [] h = refl
@@ -58,7 +58,7 @@ rises_tail x xs h = λ i j l m. h (suc i) (suc j) (omega arith) (omega arith)
 
 -- the one at a place
 pub listed-at : (place : ℕ) (ids : List ℕ) (cs : List (List ℕ)) (gs : List Bool) → length cs ≡ length ids → length gs ≡ length ids → Rises ids → place < length ids
-    → listed (get_or ids place 0) ids cs gs ≡ cond (get_or gs place false) None (Some (get_or cs place []))
+    → listed_clause (get_or ids place 0) ids cs gs ≡ cond (get_or gs place false) None (Some (get_or cs place []))
 listed-at place [] cs gs p q r l = absurd (omega arith)
 listed-at place (x ∷ ids) [] gs p q r l = absurd (omega arith)
 listed-at place (x ∷ ids) (c ∷ cs) [] p q r l = absurd (omega arith)
@@ -70,19 +70,19 @@ listed-at (suc n) (x ∷ ids) (c ∷ cs) (g ∷ gs) p q r l =
 
 -- it is gone
 pub listed-gone : (id place : ℕ) (ids : List ℕ) (cs : List (List ℕ)) (gs : List Bool) → length cs ≡ length ids → length gs ≡ length ids → Rises ids → place < length ids
-    → listed id ids cs (set gs place true) ≡ cond (eqb id (get_or ids place 0)) None (listed id ids cs gs)
+    → listed_clause id ids cs (set gs place true) ≡ cond (eqb id (get_or ids place 0)) None (listed_clause id ids cs gs)
 listed-gone id place [] cs gs p q r l = absurd (omega arith)
 listed-gone id place (x ∷ ids) [] gs p q r l = absurd (omega arith)
 listed-gone id place (x ∷ ids) (c ∷ cs) [] p q r l = absurd (omega arith)
 listed-gone id zero (x ∷ ids) (c ∷ cs) (g ∷ gs) p q r l = go (eqb id x)
   where
-    go : (t : Bool) → cond t None (listed id ids cs gs) ≡ cond t None (cond t (cond g None (Some c)) (listed id ids cs gs))
+    go : (t : Bool) → cond t None (listed_clause id ids cs gs) ≡ cond t None (cond t (cond g None (Some c)) (listed_clause id ids cs gs))
     go true = refl
     go false = refl
 listed-gone id (suc n) (x ∷ ids) (c ∷ cs) (g ∷ gs) p q r l = go (eqb id x) refl (listed-gone id n ids cs gs (omega arith) (omega arith) (rises_tail x ids r) (omega arith))
   where
-    go : (t : Bool) → eqb id x ≡ t → listed id ids cs (set gs n true) ≡ cond (eqb id (get_or ids n 0)) None (listed id ids cs gs)
-        → cond t (cond g None (Some c)) (listed id ids cs (set gs n true)) ≡ cond (eqb id (get_or ids n 0)) None (cond t (cond g None (Some c)) (listed id ids cs gs))
+    go : (t : Bool) → eqb id x ≡ t → listed_clause id ids cs (set gs n true) ≡ cond (eqb id (get_or ids n 0)) None (listed_clause id ids cs gs)
+        → cond t (cond g None (Some c)) (listed_clause id ids cs (set gs n true)) ≡ cond (eqb id (get_or ids n 0)) None (cond t (cond g None (Some c)) (listed_clause id ids cs gs))
     go true e ih =
         let same = eqb-true id x e in
         let k : x < get_or ids n 0 = r 0 (suc n) (omega arith) l in
@@ -155,10 +155,10 @@ module _ (p : Present) (s : IsStore p) (id : ℕ) (xs : List ℕ) (is : xs ≡ p
   mark_at : (place : ℕ) (b : Bool) → place < length p.ids.items → b ≡ get_or p.gone.items place b → get_or p.gone.items place false ≡ b
   mark_at place b l e = same_default p.gone.items place false b (subst (λ n. place < n) (sym s.gone) l) ∙ sym e
 
-  listed_as : (place : ℕ) (b : Bool) → (place < length p.ids.items) × (get_or p.ids.items place 0 ≡ id) → get_or p.gone.items place false ≡ b → clause_in p id ≡ cond b None (Some (clause_at p place))
-  listed_as place b a g = subst (λ i. clause_in p i ≡ cond b None (Some (clause_at p place))) a.1 (listed-at place p.ids.items p.clauses p.gone.items s.clauses s.gone s.rises a.0 ∙ ap (λ b. cond b None (Some (clause_at p place))) g)
+  listed_as : (place : ℕ) (b : Bool) → (place < length p.ids.items) × (get_or p.ids.items place 0 ≡ id) → get_or p.gone.items place false ≡ b → clause_in p id ≡ cond b None (Some (present_clause_at p place))
+  listed_as place b a g = subst (λ i. clause_in p i ≡ cond b None (Some (present_clause_at p place))) a.1 (listed-at place p.ids.items p.clauses p.gone.items s.clauses s.gone s.rises a.0 ∙ ap (λ b. cond b None (Some (present_clause_at p place))) g)
 
-  pub found_at : (place : ℕ) (b : Bool) → IsBinarySearchResult (λ y. nat_cmp y id) xs (Ok place) → b ≡ get_or p.gone.items place b → b ≡ false → FindsOne p id place
+  pub found_at : (place : ℕ) (b : Bool) → IsBinarySearchResult (λ y. nat_cmp y id) xs (Ok place) → b ≡ get_or p.gone.items place b → b ≡ false → FindsPresentClause p id place
   found_at place b h e f =
       let a = at_place place h in
       record { within = subst (λ n. place < n) (sym s.clauses) a.0; named = a.1; clause = listed_as place false a (mark_at place b a.0 e ∙ f) }
@@ -205,7 +205,7 @@ loses_further old mid new id l k = record { store = k.store; below = λ b h. k.b
 pub record KeepsFirst (p : Present) (count : ℕ) (kept : Present) : Type 0 where
   pub store : IsStore kept
   pub below : (k : ℕ) → AllBelow (take count p.ids.items) k → AllBelow kept.ids.items k
-  pub clauses : (id : ℕ) → clause_in kept id ≡ listed id (take count p.ids.items) (take count p.clauses) (take count p.gone.items)
+  pub clauses : (id : ℕ) → clause_in kept id ≡ listed_clause id (take count p.ids.items) (take count p.clauses) (take count p.gone.items)
   pub times : (l : ℕ) → times_at kept l ≡ times_kept l (take count p.clauses) (take count p.gone.items)
 
 pub keeps_none : (p kept : Present) → IsStore kept → kept.ids.items ≡ [] → ((id : ℕ) → clause_in kept id ≡ None) → ((l : ℕ) → times_at kept l ≡ 0) → KeepsFirst p 0 kept
@@ -225,8 +225,8 @@ module _ (p : Present) (s : IsStore p) (i : ℕ) (inside : i < length p.ids.item
   lengths A xs e = length-take-le i xs (omega arith) ∙ sym (length-take-le i p.ids.items (omega arith))
 
   -- what is listed with one more
-  listed_more : (id : ℕ) → listed id (take (i + 1) p.ids.items) (take (i + 1) p.clauses) (take (i + 1) p.gone.items)
-      ≡ cond (eqb id (get_or p.ids.items i 0)) (cond (get_or p.gone.items i false) None (Some (get_or p.clauses i []))) (listed id (take i p.ids.items) (take i p.clauses) (take i p.gone.items))
+  listed_more : (id : ℕ) → listed_clause id (take (i + 1) p.ids.items) (take (i + 1) p.clauses) (take (i + 1) p.gone.items)
+      ≡ cond (eqb id (get_or p.ids.items i 0)) (cond (get_or p.gone.items i false) None (Some (get_or p.clauses i []))) (listed_clause id (take i p.ids.items) (take i p.clauses) (take i p.gone.items))
   listed_more id =
       let a = take_more p.ids.items i 0 inside in
       let b = take_more p.clauses i [] (subst (λ n. i < n) (sym s.clauses) inside) in
@@ -257,7 +257,7 @@ module _ (p : Present) (s : IsStore p) (i : ℕ) (inside : i < length p.ids.item
   keeps_one kept new id clause t k a m f d c = let g = mark m ∙ f in record {
     store = a.store;
     below = λ b h. let f = below_fewer b h in a.below b (subst (λ x. x < b) (sym d) f.0);
-    clauses = λ j. a.clauses j ∙ (rw (d, c) (ap (λ o. cond (eqb j (get_or p.ids.items i 0)) (Some (get_or p.clauses i [])) o) (k.clauses j)) ∙ ap (λ b. cond (eqb j (get_or p.ids.items i 0)) (cond b None (Some (get_or p.clauses i []))) (listed j (take i p.ids.items) (take i p.clauses) (take i p.gone.items))) (sym g)) ∙ sym (listed_more j);
+    clauses = λ j. a.clauses j ∙ (rw (d, c) (ap (λ o. cond (eqb j (get_or p.ids.items i 0)) (Some (get_or p.clauses i [])) o) (k.clauses j)) ∙ ap (λ b. cond (eqb j (get_or p.ids.items i 0)) (cond b None (Some (get_or p.clauses i []))) (listed_clause j (take i p.ids.items) (take i p.clauses) (take i p.gone.items))) (sym g)) ∙ sym (listed_more j);
     times = λ m. a.times m ∙ ap (λ n. n + times_long m clause) (k.times m) ∙ ap (λ x. times_kept m (take i p.clauses) (take i p.gone.items) + times_long m x) c
         ∙ ap (λ b. times_kept m (take i p.clauses) (take i p.gone.items) + cond b 0 (times_long m (get_or p.clauses i []))) (sym g) ∙ sym (counted_more m);
   }
@@ -266,17 +266,17 @@ module _ (p : Present) (s : IsStore p) (i : ℕ) (inside : i < length p.ids.item
   keeps_not kept t k m f = let g = mark m ∙ f in record {
     store = k.store;
     below = λ b h. k.below b (below_fewer b h).1;
-    clauses = λ j. k.clauses j ∙ gone j (eqb j (get_or p.ids.items i 0)) refl ∙ ap (λ b. cond (eqb j (get_or p.ids.items i 0)) (cond b None (Some (get_or p.clauses i []))) (listed j (take i p.ids.items) (take i p.clauses) (take i p.gone.items))) (sym g) ∙ sym (listed_more j);
+    clauses = λ j. k.clauses j ∙ gone j (eqb j (get_or p.ids.items i 0)) refl ∙ ap (λ b. cond (eqb j (get_or p.ids.items i 0)) (cond b None (Some (get_or p.clauses i []))) (listed_clause j (take i p.ids.items) (take i p.clauses) (take i p.gone.items))) (sym g) ∙ sym (listed_more j);
     times = λ m. k.times m ∙ (let z : times_kept m (take i p.clauses) (take i p.gone.items) ≡ times_kept m (take i p.clauses) (take i p.gone.items) + 0 = omega arith in z)
         ∙ ap (λ b. times_kept m (take i p.clauses) (take i p.gone.items) + cond b 0 (times_long m (get_or p.clauses i []))) (sym g) ∙ sym (counted_more m);
   }
     where
-      gone : (j : ℕ) (b : Bool) → eqb j (get_or p.ids.items i 0) ≡ b → listed j (take i p.ids.items) (take i p.clauses) (take i p.gone.items) ≡ cond (eqb j (get_or p.ids.items i 0)) None (listed j (take i p.ids.items) (take i p.clauses) (take i p.gone.items))
+      gone : (j : ℕ) (b : Bool) → eqb j (get_or p.ids.items i 0) ≡ b → listed_clause j (take i p.ids.items) (take i p.clauses) (take i p.gone.items) ≡ cond (eqb j (get_or p.ids.items i 0)) None (listed_clause j (take i p.ids.items) (take i p.clauses) (take i p.gone.items))
       gone j true e =
           let same = eqb-true j (get_or p.ids.items i 0) e in
-          let none : listed j (take i p.ids.items) (take i p.clauses) (take i p.gone.items) ≡ None = listed-none j (take i p.ids.items) (take i p.clauses) (take i p.gone.items) (λ n l f. let b = first_below n l in omega arith) in
-          none ∙ sym (ap (λ b. cond b None (listed j (take i p.ids.items) (take i p.clauses) (take i p.gone.items))) e)
-      gone j false e = sym (ap (λ b. cond b None (listed j (take i p.ids.items) (take i p.clauses) (take i p.gone.items))) e)
+          let none : listed_clause j (take i p.ids.items) (take i p.clauses) (take i p.gone.items) ≡ None = listed-none j (take i p.ids.items) (take i p.clauses) (take i p.gone.items) (λ n l f. let b = first_below n l in omega arith) in
+          none ∙ sym (ap (λ b. cond b None (listed_clause j (take i p.ids.items) (take i p.clauses) (take i p.gone.items))) e)
+      gone j false e = sym (ap (λ b. cond b None (listed_clause j (take i p.ids.items) (take i p.clauses) (take i p.gone.items))) e)
 
 pub keeps_all : (p kept : Present) (i : ℕ) → IsStore p → length p.ids.items ≤ i → KeepsFirst p i kept → SamePresentClauses p kept
 keeps_all p kept i s h k =
@@ -293,13 +293,13 @@ pub record StandsAt (id : ℕ) (c : List ℕ) (ids : List ℕ) (cs : List (List 
   pub there : get_or gs place false ≡ false
   pub clause : get_or cs place [] ≡ c
 
-pub stands_at : (id : ℕ) (c : List ℕ) (ids : List ℕ) (cs : List (List ℕ)) (gs : List Bool) → listed id ids cs gs ≡ Some c → StandsAt id c ids cs gs
+pub stands_at : (id : ℕ) (c : List ℕ) (ids : List ℕ) (cs : List (List ℕ)) (gs : List Bool) → listed_clause id ids cs gs ≡ Some c → StandsAt id c ids cs gs
 stands_at id c [] cs gs e = absurd cc
 stands_at id c (i ∷ ids) [] gs e = absurd cc
 stands_at id c (i ∷ ids) (d ∷ cs) [] e = absurd cc
 stands_at id c (i ∷ ids) (d ∷ cs) (g ∷ gs) e = go (eqb id i) refl g (λ f. stands_at id c ids cs gs f) e
   where
-    go : (t : Bool) → eqb id i ≡ t → (b : Bool) → (listed id ids cs gs ≡ Some c → StandsAt id c ids cs gs) → cond t (cond b None (Some d)) (listed id ids cs gs) ≡ Some c → StandsAt id c (i ∷ ids) (d ∷ cs) (b ∷ gs)
+    go : (t : Bool) → eqb id i ≡ t → (b : Bool) → (listed_clause id ids cs gs ≡ Some c → StandsAt id c ids cs gs) → cond t (cond b None (Some d)) (listed_clause id ids cs gs) ≡ Some c → StandsAt id c (i ∷ ids) (d ∷ cs) (b ∷ gs)
     go true n true ih f = absurd cc
     go true n false ih f = record { place = 0; within = omega arith; named = sym (eqb-true id i n); there = refl; clause = (let k : d ≡ c = cc in k) }
     go false n b ih f = let s = ih f in record { place = suc s.place; within = (let w = s.within in omega (arith, w)); named = s.named; there = s.there; clause = s.clause }

@@ -6,31 +6,31 @@ use Rattle.sat_base.specs.values.Literals.{negated}
 use Rattle.sat_checker.specs.LiteralSets.{is_among, canonical, same_literals}
 use Rattle.sat_checker.specs.Stored.{StoredClause, StoredUnit, Stored, is_unit}
 use Rattle.sat_checker.specs.Storing.{with_count, with_stored_clause, clause_with, unit_id, first_conflict, with_contradiction, with_new_unit, with_long, with_set, new_clause}
-use Rattle.sat_checker.specs.announcements.Announcements.{Announcement, id_of, id_of_set, Told, told_over}
+use Rattle.sat_checker.specs.announcements.Announcements.{Announcement, id_of, id_of_set, Notice, notices_over}
 use Rattle.sat_checker.specs.announcements.Promises.{IsOneOf}
 use Rattle.sat_checker.proofs.lemmas.propagation.Soundness.{negated-negated}
 use Rattle.sat_hints.specs.Lines.{Line, Input, Derived, Gone, Core, Fresh}
 use Rattle.sat_hints.specs.Hints.{clause_under, least_id, is_long, FollowsLines, IsHintDerivation}
-use Rattle.sat_hints.specs.Conversion.{line_told, with_line, lines_told}
+use Rattle.sat_hints.specs.Conversion.{announced_line, with_line, announced_lines}
 use Rattle.sat_hints.proofs.lemmas.Sound.{still}
 
 -- LINES OF ANNOUNCEMENTS
 -- behind earlier ones
 abbrev pub lines_by : List Announcement → List Line → List Line
 lines_by [] earlier = earlier
-lines_by (a ∷ more) earlier = lines_by more (with_line (line_told a) earlier)
+lines_by (a ∷ more) earlier = lines_by more (with_line (announced_line a) earlier)
 
-pub told_lines : (f : Stored) (xs : List Announcement) (earlier : List Line) → lines_told (told_over f xs) earlier ≡ lines_by xs earlier
-told_lines f [] earlier = refl
-told_lines f (a ∷ xs) earlier = told_lines f xs (with_line (line_told a) earlier)
+pub reported_lines : (f : Stored) (xs : List Announcement) (earlier : List Line) → announced_lines (notices_over f xs) earlier ≡ lines_by xs earlier
+reported_lines f [] earlier = refl
+reported_lines f (a ∷ xs) earlier = reported_lines f xs (with_line (announced_line a) earlier)
 
-pub lines-append : (xs ys : List Told) (earlier : List Line) → lines_told (xs ++ ys) earlier ≡ lines_told ys (lines_told xs earlier)
+pub lines-append : (xs ys : List Notice) (earlier : List Line) → announced_lines (xs ++ ys) earlier ≡ announced_lines ys (announced_lines xs earlier)
 lines-append [] ys earlier = refl
-lines-append (x ∷ xs) ys earlier = lines-append xs ys (with_line (line_told x.announcement) earlier)
+lines-append (x ∷ xs) ys earlier = lines-append xs ys (with_line (announced_line x.announcement) earlier)
 
 pub by-append : (xs ys : List Announcement) (earlier : List Line) → lines_by (xs ++ ys) earlier ≡ lines_by ys (lines_by xs earlier)
 by-append [] ys earlier = refl
-by-append (x ∷ xs) ys earlier = by-append xs ys (with_line (line_told x) earlier)
+by-append (x ∷ xs) ys earlier = by-append xs ys (with_line (announced_line x) earlier)
 
 -- LISTS
 pub each_more : {A : Type 0} (P Q : A → Type 0) → ((x : A) → P x → Q x) → (xs : List A) → AllByRecursion P xs → AllByRecursion Q xs

@@ -9,7 +9,7 @@ use Rattle.sat_base.specs.text.Text.{lines, onto_first}
 use Rattle.sat_base.specs.dimacs.DimacsText.{number_text}
 use Rattle.sat_checker.specs.LiteralSets.{is_among, is_tautology}
 use Rattle.sat_checker.specs.Propagation.{IsUnit, UnitInTurn}
-use Rattle.sat_hints.specs.Lines.{Line, Input, Derived, Gone, Core, Fresh, AreIds, AreLiteralCodes, IsLine, AreLines, words, id_text, id_words, literal_words, line_text, text_of, HasNoEnd, BeginsWithLine, ended, cut_off}
+use Rattle.sat_hints.specs.Lines.{Line, Input, Derived, Gone, Core, Fresh, AreIds, AreLiteralCodes, IsLine, AreLines, spaced_words, id_text, id_words, literal_words, line_text, text_of, HasNoEnd, BeginsWithLine, ended, cut_off}
 use Rattle.sat_hints.specs.Hints.{named_ids, clauses_under, assumed_by, Conflicts, ConflictsIf, FollowsLines, IsHintDerivation}
 use Rattle.sat_hints.specs.Checks.{SomeIsNotUnit, LastIsNotFalsified, IsFaultOf, IsAtFault}
 use Rattle.sat_hints.specs.Laws.{ProvedIsNotBad}
@@ -141,9 +141,9 @@ digits_no_end : (ds : List ℕ) → AllDigits 10 ds → HasNoEnd ds
 digits_no_end [] d = tt
 digits_no_end (c ∷ cs) d = ((λ e. let r = digit_from_value c d.0 in omega arith), digits_no_end cs d.1)
 
-words_no_end : (word : ℕ → List ℕ) (P : ℕ → Type 0) → ((x : ℕ) → P x → HasNoEnd (word x)) → (xs : List ℕ) → AllByRecursion P xs → HasNoEnd (words word xs)
+words_no_end : (word : ℕ → List ℕ) (P : ℕ → Type 0) → ((x : ℕ) → P x → HasNoEnd (word x)) → (xs : List ℕ) → AllByRecursion P xs → HasNoEnd (spaced_words word xs)
 words_no_end word P each [] h = tt
-words_no_end word P each (x ∷ xs) h = no_end_both (word x) (32 ∷ words word xs) (each x h.0) ((λ e. omega arith), words_no_end word P each xs h.1)
+words_no_end word P each (x ∷ xs) h = no_end_both (word x) (32 ∷ spaced_words word xs) (each x h.0) ((λ e. omega arith), words_no_end word P each xs h.1)
 
 ids_no_end : (ids : List ℕ) → AreIds ids → HasNoEnd (id_words ids)
 ids_no_end = words_no_end id_text IsId (λ x p. digits_no_end (decimal (x + 1)) (are_digits (x + 1) (omega arith)))

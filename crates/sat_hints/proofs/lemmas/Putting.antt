@@ -4,9 +4,9 @@ use Rattle.std.proofs.lemmas.List.{drop_more, drop_all}
 use Rattle.std.proofs.Math.Seq.{take-suc-set}
 use Rattle.std.specs.Fmt.{digits}
 use Rattle.sat_base.specs.device.Device.{Writer}
-use Rattle.sat_base.specs.device.Sink.{Sink, Sent}
+use Rattle.sat_base.specs.device.Sink.{Sink, AddsToSink}
 use Rattle.sat_base.proofs.lemmas.device.Sending.{sent_none, sent_more, sends_stops, sends_breaks, piece_waits}
-use Rattle.sat_hints.specs.Lines.{words}
+use Rattle.sat_hints.specs.Lines.{spaced_words}
 use Rattle.sat_hints.specs.inner.LineWriting.{Outlet, PutBy, PutFrom, PutsText}
 
 put_none_from : (b : Bool) (a : Outlet) → a.failed ≡ b → PutFrom b [] a a
@@ -17,7 +17,7 @@ pub put_none : (a : Outlet) → PutsText [] a a
 put_none a = put_none_from a.failed a refl
 
 -- one text, and then another
-put_behind_sent : (b c : Bool) (xs ys : List ℕ) (s t u : Sink) → Sent s t xs → PutBy c ys t u → PutBy c (xs ++ ys) s u
+put_behind_sent : (b c : Bool) (xs ys : List ℕ) (s t u : Sink) → AddsToSink s t xs → PutBy c ys t u → PutBy c (xs ++ ys) s u
 put_behind_sent b false xs ys s t u h k = sent_more s t u xs ys h k
 put_behind_sent b true xs ys s t u h k = sends_breaks s t u xs ys h k
 
@@ -62,23 +62,23 @@ pub so_far_all : (whole left : List ℕ) (a b : Outlet) → PutSoFar whole left 
 so_far_all whole left a b s e = put_same s.front whole a b (sym (s.rest ∙ ap (λ t. s.front ++ t) e ∙ append-nil s.front)) s.puts
 
 -- words, each with a space
-pub next_word : (word : ℕ → List ℕ) (xs : List ℕ) (i x : ℕ) → i < length xs → x ≡ get_or xs i x → words word (drop i xs) ≡ (word x ++ (32 ∷ [])) ++ words word (drop (i + 1) xs)
+pub next_word : (word : ℕ → List ℕ) (xs : List ℕ) (i x : ℕ) → i < length xs → x ≡ get_or xs i x → spaced_words word (drop i xs) ≡ (word x ++ (32 ∷ [])) ++ spaced_words word (drop (i + 1) xs)
 next_word word xs i x h e =
-    ap (words word) (drop_more xs i x h) ∙ ap (λ y. word y ++ (32 ∷ words word (drop (i + 1) xs))) (sym e) ∙ sym (append_assoc (word x) (32 ∷ []) (words word (drop (i + 1) xs)))
+    ap (spaced_words word) (drop_more xs i x h) ∙ ap (λ y. word y ++ (32 ∷ spaced_words word (drop (i + 1) xs))) (sym e) ∙ sym (append_assoc (word x) (32 ∷ []) (spaced_words word (drop (i + 1) xs)))
 
-pub next_number : (word : ℕ → List ℕ) (xs : List ℕ) (i : ℕ) → i < length xs → words word (drop i xs) ≡ (word (get_or xs i 0) ++ (32 ∷ [])) ++ words word (drop (i + 1) xs)
-next_number word xs i h = ap (words word) (drop_more xs i 0 h) ∙ sym (append_assoc (word (get_or xs i 0)) (32 ∷ []) (words word (drop (i + 1) xs)))
+pub next_number : (word : ℕ → List ℕ) (xs : List ℕ) (i : ℕ) → i < length xs → spaced_words word (drop i xs) ≡ (word (get_or xs i 0) ++ (32 ∷ [])) ++ spaced_words word (drop (i + 1) xs)
+next_number word xs i h = ap (spaced_words word) (drop_more xs i 0 h) ∙ sym (append_assoc (word (get_or xs i 0)) (32 ∷ []) (spaced_words word (drop (i + 1) xs)))
 
-pub no_word : (word : ℕ → List ℕ) (xs : List ℕ) (i : ℕ) → length xs ≤ i → words word (drop i xs) ≡ []
-no_word word xs i h = ap (words word) (drop_all i xs h)
+pub no_word : (word : ℕ → List ℕ) (xs : List ℕ) (i : ℕ) → length xs ≤ i → spaced_words word (drop i xs) ≡ []
+no_word word xs i h = ap (spaced_words word) (drop_all i xs h)
 
 -- A BYTE
 -- within the room
 pub byte_waits : (w : Writer) (bytes : List ℕ) (len byte : ℕ) (a b : Outlet) → len < length bytes → a.failed ≡ false → a.sink ≡ record { writer = w; waiting = take len bytes } → b.failed ≡ false → b.sink ≡ record { writer = w; waiting = take (len + 1) (set bytes len byte) } → PutsText (byte ∷ []) a b
 byte_waits w bytes len byte a b h e f g k =
-    let sent : Sent (record { writer = w; waiting = take len bytes }) (record { writer = w; waiting = take (len + 1) (set bytes len byte) }) (byte ∷ [])
+    let sent : AddsToSink (record { writer = w; waiting = take len bytes }) (record { writer = w; waiting = take (len + 1) (set bytes len byte) }) (byte ∷ [])
     = piece_waits w (take len bytes) (take (len + 1) (set bytes len byte)) (byte ∷ []) (record { writer = w; waiting = take len bytes }) (sent_none (record { writer = w; waiting = take len bytes })) (one_more bytes len byte h) in
-    rw e (rw g (subst (λ s. Sent s b.sink (byte ∷ [])) (sym f) (subst (λ t. Sent (record { writer = w; waiting = take len bytes }) t (byte ∷ [])) (sym k) sent)))
+    rw e (rw g (subst (λ s. AddsToSink s b.sink (byte ∷ [])) (sym f) (subst (λ t. AddsToSink (record { writer = w; waiting = take len bytes }) t (byte ∷ [])) (sym k) sent)))
   where
     one_more : (bytes : List ℕ) (len byte : ℕ) → len < length bytes → take (len + 1) (set bytes len byte) ≡ take len bytes ++ (byte ∷ [])
     one_more bytes len byte h = let e : len + 1 ≡ suc len = omega arith in ap (λ n. take n (set bytes len byte)) e ∙ take-suc-set bytes len byte h

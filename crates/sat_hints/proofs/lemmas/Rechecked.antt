@@ -7,8 +7,8 @@ use Rattle.sat_hints.specs.declared.answer.HintVerdict.TheVariants.{Proved}
 use Rattle.sat_hints.proofs.lemmas.OneFault.{one_verdict}
 
 -- what is still to come
-pub told_left : (xs : List ℕ) (was now : Option (List ℕ)) (bytes : List ℕ) → was ≡ Some xs → Consumes was now bytes → (ys : List ℕ) × (now ≡ Some ys) × (xs ≡ bytes ++ ys)
-told_left xs was now bytes e c = go now (subst (λ o. Consumes o now bytes) e c)
+pub reported_left : (xs : List ℕ) (was now : Option (List ℕ)) (bytes : List ℕ) → was ≡ Some xs → Consumes was now bytes → (ys : List ℕ) × (now ≡ Some ys) × (xs ≡ bytes ++ ys)
+reported_left xs was now bytes e c = go now (subst (λ o. Consumes o now bytes) e c)
   where
     go : (now : Option (List ℕ)) → Consumes (Some xs) now bytes → (ys : List ℕ) × (now ≡ Some ys) × (xs ≡ bytes ++ ys)
     go None c = absurd c
@@ -17,6 +17,6 @@ told_left xs was now bytes e c = go now (subst (λ o. Consumes o now bytes) e c)
 pub proof_is_proved : ProofIsProved
 proof_is_proved text empty cores lines (Err fault) from to p told g = tt
 proof_is_proved text empty cores lines (Ok verdict) from to p told g =
-    let t = told_left text from.to_come to.to_come g.text told g.front.told in
+    let t = reported_left text from.to_come to.to_come g.text told g.front.told in
     let judged : Judges verdict (g.text ++ t.0) = g.holds t.0 (λ called ended. subst IsAtEnd t.1 (g.over called ended)) in
     one_verdict text verdict (Proved empty cores lines) (subst (Judges verdict) (sym t.2) judged) p

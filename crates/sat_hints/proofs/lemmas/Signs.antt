@@ -4,7 +4,7 @@ use Rattle.std.proofs.lemmas.Bool.{or_cases, or_left, or_right, both_ways, eqb-t
 use Rattle.std.proofs.lemmas.List.{take_more, take_all, take-append-drop, take-map, get_or-map, length-map}
 use Rattle.sat_base.specs.values.Literals.{negated, negated_if}
 use Rattle.sat_checker.specs.LiteralSets.{is_among, is_tautology}
-use Rattle.sat_checker.specs.inner.Room.{AgreesOn, signed}
+use Rattle.sat_checker.specs.inner.AssumedRoom.{AgreesOn, signed}
 use Rattle.sat_checker.proofs.lemmas.sets.Canonical.{tautology_from, both_signs}
 use Rattle.sat_checker.proofs.lemmas.sets.Order.{among-append}
 use Rattle.sat_hints.specs.inner.Course.{AreJustAssumed}

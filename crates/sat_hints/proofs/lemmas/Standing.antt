@@ -7,9 +7,9 @@ use Rattle.sat_base.specs.values.Tables.{value_at}
 use Rattle.sat_checker.specs.LiteralSets.{mentions}
 use Rattle.sat_checker.specs.SortedSets.{IsIncreasing}
 use Rattle.sat_hints.specs.Hints.{is_long, unless_unit_over}
-use Rattle.sat_hints.specs.inner.Clauses.{clause_in, clause_at, times_long, times_at, AllBelow, IsStore, AddsPresentClause, Loses}
+use Rattle.sat_hints.specs.inner.Clauses.{clause_in, present_clause_at, times_long, times_at, AllBelow, IsStore, AddsPresentClause, Loses}
 use Rattle.sat_hints.specs.inner.UsesView.{if_counting, uses_at}
-use Rattle.sat_hints.specs.inner.Standing.{is_stale, unless_stale, clause_of, SinceWithin, StandingInvariant, FindsOne, AddsStandingClause, Drops, IsUsed, RenewsVariable}
+use Rattle.sat_hints.specs.inner.Standing.{is_stale, unless_stale, standing_clause, SinceWithin, StandingInvariant, FindsClause, AddsStandingClause, DropsClause, IsUsed, RenewsVariable}
 use Rattle.sat_hints.specs.declared.present.Present.{Present}
 use Rattle.sat_hints.specs.declared.standing.Standing.{Standing}
 use Rattle.sat_hints.specs.declared.uses.Uses.{Uses}
@@ -56,7 +56,7 @@ gains old new id clause s w a e c u = record {
   clauses = λ j. ap (λ x. unless_stale x j (clause_in new.present j)) e ∙ ap (unless_stale old.since j) (a.clauses j) ∙ one j (eqb j id) refl;
 }
   where
-    one : (j : ℕ) (b : Bool) → eqb j id ≡ b → unless_stale old.since j (cond b (Some clause) (clause_in old.present j)) ≡ cond b (Some clause) (clause_of old j)
+    one : (j : ℕ) (b : Bool) → eqb j id ≡ b → unless_stale old.since j (cond b (Some clause) (clause_in old.present j)) ≡ cond b (Some clause) (standing_clause old j)
     one j true t = let same : j ≡ id = eqb-true j id t in ap (λ x. cond x None (Some clause)) (subst (λ i. is_stale old.since i clause ≡ false) (sym same) (fresh_unit old.since id clause w))
     one j false t = refl
 
@@ -80,31 +80,31 @@ if_less : (b : Bool) (m n k : ℕ) → m + k ≡ n → if_counting b m + if_coun
 if_less true m n k e = e
 if_less false m n k e = refl
 
-module _ (old : Standing) (id place : ℕ) (s : StandingInvariant old) (f : FindsOne old id place) where
+module _ (old : Standing) (id place : ℕ) (s : StandingInvariant old) (f : FindsClause old id place) where
   -- its place isn't gone
-  not_gone : (c : List ℕ) → clause_in old.present id ≡ Some c → (get_or old.present.gone.items place false ≡ false) × (clause_at old.present place ≡ c)
+  not_gone : (c : List ℕ) → clause_in old.present id ≡ Some c → (get_or old.present.gone.items place false ≡ false) × (present_clause_at old.present place ≡ c)
   not_gone c e =
       let k : place < length old.present.ids.items = subst (λ n. place < n) s.store.clauses f.within in
-      let at : clause_in old.present id ≡ cond (get_or old.present.gone.items place false) None (Some (clause_at old.present place))
-      = subst (λ i. clause_in old.present i ≡ cond (get_or old.present.gone.items place false) None (Some (clause_at old.present place))) f.named (listed-at place old.present.ids.items old.present.clauses old.present.gone.items s.store.clauses s.store.gone s.store.rises k) in
+      let at : clause_in old.present id ≡ cond (get_or old.present.gone.items place false) None (Some (present_clause_at old.present place))
+      = subst (λ i. clause_in old.present i ≡ cond (get_or old.present.gone.items place false) None (Some (present_clause_at old.present place))) f.named (listed-at place old.present.ids.items old.present.clauses old.present.gone.items s.store.clauses s.store.gone s.store.rises k) in
       go (get_or old.present.gone.items place false) refl (sym at ∙ e)
     where
-      go : (b : Bool) → get_or old.present.gone.items place false ≡ b → cond b None (Some (clause_at old.present place)) ≡ Some c → (b ≡ false) × (clause_at old.present place ≡ c)
+      go : (b : Bool) → get_or old.present.gone.items place false ≡ b → cond b None (Some (present_clause_at old.present place)) ≡ Some c → (b ≡ false) × (present_clause_at old.present place ≡ c)
       go true n g = absurd cc
-      go false n g = (refl, (let x : clause_at old.present place ≡ c = cc in x))
+      go false n g = (refl, (let x : present_clause_at old.present place ≡ c = cc in x))
 
   if_below : (b : Bool) (n m u : ℕ) → n ≤ m → u ≡ if_counting b m → if_counting b n ≤ u
   if_below true n m u h e = omega (arith, h, e)
   if_below false n m u h e = omega arith
 
-  pub were_counted : (clause : List ℕ) → clause ≡ clause_at old.present place → (l : ℕ) → if_counting old.uses.counting (times_long l clause) ≤ uses_at old.uses l
+  pub were_counted : (clause : List ℕ) → clause ≡ present_clause_at old.present place → (l : ℕ) → if_counting old.uses.counting (times_long l clause) ≤ uses_at old.uses l
   were_counted clause e l =
-      let g = (not_gone (clause_at old.present place) f.stored).0 in
-      let k : times_long l (clause_at old.present place) ≤ times_at old.present l = times-there l old.present.clauses old.present.gone.items place (s.store.gone ∙ sym s.store.clauses) f.within g in
+      let g = (not_gone (present_clause_at old.present place) f.stored).0 in
+      let k : times_long l (present_clause_at old.present place) ≤ times_at old.present l = times-there l old.present.clauses old.present.gone.items place (s.store.gone ∙ sym s.store.clauses) f.within g in
       if_below old.uses.counting (times_long l clause) (times_at old.present l) (uses_at old.uses l) (subst (λ c. times_long l c ≤ times_at old.present l) (sym e) k) (s.counted l)
 
-  pub drops : (new : Standing) (clause : List ℕ) → clause ≡ clause_at old.present place → Loses old.present new.present (get_or old.present.ids.items place 0) → new.since ≡ old.since → new.uses.counting ≡ old.uses.counting
-      → ((l : ℕ) → uses_at new.uses l + if_counting old.uses.counting (times_long l clause) ≡ uses_at old.uses l) → Drops old new id
+  pub drops : (new : Standing) (clause : List ℕ) → clause ≡ present_clause_at old.present place → Loses old.present new.present (get_or old.present.ids.items place 0) → new.since ≡ old.since → new.uses.counting ≡ old.uses.counting
+      → ((l : ℕ) → uses_at new.uses l + if_counting old.uses.counting (times_long l clause) ≡ uses_at old.uses l) → DropsClause old new id
   drops new clause e lost w c u =
       let l = subst (Loses old.present new.present) f.named lost in
       record {
@@ -114,7 +114,7 @@ module _ (old : Standing) (id place : ℕ) (s : StandingInvariant old) (f : Find
         clauses = λ j. ap (λ x. unless_stale x j (clause_in new.present j)) w ∙ ap (unless_stale old.since j) (l.clauses j) ∙ one j (eqb j id);
       }
     where
-      one : (j : ℕ) (b : Bool) → unless_stale old.since j (cond b None (clause_in old.present j)) ≡ cond b None (clause_of old j)
+      one : (j : ℕ) (b : Bool) → unless_stale old.since j (cond b None (clause_in old.present j)) ≡ cond b None (standing_clause old j)
       one j true = refl
       one j false = refl
 
@@ -127,8 +127,8 @@ module _ (old : Standing) (id place : ℕ) (s : StandingInvariant old) (f : Find
           let r : uses_at new.uses m ≡ if_counting old.uses.counting (times_at new.present m) = omega (arith, y, z, t) in
           r ∙ ap (λ b. if_counting b (times_at new.present m)) (sym c)
 
-pub found_some : (s : Standing) (id place : ℕ) → FindsOne s id place → clause_of s id ≢ None
-found_some s id place f e = let x : ◌≡◌ {A = Option (List ℕ)} (Some (clause_at s.present place)) None = sym f.clause ∙ e in cc
+pub found_some : (s : Standing) (id place : ℕ) → FindsClause s id place → standing_clause s id ≢ None
+found_some s id place f e = let x : ◌≡◌ {A = Option (List ℕ)} (Some (present_clause_at s.present place)) None = sym f.clause ∙ e in cc
 
 -- IN USE
 module _ (s : Standing) (v : ℕ) (st : IsStore s.present) where

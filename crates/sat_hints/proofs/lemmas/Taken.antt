@@ -7,15 +7,15 @@ use Rattle.sat_base.specs.values.Literals.{negated}
 use Rattle.sat_base.specs.values.Tables.{value_at}
 use Rattle.sat_checker.specs.LiteralSets.{canonical, is_tautology}
 use Rattle.sat_checker.specs.SortedSets.{NoRepeats}
-use Rattle.sat_checker.specs.inner.Room.{HasRoomFor, RoomStays, signed}
+use Rattle.sat_checker.specs.inner.AssumedRoom.{HasClauseRoom, RoomStays, signed}
 use Rattle.sat_checker.proofs.lemmas.sets.Canonical.{canonical_increasing}
 use Rattle.sat_checker.proofs.lemmas.sets.Marks.{once}
 use Rattle.sat_hints.specs.Lines.{Line, Input, Derived, Gone, Core, Fresh}
 use Rattle.sat_hints.specs.Hints.{and_clauses, clause_under, clauses_under, IsInOrder, named_ids, assumed_by, ConflictsIf, Conflicts, FollowsLines, is_empty, derives_empty, count_of_cores}
 use Rattle.sat_hints.specs.Checks.{IsFaultOf}
 use Rattle.sat_hints.specs.inner.Clauses.{AllBelow}
-use Rattle.sat_hints.specs.inner.Standing.{clause_of, clauses_of, AddsStandingClause, Drops, HasRoomForPresent, StandingInvariant, IsUsed, SinceWithin}
-use Rattle.sat_hints.specs.inner.Course.{course, WhyNoConflict}
+use Rattle.sat_hints.specs.inner.Standing.{standing_clause, standing_clauses, AddsStandingClause, DropsClause, HasRoomForPresent, StandingInvariant, IsUsed, SinceWithin}
+use Rattle.sat_hints.specs.inner.Course.{refutation_failure, WhyNoConflict}
 use Rattle.sat_hints.specs.inner.Judging.{IsReadyJudge, HasTakenLines, IsSame, MayFollow, WhyNotRefuted, StoresClause, TakesOne}
 use Rattle.sat_hints.specs.declared.answer.HintWhy.{HintWhy}
 use Rattle.sat_hints.specs.declared.answer.HintWhy.TheVariants.{NotUnit, NotFalsified, VarInUse}
@@ -27,9 +27,9 @@ use Rattle.sat_hints.proofs.lemmas.Sound.{still}
 use Rattle.sat_hints.proofs.lemmas.Unused.{unused_assuming}
 
 -- the same clauses under ids
-clauses_same : (p : Standing) (lines : List Line) → ((id : ℕ) → clause_of p id ≡ clause_under id lines) → (ids : List ℕ) → clauses_of p ids ≡ clauses_under ids lines
+clauses_same : (p : Standing) (lines : List Line) → ((id : ℕ) → standing_clause p id ≡ clause_under id lines) → (ids : List ℕ) → standing_clauses p ids ≡ clauses_under ids lines
 clauses_same p lines h [] = refl
-clauses_same p lines h (id ∷ ids) = ap (λ c. and_clauses c (clauses_of p ids)) (h id) ∙ ap (and_clauses (clause_under id lines)) (clauses_same p lines h ids)
+clauses_same p lines h (id ∷ ids) = ap (λ c. and_clauses c (standing_clauses p ids)) (h id) ∙ ap (and_clauses (clause_under id lines)) (clauses_same p lines h ids)
 
 -- a clause under an id is a sorted set
 set_once : (ls c : List ℕ) → Some (canonical ls) ≡ Some c → NoRepeats c
@@ -80,7 +80,7 @@ module _ (lines : List Line) (line : Line) (assumed : List ℕ) (in_order : IsIn
   by_course clauses present t (Some NotFalsified) s = record { in_order = in_order; clauses = clauses; present = present; assumed = assumed; assumes = assumes; consistent = t; fails = s }
   by_course clauses present t (Some e) s = absurd s
 
-  refuted : (p : Standing) (why : Option HintWhy) → ((id : ℕ) → clause_of p id ≡ clause_under id lines) → WhyNotRefuted p assumed (named_ids line) why → Says_of why lines line
+  refuted : (p : Standing) (why : Option HintWhy) → ((id : ℕ) → standing_clause p id ≡ clause_under id lines) → WhyNotRefuted p assumed (named_ids line) why → Says_of why lines line
   refuted p why same (inl h) = subst (λ w. Says_of w lines line) (sym h.1) (in_order, sym (clauses_same p lines same (named_ids line)) ∙ h.0)
   refuted p why same (inr h) = go h.2
     where
@@ -89,7 +89,7 @@ module _ (lines : List Line) (line : Line) (assumed : List ℕ) (in_order : IsIn
 
       go : WhyNoConflict assumed h.0 why → Says_of why lines line
       go (inl r) = subst (λ w. Says_of w lines line) (sym r.1) (record { in_order = in_order; clauses = h.0; present = present; conflict = conflict_of (assumed_by line) assumed h.0 assumes (inl r.0); unused = unused_assuming lines line assumed assumes })
-      go (inr r) = subst (λ w. Says_of w lines line) (sym r.1) (by_course h.0 present r.0 (course assumed h.0) (course_says h.0 assumed (sets_once (named_ids line) lines h.0 present)))
+      go (inr r) = subst (λ w. Says_of w lines line) (sym r.1) (by_course h.0 present r.0 (refutation_failure assumed h.0) (course_says h.0 assumed (sets_once (named_ids line) lines h.0 present)))
 
 stored_ready : (old new : Judge) (id : ℕ) (clause : List ℕ) → SinceWithin old.standing id → StoresClause old new id clause → IsReadyJudge new
 stored_ready old new id clause w s = record {
@@ -121,11 +121,11 @@ pub derived_may : (old : Judge) (id : ℕ) (clause ids : List ℕ) → old.least
 derived_may old id clause ids l r lines t = derived_refuted old id clause ids None l r lines t
 
 -- there is room for those of one more clause
-pub room_stored : (old new : Standing) (id : ℕ) (clause xs ys : List ℕ) → AddsStandingClause old new id clause → HasRoomForPresent xs old → RoomStays xs ys → HasRoomFor ys clause → HasRoomForPresent ys new
+pub room_stored : (old new : Standing) (id : ℕ) (clause xs ys : List ℕ) → AddsStandingClause old new id clause → HasRoomForPresent xs old → RoomStays xs ys → HasClauseRoom ys clause → HasRoomForPresent ys new
 room_stored old new id clause xs ys a h k m j c e = go (eqb j id) (sym (a.clauses j) ∙ e)
   where
-    go : (b : Bool) → cond b (Some clause) (clause_of old j) ≡ Some c → HasRoomFor ys c
-    go true f = let g : clause ≡ c = cc in subst (HasRoomFor ys) g m
+    go : (b : Bool) → cond b (Some clause) (standing_clause old j) ≡ Some c → HasClauseRoom ys c
+    go true f = let g : clause ≡ c = cc in subst (HasClauseRoom ys) g m
     go false f = room_still old xs ys k h j c f
 
 pub derived_faulty : (old new : Judge) (id : ℕ) (clause ids : List ℕ) (why : HintWhy) → old.least_id ≤ id → WhyNotRefuted old.standing (signed true clause) ids (Some why) → IsSame old new → TakesOne (Some why) old new (Derived id clause ids)
@@ -145,7 +145,7 @@ derived_taken old mid last new id clause ids e y l r m s f n = (
   ap (λ j. j.lines) n ∙ s.lines ∙ m.lines,
   λ lines t. record {
     follows = derived_refuted old id clause ids None l r lines t;
-    clauses = λ j. ap (λ k. clause_of k.standing j) n ∙ s.adds.clauses j ∙ ap (λ o. cond (eqb j id) (Some (canonical clause)) o) (ap (λ p. clause_of p j) m.standing ∙ t.clauses j);
+    clauses = λ j. ap (λ k. standing_clause k.standing j) n ∙ s.adds.clauses j ∙ ap (λ o. cond (eqb j id) (Some (canonical clause)) o) (ap (λ p. standing_clause p j) m.standing ∙ t.clauses j);
     least = ap (λ j. j.least_id) n ∙ s.least;
     says_empty = ap (λ j. j.empty) n ∙ f ∙ ap (λ b. eqb (length clause) 0 || b) (s.empty ∙ m.empty ∙ t.says_empty) ∙ ap (λ b. b || derives_empty lines) (sym (empty_length clause));
     counts_cores = ap (λ j. j.cores) n ∙ s.cores ∙ m.cores ∙ t.counts_cores;
@@ -157,28 +157,28 @@ some_clause : (o : Option (List ℕ)) → o ≢ None → (c : List ℕ) × (o �
 some_clause None h = absurd (h refl)
 some_clause (Some c) h = (c, refl)
 
-gone_follows : (s : Standing) (id : ℕ) (lines : List Line) → ((j : ℕ) → clause_of s j ≡ clause_under j lines) → clause_of s id ≢ None → FollowsLines lines (Gone id)
+gone_follows : (s : Standing) (id : ℕ) (lines : List Line) → ((j : ℕ) → standing_clause s j ≡ clause_under j lines) → standing_clause s id ≢ None → FollowsLines lines (Gone id)
 gone_follows s id lines same h =
-    let c = some_clause (clause_of s id) h in
+    let c = some_clause (standing_clause s id) h in
     record { in_order = tt; clauses = c.0 ∷ []; present = ap (λ o. and_clauses o (Some [])) (sym (same id) ∙ c.1); conflict = tt; unused = λ u. u }
 
-pub gone_may : (old : Judge) (id : ℕ) → clause_of old.standing id ≢ None → MayFollow old (Gone id)
+pub gone_may : (old : Judge) (id : ℕ) → standing_clause old.standing id ≢ None → MayFollow old (Gone id)
 gone_may old id h lines t = gone_follows old.standing id lines t.clauses h
 
-room_less : (s p : Standing) (id : ℕ) (room : List ℕ) → ((j : ℕ) → clause_of p j ≡ cond (eqb j id) None (clause_of s j)) → HasRoomForPresent room s → HasRoomForPresent room p
+room_less : (s p : Standing) (id : ℕ) (room : List ℕ) → ((j : ℕ) → standing_clause p j ≡ cond (eqb j id) None (standing_clause s j)) → HasRoomForPresent room s → HasRoomForPresent room p
 room_less s p id room same h j c e = go (eqb j id) (sym (same j) ∙ e)
   where
-    go : (b : Bool) → cond b None (clause_of s j) ≡ Some c → HasRoomFor room c
+    go : (b : Bool) → cond b None (standing_clause s j) ≡ Some c → HasClauseRoom room c
     go true f = absurd cc
     go false f = h j c f
 
-pub gone_taken : (old new : Judge) (id : ℕ) (p : Standing) → IsReadyJudge old → clause_of old.standing id ≢ None → Drops old.standing p id → new ≡ record old { standing = p } → TakesOne None old new (Gone id)
+pub gone_taken : (old new : Judge) (id : ℕ) (p : Standing) → IsReadyJudge old → standing_clause old.standing id ≢ None → DropsClause old.standing p id → new ≡ record old { standing = p } → TakesOne None old new (Gone id)
 gone_taken old new id p r h l n = (
   subst IsReadyJudge (sym n) (record { standing = l.standing; below = l.below old.least_id r.below; since = λ v. subst (λ x. value_at 0 x v ≤ old.least_id) (sym l.since) (r.since v); nothing = r.nothing; room = room_less old.standing p id old.assumed.room l.clauses r.room }),
   ap (λ j. j.lines) n,
   λ lines t. record {
     follows = gone_follows old.standing id lines t.clauses h;
-    clauses = λ j. ap (λ k. clause_of k.standing j) n ∙ l.clauses j ∙ ap (λ o. cond (eqb j id) None o) (t.clauses j);
+    clauses = λ j. ap (λ k. standing_clause k.standing j) n ∙ l.clauses j ∙ ap (λ o. cond (eqb j id) None o) (t.clauses j);
     least = ap (λ j. j.least_id) n ∙ t.least;
     says_empty = ap (λ j. j.empty) n ∙ t.says_empty;
     counts_cores = ap (λ j. j.cores) n ∙ t.counts_cores;
@@ -201,7 +201,7 @@ core_taken old mid new core ids n r h m f e = (
   ap (λ j. j.lines) e ∙ m.lines,
   λ lines t. record {
     follows = core_refuted old core ids None h lines t;
-    clauses = λ j. ap (λ k. clause_of k.standing j) e ∙ ap (λ p. clause_of p j) m.standing ∙ t.clauses j;
+    clauses = λ j. ap (λ k. standing_clause k.standing j) e ∙ ap (λ p. standing_clause p j) m.standing ∙ t.clauses j;
     least = ap (λ j. j.least_id) e ∙ m.least ∙ t.least;
     says_empty = ap (λ j. j.empty) e ∙ m.empty ∙ t.says_empty;
     counts_cores = ap (λ j. j.cores) e ∙ one_more mid.cores (count_of_cores lines) n (m.cores ∙ t.counts_cores) f;

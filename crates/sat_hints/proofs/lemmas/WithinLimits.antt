@@ -12,13 +12,13 @@ use Rattle.sat_checker.specs.Storing.{clause_with, with_unit}
 use Rattle.sat_checker.specs.Accepts.{stored_after, ready_after}
 use Rattle.sat_checker.specs.announcements.Needed.{true_unit, propagations}
 use Rattle.sat_checker.specs.announcements.Announcements as told
-use Rattle.sat_checker.specs.announcements.Announcements.{Announcement, is_sample, is_witness, mode_change, renaming, naming, id_of_set, input_set, input, redundant_alone, derived_set, derived, derived_units, redundant_deleted, irredundant_deleted, one, last_id, announced, delayed_by, delayed, Told, told_over, told_after, all_told_after}
+use Rattle.sat_checker.specs.announcements.Announcements.{Announcement, is_sample, has_witness_mode, mode_change, renaming, naming, id_of_set, input_set, input, redundant_alone, derived_set, derived, derived_units, redundant_deleted, irredundant_deleted, one, last_id, announced, delayed_by, delayed, Notice, notices_over, notices_after, all_notices_after}
 use Rattle.sat_checker.proofs.lemmas.sets.Members.{canonical_each}
 use Rattle.sat_hints.specs.Lines.{Line, Input, Derived, Gone, Core, Fresh, AreLiteralCodes, AreVariables, AreLines}
 use Rattle.sat_hints.specs.Hints.{and_clauses, clause_under, clauses_under, least_id, IsHintDerivation}
-use Rattle.sat_hints.specs.Conversion.{line_told, with_line, lines_told, lines_of}
+use Rattle.sat_hints.specs.Conversion.{announced_line, with_line, announced_lines, lines_of}
 use Rattle.sat_hints.specs.Limits.{FitsStep}
-use Rattle.sat_hints.proofs.lemmas.Mirrored.{lines_by, told_lines, lines-append, under_below}
+use Rattle.sat_hints.proofs.lemmas.Mirrored.{lines_by, reported_lines, lines-append, under_below}
 
 -- LITERALS
 abbrev FitsLine : Line → Type 0
@@ -32,81 +32,81 @@ abbrev FitsIf : Option Line → Type 0
 FitsIf None = Unit {0}
 FitsIf (Some line) = FitsLine line
 
-abbrev FitTold : List Announcement → Type 0
-FitTold = AllByRecursion (λ a. FitsIf (line_told a))
+abbrev FitReported : List Announcement → Type 0
+FitReported = AllByRecursion (λ a. FitsIf (announced_line a))
 
 with_fits : (o : Option Line) (lines : List Line) → FitsIf o → AllByRecursion FitsLine lines → AllByRecursion FitsLine (with_line o lines)
 with_fits None lines h k = k
 with_fits (Some line) lines h k = (h, k)
 
-by_fits : (xs : List Announcement) (lines : List Line) → FitTold xs → AllByRecursion FitsLine lines → AllByRecursion FitsLine (lines_by xs lines)
+by_fits : (xs : List Announcement) (lines : List Line) → FitReported xs → AllByRecursion FitsLine lines → AllByRecursion FitsLine (lines_by xs lines)
 by_fits [] lines h k = k
-by_fits (a ∷ xs) lines h k = by_fits xs (with_line (line_told a) lines) h.1 (with_fits (line_told a) lines h.0 k)
+by_fits (a ∷ xs) lines h k = by_fits xs (with_line (announced_line a) lines) h.1 (with_fits (announced_line a) lines h.0 k)
 
-both_fit : (xs ys : List Announcement) → FitTold xs → FitTold ys → FitTold (xs ++ ys)
+both_fit : (xs ys : List Announcement) → FitReported xs → FitReported ys → FitReported (xs ++ ys)
 both_fit [] ys h k = k
 both_fit (x ∷ xs) ys h k = (h.0, both_fit xs ys h.1 k)
 
 set_fits : (clause : List ℕ) → AreLiteralCodes clause → AreLiteralCodes (canonical clause)
 set_fits clause h = canonical_each (λ l. l < 2 * var_limit) clause h
 
-derived_fit : (r : Bool) (c hs : List ℕ) (f : Stored) → AreLiteralCodes c → FitTold (derived r c hs f)
+derived_fit : (r : Bool) (c hs : List ℕ) (f : Stored) → AreLiteralCodes c → FitReported (derived r c hs f)
 derived_fit r c hs f h = go (is_tautology c) (id_of_set (canonical c) f)
   where
-    more : (b : Bool) (id : ℕ) → FitTold (cond b (told.MakeIrredundant id (canonical c) ∷ []) [])
+    more : (b : Bool) (id : ℕ) → FitReported (cond b (told.MakeIrredundant id (canonical c) ∷ []) [])
     more true id = (tt, tt)
     more false id = tt
 
-    go : (b : Bool) (x : Option ℕ) → FitTold (cond b [] (derived_set r (canonical c) (propagations f c hs) f x))
+    go : (b : Bool) (x : Option ℕ) → FitReported (cond b [] (derived_set r (canonical c) (propagations f c hs) f x))
     go true x = tt
     go false None = (set_fits c h, tt)
     go false (Some id) = more (not r && redundant_alone (clause_with (canonical c) f.clauses)) id
 
-units_fit : (us : List (ℕ × ℕ)) (f : Stored) → AllByRecursion (λ u. u.0 < 2 * var_limit) us → FitTold (derived_units us f)
+units_fit : (us : List (ℕ × ℕ)) (f : Stored) → AllByRecursion (λ u. u.0 < 2 * var_limit) us → FitReported (derived_units us f)
 units_fit [] f h = tt
 units_fit (u ∷ us) f h = both_fit (derived false (u.0 ∷ []) (u.1 ∷ []) f) (derived_units us (with_unit u.0 f)) (derived_fit false (u.0 ∷ []) (u.1 ∷ []) f (h.0, tt)) (units_fit us (with_unit u.0 f) h.1)
 
-input_fit : (c : List ℕ) (f : Stored) → AreLiteralCodes c → FitTold (input c f)
+input_fit : (c : List ℕ) (f : Stored) → AreLiteralCodes c → FitReported (input c f)
 input_fit c f h = go (is_tautology c) (id_of_set (canonical c) f)
   where
-    go : (b : Bool) (x : Option ℕ) → FitTold (cond b (told.TautologicalClause f.next_id (canonical c) ∷ []) (input_set f.next_id (canonical c) x))
+    go : (b : Bool) (x : Option ℕ) → FitReported (cond b (told.TautologicalClause f.next_id (canonical c) ∷ []) (input_set f.next_id (canonical c) x))
     go true x = (tt, tt)
     go false None = (set_fits c h, tt)
     go false (Some id) = (tt, tt)
 
-redundant_fit : (x : Option StoredClause) → FitTold (redundant_deleted x)
+redundant_fit : (x : Option StoredClause) → FitReported (redundant_deleted x)
 redundant_fit None = tt
 redundant_fit (Some s) = go (eqb s.irredundant 0 && eqb s.redundant 1)
   where
-    go : (b : Bool) → FitTold (cond b (told.DeleteClause s.id s.literals ∷ []) [])
+    go : (b : Bool) → FitReported (cond b (told.DeleteClause s.id s.literals ∷ []) [])
     go true = (tt, tt)
     go false = tt
 
-irredundant_fit : (ids : List ℕ) (x : Option StoredClause) → FitTold (irredundant_deleted ids x)
+irredundant_fit : (ids : List ℕ) (x : Option StoredClause) → FitReported (irredundant_deleted ids x)
 irredundant_fit ids None = tt
 irredundant_fit ids (Some s) = go (eqb s.irredundant 1) (Rattle.std.specs.Prelude.nat_lt 0 s.redundant)
   where
-    go : (b k : Bool) → FitTold (cond b (told.DeleteAtClause s.id k s.literals ids ∷ []) [])
+    go : (b k : Bool) → FitReported (cond b (told.DeleteAtClause s.id k s.literals ids ∷ []) [])
     go true true = (tt, tt)
     go true false = (tt, tt)
     go false k = tt
 
-mode_fit : (v : ℕ) (sampling : Bool) (mode : Mode) (name : Option ℕ) → FitTold (mode_change v sampling mode name)
+mode_fit : (v : ℕ) (sampling : Bool) (mode : Mode) (name : Option ℕ) → FitReported (mode_change v sampling mode name)
 mode_fit v sampling mode None = tt
-mode_fit v sampling mode (Some name) = go (cond sampling (is_sample mode) (is_witness mode))
+mode_fit v sampling mode (Some name) = go (cond sampling (is_sample mode) (has_witness_mode mode))
   where
-    go : (b : Bool) → FitTold (cond b [] (told.UserVar v (Some (record { name = name; sampling = sampling; is_new = false })) ∷ []))
+    go : (b : Bool) → FitReported (cond b [] (told.UserVar v (Some (record { name = name; sampling = sampling; is_new = false })) ∷ []))
     go true = tt
     go false = (tt, tt)
 
-step_fits : (step : Step) (f : Stored) → FitsStep step → FitTold (announced f step)
+step_fits : (step : Step) (f : Stored) → FitsStep step → FitReported (announced f step)
 step_fits (UserVarName v (Some name)) f h = (tt, tt)
 step_fits (UserVarName v None) f h = (tt, tt)
 step_fits (DeleteVar v) f h = ((h, tt), tt)
 step_fits (ChangeSamplingMode v sampling) f h = mode_fit v sampling (f.variables v).mode (f.variables v).name
 step_fits (AddClause c) f h = go f.unsat
   where
-    go : (b : Bool) → FitTold (cond b [] (input c f))
+    go : (b : Bool) → FitReported (cond b [] (input c f))
     go true = tt
     go false = input_fit c f h
 step_fits (AtClause r c hs) f h = derived_fit r c hs f h
@@ -119,25 +119,25 @@ step_fits (Assumptions ls) f h = (tt, tt)
 step_fits (FailedAssumptions core hs) f h = (set_fits core h, tt)
 step_fits step f h = tt
 
-delayed_fit : (f : Stored) → FitTold (delayed f)
+delayed_fit : (f : Stored) → FitReported (delayed f)
 delayed_fit f = go f.conflict
   where
-    go : (x : Option (ℕ × ℕ)) → FitTold (delayed_by f.next_id x)
+    go : (x : Option (ℕ × ℕ)) → FitReported (delayed_by f.next_id x)
     go None = tt
     go (Some units) = (tt, tt)
 
-told_fit : (steps : List Step) → AllByRecursion FitsStep steps → AllByRecursion FitsLine (lines_told (told_after steps) [])
-told_fit [] h = tt
-told_fit (step ∷ earlier) h =
-    subst (AllByRecursion FitsLine) (sym (lines-append (all_told_after earlier) (told_over (ready_after earlier) (announced (ready_after earlier) step)) [] ∙ told_lines (ready_after earlier) (announced (ready_after earlier) step) (lines_of earlier)))
+reported_fit : (steps : List Step) → AllByRecursion FitsStep steps → AllByRecursion FitsLine (announced_lines (notices_after steps) [])
+reported_fit [] h = tt
+reported_fit (step ∷ earlier) h =
+    subst (AllByRecursion FitsLine) (sym (lines-append (all_notices_after earlier) (notices_over (ready_after earlier) (announced (ready_after earlier) step)) [] ∙ reported_lines (ready_after earlier) (announced (ready_after earlier) step) (lines_of earlier)))
     (by_fits (announced (ready_after earlier) step) (lines_of earlier) (step_fits step (ready_after earlier) h.0)
-    (subst (AllByRecursion FitsLine) (sym (lines-append (told_after earlier) (told_over (stored_after earlier) (delayed (stored_after earlier))) [] ∙ told_lines (stored_after earlier) (delayed (stored_after earlier)) (lines_told (told_after earlier) [])))
-    (by_fits (delayed (stored_after earlier)) (lines_told (told_after earlier) []) (delayed_fit (stored_after earlier)) (told_fit earlier h.1))))
+    (subst (AllByRecursion FitsLine) (sym (lines-append (notices_after earlier) (notices_over (stored_after earlier) (delayed (stored_after earlier))) [] ∙ reported_lines (stored_after earlier) (delayed (stored_after earlier)) (announced_lines (notices_after earlier) [])))
+    (by_fits (delayed (stored_after earlier)) (announced_lines (notices_after earlier) []) (delayed_fit (stored_after earlier)) (reported_fit earlier h.1))))
 
 lines_fit : (steps : List Step) → AllByRecursion FitsStep steps → AllByRecursion FitsLine (lines_of steps)
 lines_fit steps h =
-    subst (AllByRecursion FitsLine) (sym (lines-append (told_after steps) (told_over (stored_after steps) (delayed (stored_after steps))) [] ∙ told_lines (stored_after steps) (delayed (stored_after steps)) (lines_told (told_after steps) [])))
-    (by_fits (delayed (stored_after steps)) (lines_told (told_after steps) []) (delayed_fit (stored_after steps)) (told_fit steps h))
+    subst (AllByRecursion FitsLine) (sym (lines-append (notices_after steps) (notices_over (stored_after steps) (delayed (stored_after steps))) [] ∙ reported_lines (stored_after steps) (delayed (stored_after steps)) (announced_lines (notices_after steps) [])))
+    (by_fits (delayed (stored_after steps)) (announced_lines (notices_after steps) []) (delayed_fit (stored_after steps)) (reported_fit steps h))
 
 -- IDS
 -- those that are named are present

@@ -7,8 +7,8 @@ use Rattle.std.specs.List.{AllByRecursion}
 use Rattle.std.specs.Str.Parse.{AllDigits}
 use Rattle.sat_base.specs.values.Literals.{variable, is_positive}
 use Rattle.sat_base.specs.dimacs.DimacsText.{number_text}
-use Rattle.sat_hints.specs.Lines.{words, id_text}
-use Rattle.sat_hints.specs.inner.LineReading.{IsId, IsVariableIndex, IsLiteralCode, IsNumberUpTo, EndsNone, NoWord, BeginsWithWord, BeginsWithWords, digits_so_far}
+use Rattle.sat_hints.specs.Lines.{spaced_words, id_text}
+use Rattle.sat_hints.specs.inner.LineReading.{IsId, IsVariableIndex, IsLiteralCode, IsNumberUpTo, EndsNone, NoWord, BeginsWithWord, BeginsWithWords, number_digits_so_far}
 use Rattle.sat_hints.proofs.lemmas.Digits.{Plain, plain_number, plain_so_far, are_digits, so_far, no_digit, number_goes_on}
 
 -- words that a space ends, each of one value, and none that begins with `0`
@@ -37,13 +37,13 @@ pub record SameWords (xs ys r s : List ℕ) : Type 0 where
 
 module _ (word : ℕ → List ℕ) (P : ℕ → Type 0) (w : AreWords word P) where
   -- as many words as there are can be read in one way
-  pub same_words : (xs ys r s : List ℕ) → AllByRecursion P xs → AllByRecursion P ys → NoWord word P r → NoWord word P s → words word xs ++ r ≡ words word ys ++ s → SameWords xs ys r s
+  pub same_words : (xs ys r s : List ℕ) → AllByRecursion P xs → AllByRecursion P ys → NoWord word P r → NoWord word P s → spaced_words word xs ++ r ≡ spaced_words word ys ++ s → SameWords xs ys r s
   same_words [] [] r s p q m n e = record { items = refl; rests = e }
-  same_words [] (y ∷ ys) r s p q m n e = absurd (m y (words word ys ++ s) q.0 (e ∙ append_assoc (word y) (32 ∷ words word ys) s))
-  same_words (x ∷ xs) [] r s p q m n e = absurd (n x (words word xs ++ r) p.0 (sym e ∙ append_assoc (word x) (32 ∷ words word xs) r))
+  same_words [] (y ∷ ys) r s p q m n e = absurd (m y (spaced_words word ys ++ s) q.0 (e ∙ append_assoc (word y) (32 ∷ spaced_words word ys) s))
+  same_words (x ∷ xs) [] r s p q m n e = absurd (n x (spaced_words word xs ++ r) p.0 (sym e ∙ append_assoc (word x) (32 ∷ spaced_words word xs) r))
   same_words (x ∷ xs) (y ∷ ys) r s p q m n e =
-      let f : word x ++ (32 ∷ (words word xs ++ r)) ≡ word y ++ (32 ∷ (words word ys ++ s)) = sym (append_assoc (word x) (32 ∷ words word xs) r) ∙ e ∙ append_assoc (word y) (32 ∷ words word ys) s in
-      let g = at_space (word x) (word y) (words word xs ++ r) (words word ys ++ s) (w.plain x p.0) (w.plain y q.0) f in
+      let f : word x ++ (32 ∷ (spaced_words word xs ++ r)) ≡ word y ++ (32 ∷ (spaced_words word ys ++ s)) = sym (append_assoc (word x) (32 ∷ spaced_words word xs) r) ∙ e ∙ append_assoc (word y) (32 ∷ spaced_words word ys) s in
+      let g = at_space (word x) (word y) (spaced_words word xs ++ r) (spaced_words word ys ++ s) (w.plain x p.0) (w.plain y q.0) f in
       let h = same_words xs ys r s p.1 q.1 m n g.1 in
       record { items = pair x y xs ys (w.one x y p.0 q.0 g.0) h.items; rests = h.rests }
     where
@@ -51,7 +51,7 @@ module _ (word : ℕ → List ℕ) (P : ℕ → Type 0) (w : AreWords word P) wh
       pair x y xs ys h t = cc
 
   -- a list that `0` ends is the one that was read
-  pub ended_words : (bytes xs rest : List ℕ) → BeginsWithWords word P bytes xs rest → (ys tail : List ℕ) → AllByRecursion P ys → bytes ≡ words word ys ++ (48 ∷ tail) → SameWords xs ys rest (48 ∷ tail)
+  pub ended_words : (bytes xs rest : List ℕ) → BeginsWithWords word P bytes xs rest → (ys tail : List ℕ) → AllByRecursion P ys → bytes ≡ spaced_words word ys ++ (48 ∷ tail) → SameWords xs ys rest (48 ∷ tail)
   ended_words bytes xs rest r ys tail q e = same_words xs ys rest (48 ∷ tail) r.are q r.no_more (λ x t p f. w.no_zero x tail t p f) (sym r.whole ∙ e)
 
   -- one word is read in one way
@@ -59,10 +59,10 @@ module _ (word : ℕ → List ℕ) (P : ℕ → Type 0) (w : AreWords word P) wh
   same_word bytes x y r s b q e = let g = at_space (word x) (word y) r s (w.plain x b.0) (w.plain y q) (sym b.1 ∙ e) in (w.one x y b.0 q g.0, g.1)
 
 module _ (word : ℕ → List ℕ) (P : ℕ → Type 0) where
-  pub words-snoc : (xs : List ℕ) (x : ℕ) (rest : List ℕ) → words word (xs ++ (x ∷ [])) ++ rest ≡ words word xs ++ (word x ++ (32 ∷ rest))
+  pub words-snoc : (xs : List ℕ) (x : ℕ) (rest : List ℕ) → spaced_words word (xs ++ (x ∷ [])) ++ rest ≡ spaced_words word xs ++ (word x ++ (32 ∷ rest))
   words-snoc [] x rest = append_assoc (word x) (32 ∷ []) rest
   words-snoc (y ∷ ys) x rest =
-      append_assoc (word y) (32 ∷ words word (ys ++ (x ∷ []))) rest ∙ ap (λ t. word y ++ (32 ∷ t)) (words-snoc ys x rest) ∙ sym (append_assoc (word y) (32 ∷ words word ys) (word x ++ (32 ∷ rest)))
+      append_assoc (word y) (32 ∷ spaced_words word (ys ++ (x ∷ []))) rest ∙ ap (λ t. word y ++ (32 ∷ t)) (words-snoc ys x rest) ∙ sym (append_assoc (word y) (32 ∷ spaced_words word ys) (word x ++ (32 ∷ rest)))
 
   all-snoc : (xs : List ℕ) (x : ℕ) → AllByRecursion P xs → P x → AllByRecursion P (xs ++ (x ∷ []))
   all-snoc [] x p q = (q, tt)
@@ -71,12 +71,12 @@ module _ (word : ℕ → List ℕ) (P : ℕ → Type 0) where
   -- so far
   pub record ReadSoFar (bytes xs rest : List ℕ) : Type 0 where
     pub are : AllByRecursion P xs
-    pub whole : bytes ≡ words word xs ++ rest
+    pub whole : bytes ≡ spaced_words word xs ++ rest
 
   pub read_one : (bytes xs rest : List ℕ) (x : ℕ) (behind ys : List ℕ) → ReadSoFar bytes xs rest → BeginsWithWord word P rest x behind → ys ≡ xs ++ (x ∷ []) → ReadSoFar bytes ys behind
   read_one bytes xs rest x behind ys r b e = rw e (record {
     are = all-snoc xs x r.are b.0;
-    whole = r.whole ∙ ap (λ t. words word xs ++ t) b.1 ∙ sym (words-snoc xs x behind);
+    whole = r.whole ∙ ap (λ t. spaced_words word xs ++ t) b.1 ∙ sym (words-snoc xs x behind);
   })
 
 -- IDs
@@ -99,7 +99,7 @@ no_number_zero limit fits (b ∷ bytes) h e n tail k f =
     id_first (decimal n) bytes tail (decimal_nonempty n (omega arith)) (first_decimal n k.0 (omega arith)) g
 
 -- nor are digits where something else comes, unless it ends a number within the limit
-pub no_number_stop : (limit : ℕ) → limit < 2 ^ 64 → (number b : ℕ) (bytes x : List ℕ) → number < 2 ^ 64 → ((48 ≤ b) × (b ≤ 57) → ⊥) → EndsNone number b limit → bytes ≡ digits_so_far number ++ (b ∷ x) → NoWord decimal (IsNumberUpTo limit) bytes
+pub no_number_stop : (limit : ℕ) → limit < 2 ^ 64 → (number b : ℕ) (bytes x : List ℕ) → number < 2 ^ 64 → ((48 ≤ b) × (b ≤ 57) → ⊥) → EndsNone number b limit → bytes ≡ number_digits_so_far number ++ (b ∷ x) → NoWord decimal (IsNumberUpTo limit) bytes
 no_number_stop limit fits number b bytes x small other space e n tail k f = go (eqb b 32) refl
   where
     from : (b ≡ 32 → number ≡ 0) → ⊥
@@ -107,9 +107,9 @@ no_number_stop limit fits number b bytes x small other space e n tail k f = go (
 
     over : b ≡ 32 → limit < number → ⊥
     over s past =
-        let g : digits_so_far number ++ (32 ∷ x) ≡ decimal n ++ (32 ∷ tail) = ap (λ c. digits_so_far number ++ (c ∷ x)) (sym s) ∙ sym e ∙ f in
+        let g : number_digits_so_far number ++ (32 ∷ x) ≡ decimal n ++ (32 ∷ tail) = ap (λ c. number_digits_so_far number ++ (c ∷ x)) (sym s) ∙ sym e ∙ f in
         let fit : n < 2 ^ 64 = omega arith in
-        let same : digits_so_far number ≡ decimal n = (at_space (digits_so_far number) (decimal n) x tail (plain_so_far number small) (plain_number n fit) g).0 in
+        let same : number_digits_so_far number ≡ decimal n = (at_space (number_digits_so_far number) (decimal n) x tail (plain_so_far number small) (plain_number n fit) g).0 in
         let r : number ≡ n = decimal_injective number n small fit (sym (so_far number (omega arith)) ∙ same) in
         let l : n ≤ limit = k.1 in
         omega arith

@@ -6,12 +6,12 @@ use Rattle.sat_base.specs.device.Device.{Reader, Writer}
 use Rattle.sat_base.specs.steps.Steps.{Step, End}
 use Rattle.sat_base.specs.steps.StepText.{SpellsSteps}
 use Rattle.sat_checker.specs.Accepts.{AcceptsAll, ready_after}
-use Rattle.sat_checker.specs.CheckerView.{Seen, has_failed, FailsBeforeStep, BreaksAt}
+use Rattle.sat_checker.specs.CheckerView.{CheckerView, has_failed, FailsBeforeStep, BreaksAt}
 use Rattle.sat_checker.specs.ProofView.{ReadsProofPart, most_bytes, taken_after, AnswersProof}
-use Rattle.sat_checker.specs.announcements.Announcements.{Told}
+use Rattle.sat_checker.specs.announcements.Announcements.{Notice}
 use Rattle.sat_checker.specs.announcements.Transcripts.{Transcribed}
-use Rattle.sat_checker.specs.telling.Hearing.{Hearers, HearsFirst}
-use Rattle.sat_checker.specs.telling.ProcessingView.{listeners_of, HearsEach}
+use Rattle.sat_checker.specs.listeners.Hearing.{Hearers, HearsFirst}
+use Rattle.sat_checker.specs.listeners.ProcessingView.{listeners_of, HearsEach}
 use Rattle.sat_checker.specs.declared.error.CheckerError.{CheckerError}
 use Rattle.sat_checker.specs.declared.error.CheckerError.TheVariants as errors
 use Rattle.sat_checker.specs.declared.processing.Processing.{Processing}
@@ -20,13 +20,13 @@ use Rattle.sat_checker.specs.declared.processing.ProcessingError.TheVariants as 
 use Rattle.sat_checker.proofs.lemmas.checker.Proofs.{taken_one}
 use Rattle.sat_checker.proofs.lemmas.invariants.FewBytes.{ids_within_bytes, none_is_spent}
 use Rattle.sat_hints.specs.Conversion.{hint_text}
-use Rattle.sat_hints.specs.Converts.{Gave, IsAccepted}
+use Rattle.sat_hints.specs.Converts.{GaveAcceptedSteps, IsAccepted}
 use Rattle.sat_hints.specs.declared.line_writer.LineWriter.{LineWriter}
 use Rattle.sat_hints.specs.inner.LineWriting.{outlet}
 use Rattle.sat_hints.specs.inner.LinesWritten.{hint_of, BrokenBehind, SentAll, SentFront, WritesLines}
-use Rattle.sat_hints.specs.inner.Telling.{TakesTold}
+use Rattle.sat_hints.specs.inner.AnnouncedLines.{PutsAnnouncedLine}
 use Rattle.sat_hints.proofs.lemmas.AreProved.{read_proved}
-use Rattle.sat_hints.proofs.lemmas.Heard.{since_sent, since_broken, front_all, front_told, front_by, all_by, broken_all, broken_told}
+use Rattle.sat_hints.proofs.lemmas.Heard.{since_sent, since_broken, front_all, front_reported, front_by, all_by, broken_all, broken_reported}
 
 -- FEW BYTES
 within : (text rest : List ℕ) → length (text ++ rest) ≤ most_bytes → length text ≤ most_bytes
@@ -39,20 +39,20 @@ ids_few passed text rest s h =
     let e : most_bytes < 2 ^ 64 = omega arith in
     omega arith
 
-module _ {W P T : Type 0} (seen : W → Writer) (Takes : P → Told → Result Unit Error → P → Type 0) (Reads : T → Transcribed → Result Unit Error → T → Type 0)
+module _ {W P T : Type 0} (seen : W → Writer) (Takes : P → Notice → Result Unit Error → P → Type 0) (Reads : T → Transcribed → Result Unit Error → T → Type 0)
     (begun : Hearers (LineWriter W) (Processing P T)) (well : begun.own.failed ≡ false) (none : listeners_of begun.others ≡ record { processors = []; transcripts = [] }) where
-  abbrev Hears : Hearers (LineWriter W) (Processing P T) → Told → Result Unit ProcessingError → Hearers (LineWriter W) (Processing P T) → Type 0
-  Hears = HearsFirst (TakesTold seen) (HearsEach Takes Reads)
+  abbrev Hears : Hearers (LineWriter W) (Processing P T) → Notice → Result Unit ProcessingError → Hearers (LineWriter W) (Processing P T) → Type 0
+  Hears = HearsFirst (PutsAnnouncedLine seen) (HearsEach Takes Reads)
 
   abbrev Checker : Type 0
-  Checker = Seen (Hearers (LineWriter W) (Processing P T))
+  Checker = CheckerView (Hearers (LineWriter W) (Processing P T))
 
-  gave_of : {old new : Checker} {from to : Reader} {passed last : List Step} {rest : List ℕ} → ReadsProofPart old new from to [] passed last rest → AcceptsAll (taken_after passed []) → Gave from to passed last rest
+  gave_of : {old new : Checker} {from to : Reader} {passed last : List Step} {rest : List ℕ} → ReadsProofPart old new from to [] passed last rest → AcceptsAll (taken_after passed []) → GaveAcceptedSteps from to passed last rest
   gave_of w a = record { steps = w.steps; unended = w.unended; accepted = a }
 
   stopped : (new : Checker) (steps : List Step) → FailsBeforeStep Hears [] begun new steps → SentFront (outlet seen begun.own) (outlet seen new.listeners.own) (hint_text steps)
   stopped new steps s = elim s.heard [
-    | inl h ↦ front_told (outlet seen begun.own) (outlet seen new.listeners.own) steps (since_sent seen Takes Reads _ begun new.listeners well h)
+    | inl h ↦ front_reported (outlet seen begun.own) (outlet seen new.listeners.own) steps (since_sent seen Takes Reads _ begun new.listeners well h)
     | inr h ↦ front_all (outlet seen begun.own) (outlet seen new.listeners.own) steps (since_sent seen Takes Reads _ begun new.listeners well h)
   ]
 
@@ -66,7 +66,7 @@ module _ {W P T : Type 0} (seen : W → Writer) (Takes : P → Told → Result U
         (k.0, k.1, h.1.fails.stands.kernel.accepted, inl (broken_all (outlet seen begun.own).sink (outlet seen new.listeners.own).sink steps k.2))
     | inr h ↦
         let k = since_broken seen Takes Reads f _ begun new.listeners well none h.1.heard in
-        (k.0, k.1, h.1.fails.stands.kernel.accepted.0, inr (h.0, broken_told (outlet seen begun.own).sink (outlet seen new.listeners.own).sink (step ∷ steps) k.2))
+        (k.0, k.1, h.1.fails.stands.kernel.accepted.0, inr (h.0, broken_reported (outlet seen begun.own).sink (outlet seen new.listeners.own).sink (step ∷ steps) k.2))
   ]
 
   no_memory : {A : Type 0} (new : Checker) (step : Step) (steps : List Step) → BrokenBy faults.OutOfMemory new step steps → A

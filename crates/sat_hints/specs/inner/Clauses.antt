@@ -7,19 +7,19 @@ use Rattle.sat_hints.specs.Hints.{is_long}
 use Rattle.sat_hints.specs.declared.present.Present.{Present}
 
 -- the clause under an id in lists of ids, of clauses and of whether these are removed
-abbrev pub listed : ℕ → List ℕ → List (List ℕ) → List Bool → Option (List ℕ)
-listed id [] cs gs = None
-listed id (i ∷ is) [] gs = None
-listed id (i ∷ is) (c ∷ cs) [] = None
-listed id (i ∷ is) (c ∷ cs) (g ∷ gs) = if id == i then (if g then None else Some c) else listed id is cs gs
+abbrev pub listed_clause : ℕ → List ℕ → List (List ℕ) → List Bool → Option (List ℕ)
+listed_clause id [] cs gs = None
+listed_clause id (i ∷ is) [] gs = None
+listed_clause id (i ∷ is) (c ∷ cs) [] = None
+listed_clause id (i ∷ is) (c ∷ cs) (g ∷ gs) = if id == i then (if g then None else Some c) else listed_clause id is cs gs
 
 -- the clause that is kept under an id, none if it is removed
 abbrev pub clause_in : Present → ℕ → Option (List ℕ)
-clause_in p id = listed id p.ids.items p.clauses p.gone.items
+clause_in p id = listed_clause id p.ids.items p.clauses p.gone.items
 
 -- the clause at a place
-abbrev pub clause_at : Present → ℕ → List ℕ
-clause_at p place = slice_index_or p.clauses place []
+abbrev pub present_clause_at : Present → ℕ → List ℕ
+present_clause_at p place = slice_index_or p.clauses place []
 
 -- how often a literal is in a clause of two or more
 abbrev pub times_long : ℕ → List ℕ → ℕ
@@ -47,10 +47,10 @@ pub record IsStore (p : Present) : Type 0 where
   pub sets : AllByRecursion IsIncreasing p.clauses
 
 -- it is at this place
-pub record FindsOne (p : Present) (id place : ℕ) : Type 0 where
+pub record FindsPresentClause (p : Present) (id place : ℕ) : Type 0 where
   pub within : place < length p.clauses
   pub named : slice_index p.ids.items place ≡ id
-  pub clause : clause_in p id ≡ Some (clause_at p place)
+  pub clause : clause_in p id ≡ Some (present_clause_at p place)
 
 -- one more clause, with an id above all others
 pub record AddsPresentClause (old new : Present) (id : ℕ) (clause : List ℕ) : Type 0 where

@@ -6,22 +6,22 @@ use Rattle.sat_hints.specs.declared.answer.HintWhy.{HintWhy}
 use Rattle.sat_hints.specs.declared.answer.HintWhy.TheVariants.{NotUnit, NotFalsified}
 
 -- the last clause has to be falsified
-abbrev pub at_last : Verdict → Option HintWhy
-at_last falsified = None
-at_last (opens l) = Some NotFalsified
-at_last rests = Some NotFalsified
+abbrev pub falsified_failure : Verdict → Option HintWhy
+falsified_failure falsified = None
+falsified_failure (opens l) = Some NotFalsified
+falsified_failure rests = Some NotFalsified
 
 -- one before it has to be unit
-abbrev pub at_turn : Verdict → (ℕ → Option HintWhy) → Option HintWhy
-at_turn falsified more = Some NotUnit
-at_turn (opens l) more = more l
-at_turn rests more = Some NotUnit
+abbrev pub unit_failure : Verdict → (ℕ → Option HintWhy) → Option HintWhy
+unit_failure falsified more = Some NotUnit
+unit_failure (opens l) more = more l
+unit_failure rests more = Some NotUnit
 
 -- why clauses do not run into a conflict, if they do not
-abbrev pub course : List ℕ → List (List ℕ) → Option HintWhy
-course assumed [] = Some NotFalsified
-course assumed (c ∷ []) = at_last (verdict assumed c)
-course assumed (c ∷ d ∷ cs) = at_turn (verdict assumed c) (λ l. course (l ∷ assumed) (d ∷ cs))
+abbrev pub refutation_failure : List ℕ → List (List ℕ) → Option HintWhy
+refutation_failure assumed [] = Some NotFalsified
+refutation_failure assumed (c ∷ []) = falsified_failure (verdict assumed c)
+refutation_failure assumed (c ∷ d ∷ cs) = unit_failure (verdict assumed c) (λ l. refutation_failure (l ∷ assumed) (d ∷ cs))
 
 -- just these are assumed
 abbrev pub AreJustAssumed : List ℕ → List ℕ → Type 0
@@ -30,4 +30,4 @@ AreJustAssumed ls assumed = (l : ℕ) → is_among assumed l ≡ is_among ls l
 -- why literals, or their negations, and clauses do not run into a conflict, if they do not
 abbrev pub WhyNoConflict : List ℕ → List (List ℕ) → Option HintWhy → Type 0
 WhyNoConflict assumed clauses why =
-    ((is_tautology assumed ≡ true) × (why ≡ None)) ⊎ ((is_tautology assumed ≡ false) × (why ≡ course assumed clauses))
+    ((is_tautology assumed ≡ true) × (why ≡ None)) ⊎ ((is_tautology assumed ≡ false) × (why ≡ refutation_failure assumed clauses))

@@ -2,13 +2,13 @@
 use Rattle.std.specs.Prelude.{ℕ, ◌≡◌, ◌⊎◌, ◌+◌, Option, None, Some, List, [], ◌∷◌, length}
 use Rattle.sat_base.specs.text.Tokenizing.{held}
 use Rattle.sat_checker.specs.LiteralSets.{canonical}
-use Rattle.sat_checker.specs.inner.Room.{RoomStays}
+use Rattle.sat_checker.specs.inner.AssumedRoom.{RoomStays}
 use Rattle.sat_hints.specs.Lines.{Line}
 use Rattle.sat_hints.specs.Hints.{clause_under, least_id, derives_empty, count_of_cores, FollowsLines}
 use Rattle.sat_hints.specs.Checks.{IsFaultOf}
 use Rattle.sat_hints.specs.inner.Clauses.{AllBelow}
-use Rattle.sat_hints.specs.inner.Standing.{clause_of, clauses_of, AddsStandingClause, HasRoomForPresent, StandingInvariant, SinceWithin}
-use Rattle.sat_hints.specs.inner.Course.{course, WhyNoConflict}
+use Rattle.sat_hints.specs.inner.Standing.{standing_clause, standing_clauses, AddsStandingClause, HasRoomForPresent, StandingInvariant, SinceWithin}
+use Rattle.sat_hints.specs.inner.Course.{refutation_failure, WhyNoConflict}
 use Rattle.sat_hints.specs.declared.answer.HintWhy.{HintWhy}
 use Rattle.sat_hints.specs.declared.answer.HintWhy.TheVariants.{UnknownId}
 use Rattle.sat_hints.specs.declared.standing.Standing.{Standing}
@@ -24,7 +24,7 @@ pub record IsReadyJudge (j : Judge) : Type 0 where
 
 -- it has taken these lines
 pub record HasTakenLines (j : Judge) (lines : List Line) : Type 0 where
-  pub clauses : (id : ℕ) → clause_of j.standing id ≡ clause_under id lines
+  pub clauses : (id : ℕ) → standing_clause j.standing id ≡ clause_under id lines
   pub least : j.least_id ≡ least_id lines
   pub says_empty : j.empty ≡ derives_empty lines
   pub counts_cores : j.cores ≡ held (count_of_cores lines)
@@ -43,12 +43,12 @@ pub record IsSame (old new : Judge) : Type 0 where
 -- why assumed literals and the clauses under these ids do not run into a conflict, if they do not
 abbrev pub WhyNotRefuted : Standing → List ℕ → List ℕ → Option HintWhy → Type 0
 WhyNotRefuted s assumed ids why =
-    ((clauses_of s ids ≡ None) × (why ≡ Some UnknownId)) ⊎ ((clauses : List (List ℕ)) × (clauses_of s ids ≡ Some clauses) × WhyNoConflict assumed clauses why)
+    ((standing_clauses s ids ≡ None) × (why ≡ Some UnknownId)) ⊎ ((clauses : List (List ℕ)) × (standing_clauses s ids ≡ Some clauses) × WhyNoConflict assumed clauses why)
 
 -- why the clauses that were looked up do not run into a conflict under assumed literals, if they do not
-abbrev pub course_of : List ℕ → Option (List (List ℕ)) → Option HintWhy
-course_of assumed None = Some UnknownId
-course_of assumed (Some clauses) = course assumed clauses
+abbrev pub refutation_failure_of : List ℕ → Option (List (List ℕ)) → Option HintWhy
+refutation_failure_of assumed None = Some UnknownId
+refutation_failure_of assumed (Some clauses) = refutation_failure assumed clauses
 
 -- a clause is stored under an id
 pub record StoresClause (old new : Judge) (id : ℕ) (clause : List ℕ) : Type 0 where
@@ -67,7 +67,7 @@ MayFollow old line = (lines : List Line) → HasTakenLines old lines → Follows
 -- the line was taken, but not numbered
 pub record HasTakenOne (old new : Judge) (lines : List Line) (line : Line) : Type 0 where
   pub follows : FollowsLines lines line
-  pub clauses : (id : ℕ) → clause_of new.standing id ≡ clause_under id (line ∷ lines)
+  pub clauses : (id : ℕ) → standing_clause new.standing id ≡ clause_under id (line ∷ lines)
   pub least : new.least_id ≡ least_id (line ∷ lines)
   pub says_empty : new.empty ≡ derives_empty (line ∷ lines)
   pub counts_cores : new.cores ≡ held (count_of_cores (line ∷ lines))

@@ -2,7 +2,7 @@
 use Rattle.std.specs.Prelude.{ℕ, zero, suc, ◌*◌, ◌-◌, ◌^◌, ◌<◌, ◌≤◌, ◌≡◌, ◌⊎◌, List, [], ◌∷◌, ◌++◌, decimal, codes}
 use Rattle.std.specs.List.{AllByRecursion}
 use Rattle.sat_base.specs.values.Literals.{var_limit}
-use Rattle.sat_hints.specs.Lines.{Line, Input, Derived, Gone, Core, Fresh, IsLine, AreIds, AreLiteralCodes, words, id_words, literal_words, line_text}
+use Rattle.sat_hints.specs.Lines.{Line, Input, Derived, Gone, Core, Fresh, IsLine, AreIds, AreLiteralCodes, spaced_words, id_words, literal_words, line_text}
 use Rattle.sat_hints.specs.declared.line.HintLine.{HintLine}
 use Rattle.sat_hints.specs.declared.line.HintLine.TheVariants as code
 use Rattle.sat_hints.specs.declared.reading.Head.{Head}
@@ -25,13 +25,13 @@ abbrev pub IsLiteralCode : ℕ → Type 0
 IsLiteralCode l = l < 2 * var_limit
 
 -- the digits of a number that has begun; 0 if none has been read
-abbrev pub digits_so_far : ℕ → List ℕ
-digits_so_far zero = []
-digits_so_far (suc n) = decimal (suc n)
+abbrev pub number_digits_so_far : ℕ → List ℕ
+number_digits_so_far zero = []
+number_digits_so_far (suc n) = decimal (suc n)
 
 -- no number goes on with this byte
 abbrev pub NoDigit : ℕ → ℕ → ℕ → Type 0
-NoDigit limit number byte = (n : ℕ) (more : List ℕ) → IsNumberUpTo limit n → decimal n ≡ digits_so_far number ++ (byte ∷ more) → ⊥
+NoDigit limit number byte = (n : ℕ) (more : List ℕ) → IsNumberUpTo limit n → decimal n ≡ number_digits_so_far number ++ (byte ∷ more) → ⊥
 
 -- the byte is no space, or no number up to the limit has ended before it
 abbrev pub EndsNone : ℕ → ℕ → ℕ → Type 0
@@ -48,7 +48,7 @@ BeginsWithWord word P bytes x rest = P x × (bytes ≡ word x ++ (32 ∷ rest))
 -- words, each with a space after it, as many as there are
 pub record BeginsWithWords (word : ℕ → List ℕ) (P : ℕ → Type 0) (bytes xs rest : List ℕ) : Type 0 where
   pub are : AllByRecursion P xs
-  pub whole : bytes ≡ words word xs ++ rest
+  pub whole : bytes ≡ spaced_words word xs ++ rest
   pub no_more : NoWord word P rest
 
 -- `LITS 0` and LF
@@ -68,12 +68,12 @@ abbrev pub BeginsWithBoth : List ℕ → List ℕ → List ℕ → List ℕ → 
 BeginsWithBoth bytes ls ids rest = AreLiteralCodes ls × AreIds ids × (bytes ≡ literal_words ls ++ (codes "0 " ++ (id_words ids ++ (codes "0\n" ++ rest))))
 
 -- a line without where its lists lie in memory
-abbrev pub line_of : HintLine → Line
-line_of (code.Input id clause) = Input id clause.now
-line_of (code.Derived id clause ids) = Derived id clause.now ids.now
-line_of (code.Gone id) = Gone id
-line_of (code.Core core ids) = Core core.now ids.now
-line_of (code.Fresh var) = Fresh var
+abbrev pub line_of_view : HintLine → Line
+line_of_view (code.Input id clause) = Input id clause.now
+line_of_view (code.Derived id clause ids) = Derived id clause.now ids.now
+line_of_view (code.Gone id) = Gone id
+line_of_view (code.Core core ids) = Core core.now ids.now
+line_of_view (code.Fresh var) = Fresh var
 
 -- the line of this head that has these lists
 abbrev pub line_with : Head → List ℕ → List ℕ → Line
@@ -84,9 +84,9 @@ line_with head.Core ls ids = Core ls ids
 line_with (head.Fresh var) ls ids = Fresh var
 
 -- the bytes begin with this line
-abbrev pub ReadsLine : List ℕ → Line → List ℕ → Type 0
-ReadsLine bytes line rest = IsLine line × (bytes ≡ line_text line ++ rest)
+abbrev pub BeginsWithHintLine : List ℕ → Line → List ℕ → Type 0
+BeginsWithHintLine bytes line rest = IsLine line × (bytes ≡ line_text line ++ rest)
 
 -- they begin with no line
 abbrev pub BeginsWithNoLine : List ℕ → Type 0
-BeginsWithNoLine bytes = (line : Line) (rest : List ℕ) → ReadsLine bytes line rest → ⊥
+BeginsWithNoLine bytes = (line : Line) (rest : List ℕ) → BeginsWithHintLine bytes line rest → ⊥

@@ -2,7 +2,7 @@
 use Rattle.std.specs.Prelude.{ℕ, ◌≡◌, ◌++◌, Bool, true, false, List, [], take, codes, if◌then◌else◌}
 use Rattle.sat_base.specs.values.Literals.{is_positive}
 use Rattle.sat_base.specs.device.Device.{Writer}
-use Rattle.sat_base.specs.device.Sink.{Sink, Sent, Broken}
+use Rattle.sat_base.specs.device.Sink.{Sink, AddsToSink, SinkFails}
 use Rattle.sat_hints.specs.Lines.{id_words, literal_words}
 use Rattle.sat_hints.specs.declared.line_writer.LineWriter.{LineWriter}
 
@@ -17,8 +17,8 @@ outlet seen w = record { sink = record { writer = seen w.writer; waiting = take 
 
 -- a text was put after the pending bytes, or a write has failed so far
 abbrev pub PutBy : Bool → List ℕ → Sink → Sink → Type 0
-PutBy false text old new = Sent old new text
-PutBy true text old new = Broken old new text
+PutBy false text old new = AddsToSink old new text
+PutBy true text old new = SinkFails old new text
 
 -- once one has failed nothing is done
 abbrev pub PutFrom : Bool → List ℕ → Outlet → Outlet → Type 0

@@ -1,7 +1,7 @@
 -- What an answer means where the lines of a certificate are written through pending bytes.
 use Rattle.std.specs.Prelude.{ℕ, ◌≡◌, ◌⊎◌, false, List, [], ◌∷◌, ◌++◌, Result, Ok, Err}
 use Rattle.sat_base.specs.device.Device.{Reader, ReadFails}
-use Rattle.sat_base.specs.device.Sink.{Sent, Broken}
+use Rattle.sat_base.specs.device.Sink.{AddsToSink, SinkFails}
 use Rattle.sat_base.specs.steps.Formats.{IsProperFront}
 use Rattle.sat_base.specs.steps.Steps.{Step, End}
 use Rattle.sat_base.specs.steps.StepText.{SpellsStep}
@@ -11,7 +11,7 @@ use Rattle.sat_checker.specs.declared.error.CheckerError.{CheckerError}
 use Rattle.sat_checker.specs.declared.error.CheckerError.TheVariants as errors
 use Rattle.sat_hints.specs.Conversion.{hint_text, hint_verdict}
 use Rattle.sat_hints.specs.Checks.{Judges}
-use Rattle.sat_hints.specs.Converts.{Gave, GaveUpTo, IsAccepted, RefusesBy}
+use Rattle.sat_hints.specs.Converts.{GaveAcceptedSteps, GaveUpTo, IsAccepted, RefusesBy}
 use Rattle.sat_hints.specs.declared.error.HintError.{HintError}
 use Rattle.sat_hints.specs.declared.error.HintError.TheVariants.{Refused, HasDeleteVar, Read, Write, OutOfMemory}
 use Rattle.sat_hints.specs.inner.LineWriting.{Outlet}
@@ -30,7 +30,7 @@ hint_of errors.HasFailed = Refused errors.HasFailed
 -- a text was put, and no write failed
 pub record SentAll (old new : Outlet) (text : List ℕ) : Type 0 where
   pub well : new.failed ≡ false
-  pub sent : Sent old.sink new.sink text
+  pub sent : AddsToSink old.sink new.sink text
 
 -- or a prefix of it
 pub record SentFront (old new : Outlet) (text : List ℕ) : Type 0 where
@@ -41,7 +41,7 @@ pub record SentFront (old new : Outlet) (text : List ℕ) : Type 0 where
 
 -- a write failed of the lines of accepted steps, or of theirs and those of the step after them, which is accepted, too
 abbrev pub BrokenBehind : Outlet → Outlet → Step → List Step → Type 0
-BrokenBehind old new step steps = Broken old.sink new.sink (hint_text steps) ⊎ (Accepts (ready_after steps) step × Broken old.sink new.sink (hint_text (step ∷ steps)))
+BrokenBehind old new step steps = SinkFails old.sink new.sink (hint_text steps) ⊎ (Accepts (ready_after steps) step × SinkFails old.sink new.sink (hint_text (step ∷ steps)))
 
 -- what an answer to a certificate means, whose lines are put after the pending bytes
 abbrev pub WritesLines : Result (Unit {0}) HintError → Reader → Reader → Outlet → Outlet → Type 0
@@ -51,9 +51,9 @@ WritesLines (Ok x) from to old new = (passed : List Step) × (rest : List ℕ) �
 WritesLines (Err HasDeleteVar) from to old new = ⊥
 WritesLines (Err (Refused e)) from to old new = (passed : List Step) × NoReadFailed from to × RefusesBy e from to passed
     × SentFront old new (hint_text (taken_after passed []))
-WritesLines (Err Read) from to old new = (passed : List Step) × (rest : List ℕ) × ReadFails from to × Gave from to passed [] rest × IsProperFront SpellsStep rest
+WritesLines (Err Read) from to old new = (passed : List Step) × (rest : List ℕ) × ReadFails from to × GaveAcceptedSteps from to passed [] rest × IsProperFront SpellsStep rest
     × SentFront old new (hint_text (taken_after passed []))
-WritesLines (Err Write) from to old new = (passed : List Step) × (step : Step) × (rest : List ℕ) × NoReadFailed from to × Gave from to passed (step ∷ []) rest
+WritesLines (Err Write) from to old new = (passed : List Step) × (step : Step) × (rest : List ℕ) × NoReadFailed from to × GaveAcceptedSteps from to passed (step ∷ []) rest
     × BrokenBehind old new step (taken_after passed [])
 WritesLines (Err OutOfMemory) from to old new = (passed : List Step) × (rest : List ℕ) × NoReadFailed from to × GaveUpTo from to passed rest
     × SentFront old new (hint_text (taken_after passed []))

@@ -4,9 +4,9 @@ use Rattle.sat_base.specs.values.Literals.{variable}
 use Rattle.sat_base.specs.values.Tables.{value_at}
 use Rattle.sat_base.specs.declared.table.Table.{Table}
 use Rattle.sat_checker.specs.LiteralSets.{mentions}
-use Rattle.sat_checker.specs.inner.Room.{HasRoomFor}
+use Rattle.sat_checker.specs.inner.AssumedRoom.{HasClauseRoom}
 use Rattle.sat_hints.specs.Hints.{and_clauses, is_long, unless_unit_over}
-use Rattle.sat_hints.specs.inner.Clauses.{clause_at, clause_in, times_at, AllBelow, IsStore}
+use Rattle.sat_hints.specs.inner.Clauses.{present_clause_at, clause_in, times_at, AllBelow, IsStore}
 use Rattle.sat_hints.specs.inner.UsesView.{if_counting, uses_at}
 use Rattle.sat_hints.specs.declared.standing.Standing.{Standing}
 
@@ -22,13 +22,13 @@ unless_stale since id None = None
 unless_stale since id (Some c) = if is_stale since id c then None else Some c
 
 -- the clause under an id: none if it is removed, or a unit that is stale
-abbrev pub clause_of : Standing → ℕ → Option (List ℕ)
-clause_of s id = unless_stale s.since id (clause_in s.present id)
+abbrev pub standing_clause : Standing → ℕ → Option (List ℕ)
+standing_clause s id = unless_stale s.since id (clause_in s.present id)
 
 -- the clauses under these ids, if all are present
-abbrev pub clauses_of : Standing → List ℕ → Option (List (List ℕ))
-clauses_of s [] = Some []
-clauses_of s (id ∷ ids) = and_clauses (clause_of s id) (clauses_of s ids)
+abbrev pub standing_clauses : Standing → List ℕ → Option (List (List ℕ))
+standing_clauses s [] = Some []
+standing_clauses s (id ∷ ids) = and_clauses (standing_clause s id) (standing_clauses s ids)
 
 -- no variable became new from this id on
 abbrev pub SinceWithin : Standing → ℕ → Type 0
@@ -40,31 +40,31 @@ pub record StandingInvariant (s : Standing) : Type 0 where
   pub counted : (l : ℕ) → uses_at s.uses l ≡ if_counting s.uses.counting (times_at s.present l)
 
 -- it is at this place
-pub record FindsOne (s : Standing) (id place : ℕ) : Type 0 where
+pub record FindsClause (s : Standing) (id place : ℕ) : Type 0 where
   pub within : place < length s.present.clauses
   pub named : slice_index s.present.ids.items place ≡ id
-  pub stored : clause_in s.present id ≡ Some (clause_at s.present place)
-  pub clause : clause_of s id ≡ Some (clause_at s.present place)
+  pub stored : clause_in s.present id ≡ Some (present_clause_at s.present place)
+  pub clause : standing_clause s id ≡ Some (present_clause_at s.present place)
 
 -- one more clause
 pub record AddsStandingClause (old new : Standing) (id : ℕ) (clause : List ℕ) : Type 0 where
   pub standing : StandingInvariant new
   pub below : (k : ℕ) → id < k → AllBelow new.present.ids.items k
   pub since : new.since ≡ old.since
-  pub clauses : (j : ℕ) → clause_of new j ≡ (if j == id then Some clause else clause_of old j)
+  pub clauses : (j : ℕ) → standing_clause new j ≡ (if j == id then Some clause else standing_clause old j)
 
 -- one less
-pub record Drops (old new : Standing) (id : ℕ) : Type 0 where
+pub record DropsClause (old new : Standing) (id : ℕ) : Type 0 where
   pub standing : StandingInvariant new
   pub below : (k : ℕ) → AllBelow old.present.ids.items k → AllBelow new.present.ids.items k
   pub since : new.since ≡ old.since
-  pub clauses : (j : ℕ) → clause_of new j ≡ (if j == id then None else clause_of old j)
+  pub clauses : (j : ℕ) → standing_clause new j ≡ (if j == id then None else standing_clause old j)
 
 -- a variable is in a clause of two literals or more
 pub record IsUsed (s : Standing) (v : ℕ) : Type 0 where
   pub id : ℕ
   pub clause : List ℕ
-  pub present : clause_of s id ≡ Some clause
+  pub present : standing_clause s id ≡ Some clause
   pub long : is_long clause ≡ true
   pub within : mentions clause v ≡ true
 
@@ -73,8 +73,8 @@ pub record RenewsVariable (old new : Standing) (v bound : ℕ) : Type 0 where
   pub standing : StandingInvariant new
   pub present : new.present ≡ old.present
   pub since : SinceWithin new bound
-  pub clauses : (j : ℕ) → clause_of new j ≡ unless_unit_over v (clause_of old j)
+  pub clauses : (j : ℕ) → standing_clause new j ≡ unless_unit_over v (standing_clause old j)
 
 -- there is room for the literals of each clause that is present, and for their negations
 abbrev pub HasRoomForPresent : List ℕ → Standing → Type 0
-HasRoomForPresent room s = (id : ℕ) (clause : List ℕ) → clause_of s id ≡ Some clause → HasRoomFor room clause
+HasRoomForPresent room s = (id : ℕ) (clause : List ℕ) → standing_clause s id ≡ Some clause → HasClauseRoom room clause

@@ -31,8 +31,8 @@ abbrev pub first_scale : Scale
 first_scale = record { bump = 1024; decay = 999 }
 
 -- a bump after rescaling: 16 bits smaller, but at least 1
-abbrev pub rescaled : ℕ → ℕ
-rescaled bump = max (bump / 2 ^ 16) 1
+abbrev pub rescaled_bump : ℕ → ℕ
+rescaled_bump bump = max (bump / 2 ^ 16) 1
 
 -- what a bump adds after a decay, before any rescaling
 abbrev pub later_bump : Scale → ℕ
@@ -68,7 +68,7 @@ BumpsOne words words' refs o s s' = (s' ≡ s) × PutsHeader words words' refs o
 
 -- the clause at o was bumped, and all activities were rescaled
 abbrev pub BumpsAll : (words words' refs : List ℕ) (o : ℕ) (s s' : Scale) → Type 0
-BumpsAll words words' refs o s s' = (s' ≡ record s { bump = rescaled s.bump }) × PutsHeaders words words' refs (bumped_shifted words o s.bump)
+BumpsAll words words' refs o s s' = (s' ≡ record s { bump = rescaled_bump s.bump }) × PutsHeaders words words' refs (bumped_shifted words o s.bump)
 
 -- if the bump stays below 2^30, only the clause at o was bumped
 abbrev pub BumpsBelow : (words words' refs : List ℕ) (o : ℕ) (s s' : Scale) → Type 0
@@ -84,4 +84,4 @@ later_scale s = record s { bump = later_bump s }
 
 -- the bump grew by a decay, and all activities were rescaled
 abbrev pub DecaysAll : (words words' refs : List ℕ) (s s' : Scale) → Type 0
-DecaysAll words words' refs s s' = (s' ≡ record s { bump = rescaled (later_bump s) }) × PutsHeaders words words' refs (shifted words)
+DecaysAll words words' refs s s' = (s' ≡ record s { bump = rescaled_bump (later_bump s) }) × PutsHeaders words words' refs (shifted words)

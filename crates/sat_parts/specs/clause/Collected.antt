@@ -22,7 +22,7 @@ abbrev pub words_of : List ℕ → List ℕ → ℕ
 words_of words refs = sum_by (λ o. length (lits_at words o) + 3) refs
 
 -- the live clauses among the first i were copied, none of them to a larger offset
-pub record Copying (words refs words' refs' : List ℕ) (i : ℕ) : Type 0 where
+pub record CopyInvariant (words refs words' refs' : List ℕ) (i : ℕ) : Type 0 where
   pub copies : Copies words (live_refs words (take i refs)) words' refs'
   pub laid : HoldsClauses words' refs'
   pub rising : AreRising refs'

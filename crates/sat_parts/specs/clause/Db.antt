@@ -56,12 +56,12 @@ pub record HoldsDb (words : List ℕ) (db : Db) : Type 0 where
   pub long : (o : ℕ) → Contains db.refs o → 3 ≤ length (lits_at words o)
 
 -- the numbers with one clause of this tier more
-abbrev pub one_more : Tier → List ℕ → List ℕ
-one_more tier counts = set counts (index_of tier) (get_or counts (index_of tier) 0 + 1)
+abbrev pub tier_count_more : Tier → List ℕ → List ℕ
+tier_count_more tier counts = set counts (index_of tier) (get_or counts (index_of tier) 0 + 1)
 
 -- the numbers with one clause of this tier less
-abbrev pub one_less : Tier → List ℕ → List ℕ
-one_less tier counts = set counts (index_of tier) (get_or counts (index_of tier) 0 - 1)
+abbrev pub tier_count_less : Tier → List ℕ → List ℕ
+tier_count_less tier counts = set counts (index_of tier) (get_or counts (index_of tier) 0 - 1)
 
 -- the list without the clause at o
 abbrev pub without : ℕ → List ℕ → List ℕ

@@ -23,7 +23,7 @@ SameClausesAt old new live = (o : ℕ) → Contains live o → SameClauseAt old 
 
 -- the invariant of the pass: the test R, at first in state f, was called for the live ones of the first `at` clauses; those for which
 -- it returned false are deleted, and the others are unchanged
-pub record Filtering {F : Type 0} (R : F → ℕ → Bool → F → Type 0) (f : F) (old new refs : List ℕ) (at : ℕ) (f' : F) : Type 0 where
+pub record FilterInvariant {F : Type 0} (R : F → ℕ → Bool → F → Type 0) (f : F) (old new refs : List ℕ) (at : ℕ) (f' : F) : Type 0 where
   pub answers : List Bool
   pub size : length answers ≡ length (live_refs old (take at refs))
   pub asked : ReturnsInTurn R f answers (live_refs old (take at refs)) f'

@@ -9,7 +9,7 @@ abbrev pub AreDistinct : List ℕ → Type 0
 AreDistinct ls = (j k : ℕ) → j < length ls → k < length ls → get_or ls j 0 ≡ get_or ls k 0 → j ≡ k
 
 -- the same literals, possibly in another order
-pub record Shuffled (ls ms : List ℕ) : Type 0 where
+pub record IsReordering (ls ms : List ℕ) : Type 0 where
   pub order : IsPermutation ls ms
   pub size : length ms ≡ length ls
   pub forth : (k : ℕ) → k < length ls → (j : ℕ) × ((j < length ls) × (get_or ms j 0 ≡ get_or ls k 0))
@@ -17,11 +17,11 @@ pub record Shuffled (ls ms : List ℕ) : Type 0 where
   pub apart : AreDistinct ls → AreDistinct ms
 
 -- nothing changed except possibly the order of the literals of the clause at o
-pub record Shuffles (old new : List ℕ) (o : ℕ) : Type 0 where
+pub record PermutesClause (old new : List ℕ) (o : ℕ) : Type 0 where
   pub size : length new ≡ length old
   pub clause : IsClause new o
   pub header : header_at new o ≡ header_at old o
-  pub lits : Shuffled (lits_at old o) (lits_at new o)
+  pub lits : IsReordering (lits_at old o) (lits_at new o)
   pub laid : (refs : List ℕ) → Contains refs o → HoldsClauses old refs → HoldsClauses new refs
   pub others : (refs : List ℕ) (p : ℕ) → Contains refs o → HoldsClauses old refs → Contains refs p → o ≢ p → SameClauseAt old new p
 
@@ -29,9 +29,9 @@ pub record Shuffles (old new : List ℕ) (o : ℕ) : Type 0 where
 pub record SameUpToOrder (old new refs : List ℕ) : Type 0 where
   pub laid : HoldsClauses new refs
   pub headers : (o : ℕ) → Contains refs o → header_at new o ≡ header_at old o
-  pub lits : (o : ℕ) → Contains refs o → Shuffled (lits_at old o) (lits_at new o)
+  pub lits : (o : ℕ) → Contains refs o → IsReordering (lits_at old o) (lits_at new o)
 
 -- in every list of clauses that contains the live ones, nothing changed except possibly the order of literals
-pub record Reorders (old new live : List ℕ) : Type 0 where
+pub record PermutesClauses (old new live : List ℕ) : Type 0 where
   pub size : length new ≡ length old
   pub all : (refs : List ℕ) → ((o : ℕ) → Contains live o → Contains refs o) → HoldsClauses old refs → SameUpToOrder old new refs

@@ -9,5 +9,5 @@ abbrev pub reduced : Header → Header
 reduced h = if not h.deleted && (index_of h.tier == 2) then (if h.active then record h { active = false } else record h { tier = Local }) else h
 
 -- the header marked if the clause is live and of this tier
-abbrev pub marked : Tier → Header → Header
-marked tier h = if not h.deleted && (index_of h.tier == index_of tier) then record h { mark = true } else h
+abbrev pub with_mark : Tier → Header → Header
+with_mark tier h = if not h.deleted && (index_of h.tier == index_of tier) then record h { mark = true } else h

@@ -3,19 +3,19 @@ use Rattle.std.specs.Prelude.{ℕ, ◌≡◌, ◌<◌, ◌≤◌, true, List, ma
 use Rattle.std.specs.List.{Contains}
 use Rattle.sat_base.specs.values.Literals.{variable}
 use Rattle.sat_parts.specs.clause.Glue.{VariablesBelow}
-use Rattle.sat_parts.specs.prop.Graphs.{is_unit}
+use Rattle.sat_parts.specs.prop.Graphs.{is_unit_reason}
 use Rattle.sat_parts.specs.prop.Values.{IsTrueLit, IsFalseLit}
 use Rattle.sat_parts.specs.prop.State.{State, node, level, lit_at}
 use Rattle.sat_parts.specs.declared.parts.Parts.{Parts}
 use Rattle.sat_parts.specs.parts.Whole.{state}
-use Rattle.sat_parts.specs.parts.Frame.{Deepens, KeepsTo}
+use Rattle.sat_parts.specs.parts.Frame.{OpensLevel, KeepsTo}
 use Rattle.sat_parts.specs.declared.parts.assumptions.Assumptions.{Assumptions}
 use Rattle.sat_parts.specs.declared.parts.assumptions.EnqueueAssumption.{EnqueueAssumption}
 use Rattle.sat_parts.specs.declared.parts.assumptions.EnqueueAssumption.TheVariants.{Done, Enqueued, Conflict}
 
 -- the variables of these literals, in order
-abbrev pub variables : List ℕ → List ℕ
-variables ls = map (λ l. variable l) ls
+abbrev pub variables_of_lits : List ℕ → List ℕ
+variables_of_lits ls = map (λ l. variable l) ls
 
 -- the variables of the literals exist
 abbrev pub HaveVariablesIn : List ℕ → Parts → Type 0
@@ -50,10 +50,10 @@ IsUntrueAt p ls at l = (at < length ls) × (get_or ls at 0 ≡ l) × (IsTrueLit 
 
 -- every literal of the trail above level 0 that has no clause as its reason is among these
 abbrev pub AreDecided : List ℕ → State → Type 0
-AreDecided ls s = (i : ℕ) → i < length s.trail.lits → 0 < level s (lit_at s i) → is_unit (node s (lit_at s i)).reason ≡ true → Contains ls (lit_at s i)
+AreDecided ls s = (i : ℕ) → i < length s.trail.lits → 0 < level s (lit_at s i) → is_unit_reason (node s (lit_at s i)).reason ≡ true → Contains ls (lit_at s i)
 
 -- the effect of enqueueing an assumption, by its result
 abbrev pub EnqueueAssumptionEffect : EnqueueAssumption → Assumptions → Parts → Parts → Type 0
 EnqueueAssumptionEffect Done a p p' = (p' ≡ p) × (a.place ≡ length a.lits.items) × ((k : ℕ) → k < length a.lits.items → IsTrueLit p.assignment.current (get_or a.lits.items k 0))
-EnqueueAssumptionEffect Enqueued a p p' = Deepens p p'
+EnqueueAssumptionEffect Enqueued a p p' = OpensLevel p p'
 EnqueueAssumptionEffect (Conflict l) a p p' = (p' ≡ p) × Contains a.lits.items l × IsFalseLit p.assignment.current l × (length a.below.items ≡ length p.trail.starts) × AreDecided a.lits.items (state p)

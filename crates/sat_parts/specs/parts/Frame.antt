@@ -27,8 +27,8 @@ use Rattle.sat_parts.specs.declared.prop.graph.Reason.{Reason}
 use Rattle.sat_parts.specs.clause.Collected.{Copies}
 use Rattle.sat_parts.specs.clause.Db.{live_refs, AddsLongClause, DeletesClause, ShortensClause}
 use Rattle.sat_parts.specs.clause.Orders.{SameUpToOrder}
-use Rattle.sat_parts.specs.prop.Graphs.{is_unit}
-use Rattle.sat_parts.specs.prop.Binaries.{with_binary, with_literals, RemovesAssigned}
+use Rattle.sat_parts.specs.prop.Graphs.{is_unit_reason}
+use Rattle.sat_parts.specs.prop.Binaries.{with_binary, with_binary_lists, RemovesAssigned}
 use Rattle.sat_parts.specs.prop.Values.{IsTrueLit, value_of, assigned}
 use Rattle.sat_parts.specs.prop.State.{State, node, level, lit_at, IsRemoved, enqueued}
 use Rattle.sat_parts.specs.declared.parts.Parts.{Parts}
@@ -41,7 +41,7 @@ pub record IsBare (s : State) (l : ℕ) : Type 0 where
   pub within : place < length s.trail.lits
   pub there : lit_at s place ≡ l
   pub bottom : level s l ≡ 0
-  pub none : is_unit (node s l).reason ≡ true
+  pub none : is_unit_reason (node s l).reason ≡ true
 
 -- the literal is a unit: it is of level 0 and has no clause as its reason, or it was taken off the trail
 abbrev pub IsUnitLit : State → ℕ → Type 0
@@ -54,7 +54,7 @@ pub record AddsNoUnit (s s' : State) : Type 0 where
   pub bottom : (l : ℕ) → IsTrueLit s.values l → level s l ≡ 0 → IsTrueLit s'.values l × (level s' l ≡ 0)
 
 -- units were taken off the trail: each of them was a literal of level 0, and the literals of level 0 stay
-pub record Clears (s s' : State) : Type 0 where
+pub record TakesOffUnits (s s' : State) : Type 0 where
   pub size : length s'.values ≡ length s.values
   pub units : (l : ℕ) → IsUnitLit s' l → IsTrueLit s.values l × (level s l ≡ 0)
   pub bottom : (l : ℕ) → IsTrueLit s.values l → level s l ≡ 0 → IsTrueLit s'.values l × (level s' l ≡ 0)
@@ -64,18 +64,18 @@ abbrev pub SameClauses : Parts → Parts → Type 0
 SameClauses p p' = (p'.clauses ≡ p.clauses) × (p'.db ≡ p.db) × (p'.binary ≡ p.binary)
 
 -- the clauses are unchanged except possibly for the order of their literals
-pub record Reordered (p p' : Parts) : Type 0 where
+pub record ReordersLits (p p' : Parts) : Type 0 where
   pub live : live_refs p'.clauses p'.db.refs ≡ live_refs p.clauses p.db.refs
   pub kept : SameUpToOrder p.clauses p'.clauses (live_refs p.clauses p.db.refs)
   pub binary : p'.binary ≡ p.binary
 
 -- a clause was learned, as a unit, a binary clause or a long one, and its first literal was enqueued
-pub data Learnt (p p' : Parts) (header : Header) (ls : List ℕ) : Type 0 where
-  learnt_unit : length ls ≡ 1 → SameClauses p p' → (r : Reason) → is_unit r ≡ true → state p' ≡ enqueued (get_or ls 0 0) r (state p) → Learnt p p' header ls
+pub data AddsLearnedClause (p p' : Parts) (header : Header) (ls : List ℕ) : Type 0 where
+  learnt_unit : length ls ≡ 1 → SameClauses p p' → (r : Reason) → is_unit_reason r ≡ true → state p' ≡ enqueued (get_or ls 0 0) r (state p) → AddsLearnedClause p p' header ls
   learnt_binary : length ls ≡ 2 → p'.clauses ≡ p.clauses → p'.db ≡ p.db → p'.binary ≡ with_binary (get_or ls 0 0) (get_or ls 1 0) p.binary →
-      (r : Reason) → is_unit r ≡ false → state p' ≡ enqueued (get_or ls 0 0) r (state p) → Learnt p p' header ls
+      (r : Reason) → is_unit_reason r ≡ false → state p' ≡ enqueued (get_or ls 0 0) r (state p) → AddsLearnedClause p p' header ls
   learnt_long : 3 ≤ length ls → (o : ℕ) → AddsLongClause p.clauses p.db p'.clauses p'.db o header ls → p'.binary ≡ p.binary →
-      (r : Reason) → is_unit r ≡ false → state p' ≡ enqueued (get_or ls 0 0) r (state p) → Learnt p p' header ls
+      (r : Reason) → is_unit_reason r ≡ false → state p' ≡ enqueued (get_or ls 0 0) r (state p) → AddsLearnedClause p p' header ls
 
 -- literals that are true at a level up to this one stay true at that level, and these levels begin with the same literals
 pub record KeepsTo (top : ℕ) (s s' : State) : Type 0 where
@@ -103,8 +103,8 @@ abbrev pub KeepsLevels : Parts → Parts → Type 0
 KeepsLevels p p' = (top : ℕ) → KeepsTo top (state p) (state p')
 
 -- there is one level more
-abbrev pub Deepens : Parts → Parts → Type 0
-Deepens p p' = length p'.trail.starts ≡ length p.trail.starts + 1
+abbrev pub OpensLevel : Parts → Parts → Type 0
+OpensLevel p p' = length p'.trail.starts ≡ length p.trail.starts + 1
 
 -- the first of these literals was appended to the trail
 abbrev pub EnqueuesFirst : List ℕ → Parts → Parts → Type 0
@@ -115,31 +115,31 @@ abbrev pub SameSearch : Parts → Parts → Type 0
 SameSearch p p' = SameState p p' × (p'.binary ≡ p.binary) × (p'.vsids ≡ p.vsids)
 
 -- only headers of long clauses changed, and no clause became or ceased to be a learned one
-pub record Headed (p p' : Parts) : Type 0 where
+pub record ChangesHeaders (p p' : Parts) : Type 0 where
   pub live : live_refs p'.clauses p'.db.refs ≡ live_refs p.clauses p.db.refs
   pub lits : (o : ℕ) → Contains (live_refs p.clauses p.db.refs) o → lits_at p'.clauses o ≡ lits_at p.clauses o
   pub sides : (o : ℕ) → Contains (live_refs p.clauses p.db.refs) o → is_learned (header_at p'.clauses o).tier ≡ is_learned (header_at p.clauses o).tier
   pub same : SameSearch p p'
 
 -- a long clause was deleted
-pub record Dropped (p p' : Parts) (o : ℕ) : Type 0 where
+pub record DropsLongClause (p p' : Parts) (o : ℕ) : Type 0 where
   pub deletes : DeletesClause p.clauses p.db p'.clauses p'.db o
   pub same : SameSearch p p'
 
 -- a long clause lost its literals from position `len` on
-pub record Shortened (p p' : Parts) (o len : ℕ) : Type 0 where
+pub record ShortensLongClause (p p' : Parts) (o len : ℕ) : Type 0 where
   pub shortens : ShortensClause p.clauses p.db p'.clauses o len
   pub db : p'.db ≡ p.db
   pub same : SameSearch p p'
 
 -- two literals of a long clause were swapped
-pub record Swapped (p p' : Parts) (o i j : ℕ) : Type 0 where
+pub record SwapsLits (p p' : Parts) (o i j : ℕ) : Type 0 where
   pub lits : lits_at p'.clauses o ≡ swapped (lits_at p.clauses o) i j
-  pub moved : Reordered p p'
+  pub moved : ReordersLits p p'
   pub same : SameSearch p p'
 
 -- the live long clauses have new references, in order, with the same headers and literals
-pub record Copied (p p' : Parts) : Type 0 where
+pub record MovesLongClauses (p p' : Parts) : Type 0 where
   pub copies : Copies p.clauses (live_refs p.clauses p.db.refs) p'.clauses (live_refs p'.clauses p'.db.refs)
   pub binary : p'.binary ≡ p.binary
   pub values : p'.assignment ≡ p.assignment
@@ -149,7 +149,7 @@ pub record Copied (p p' : Parts) : Type 0 where
   pub keeps : KeepsLevels p p'
 
 -- the binary clauses with an assigned variable were removed
-pub record Removed (p p' : Parts) : Type 0 where
+pub record RemovesBinaries (p p' : Parts) : Type 0 where
   pub removes : RemovesAssigned p.assignment.current p.binary p'.binary
   pub clauses : p'.clauses ≡ p.clauses
   pub db : p'.db ≡ p.db
@@ -157,18 +157,18 @@ pub record Removed (p p' : Parts) : Type 0 where
   pub queue : p'.vsids ≡ p.vsids
 
 -- there are `count` variables; the new ones are unassigned, may not be picked, and are in no clause
-pub record Grown (p p' : Parts) (count : ℕ) : Type 0 where
+pub record AddsVars (p p' : Parts) (count : ℕ) : Type 0 where
   pub size : length p'.assignment.current ≡ count
   pub values : (v : ℕ) → value_of p'.assignment.current v ≡ value_of p.assignment.current v
   pub picks : (v : ℕ) → may_pick p'.vsids v ≡ may_pick p.vsids v
   pub clauses : p'.clauses ≡ p.clauses
   pub db : p'.db ≡ p.db
-  pub binary : p'.binary ≡ with_literals (2 * count) p.binary
+  pub binary : p'.binary ≡ with_binary_lists (2 * count) p.binary
   pub units : (l : ℕ) → IsUnitLit (state p') l → IsUnitLit (state p) l
   pub keeps : KeepsLevels p p'
 
 -- a variable lost its value, and may not be picked
-pub record Freed (p p' : Parts) (v : ℕ) : Type 0 where
+pub record FreesVar (p p' : Parts) (v : ℕ) : Type 0 where
   pub clauses : SameClauses p p'
   pub values : p'.assignment ≡ assigned v None p.assignment
   pub graph : p'.graph ≡ p.graph

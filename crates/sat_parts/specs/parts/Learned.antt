@@ -5,15 +5,15 @@ use Rattle.sat_store.specs.heap.Vsids.{Queue, may_pick}
 use Rattle.sat_parts.specs.clause.Orders.{AreDistinct}
 use Rattle.sat_parts.specs.prop.Values.{IsFalseLit, IsOpenLit}
 use Rattle.sat_parts.specs.prop.State.{State, level, current_level}
-use Rattle.sat_parts.specs.prop.Ready.{IsFalsified}
+use Rattle.sat_parts.specs.prop.Ready.{AreAllFalse}
 
 -- the result of an analysis: all literals are false and above level 0; only the first is of the current level, and the second is of
 -- the highest level of the others, to which the search backtracks
-pub record IsLearned (s : State) (ls : List ℕ) (to : ℕ) : Type 0 where
+pub record IsAnalyzedClause (s : State) (ls : List ℕ) (to : ℕ) : Type 0 where
   pub some : 1 ≤ length ls
   pub fits : length ls < 2 ^ 32
   pub distinct : AreDistinct ls
-  pub falsified : IsFalsified s.values ls
+  pub falsified : AreAllFalse s.values ls
   pub first : level s (get_or ls 0 0) ≡ current_level s
   pub below : to < current_level s
   pub others : (k : ℕ) → 1 ≤ k → k < length ls → level s (get_or ls k 0) ≤ to

@@ -11,7 +11,7 @@ use Rattle.sat_parts.specs.clause.Stored.{AreClauses, lit_of}
 use Rattle.sat_parts.specs.prop.WatchLists.{Watching}
 use Rattle.sat_parts.specs.prop.Binaries.{implied_by}
 use Rattle.sat_parts.specs.prop.Values.{IsTrueLit}
-use Rattle.sat_parts.specs.prop.State.{State, level, current_level, HasLeftQueue, Agrees, IsQueueCurrent, IsSatisfied}
+use Rattle.sat_parts.specs.prop.State.{State, level, current_level, HasLeftQueue, StateIsConsistent, IsQueueCurrent, IsSatisfied}
 use Rattle.sat_parts.specs.prop.Reasons.{HaveFirsts, PropagatesOn}
 use Rattle.sat_parts.specs.prop.Ready.{AreWatched, AreSettled, AreImplied, AreLists, IsUnitFixpoint, IsConflict}
 
@@ -24,7 +24,7 @@ pub record PropagationInvariant (words refs : List ℕ) (w : Watching) (implied 
   pub clauses : AreClauses words (live_refs words refs) (length s.values)
   pub room : length w.lists ≡ 2 * length s.values
   pub watches : w.enabled ≡ true → AreWatched words (live_refs words refs) w.lists (length s.values)
-  pub agrees : Agrees s
+  pub agrees : StateIsConsistent s
   pub queue : IsQueueCurrent s
   pub firsts : HaveFirsts words (live_refs words refs) s
   pub settled : AreSettled words (live_refs words refs) s (λ l. level s l < top)
@@ -50,7 +50,7 @@ pub record EnqueuePrecondition (lit : ℕ) (reason : Reason) (words refs : List 
   pub clauses : AreClauses words (live_refs words refs) (length s.values)
   pub room : length w.lists ≡ 2 * length s.values
   pub watches : w.enabled ≡ true → AreWatched words (live_refs words refs) w.lists (length s.values)
-  pub agrees : Agrees s
+  pub agrees : StateIsConsistent s
   pub queue : IsQueueCurrent s
   pub firsts : HaveFirsts words (live_refs words refs) s
   pub settled : (o i : ℕ) → Contains (live_refs words refs) o → i < 2 → HasLeftQueue s (negated (lit_of words o i)) → level s (negated (lit_of words o i)) < top →

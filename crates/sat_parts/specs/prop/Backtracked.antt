@@ -9,7 +9,7 @@ use Rattle.sat_parts.specs.declared.prop.graph.ImplNode.{ImplNode}
 use Rattle.sat_parts.specs.prop.Values.{Values, IsTrueLit, IsOpenLit}
 use Rattle.sat_parts.specs.prop.Trails.{Trailed}
 use Rattle.sat_parts.specs.prop.WatchLists.{Watching}
-use Rattle.sat_parts.specs.prop.State.{State, level, lit_at, IsRemoved, Agrees}
+use Rattle.sat_parts.specs.prop.State.{State, level, lit_at, IsRemoved, StateIsConsistent}
 use Rattle.sat_parts.specs.prop.Reasons.{AreInTurn}
 use Rattle.sat_parts.specs.prop.Ready.{state_of}
 use Rattle.sat_parts.specs.prop.Asks.{PropagationInvariant, EnqueuePrecondition, PropagationPrecondition}
@@ -24,7 +24,7 @@ BacktrackPreservesInvariant level a t a' t' =
 -- the reasons of the trail stay unit in the order of the trail
 abbrev pub KeepsTurns : (a : Values) (t : Trailed) (a' : Values) (t' : Trailed) → Type 0
 KeepsTurns a t a' t' =
-    (words live : List ℕ) (implied : List (List ℕ)) (nodes : List ImplNode) (from : ℕ) → Agrees (state_of a nodes t) →
+    (words live : List ℕ) (implied : List (List ℕ)) (nodes : List ImplNode) (from : ℕ) → StateIsConsistent (state_of a nodes t) →
     AreInTurn words live implied (state_of a nodes t) from → AreInTurn words live implied (state_of a' nodes t') from
 
 -- the invariant of propagation holds after an unassigned literal became true, if a long clause as its reason is live and has it first;
@@ -44,7 +44,7 @@ NewLevelPreservesInvariant t t' =
 -- what remains when the levels above `top` are undone: exactly the literals that were true at that level or lower, those of the trail
 -- at their positions; the others are unassigned
 pub record KeepsLow (top : ℕ) (s s' : State) : Type 0 where
-  pub agrees : Agrees s'
+  pub agrees : StateIsConsistent s'
   pub low_kept : (l : ℕ) → IsTrueLit s.values l → level s l ≤ top → IsTrueLit s'.values l
   pub true_kept : (l : ℕ) → IsTrueLit s'.values l → IsTrueLit s.values l
   pub kept_level : (l : ℕ) → IsTrueLit s'.values l → level s l ≤ top
@@ -57,4 +57,4 @@ pub record KeepsLow (top : ℕ) (s s' : State) : Type 0 where
 
 -- the same for values and a trail, whatever nodes they agree with
 abbrev pub KeepsBelow : (top : ℕ) (a : Values) (t : Trailed) (a' : Values) (t' : Trailed) → Type 0
-KeepsBelow top a t a' t' = (nodes : List ImplNode) → Agrees (state_of a nodes t) → KeepsLow top (state_of a nodes t) (state_of a' nodes t')
+KeepsBelow top a t a' t' = (nodes : List ImplNode) → StateIsConsistent (state_of a nodes t) → KeepsLow top (state_of a nodes t) (state_of a' nodes t')

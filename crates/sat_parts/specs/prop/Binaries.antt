@@ -18,8 +18,8 @@ abbrev pub with_implied : ℕ → ℕ → List (List ℕ) → List (List ℕ)
 with_implied l m implied = set implied l (implied_by implied l ++ m ∷ [])
 
 -- the lists without the last literal that l implies
-abbrev pub without_last : ℕ → List (List ℕ) → List (List ℕ)
-without_last l implied = set implied l (take (length (implied_by implied l) - 1) (implied_by implied l))
+abbrev pub without_last_implied : ℕ → List (List ℕ) → List (List ℕ)
+without_last_implied l implied = set implied l (take (length (implied_by implied l) - 1) (implied_by implied l))
 
 -- the clauses with one more: if one of its literals is false, the other is implied
 abbrev pub with_binary : ℕ → ℕ → Binaries → Binaries
@@ -29,8 +29,8 @@ with_binary a b x = record {
 }
 
 -- the clauses with lists for `count` literals
-abbrev pub with_literals : ℕ → Binaries → Binaries
-with_literals count x = record x { implied = take count x.implied ++ replicate (count - length x.implied) [] }
+abbrev pub with_binary_lists : ℕ → Binaries → Binaries
+with_binary_lists count x = record x { implied = take count x.implied ++ replicate (count - length x.implied) [] }
 
 -- the unassigned ones of these literals, or none of them if the variable v is assigned
 abbrev pub open_among : List (Option Bool) → (v : ℕ) → List ℕ → List ℕ

@@ -6,7 +6,7 @@ use Rattle.sat_parts.specs.declared.prop.watch.Watch.{Watch}
 use Rattle.sat_parts.specs.clause.Db.{live_refs}
 use Rattle.sat_parts.specs.clause.Stored.{lit_of}
 use Rattle.sat_parts.specs.prop.WatchLists.{no_watch, watches_of}
-use Rattle.sat_parts.specs.prop.Ready.{IsGood, HasWatch, AreWatched}
+use Rattle.sat_parts.specs.prop.Ready.{IsSoundWatch, HasWatch, AreWatched}
 
 -- the lists watch the first two literals of the live clauses
 abbrev pub WatchesLive : (words refs : List ℕ) (lists : List (List Watch)) (count : ℕ) → Type 0
@@ -15,5 +15,5 @@ WatchesLive words refs lists count = AreWatched words (live_refs words refs) lis
 -- the lists watch the first two literals of the live clauses among the first k
 pub record AreBuilt (words refs : List ℕ) (lists : List (List Watch)) (count k : ℕ) : Type 0 where
   pub room : length lists ≡ 2 * count
-  pub good : (l p : ℕ) → p < length (watches_of lists l) → IsGood words (live_refs words refs) (get_or (watches_of lists l) p no_watch)
+  pub good : (l p : ℕ) → p < length (watches_of lists l) → IsSoundWatch words (live_refs words refs) (get_or (watches_of lists l) p no_watch)
   pub both : (o i : ℕ) → Contains (live_refs words (take k refs)) o → i < 2 → HasWatch (watches_of lists (negated (lit_of words o i))) o

@@ -6,10 +6,10 @@ use Rattle.sat_parts.specs.declared.prop.graph.Reason.{Reason}
 use Rattle.sat_parts.specs.declared.prop.graph.Reason.TheVariants.{Unit as NoCause, Binary, Long}
 
 -- whether the reason is no clause: the literal is a unit, a decision or an assumption
-abbrev pub is_unit : Reason → Bool
-is_unit NoCause = true
-is_unit (Binary _) = false
-is_unit (Long _) = false
+abbrev pub is_unit_reason : Reason → Bool
+is_unit_reason NoCause = true
+is_unit_reason (Binary _) = false
+is_unit_reason (Long _) = false
 
 -- the node of a new variable
 abbrev pub new_node : ImplNode

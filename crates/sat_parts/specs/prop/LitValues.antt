@@ -17,8 +17,8 @@ pub record MirrorsValues (values : List (Option Bool)) (codes : List LitValue) :
   pub each : (l : ℕ) → l < 2 * length values → get_or codes l Open ≡ signed_value (value_of values (variable l)) (is_positive l)
 
 -- the values with both literals of a variable set
-abbrev pub with_value : ℕ → Option Bool → List LitValue → List LitValue
-with_value v value codes = set (set codes (2 * v) (signed_value value true)) (2 * v + 1) (signed_value value false)
+abbrev pub with_lit_value : ℕ → Option Bool → List LitValue → List LitValue
+with_lit_value v value codes = set (set codes (2 * v) (signed_value value true)) (2 * v + 1) (signed_value value false)
 
 -- the values of `count` literals, of which new ones are unassigned
 abbrev pub with_lit_count : ℕ → List LitValue → List LitValue

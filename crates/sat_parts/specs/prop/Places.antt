@@ -19,14 +19,14 @@ abbrev pub lists_of : List Place → List ℕ → List (List ℕ)
 lists_of places lits = map (part_of lits) places
 
 -- the two rooms share no position
-abbrev pub Apart : Place → Place → Type 0
-Apart p q = (p.start + p.room ≤ q.start) ⊎ (q.start + q.room ≤ p.start)
+abbrev pub HaveNoCommonPlace : Place → Place → Type 0
+HaveNoCommonPlace p q = (p.start + p.room ≤ q.start) ⊎ (q.start + q.room ≤ p.start)
 
 -- the lists fit into their rooms, and the rooms are within the list of `size` literals and share no position
 pub record ArePlaces (places : List Place) (size : ℕ) : Type 0 where
   pub few : (l : ℕ) → (place_at places l).len ≤ (place_at places l).room
   pub within : (l : ℕ) → (place_at places l).start + (place_at places l).room ≤ size
-  pub apart : (l m : ℕ) → l ≢ m → Apart (place_at places l) (place_at places m)
+  pub apart : (l m : ℕ) → l ≢ m → HaveNoCommonPlace (place_at places l) (place_at places m)
 
 -- a part of the list was copied to its end, into a new room of this size
 pub record CopiesPart (start len room : ℕ) (old new : List ℕ) : Type 0 where

@@ -12,7 +12,7 @@ use Rattle.sat_parts.specs.prop.Values.{Values, IsTrueLit, IsFalseLit, IsOpenLit
 use Rattle.sat_parts.specs.prop.Trails.{Trailed}
 use Rattle.sat_parts.specs.prop.Binaries.{implied_by}
 use Rattle.sat_parts.specs.prop.WatchLists.{no_watch, watches_of}
-use Rattle.sat_parts.specs.prop.State.{State, level, current_level, HasLeftQueue, Agrees, IsQueueCurrent, IsSatisfied}
+use Rattle.sat_parts.specs.prop.State.{State, level, current_level, HasLeftQueue, StateIsConsistent, IsQueueCurrent, IsSatisfied}
 use Rattle.sat_parts.specs.prop.Reasons.{HaveFirsts, PropagatesOn}
 
 -- the state with these values, nodes and trail
@@ -24,8 +24,8 @@ abbrev pub HasLit : List ℕ → ℕ → ℕ → Type 0
 HasLit words o l = (k : ℕ) × ((k < size_of words o) × (lit_of words o k ≡ l))
 
 -- the watch is on a live clause, and its blocking literal is one of the clause
-abbrev pub IsGood : List ℕ → List ℕ → Watch → Type 0
-IsGood words live x = Contains live x.cref × HasLit words x.cref x.blocking
+abbrev pub IsSoundWatch : List ℕ → List ℕ → Watch → Type 0
+IsSoundWatch words live x = Contains live x.cref × HasLit words x.cref x.blocking
 
 -- the list has a watch on the clause at o
 abbrev pub HasWatch : List Watch → ℕ → Type 0
@@ -34,7 +34,7 @@ HasWatch xs o = (p : ℕ) × ((p < length xs) × ((get_or xs p no_watch).cref �
 -- every live clause watches its first two literals, and there are no watches on other clauses
 pub record AreWatched (words live : List ℕ) (lists : List (List Watch)) (count : ℕ) : Type 0 where
   pub room : length lists ≡ 2 * count
-  pub good : (l p : ℕ) → p < length (watches_of lists l) → IsGood words live (get_or (watches_of lists l) p no_watch)
+  pub good : (l p : ℕ) → p < length (watches_of lists l) → IsSoundWatch words live (get_or (watches_of lists l) p no_watch)
   pub both : (o i : ℕ) → Contains live o → i < 2 → HasWatch (watches_of lists (negated (lit_of words o i))) o
 
 -- if one of the first two literals of a live clause is false by a due literal that has left the queue, the clause has a true literal
@@ -54,7 +54,7 @@ AreImplied implied s due =
 pub record LongReady (words live : List ℕ) (lists : List (List Watch)) (s : State) (due : ℕ → Type 0) : Type 0 where
   pub clauses : AreClauses words live (length s.values)
   pub watches : AreWatched words live lists (length s.values)
-  pub agrees : Agrees s
+  pub agrees : StateIsConsistent s
   pub queue : IsQueueCurrent s
   pub settled : AreSettled words live s due
 
@@ -76,8 +76,8 @@ abbrev pub IsReadyToPropagate : (words live : List ℕ) (lists : List (List Watc
 IsReadyToPropagate words live lists implied s = ReadyBelow words live lists implied s (current_level s + 1)
 
 -- all of these literals are false
-abbrev pub IsFalsified : List (Option Bool) → List ℕ → Type 0
-IsFalsified values ls = (k : ℕ) → k < length ls → IsFalseLit values (get_or ls k 0)
+abbrev pub AreAllFalse : List (Option Bool) → List ℕ → Type 0
+AreAllFalse values ls = (k : ℕ) → k < length ls → IsFalseLit values (get_or ls k 0)
 
 -- the literal at position k is unassigned, and the others are false
 abbrev pub IsUnitAt : List (Option Bool) → List ℕ → ℕ → Type 0
@@ -85,7 +85,7 @@ IsUnitAt values ls k = IsOpenLit values (get_or ls k 0) × ((j : ℕ) → j < le
 
 -- no clause is falsified or unit
 pub record IsUnitFixpoint (words live : List ℕ) (implied : List (List ℕ)) (values : List (Option Bool)) : Type 0 where
-  pub not_falsified : (o : ℕ) → Contains live o → IsFalsified values (lits_at words o) → ⊥
+  pub not_falsified : (o : ℕ) → Contains live o → AreAllFalse values (lits_at words o) → ⊥
   pub not_unit : (o k : ℕ) → Contains live o → k < size_of words o → IsUnitAt values (lits_at words o) k → ⊥
   pub binary : (l k : ℕ) → k < length (implied_by implied l) → IsTrueLit values l → IsTrueLit values (get_or (implied_by implied l) k 0)
 
@@ -95,7 +95,7 @@ IsConflict words live implied values (Binary ls) =
     Contains (implied_by implied (negated (get_or ls 1 0))) (get_or ls 0 0)
     × IsFalseLit values (get_or ls 0 0)
     × IsFalseLit values (get_or ls 1 0)
-IsConflict words live implied values (Long o) = Contains live o × IsFalsified values (lits_at words o)
+IsConflict words live implied values (Long o) = Contains live o × AreAllFalse values (lits_at words o)
 
 -- what propagation ensures: the literals that it assigned have reasons; and either a state that is ready again, with an empty queue
 -- and no unit or falsified clause, or a falsified clause and a state that is ready once its level is undone

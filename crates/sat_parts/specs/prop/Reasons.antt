@@ -4,11 +4,11 @@ use Rattle.std.specs.List.{Contains}
 use Rattle.sat_base.specs.values.Literals.{negated}
 use Rattle.sat_parts.specs.declared.prop.graph.Reason.{Reason}
 use Rattle.sat_parts.specs.declared.prop.graph.Reason.TheVariants.{Unit as NoCause, Binary, Long}
-use Rattle.sat_parts.specs.clause.Orders.{Reorders}
+use Rattle.sat_parts.specs.clause.Orders.{PermutesClauses}
 use Rattle.sat_parts.specs.clause.Stored.{lit_of, size_of}
 use Rattle.sat_parts.specs.prop.Values.{IsTrueLit}
-use Rattle.sat_parts.specs.prop.Graphs.{is_unit}
-use Rattle.sat_parts.specs.prop.State.{State, node, lit_at, IsBefore, IsRemoved, Grows}
+use Rattle.sat_parts.specs.prop.Graphs.{is_unit_reason}
+use Rattle.sat_parts.specs.prop.State.{State, node, lit_at, IsBefore, IsRemoved, TrailGrows}
 
 -- the literal is false: its negation is on the trail before this position, or was taken off as a unit
 abbrev pub IsFalseBefore : State → ℕ → ℕ → Type 0
@@ -34,13 +34,13 @@ HaveFirsts words live s = (i o : ℕ) → i < length s.trail.lits → (node s (l
 
 -- the literal at position i of the trail is true and has a clause as its reason
 abbrev pub HasClauseReason : State → ℕ → Type 0
-HasClauseReason s i = IsTrueLit s.values (lit_at s i) × (is_unit (node s (lit_at s i)).reason ≡ false)
+HasClauseReason s i = IsTrueLit s.values (lit_at s i) × (is_unit_reason (node s (lit_at s i)).reason ≡ false)
 
 -- a stretch of propagation: every literal that became true has a clause as its reason, reasons are unit in the order of the trail,
 -- and clauses changed only in the order of their literals; a true first literal stays first
 pub record PropagatesOn (live : List ℕ) (implied : List (List ℕ)) (words : List ℕ) (s : State) (words' : List ℕ) (s' : State) : Type 0 where
-  pub grows : Grows s s'
-  pub reorders : Reorders words words' live
+  pub grows : TrailGrows s s'
+  pub reorders : PermutesClauses words words' live
   pub firsts : (o : ℕ) → Contains live o → IsTrueLit s.values (lit_of words o 0) → lit_of words' o 0 ≡ lit_of words o 0
   pub caused : (i : ℕ) → length s.trail.lits ≤ i → i < length s'.trail.lits → HasClauseReason s' i
   pub turns : (from : ℕ) → from ≤ length s.trail.lits → AreInTurn words live implied s from → AreInTurn words' live implied s' from

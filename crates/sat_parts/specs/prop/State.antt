@@ -48,7 +48,7 @@ HasLeftQueue s l = IsBefore s s.trail.head l ⊎ IsRemoved s l
 
 -- values, nodes and trail agree: the literals of the trail are true, their nodes have their positions and levels, and every other true
 -- literal was taken off the trail as a unit
-pub record Agrees (s : State) : Type 0 where
+pub record StateIsConsistent (s : State) : Type 0 where
   pub trail : IsTrail s.trail
   pub nodes : length s.nodes ≡ length s.values
   pub room : length s.values ≤ s.trail.room
@@ -70,7 +70,7 @@ enqueued l reason s = record {
 }
 
 -- only unassigned literals became true, and were appended to the trail
-pub record Grows (old new : State) : Type 0 where
+pub record TrailGrows (old new : State) : Type 0 where
   pub size : length new.values ≡ length old.values
   pub starts : new.trail.starts ≡ old.trail.starts
   pub cleared : new.trail.cleared ≡ old.trail.cleared

@@ -4,10 +4,10 @@ use Rattle.sat_base.specs.values.Literals.{variable}
 use Rattle.sat_parts.specs.declared.prop.graph.ImplNode.{ImplNode}
 use Rattle.sat_parts.specs.declared.prop.graph.Reason.{Reason}
 use Rattle.sat_parts.specs.declared.prop.graph.Reason.TheVariants.{Unit as NoCause}
-use Rattle.sat_parts.specs.prop.Graphs.{is_unit}
+use Rattle.sat_parts.specs.prop.Graphs.{is_unit_reason}
 use Rattle.sat_parts.specs.prop.Values.{Values, IsOpenLit}
 use Rattle.sat_parts.specs.prop.Trails.{Trailed, with_lit, with_level, cut_to}
-use Rattle.sat_parts.specs.prop.State.{State, node, lit_at, Agrees, enqueued}
+use Rattle.sat_parts.specs.prop.State.{State, node, lit_at, StateIsConsistent, enqueued}
 use Rattle.sat_parts.specs.prop.Reasons.{PropagatesOn}
 use Rattle.sat_parts.specs.prop.Undone.{undone_to}
 use Rattle.sat_parts.specs.prop.Ready.{state_of}
@@ -54,9 +54,9 @@ BeginsNoLevel starts i = (k : ℕ) → k < length starts → get_or starts k 0 �
 pub record IsLevelled (s : State) : Type 0 where
   pub strict : (j k : ℕ) → j < k → k < length s.trail.starts → get_or s.trail.starts j 0 < get_or s.trail.starts k 0
   pub begun : (k : ℕ) → k < length s.trail.starts → get_or s.trail.starts k 0 < length s.trail.lits
-  pub decided : (k : ℕ) → k < length s.trail.starts → is_unit (node s (lit_at s (get_or s.trail.starts k 0))).reason ≡ true
+  pub decided : (k : ℕ) → k < length s.trail.starts → is_unit_reason (node s (lit_at s (get_or s.trail.starts k 0))).reason ≡ true
   pub caused : (i k : ℕ) → k < length s.trail.starts → get_or s.trail.starts k 0 ≤ i → i < length s.trail.lits → BeginsNoLevel s.trail.starts i →
-      is_unit (node s (lit_at s i)).reason ≡ false
+      is_unit_reason (node s (lit_at s i)).reason ≡ false
 
 -- the state after an unassigned literal was decided on a new level
 abbrev pub decided_on : ℕ → State → State
@@ -65,10 +65,10 @@ decided_on l s = enqueued l NoCause (record s { trail = with_level s.trail })
 -- this is preserved when a literal is decided, becomes true by a clause or at level 0, in propagation, and when levels are undone
 pub record LevelsStay : Type 0 where
   pub none : (s : State) → s.trail.starts ≡ [] → IsLevelled s
-  pub decides : (s : State) (l : ℕ) → Agrees s → IsOpenLit s.values l → variable l < length s.values → IsLevelled s → IsLevelled (decided_on l s)
-  pub caused : (s : State) (l : ℕ) (r : Reason) → Agrees s → IsOpenLit s.values l → variable l < length s.values → is_unit r ≡ false → IsLevelled s → IsLevelled (enqueued l r s)
-  pub moves : (words live words' : List ℕ) (implied : List (List ℕ)) (s s' : State) → Agrees s → PropagatesOn live implied words s words' s' → IsLevelled s → IsLevelled s'
-  pub undone : (a : Values) (nodes : List ImplNode) (t : Trailed) (level : ℕ) → Agrees (state_of a nodes t) → level < length t.starts →
+  pub decides : (s : State) (l : ℕ) → StateIsConsistent s → IsOpenLit s.values l → variable l < length s.values → IsLevelled s → IsLevelled (decided_on l s)
+  pub caused : (s : State) (l : ℕ) (r : Reason) → StateIsConsistent s → IsOpenLit s.values l → variable l < length s.values → is_unit_reason r ≡ false → IsLevelled s → IsLevelled (enqueued l r s)
+  pub moves : (words live words' : List ℕ) (implied : List (List ℕ)) (s s' : State) → StateIsConsistent s → PropagatesOn live implied words s words' s' → IsLevelled s → IsLevelled s'
+  pub undone : (a : Values) (nodes : List ImplNode) (t : Trailed) (level : ℕ) → StateIsConsistent (state_of a nodes t) → level < length t.starts →
       IsLevelled (state_of a nodes t) → IsLevelled (state_of (undone_to level t a) nodes (cut_to level t))
 
 -- a new literal appends its letter to the word; if levels were undone before, the new word is higher than the old one

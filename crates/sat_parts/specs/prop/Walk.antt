@@ -12,9 +12,9 @@ use Rattle.sat_parts.specs.clause.Stored.{AreClauses, lit_of, size_of}
 use Rattle.sat_parts.specs.prop.Values.{Values, IsTrueLit, IsFalseLit, IsOpenLit}
 use Rattle.sat_parts.specs.prop.Binaries.{implied_by}
 use Rattle.sat_parts.specs.prop.WatchLists.{Watching, no_watch, watch_on, watches_of, more_at}
-use Rattle.sat_parts.specs.prop.State.{State, level, current_level, HasLeftQueue, Agrees, IsQueueCurrent, IsSatisfied}
+use Rattle.sat_parts.specs.prop.State.{State, level, current_level, HasLeftQueue, StateIsConsistent, IsQueueCurrent, IsSatisfied}
 use Rattle.sat_parts.specs.prop.Reasons.{PropagatesOn}
-use Rattle.sat_parts.specs.prop.Ready.{IsGood, HasWatch, LongReady, IsFalsified, IsConflict}
+use Rattle.sat_parts.specs.prop.Ready.{IsSoundWatch, HasWatch, LongReady, AreAllFalse, IsConflict}
 
 -- one of the first `kept` watches, or of those from `at` on, is on the clause at o
 abbrev pub HasWatchOutside : List Watch → ℕ → ℕ → ℕ → Type 0
@@ -28,8 +28,8 @@ HasWatchFrom xs at o = (p : ℕ) × ((p < length xs) × (at ≤ p) × ((get_or x
 -- first `kept` stay
 pub record AreWalked (words live : List ℕ) (lists : List (List Watch)) (list : List Watch) (lit kept at count : ℕ) : Type 0 where
   pub room : length lists ≡ 2 * count
-  pub good : (l p : ℕ) → p < length (watches_of lists l) → IsGood words live (get_or (watches_of lists l) p no_watch)
-  pub mine : (p : ℕ) → p < length list → IsGood words live (get_or list p no_watch)
+  pub good : (l p : ℕ) → p < length (watches_of lists l) → IsSoundWatch words live (get_or (watches_of lists l) p no_watch)
+  pub mine : (p : ℕ) → p < length list → IsSoundWatch words live (get_or list p no_watch)
   pub gap : kept ≤ at
   pub within : at ≤ length list
   pub both : (o i : ℕ) → Contains live o → i < 2 →
@@ -37,9 +37,9 @@ pub record AreWalked (words live : List ℕ) (lists : List (List Watch)) (list :
       ⊎ ((negated (lit_of words o i) ≢ lit) × HasWatch (watches_of lists (negated (lit_of words o i))) o)
 
 -- the invariant of the walk: every clause that is not yet propagated has a watch that is still to visit
-pub record Half (words live : List ℕ) (s : State) (lists : List (List Watch)) (list : List Watch) (lit kept at : ℕ) : Type 0 where
+pub record WalkInvariant (words live : List ℕ) (s : State) (lists : List (List Watch)) (list : List Watch) (lit kept at : ℕ) : Type 0 where
   pub clauses : AreClauses words live (length s.values)
-  pub agrees : Agrees s
+  pub agrees : StateIsConsistent s
   pub queue : IsQueueCurrent s
   pub left : HasLeftQueue s lit
   pub top : level s lit ≡ current_level s
@@ -53,7 +53,7 @@ abbrev pub IsOther : List ℕ → List ℕ → ℕ → ℕ → Type 0
 IsOther w v o fl = ((lit_of w o 1 ≡ fl) × (lit_of v o 0 ≡ lit_of w o 0)) ⊎ ((lit_of w o 0 ≡ fl) × (lit_of v o 0 ≡ lit_of w o 1))
 
 -- the same, and fl is now second
-pub record Oriented (w v : List ℕ) (o fl : ℕ) : Type 0 where
+pub record WalkInvariantAtClause (w v : List ℕ) (o fl : ℕ) : Type 0 where
   pub other : IsOther w v o fl
   pub second : lit_of v o 1 ≡ fl
 
@@ -64,15 +64,15 @@ Visited w v a lists lists' o fl Moved =
     IsOther w v o fl
     × (IsFalseLit a (lit_of v o 1) → ⊥)
     × (lists' ≡ more_at (negated (lit_of v o 1)) (watch_on o (lit_of v o 0)) lists)
-Visited w v a lists lists' o fl (Keep n) = Oriented w v o fl × (n ≡ lit_of v o 0) × (lists' ≡ lists) × IsTrueLit a (lit_of v o 0)
+Visited w v a lists lists' o fl (Keep n) = WalkInvariantAtClause w v o fl × (n ≡ lit_of v o 0) × (lists' ≡ lists) × IsTrueLit a (lit_of v o 0)
 Visited w v a lists lists' o fl (Propagates n) =
-    Oriented w v o fl
+    WalkInvariantAtClause w v o fl
     × (n ≡ lit_of v o 0)
     × (lists' ≡ lists)
     × ((k : ℕ) → 1 ≤ k → k < size_of v o → IsFalseLit a (lit_of v o k))
     × IsOpenLit a (lit_of v o 0)
 Visited w v a lists lists' o fl (Falsified n) =
-    Oriented w v o fl
+    WalkInvariantAtClause w v o fl
     × (n ≡ lit_of v o 0)
     × (lists' ≡ lists)
     × ((k : ℕ) → k < size_of v o → IsFalseLit a (lit_of v o k))
@@ -86,20 +86,20 @@ abbrev pub due_after : Option ℕ → State → ℕ → Type 0
 due_after found s l = MatchOption found (Unit {0}) (λ _. level s l < current_level s)
 
 -- the effect of a walk on words and state, and on the lists once the walked one is put back
-pub record Walks (live : List ℕ) (words : List ℕ) (s : State) (words' : List ℕ) (s' : State) (lists : List (List Watch)) (found : Option ℕ) : Type 0 where
+pub record WatchWalkEffect (live : List ℕ) (words : List ℕ) (s : State) (words' : List ℕ) (s' : State) (lists : List (List Watch)) (found : Option ℕ) : Type 0 where
   pub moves : (implied : List (List ℕ)) → PropagatesOn live implied words s words' s'
   pub head : s'.trail.head ≡ s.trail.head
   pub ready : LongReady words' live lists s' (due_after found s')
-  pub conflict : MatchOption found (Unit {0}) (λ o. Contains live o × IsFalsified s'.values (lits_at words' o))
+  pub conflict : MatchOption found (Unit {0}) (λ o. Contains live o × AreAllFalse s'.values (lits_at words' o))
 
 -- the same, with the falsified clause as a conflict
-abbrev pub WalksLong : (live : List ℕ) (words : List ℕ) (s : State) (words' : List ℕ) (s' : State) (lists : List (List Watch)) → Result (Unit {0}) Conflict → Type 0
-WalksLong live words s words' s' lists r =
-    MatchResult r (λ _. Walks live words s words' s' lists None) (λ e. (o : ℕ) × ((e ≡ Long o) × Walks live words s words' s' lists (Some o)))
+abbrev pub LongWalkEffect : (live : List ℕ) (words : List ℕ) (s : State) (words' : List ℕ) (s' : State) (lists : List (List Watch)) → Result (Unit {0}) Conflict → Type 0
+LongWalkEffect live words s words' s' lists r =
+    MatchResult r (λ _. WatchWalkEffect live words s words' s' lists None) (λ e. (o : ℕ) × ((e ≡ Long o) × WatchWalkEffect live words s words' s' lists (Some o)))
 
 -- the state during the walk through the literals that lit implies: those before position `at` are true
-pub record BinaryWalk (implied : List (List ℕ)) (lit : ℕ) (s s' : State) (at : ℕ) : Type 0 where
-  pub agrees : Agrees s'
+pub record BinaryWalkInvariant (implied : List (List ℕ)) (lit : ℕ) (s s' : State) (at : ℕ) : Type 0 where
+  pub agrees : StateIsConsistent s'
   pub queue : IsQueueCurrent s'
   pub left : HasLeftQueue s' lit
   pub top : level s' lit ≡ current_level s'
@@ -109,6 +109,6 @@ pub record BinaryWalk (implied : List (List ℕ)) (lit : ℕ) (s s' : State) (at
       IsTrueLit s'.values (get_or (implied_by implied lit) k 0) × (level s' (get_or (implied_by implied lit) k 0) ≤ level s' lit)
 
 -- the effect of propagation over binary clauses
-abbrev pub WalksBinary : (implied : List (List ℕ)) (lit : ℕ) (s s' : State) → Result (Unit {0}) Conflict → Type 0
-WalksBinary implied lit s s' r =
-    MatchResult r (λ _. BinaryWalk implied lit s s' (length (implied_by implied lit))) (λ e. BinaryWalk implied lit s s' 0 × IsConflict [] [] implied s'.values e)
+abbrev pub BinaryWalkEffect : (implied : List (List ℕ)) (lit : ℕ) (s s' : State) → Result (Unit {0}) Conflict → Type 0
+BinaryWalkEffect implied lit s s' r =
+    MatchResult r (λ _. BinaryWalkInvariant implied lit s s' (length (implied_by implied lit))) (λ e. BinaryWalkInvariant implied lit s s' 0 × IsConflict [] [] implied s'.values e)

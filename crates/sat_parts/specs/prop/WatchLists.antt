@@ -29,8 +29,8 @@ abbrev pub with_watch : ℕ → Watch → Watching → Watching
 with_watch l watch w = record w { lists = more_at l watch w.lists }
 
 -- the lists without the last watch of literal l
-abbrev pub without_last : ℕ → List (List Watch) → List (List Watch)
-without_last l lists = set lists l (take (length (watches_of lists l) - 1) (watches_of lists l))
+abbrev pub without_last_watch : ℕ → List (List Watch) → List (List Watch)
+without_last_watch l lists = set lists l (take (length (watches_of lists l) - 1) (watches_of lists l))
 
 -- two more watches for two literals of a clause if the lists are enabled; each is the blocking literal of the other's watch
 abbrev pub with_clause_watches : ℕ → ℕ → ℕ → Watching → Watching
@@ -49,6 +49,6 @@ abbrev pub widened : ℕ → List (List Watch) → List (List Watch)
 widened count lists = lists ++ replicate (count - length lists) []
 
 -- there are at most `count` lists, and capacity for `count`
-pub record HasRoom (count capacity : ℕ) (lists : List (List Watch)) : Type 0 where
+pub record HasListRoom (count capacity : ℕ) (lists : List (List Watch)) : Type 0 where
   pub few : length lists ≤ count
   pub room : count ≤ capacity

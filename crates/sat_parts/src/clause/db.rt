@@ -6,7 +6,7 @@ ghost use Rattle.sat_base.specs.values.Literals.{negated, variable};
 ghost use Rattle.sat_store.specs.clause.Buffer.{IsClause, HoldsClauses, AppendsClause, header_at, lits_at};
 ghost use Rattle.sat_store.specs.clause.Full.{OnFull};
 ghost use Rattle.sat_store.specs.clause.Header.{index_of};
-ghost use Rattle.sat_parts.specs.clause.Db.{no_clauses, HoldsDb, live_refs, one_more, one_less, PutsHeader};
+ghost use Rattle.sat_parts.specs.clause.Db.{no_clauses, HoldsDb, live_refs, tier_count_more, tier_count_less, PutsHeader};
 ghost use Rattle.sat_parts.specs.clause.Db.{AddsLongClause, DeletesClause, MovesClause, ShortensClause, IsLockedClause};
 ghost use Rattle.sat_parts.specs.clause.Stored.{lit_of};
 ghost use Rattle.sat_parts.specs.prop.WatchLists.{with_firsts};
@@ -93,7 +93,7 @@ impl ClauseDb {
     /// Adds one to the number of clauses of a tier.
     fn count_more(&mut self, tier: Tier)
         requires { slice_index_or self.old.counts (index_of tier) 0 + 1 < 2 ^ 64 }
-        ensures { self.new ≡ record self.old { counts = one_more tier self.old.counts } }
+        ensures { self.new ≡ record self.old { counts = tier_count_more tier self.old.counts } }
     {
         self.count_by_tier[tier.index()] += 1;
     }
@@ -101,7 +101,7 @@ impl ClauseDb {
     /// Subtracts one from the number of clauses of a tier.
     fn count_less(&mut self, tier: Tier)
         requires { 0 < slice_index_or self.old.counts (index_of tier) 0 }
-        ensures { self.new ≡ record self.old { counts = one_less tier self.old.counts } }
+        ensures { self.new ≡ record self.old { counts = tier_count_less tier self.old.counts } }
     {
         self.count_by_tier[tier.index()] -= 1;
     }

@@ -4,7 +4,7 @@ ghost use Rattle.sat_base.specs.values.Literals.{variable};
 ghost use Rattle.sat_store.specs.clause.Buffer.{IsClause};
 ghost use Rattle.sat_store.specs.clause.Full.{OnFull};
 ghost use Rattle.sat_parts.specs.clause.Db.{HoldsDb, live_refs};
-ghost use Rattle.sat_parts.specs.clause.Collected.{CopiesOne, Copying, AreFirsts, FollowsAll, Collects};
+ghost use Rattle.sat_parts.specs.clause.Collected.{CopiesOne, CopyInvariant, AreFirsts, FollowsAll, Collects};
 ghost use Rattle.sat_parts.specs.clause.Collected.{CollectsNothing, after_collection};
 ghost use Rattle.sat_parts.specs.prop.Graphs.{HasReason, with_reason};
 
@@ -44,7 +44,7 @@ fn copy_live(
     requires db { HoldsDb clauses.now db.now }
     requires no_words { to.old ≡ [] }
     requires no_refs { refs.old.items ≡ [] }
-    ensures copied { OnOk result (Copying clauses.now db.now.refs to.new refs.new.items (length db.now.refs)) }
+    ensures copied { OnOk result (CopyInvariant clauses.now db.now.refs to.new refs.new.items (length db.now.refs)) }
     ensures room { OnFull result ⊥ }
 {
     for at in 0..db.len() {
@@ -114,7 +114,7 @@ struct Copied {
 /// Copies the live clauses into a new buffer.
 fn copy_all(alloc: Global, clauses: &ClauseAlloc, db: &ClauseDb) -> Result<Copied, StoreError>
     requires { HoldsDb clauses.now db.now }
-    ensures copied { IfOk result (λ x. Copying clauses.now db.now.refs x.clauses x.refs.items (length db.now.refs)) }
+    ensures copied { IfOk result (λ x. CopyInvariant clauses.now db.now.refs x.clauses x.refs.items (length db.now.refs)) }
     ensures room { OnFull result ⊥ }
 {
     let live = clauses.buffer_size().saturating_sub(db.garbage_size());

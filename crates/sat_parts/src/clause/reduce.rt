@@ -4,7 +4,7 @@ ghost use Rattle.std.specs.List.{Contains, filter};
 ghost use Rattle.sat_store.specs.clause.Buffer.{IsClause, header_at};
 ghost use Rattle.sat_parts.specs.clause.Db.{HoldsDb, PutsHeader, live_refs, is_live_of};
 ghost use Rattle.sat_parts.specs.clause.Activity.{PutsHeaders};
-ghost use Rattle.sat_parts.specs.clause.Reduced.{reduced, marked};
+ghost use Rattle.sat_parts.specs.clause.Reduced.{reduced, with_mark};
 
 use crate::clause::db::{ClauseDb, put_header, set_clause_tier};
 use sat_store::{ClauseAlloc, ClauseRef, Tier};
@@ -84,7 +84,7 @@ fn clauses_of_tier(
 fn mark_one(clauses: &mut ClauseAlloc, _db: &ClauseDb, cref: ClauseRef, tier: Tier)
     requires db { HoldsDb clauses.old _db.now }
     requires there { Contains _db.now.refs cref }
-    ensures put { PutsHeader clauses.old clauses.new _db.now.refs cref (marked tier (header_at clauses.old cref)) }
+    ensures put { PutsHeader clauses.old clauses.new _db.now.refs cref (with_mark tier (header_at clauses.old cref)) }
     ensures db { HoldsDb clauses.new _db.now }
     ensures live { live_refs clauses.new _db.now.refs ≡ live_refs clauses.old _db.now.refs }
 {
@@ -102,7 +102,7 @@ fn mark_one(clauses: &mut ClauseAlloc, _db: &ClauseDb, cref: ClauseRef, tier: Ti
 /// Marks every live clause of a tier.
 fn mark_tier(clauses: &mut ClauseAlloc, db: &ClauseDb, tier: Tier)
     requires { HoldsDb clauses.old db.now }
-    ensures headers { PutsHeaders clauses.old clauses.new db.now.refs (λ p. marked tier (header_at clauses.old p)) }
+    ensures headers { PutsHeaders clauses.old clauses.new db.now.refs (λ p. with_mark tier (header_at clauses.old p)) }
     ensures db { HoldsDb clauses.new db.now }
     ensures live { live_refs clauses.new db.now.refs ≡ live_refs clauses.old db.now.refs }
 {
@@ -124,7 +124,7 @@ pub fn dedup_and_mark_by_tier(
     requires { HoldsDb clauses.old db.now }
     ensures list { IfOk result (λ list. list.items ≡ filter (is_live_of clauses.old tier) db.now.refs) }
     ensures marks { OnOk result (PutsHeaders clauses.old clauses.new db.now.refs
-        (λ p. marked tier (header_at clauses.old p))) }
+        (λ p. with_mark tier (header_at clauses.old p))) }
     ensures db { HoldsDb clauses.new db.now }
     ensures live { live_refs clauses.new db.now.refs ≡ live_refs clauses.old db.now.refs }
     ensures same { OnErr result (clauses.new ≡ clauses.old) }

@@ -5,9 +5,9 @@ ghost use Rattle.sat_parts.specs.prop.Values.{IsOpenLit};
 ghost use Rattle.sat_parts.specs.prop.State.{State};
 ghost use Rattle.sat_parts.specs.parts.Whole.{state, PartsInvariant, IsFullyPropagated};
 ghost use Rattle.sat_parts.specs.parts.Words.{TrailWordStays, TrailWordExtendsFor};
-ghost use Rattle.sat_parts.specs.parts.Assumed.{HaveVariablesIn, variables, ArePlaced, EnqueueAssumptionEffect, AreCutTo};
+ghost use Rattle.sat_parts.specs.parts.Assumed.{HaveVariablesIn, variables_of_lits, ArePlaced, EnqueueAssumptionEffect, AreCutTo};
 ghost use Rattle.sat_parts.specs.parts.Assumed.{AreTrueFromTo, IsUntrueAt};
-ghost use Rattle.sat_parts.specs.parts.Frame.{AddsNoUnit, SameClauses, AddsNothing, KeepsLevels, Deepens};
+ghost use Rattle.sat_parts.specs.parts.Frame.{AddsNoUnit, SameClauses, AddsNothing, KeepsLevels, OpensLevel};
 
 use crate::parts::Parts;
 use crate::parts::steps::{assume, undo};
@@ -115,10 +115,10 @@ fn begin_level(parts: &mut Parts, assumptions: &mut Assumptions, lit: Lit) -> Re
     ensures holds { OnOk result (PartsInvariant parts.new) }
     ensures lits { assumptions.new.lits ≡ assumptions.old.lits }
     ensures placed { OnOk result (ArePlaced assumptions.new (state parts.new)) }
-    ensures word { OnOk result (TrailWordExtendsFor (variables assumptions.old.lits.items) parts.old parts.new) }
+    ensures word { OnOk result (TrailWordExtendsFor (variables_of_lits assumptions.old.lits.items) parts.old parts.new) }
     ensures same { OnOk result (AddsNothing parts.old parts.new) }
     ensures keeps { OnOk result (KeepsLevels parts.old parts.new) }
-    ensures deeper { OnOk result (Deepens parts.old parts.new) }
+    ensures deeper { OnOk result (OpensLevel parts.old parts.new) }
 {
     assumptions.below.push(assumptions.place)?;
     assumptions.place += 1;
@@ -137,7 +137,7 @@ pub fn enqueue_assumption(
     ensures holds { OnOk result (PartsInvariant parts.new) }
     ensures lits { assumptions.new.lits ≡ assumptions.old.lits }
     ensures placed { OnOk result (ArePlaced assumptions.new (state parts.new)) }
-    ensures word { OnOk result (TrailWordExtendsFor (variables assumptions.old.lits.items) parts.old parts.new) }
+    ensures word { OnOk result (TrailWordExtendsFor (variables_of_lits assumptions.old.lits.items) parts.old parts.new) }
     ensures same { OnOk result (AddsNothing parts.old parts.new) }
     ensures keeps { OnOk result (KeepsLevels parts.old parts.new) }
     ensures says { IfOk result (λ r. EnqueueAssumptionEffect r assumptions.new parts.old parts.new) }

@@ -12,7 +12,7 @@ ghost use Rattle.sat_parts.specs.prop.State.{HasLeftQueue};
 ghost use Rattle.sat_parts.specs.clause.Db.{PutsHeader, MovesClause, IsLockedClause};
 ghost use Rattle.sat_parts.specs.parts.Whole.{state, PartsInvariant, HasClause};
 ghost use Rattle.sat_parts.specs.parts.Words.{TrailWordExtends};
-ghost use Rattle.sat_parts.specs.parts.Frame.{Headed, Dropped, Copied, Swapped, Shortened, Removed, SameContents};
+ghost use Rattle.sat_parts.specs.parts.Frame.{ChangesHeaders, DropsLongClause, MovesLongClauses, SwapsLits, ShortensLongClause, RemovesBinaries, SameContents};
 ghost use Rattle.sat_store.specs.clause.Full.{OnFull};
 
 use crate::parts::Parts;
@@ -29,7 +29,7 @@ pub fn drop_clause(parts: &mut Parts, cref: ClauseRef) -> bool
     requires holds { PartsInvariant parts.old }
     requires live { HasClause parts.old cref }
     ensures holds { PartsInvariant parts.new }
-    ensures dropped { result ≡ true → Dropped parts.old parts.new cref }
+    ensures dropped { result ≡ true → DropsLongClause parts.old parts.new cref }
     ensures free { result ≡ true → IsLockedClause parts.old.clauses parts.old.assignment.current parts.old.graph cref
         → ⊥ }
     ensures kept { result ≡ false → IsLockedClause parts.old.clauses parts.old.assignment.current parts.old.graph cref
@@ -53,7 +53,7 @@ pub fn delete_long(parts: &mut Parts, cref: ClauseRef)
     requires empty { parts.old.trail.lits ≡ [] }
     requires live { HasClause parts.old cref }
     ensures holds { PartsInvariant parts.new }
-    ensures dropped { Dropped parts.old parts.new cref }
+    ensures dropped { DropsLongClause parts.old parts.new cref }
     ensures word { TrailWordExtends parts.old parts.new }
 {
     delete_clause(
@@ -70,7 +70,7 @@ pub fn reduce_middle(parts: &mut Parts)
     ensures holds { PartsInvariant parts.new }
     ensures headers { PutsHeaders parts.old.clauses parts.new.clauses parts.old.db.refs
         (λ o. reduced (header_at parts.old.clauses o)) }
-    ensures headed { Headed parts.old parts.new }
+    ensures headed { ChangesHeaders parts.old parts.new }
     ensures word { TrailWordExtends parts.old parts.new }
 {
     reduce_mids(&mut parts.clauses, &mut parts.db);
@@ -80,7 +80,7 @@ pub fn reduce_middle(parts: &mut Parts)
 pub fn collect(alloc: Global, parts: &mut Parts) -> Result<(), StoreError>
     requires holds { PartsInvariant parts.old }
     ensures holds { PartsInvariant parts.new }
-    ensures copied { Copied parts.old parts.new }
+    ensures copied { MovesLongClauses parts.old parts.new }
     ensures due { length parts.old.clauses / 2 < parts.old.db.garbage → OnOk result (parts.new.db.garbage ≡ 0) }
     ensures not_due { parts.old.db.garbage ≤ length parts.old.clauses / 2 → parts.new ≡ parts.old }
     ensures room { OnFull result ⊥ }
@@ -106,7 +106,7 @@ pub fn put_header(parts: &mut Parts, cref: ClauseRef, header: ClauseHeader)
     ensures holds { PartsInvariant parts.new }
     ensures put { PutsHeader parts.old.clauses parts.new.clauses parts.old.db.refs cref header }
     ensures db { parts.new.db ≡ parts.old.db }
-    ensures headed { Headed parts.old parts.new }
+    ensures headed { ChangesHeaders parts.old parts.new }
     ensures word { TrailWordExtends parts.old parts.new }
 {
     parts.clauses.set_header(cref, header);
@@ -119,7 +119,7 @@ pub fn set_tier(parts: &mut Parts, cref: ClauseRef, tier: Tier)
     requires side { is_learned tier ≡ is_learned (header_at parts.old.clauses cref).tier }
     ensures holds { PartsInvariant parts.new }
     ensures moves { MovesClause parts.old.clauses parts.old.db parts.new.clauses parts.new.db cref tier }
-    ensures headed { Headed parts.old parts.new }
+    ensures headed { ChangesHeaders parts.old parts.new }
     ensures word { TrailWordExtends parts.old parts.new }
 {
     set_clause_tier(&mut parts.clauses, &mut parts.db, cref, tier);
@@ -134,7 +134,7 @@ pub fn swap_behind(parts: &mut Parts, cref: ClauseRef, i: usize, j: usize)
     requires first_within { i < size_of parts.old.clauses cref }
     requires second_within { j < size_of parts.old.clauses cref }
     ensures holds { PartsInvariant parts.new }
-    ensures swapped { Swapped parts.old parts.new cref i j }
+    ensures swapped { SwapsLits parts.old parts.new cref i j }
     ensures db { parts.new.db ≡ parts.old.db }
     ensures word { TrailWordExtends parts.old parts.new }
 {
@@ -151,7 +151,7 @@ pub fn shorten(parts: &mut Parts, cref: ClauseRef, len: usize)
     requires no_longer { len ≤ size_of parts.old.clauses cref }
     requires fresh { (i : ℕ) → i < 2 → HasLeftQueue (state parts.old) (negated (lit_of parts.old.clauses cref i)) → ⊥ }
     ensures holds { PartsInvariant parts.new }
-    ensures shortened { Shortened parts.old parts.new cref len }
+    ensures shortened { ShortensLongClause parts.old parts.new cref len }
     ensures word { TrailWordExtends parts.old parts.new }
 {
     shorten_clause(
@@ -168,7 +168,7 @@ pub fn remove_binary(parts: &mut Parts)
     requires holds { PartsInvariant parts.old }
     requires empty { parts.old.trail.lits ≡ [] }
     ensures holds { PartsInvariant parts.new }
-    ensures removed { Removed parts.old parts.new }
+    ensures removed { RemovesBinaries parts.old parts.new }
     ensures word { TrailWordExtends parts.old parts.new }
 {
     parts.binary.remove_assigned(&parts.assignment);
@@ -182,7 +182,7 @@ pub fn bump_clause(parts: &mut Parts, activity: &mut ClauseActivity, cref: Claus
     ensures raised { BumpsBelow parts.old.clauses parts.new.clauses parts.old.db.refs cref activity.old activity.new }
     ensures rescaled { BumpsPast parts.old.clauses parts.new.clauses parts.old.db.refs cref activity.old activity.new }
     ensures db { parts.new.db ≡ parts.old.db }
-    ensures headed { Headed parts.old parts.new }
+    ensures headed { ChangesHeaders parts.old parts.new }
     ensures word { TrailWordExtends parts.old parts.new }
 {
     bump_clause_activity(activity, &mut parts.clauses, &parts.db, cref);
@@ -210,7 +210,7 @@ pub fn decay_clauses(parts: &mut Parts, activity: &mut ClauseActivity)
     ensures rescaled { 2 ^ 30 ≤ later_bump activity.old
         → DecaysAll parts.old.clauses parts.new.clauses parts.old.db.refs activity.old activity.new }
     ensures db { parts.new.db ≡ parts.old.db }
-    ensures headed { Headed parts.old parts.new }
+    ensures headed { ChangesHeaders parts.old parts.new }
     ensures word { TrailWordExtends parts.old parts.new }
 {
     decay_clause_activities(activity, &mut parts.clauses, &parts.db);

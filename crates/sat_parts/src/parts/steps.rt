@@ -13,9 +13,9 @@ ghost use Rattle.sat_parts.specs.prop.Trails.{cut_to};
 ghost use Rattle.sat_parts.specs.prop.TrailWord.{decided_on};
 ghost use Rattle.sat_parts.specs.parts.Words.{WordExtends, TrailWordExtendsFor, TrailWordStays, TrailWordExtends};
 ghost use Rattle.sat_parts.specs.parts.Words.{IsAwaited};
-ghost use Rattle.sat_parts.specs.parts.Learned.{IsLearned, IsPending};
-ghost use Rattle.sat_parts.specs.parts.Frame.{AddsNoUnit, SameClauses, Reordered, Learnt, KeepsTo, AddsNothing};
-ghost use Rattle.sat_parts.specs.parts.Frame.{KeepsLevels, Deepens, EnqueuesFirst};
+ghost use Rattle.sat_parts.specs.parts.Learned.{IsAnalyzedClause, IsPending};
+ghost use Rattle.sat_parts.specs.parts.Frame.{AddsNoUnit, SameClauses, ReordersLits, AddsLearnedClause, KeepsTo, AddsNothing};
+ghost use Rattle.sat_parts.specs.parts.Frame.{KeepsLevels, OpensLevel, EnqueuesFirst};
 ghost use Rattle.sat_parts.specs.parts.Full.{IsFull};
 ghost use Rattle.sat_store.specs.clause.Full.{OnFull};
 
@@ -37,7 +37,7 @@ pub fn propagate_all(alloc: Global, parts: &mut Parts) -> Result<Result<(), Conf
         → OnOk result (UnitsAreUncaused (state parts.new)) }
     ensures base { 0 < length parts.old.trail.starts → IsBased parts.old.trail → OnOk result (IsBased parts.new.trail) }
     ensures starts { OnOk result (parts.new.trail.starts ≡ parts.old.trail.starts) }
-    ensures moved { OnOk result (Reordered parts.old parts.new) }
+    ensures moved { OnOk result (ReordersLits parts.old parts.new) }
     ensures carries { OnOk result (AddsNoUnit (state parts.old) (state parts.new)) }
     ensures keeps { OnOk result (KeepsLevels parts.old parts.new) }
     ensures word { OnOk result (TrailWordExtends parts.old parts.new) }
@@ -79,7 +79,7 @@ fn decide_on(parts: &mut Parts, var: Var) -> Result<(), AllocError>
     requires picked { IsPicked parts.old var }
     requires done { IsFullyPropagated parts.old }
     ensures holds { OnOk result (PartsInvariant parts.new) }
-    ensures deeper { OnOk result (Deepens parts.old parts.new) }
+    ensures deeper { OnOk result (OpensLevel parts.old parts.new) }
     ensures same { OnOk result (AddsNothing parts.old parts.new) }
     ensures keeps { OnOk result (KeepsLevels parts.old parts.new) }
     ensures word { (assumed : List ℕ) (q : Queue) → may_pick q var ≡ true
@@ -105,7 +105,7 @@ fn learn_unit(parts: &mut Parts, header: ClauseHeader, lits: &[Lit])
     requires pending { IsPending (state parts.old) parts.old.vsids lits.now }
     ensures holds { PartsInvariant parts.new }
     ensures trail { EnqueuesFirst lits.now parts.old parts.new }
-    ensures learnt { Learnt parts.old parts.new header lits.now }
+    ensures learnt { AddsLearnedClause parts.old parts.new header lits.now }
     ensures stay { TrailWordStays parts.old parts.new }
 {
     let _ = header;
@@ -125,7 +125,7 @@ fn learn_binary(parts: &mut Parts, header: ClauseHeader, lits: &[Lit]) -> Result
     requires pending { IsPending (state parts.old) parts.old.vsids lits.now }
     ensures holds { OnOk result (PartsInvariant parts.new) }
     ensures trail { OnOk result (EnqueuesFirst lits.now parts.old parts.new) }
-    ensures learnt { OnOk result (Learnt parts.old parts.new header lits.now) }
+    ensures learnt { OnOk result (AddsLearnedClause parts.old parts.new header lits.now) }
     ensures stay { OnOk result (TrailWordStays parts.old parts.new) }
 {
     let _ = header;
@@ -150,7 +150,7 @@ fn learn_long(parts: &mut Parts, header: ClauseHeader, lits: &[Lit]) -> Result<(
     requires pending { IsPending (state parts.old) parts.old.vsids lits.now }
     ensures holds { OnOk result (PartsInvariant parts.new) }
     ensures trail { OnOk result (EnqueuesFirst lits.now parts.old parts.new) }
-    ensures learnt { OnOk result (Learnt parts.old parts.new header lits.now) }
+    ensures learnt { OnOk result (AddsLearnedClause parts.old parts.new header lits.now) }
     ensures stay { OnOk result (TrailWordStays parts.old parts.new) }
     ensures full { OnFull result (IsFull parts.new) }
 {
@@ -178,7 +178,7 @@ pub fn learn(parts: &mut Parts, header: ClauseHeader, lits: &[Lit]) -> Result<()
     requires pending { IsPending (state parts.old) parts.old.vsids lits.now }
     ensures holds { OnOk result (PartsInvariant parts.new) }
     ensures trail { OnOk result (EnqueuesFirst lits.now parts.old parts.new) }
-    ensures learnt { OnOk result (Learnt parts.old parts.new header lits.now) }
+    ensures learnt { OnOk result (AddsLearnedClause parts.old parts.new header lits.now) }
     ensures stay { OnOk result (TrailWordStays parts.old parts.new) }
     ensures full { OnFull result (IsFull parts.new) }
 {
@@ -202,7 +202,7 @@ pub fn undo(parts: &mut Parts, level: usize)
     requires below { level < length parts.old.trail.starts }
     requires due { level < top }
     ensures holds { PartsInvariant parts.new }
-    ensures pending { (ls : List ℕ) → IsLearned (state parts.old) ls level
+    ensures pending { (ls : List ℕ) → IsAnalyzedClause (state parts.old) ls level
         → IsPending (state parts.new) parts.new.vsids ls }
     ensures starts { length parts.new.trail.starts ≡ level }
     ensures trail { parts.new.trail ≡ cut_to level parts.old.trail }
@@ -245,7 +245,7 @@ pub fn make_decision(parts: &mut Parts) -> Result<bool, AllocError>
     ensures keeps { OnOk result (KeepsLevels parts.old parts.new) }
     ensures word { OnOk result (TrailWordExtends parts.old parts.new) }
     ensures flat { IfOk result (λ decided. decided ≡ false → parts.new.trail ≡ parts.old.trail) }
-    ensures deeper { IfOk result (λ decided. decided ≡ true → Deepens parts.old parts.new) }
+    ensures deeper { IfOk result (λ decided. decided ≡ true → OpensLevel parts.old parts.new) }
 {
     let picked = pick(&mut parts.vsids, &parts.assignment);
     match picked {
@@ -269,7 +269,7 @@ pub fn assume(parts: &mut Parts, lit: Lit) -> Result<(), AllocError>
     ensures same { OnOk result (AddsNothing parts.old parts.new) }
     ensures decided { OnOk result (state parts.new ≡ decided_on lit (state parts.old)) }
     ensures keeps { OnOk result (KeepsLevels parts.old parts.new) }
-    ensures deeper { OnOk result (Deepens parts.old parts.new) }
+    ensures deeper { OnOk result (OpensLevel parts.old parts.new) }
 {
     parts.trail.new_decision_level()?;
     enqueue_assignment(

@@ -5,7 +5,7 @@ ghost use Rattle.sat_parts.specs.prop.State.{HasLeftQueue};
 ghost use Rattle.sat_parts.specs.parts.Whole.{state, PartsInvariant, HoldsBelow, IsFullyPropagated};
 ghost use Rattle.sat_parts.specs.parts.Words.{TrailWordExtends};
 ghost use Rattle.sat_parts.specs.parts.Units.{removed};
-ghost use Rattle.sat_parts.specs.parts.Frame.{AddsNoUnit, Clears, SameClauses};
+ghost use Rattle.sat_parts.specs.parts.Frame.{AddsNoUnit, TakesOffUnits, SameClauses};
 ghost use Rattle.sat_parts.specs.clause.Glue.{HaveNodes};
 
 use crate::parts::Parts;
@@ -32,7 +32,7 @@ pub fn clear_units(parts: &mut Parts)
     ensures bottom { parts.new.trail.starts ≡ [] }
     ensures empty { parts.new.trail.lits ≡ [] }
     ensures same { SameClauses parts.old parts.new }
-    ensures clears { Clears (state parts.old) (state parts.new) }
+    ensures clears { TakesOffUnits (state parts.old) (state parts.new) }
     ensures word { TrailWordExtends parts.old parts.new }
 {
     mark_removed(&mut parts.graph, &parts.trail);

@@ -1,8 +1,8 @@
 //! Propagation over binary clauses.
 ghost use Rattle.std.specs.Prelude.{◌≡◌, length, IfOk, IsOk};
-ghost use Rattle.sat_parts.specs.prop.State.{Agrees, IsQueueCurrent, HasLeftQueue, level, current_level};
+ghost use Rattle.sat_parts.specs.prop.State.{StateIsConsistent, IsQueueCurrent, HasLeftQueue, level, current_level};
 ghost use Rattle.sat_parts.specs.prop.Ready.{state_of, AreLists};
-ghost use Rattle.sat_parts.specs.prop.Walk.{WalksBinary};
+ghost use Rattle.sat_parts.specs.prop.Walk.{BinaryWalkEffect};
 
 use crate::binary::BinaryClauses;
 use crate::prop::assignment::Assignment;
@@ -22,13 +22,13 @@ pub fn propagate_binary(
     lit: Lit,
 ) -> Result<Result<(), Conflict>, AllocError>
     requires lists { AreLists binary.now.implied (length assignment.old.current) }
-    requires agrees { Agrees (state_of assignment.old graph.old trail.old) }
+    requires agrees { StateIsConsistent (state_of assignment.old graph.old trail.old) }
     requires queue { IsQueueCurrent (state_of assignment.old graph.old trail.old) }
     requires left { HasLeftQueue (state_of assignment.old graph.old trail.old) lit }
     requires top { level (state_of assignment.old graph.old trail.old) lit
         ≡ current_level (state_of assignment.old graph.old trail.old) }
     ensures memory { IsOk result }
-    ensures walked { IfOk result (λ r. WalksBinary binary.now.implied lit
+    ensures walked { IfOk result (λ r. BinaryWalkEffect binary.now.implied lit
         (state_of assignment.old graph.old trail.old) (state_of assignment.new graph.new trail.new) r) }
     ensures last { assignment.new.last ≡ assignment.old.last }
 {

@@ -1,6 +1,6 @@
 //! The implication graph: for every variable the reason, the level and the position on the trail.
 ghost use Rattle.std.specs.Prelude.{◌≡◌, ◌<◌, ◌↔◌, [], length, IsTrue, OnOk, OnErr};
-ghost use Rattle.sat_parts.specs.prop.Graphs.{node_of, with_node, with_nodes, removed_node, is_unit};
+ghost use Rattle.sat_parts.specs.prop.Graphs.{node_of, with_node, with_nodes, removed_node, is_unit_reason};
 
 use sat_base::{Lit, Var};
 use sat_store::ClauseRef;
@@ -21,7 +21,7 @@ pub enum Reason {
 impl Reason {
     /// Whether there is no clause: the literal is a unit, a decision or an assumption.
     pub fn is_unit(&self) -> bool
-        ensures { result ≡ is_unit self.now }
+        ensures { result ≡ is_unit_reason self.now }
     {
         match self {
             Reason::Unit => true,

@@ -1,7 +1,7 @@
 //! Values indexed by literal.
 ghost use Rattle.std.specs.Prelude.{◌≡◌, ◌+◌, ◌*◌, ◌<◌, ◌≤◌, ◌↔◌, [], length, IsTrue, OnOk, OnErr, slice_index_or};
 ghost use Rattle.sat_base.specs.values.Literals.{var_limit};
-ghost use Rattle.sat_parts.specs.prop.LitValues.{signed_value, with_value, with_lit_count};
+ghost use Rattle.sat_parts.specs.prop.LitValues.{signed_value, with_lit_value, with_lit_count};
 
 use sat_base::{Lit, Var};
 use std::alloc::{AllocError, Global};
@@ -109,7 +109,7 @@ impl LitValues {
     #[inline(always)] // called for each literal that is assigned
     pub(crate) fn set_var(&mut self, var: Var, value: Option<bool>)
         requires { 2 * var + 1 < length self.old.codes.items }
-        ensures { self.new.codes.items ≡ with_value var value self.old.codes.items }
+        ensures { self.new.codes.items ≡ with_lit_value var value self.old.codes.items }
     {
         let code = 2 * var.index();
         self.codes[code] = lit_value(value, true);

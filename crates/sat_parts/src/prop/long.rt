@@ -1,12 +1,12 @@
 //! Propagation over long clauses, by two watched literals.
 ghost use Rattle.std.specs.Prelude.{ℕ, List, ◌≡◌, ◌≢◌, ◌+◌, ◌*◌, ◌<◌, ◌≤◌, length, IfOk, IsTrue, slice_set};
 ghost use Rattle.sat_store.specs.clause.Buffer.{IsClause};
-ghost use Rattle.sat_parts.specs.clause.Orders.{Shuffles};
+ghost use Rattle.sat_parts.specs.clause.Orders.{PermutesClause};
 ghost use Rattle.sat_parts.specs.clause.Stored.{lit_of, size_of};
 ghost use Rattle.sat_parts.specs.prop.Values.{IsFalseLit};
 ghost use Rattle.sat_parts.specs.prop.State.{HasLeftQueue, level, current_level};
 ghost use Rattle.sat_parts.specs.prop.Ready.{state_of, LongReady};
-ghost use Rattle.sat_parts.specs.prop.Walk.{Half, Oriented, VisitedIn, Walks, WalksLong};
+ghost use Rattle.sat_parts.specs.prop.Walk.{WalkInvariant, WalkInvariantAtClause, VisitedIn, WatchWalkEffect, LongWalkEffect};
 
 use crate::prop::assignment::Assignment;
 use crate::prop::graph::{Conflict, ImplGraph, Reason};
@@ -60,8 +60,8 @@ fn find_open(clauses: &ClauseAlloc, assignment: &Assignment, cref: ClauseRef) ->
 fn orient(clauses: &mut ClauseAlloc, cref: ClauseRef, lit: Lit) -> bool
     requires clause { IsClause clauses.old cref }
     requires long { 2 ≤ size_of clauses.old cref }
-    ensures shuffles { Shuffles clauses.old clauses.new cref }
-    ensures oriented { IsTrue result → Oriented clauses.old clauses.new cref lit }
+    ensures shuffles { PermutesClause clauses.old clauses.new cref }
+    ensures oriented { IsTrue result → WalkInvariantAtClause clauses.old clauses.new cref lit }
     ensures stale { ¬ IsTrue result → (lit_of clauses.old cref 0 ≢ lit) × (lit_of clauses.old cref 1 ≢ lit)
         × (clauses.new ≡ clauses.old) }
 {
@@ -89,7 +89,7 @@ fn visit_clause(
         → lit_of clauses.old cref k < 2 * length assignment.now.current }
     requires room { length watchlists.old.lists ≡ 2 * length assignment.now.current }
     requires falsified { IsFalseLit assignment.now.current false_lit }
-    ensures shuffles { Shuffles clauses.old clauses.new cref }
+    ensures shuffles { PermutesClause clauses.old clauses.new cref }
     ensures visited { IfOk result (λ r. VisitedIn clauses.old clauses.new assignment.now watchlists.old watchlists.new
         cref false_lit r) }
     ensures enabled { watchlists.new.enabled ≡ watchlists.old.enabled }
@@ -132,9 +132,9 @@ fn propagate_list(
     lit: Lit,
 ) -> Result<Option<ClauseRef>, AllocError>
     ghost live: { List ℕ }
-    requires { Half clauses.old live (state_of assignment.old graph.old trail.old) watchlists.old.lists list.old lit 0
+    requires { WalkInvariant clauses.old live (state_of assignment.old graph.old trail.old) watchlists.old.lists list.old lit 0
         0 }
-    ensures walked { IfOk result (λ found. Walks live
+    ensures walked { IfOk result (λ found. WatchWalkEffect live
         clauses.old (state_of assignment.old graph.old trail.old)
         clauses.new (state_of assignment.new graph.new trail.new) (slice_set watchlists.new.lists lit list.new) found) }
     ensures last { assignment.new.last ≡ assignment.old.last }
@@ -193,7 +193,7 @@ pub fn propagate_long(
     requires left { HasLeftQueue (state_of assignment.old graph.old trail.old) lit }
     requires top { level (state_of assignment.old graph.old trail.old) lit
         ≡ current_level (state_of assignment.old graph.old trail.old) }
-    ensures walked { IfOk result (λ r. WalksLong live
+    ensures walked { IfOk result (λ r. LongWalkEffect live
         clauses.old (state_of assignment.old graph.old trail.old)
         clauses.new (state_of assignment.new graph.new trail.new) watchlists.new.lists r) }
     ensures last { assignment.new.last ≡ assignment.old.last }

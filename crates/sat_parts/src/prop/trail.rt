@@ -9,7 +9,7 @@ ghost use Rattle.sat_parts.specs.prop.Trails.{IsTrail, PopsNext, no_trail, first
 ghost use Rattle.sat_parts.specs.prop.Trails.{with_cleared};
 ghost use Rattle.sat_parts.specs.prop.Trails.{cut_to};
 ghost use Rattle.sat_parts.specs.prop.Undone.{undone, undone_to, all_available, undone_lits};
-ghost use Rattle.sat_parts.specs.prop.State.{Agrees};
+ghost use Rattle.sat_parts.specs.prop.State.{StateIsConsistent};
 ghost use Rattle.sat_parts.specs.prop.Ready.{state_of};
 ghost use Rattle.sat_parts.specs.prop.Backtracked.{KeepsBelow, BacktrackPreservesInvariant, EnqueuePreservesInvariant, NewLevelPreservesInvariant};
 ghost use Rattle.sat_parts.specs.prop.Backtracked.{KeepsTurns};
@@ -183,12 +183,12 @@ pub fn enqueue_assignment(
     requires node { variable lit < length graph.old }
     requires open { IsOpenLit assignment.old.current lit }
     // Where the parts agree, there is room for each open literal.
-    requires room { Agrees (state_of assignment.old graph.old trail.old) ⊎ (length trail.old.lits < trail.old.room) }
+    requires room { StateIsConsistent (state_of assignment.old graph.old trail.old) ⊎ (length trail.old.lits < trail.old.room) }
     ensures value { assignment.new ≡ made_true lit assignment.old }
     ensures node { graph.new ≡ with_node (variable lit) (node_at trail.old reason) graph.old }
     ensures trail { trail.new ≡ with_lit lit trail.old }
-    ensures agrees { Agrees (state_of assignment.old graph.old trail.old)
-        → Agrees (state_of assignment.new graph.new trail.new) }
+    ensures agrees { StateIsConsistent (state_of assignment.old graph.old trail.old)
+        → StateIsConsistent (state_of assignment.new graph.new trail.new) }
     ensures asked { EnqueuePreservesInvariant lit reason
         assignment.old graph.old trail.old assignment.new graph.new trail.new }
 {

@@ -6,8 +6,8 @@ ghost use Rattle.sat_store.specs.clause.Buffer.{HoldsClauses};
 ghost use Rattle.sat_parts.specs.clause.Db.{live_refs};
 ghost use Rattle.sat_parts.specs.clause.Stored.{AreClauses};
 ghost use Rattle.sat_parts.specs.prop.Building.{WatchesLive};
-ghost use Rattle.sat_parts.specs.prop.WatchLists.{watches_of, no_watch, watch_on, with_watch, without_last};
-ghost use Rattle.sat_parts.specs.prop.WatchLists.{with_clause_watches, with_lists, widened, HasRoom};
+ghost use Rattle.sat_parts.specs.prop.WatchLists.{watches_of, no_watch, watch_on, with_watch, without_last_watch};
+ghost use Rattle.sat_parts.specs.prop.WatchLists.{with_clause_watches, with_lists, widened, HasListRoom};
 
 use crate::clause::db::ClauseDb;
 use sat_base::Lit;
@@ -138,13 +138,13 @@ pub struct Watchlists {
 
 impl Model for Watchlists {
     ghost use Rattle.std.specs.Prelude.{vec_capacity};
-    ghost use Rattle.sat_parts.specs.prop.WatchLists.{Watching, widened, HasRoom};
+    ghost use Rattle.sat_parts.specs.prop.WatchLists.{Watching, widened, HasListRoom};
 
     ghost Value = { Watching };
 
     ghost view = { λ w. record { lists = widened w.count w.watches.items; enabled = w.enabled } };
 
-    ghost invariant = { λ w. HasRoom w.count (vec_capacity w.watches) w.watches.items };
+    ghost invariant = { λ w. HasListRoom w.count (vec_capacity w.watches) w.watches.items };
 }
 
 impl Watchlists {
@@ -248,7 +248,7 @@ impl Watchlists {
     /// Removes the last watch of a literal.
     fn pop_watch(&mut self, lit: Lit)
         requires { lit < length self.old.lists }
-        ensures { self.new ≡ record self.old { lists = without_last lit self.old.lists } }
+        ensures { self.new ≡ record self.old { lists = without_last_watch lit self.old.lists } }
     {
         let code = lit.code();
         if code >= self.watches.len() {
@@ -292,7 +292,7 @@ impl Watchlists {
 /// Creates the lists of all literals. Capacity for them must be reserved.
 #[inline(never)] // called at the first watch, and at the first after new variables
 fn widen(alloc: Global, watches: &mut Vec<WatchList>, count: usize)
-    requires { HasRoom count (vec_capacity watches.old) watches.old.items }
+    requires { HasListRoom count (vec_capacity watches.old) watches.old.items }
     ensures lists { watches.new.items ≡ widened count watches.old.items }
     ensures capacity { vec_capacity watches.new ≡ vec_capacity watches.old }
 {
@@ -304,9 +304,9 @@ fn widen(alloc: Global, watches: &mut Vec<WatchList>, count: usize)
 /// Creates the lists of all literals if the one with this code does not exist yet.
 #[inline(always)] // called for each clause that gets a new watch in propagation
 fn make_list(alloc: Global, watches: &mut Vec<WatchList>, count: usize, code: usize)
-    requires room { HasRoom count (vec_capacity watches.old) watches.old.items }
+    requires room { HasListRoom count (vec_capacity watches.old) watches.old.items }
     requires below { code < count }
-    ensures room { HasRoom count (vec_capacity watches.new) watches.new.items }
+    ensures room { HasListRoom count (vec_capacity watches.new) watches.new.items }
     ensures made { code < length watches.new.items }
     ensures same { widened count watches.new.items ≡ widened count watches.old.items }
 {

@@ -11,12 +11,12 @@ pub mod RestingLemmas
 pub mod SettlingLemmas
 pub mod ShownLemmas
 pub mod TakingLemmas
-pub mod TellingLemmas
+pub mod ReportingLemmas
 pub mod StartLemmas
 pub mod EndingLemmas
 pub mod ConfigLemmas
 pub mod KeptLemmas
 pub mod ProgressLemmas
 pub mod FrontLemmas
-pub mod ToldLemmas
+pub mod ReportedLemmas
 pub mod AskLemmas

@@ -11,7 +11,7 @@ pub mod Extending
 pub mod Giving
 pub mod Hiding
 pub mod Indices
-pub mod JudgeLemmas
+pub mod ScriptStateLemmas
 pub mod LeftOut
 pub mod MapLemmas
 pub mod Mapping

@@ -8,7 +8,7 @@ use Rattle.sat_parts.specs.prop.Values.{IsTrueLit, IsFalseLit}
 use Rattle.sat_parts.specs.prop.State.{State, level, current_level}
 use Rattle.sat_parts.specs.declared.prop.graph.ImplNode.{ImplNode}
 use Rattle.sat_parts.specs.clause.Glue.{AreClear}
-use Rattle.sat_parts.specs.clause.Orders.{AreDistinct, Shuffled}
+use Rattle.sat_parts.specs.clause.Orders.{AreDistinct, IsReordering}
 use Rattle.sat_parts.specs.prop.Graphs.{node_of}
 use Rattle.sat_solver.specs.analyze_conflict.Work.{Work}
 use Rattle.sat_solver.specs.analyze_conflict.Marks.{causes_at, IsReasoned, depth, HasVariable}
@@ -25,31 +25,31 @@ pub record AreLevelZeroLits (s : State) (units : List ℕ) : Type 0 where
   pub only : (l : ℕ) → is_among units l ≡ true → IsTrueLit s.values l × (level s l ≡ 0)
 
 -- a false literal is of level 0, in the clause, or false by one of the used clauses
-pub data IsGrounded (s : State) (learned used : List ℕ) (r : ℕ) : Type 0 where
-  grounded_unit : level s r ≡ 0 → IsGrounded s learned used r
-  grounded_clause : Contains learned r → IsGrounded s learned used r
-  grounded_reason : Contains used (negated r) → IsGrounded s learned used r
+pub data HasKnownCause (s : State) (learned used : List ℕ) (r : ℕ) : Type 0 where
+  grounded_unit : level s r ≡ 0 → HasKnownCause s learned used r
+  grounded_clause : Contains learned r → HasKnownCause s learned used r
+  grounded_reason : Contains used (negated r) → HasKnownCause s learned used r
 
 -- each of these false literals is accounted for so
-abbrev pub AreGrounded : State → (learned used rs : List ℕ) → Type 0
-AreGrounded s learned used rs = (k : ℕ) → k < length rs → IsGrounded s learned used (get_or rs k 0)
+abbrev pub HaveKnownCauses : State → (learned used rs : List ℕ) → Type 0
+HaveKnownCauses s learned used rs = (k : ℕ) → k < length rs → HasKnownCause s learned used (get_or rs k 0)
 
 -- the parts of a derivation, in any order: the clauses of some literals whose causes are accounted for, as are the literals of the
 -- clause that was found false
-pub record AreGrounds (words : List ℕ) (s : State) (conflict learned used : List ℕ) : Type 0 where
+pub record IsUnorderedDerivation (words : List ℕ) (s : State) (conflict learned used : List ℕ) : Type 0 where
   pub reasons : (l : ℕ) → Contains used l → IsReasoned s 0 l
-  pub causes : (l : ℕ) → Contains used l → AreGrounded s learned used (causes_at words s l)
-  pub start : AreGrounded s learned used conflict
+  pub causes : (l : ℕ) → Contains used l → HaveKnownCauses s learned used (causes_at words s l)
+  pub start : HaveKnownCauses s learned used conflict
   pub apart : (l : ℕ) → Contains used l → Contains learned (negated l) → ⊥
   pub distinct : AreDistinct used
 
 -- the same of the clause that was learned from a conflict
-abbrev pub HasGrounds : (words : List ℕ) (s : State) (e : Conflict) (w : Work) → Type 0
-HasGrounds words s e w = AreGrounds words s (falsified words e) w.clause w.used
+abbrev pub HasUnorderedDerivation : (words : List ℕ) (s : State) (e : Conflict) (w : Work) → Type 0
+HasUnorderedDerivation words s e w = IsUnorderedDerivation words s (falsified words e) w.clause w.used
 
 -- parts of a derivation in the order of the trail
 pub record IsDerivation (words : List ℕ) (s : State) (conflict learned used : List ℕ) : Type 0 where
-  pub grounds : AreGrounds words s conflict learned used
+  pub grounds : IsUnorderedDerivation words s conflict learned used
   pub rising : (j k : ℕ) → j < k → k < length used → depth s (get_or used j 0) < depth s (get_or used k 0)
 
 -- the checker accepts: under the negated clause and the units the used clauses are unit in turn, and the one that was found false is falsified
@@ -74,10 +74,10 @@ abbrev pub FlagsAmong : Work → Type 0
 FlagsAmong w = (v : ℕ) → get_or w.flags v false ≡ true → HasVariable w.clause v ⊎ HasVariable w.used v
 
 -- after resolution: what was learned, with its first literal last on the trail, and its parts of a derivation, the deepest first
-pub record Resolved (words : List ℕ) (s : State) (conflict : List ℕ) (w : Work) : Type 0 where
+pub record ResolutionResult (words : List ℕ) (s : State) (conflict : List ℕ) (w : Work) : Type 0 where
   pub size : length w.flags ≡ length s.values
   pub asserting : IsAsserting s w.clause
-  pub grounds : AreGrounds words s conflict w.clause w.used
+  pub grounds : IsUnorderedDerivation words s conflict w.clause w.used
   pub falling : (j k : ℕ) → j < k → k < length w.used → depth s (get_or w.used k 0) < depth s (get_or w.used j 0)
   pub tops : (k : ℕ) → k < length w.used → level s (get_or w.used k 0) ≡ current_level s
   pub only : OnlyFlags w.flags w.clause
@@ -85,11 +85,11 @@ pub record Resolved (words : List ℕ) (s : State) (conflict : List ℕ) (w : Wo
 
 -- the same of a conflict: resolution has come to the first unique implication point
 abbrev pub IsUipClause : (words : List ℕ) (s : State) (e : Conflict) (w : Work) → Type 0
-IsUipClause words s e w = Resolved words s (falsified words e) w
+IsUipClause words s e w = ResolutionResult words s (falsified words e) w
 
 -- the clause with a literal of the highest level among the others second, and this level, or 0 where there is no other
 pub record PutsSecond (nodes : List ImplNode) (clause clause' : List ℕ) (level : ℕ) : Type 0 where
-  pub lits : Shuffled clause clause'
+  pub lits : IsReordering clause clause'
   pub first : get_or clause' 0 0 ≡ get_or clause 0 0
   pub alone : length clause < 2 → level ≡ 0
   pub second : 2 ≤ length clause → level ≡ (node_of nodes (variable (get_or clause' 1 0))).level

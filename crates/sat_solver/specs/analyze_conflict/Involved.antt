@@ -68,7 +68,7 @@ pub record AreListed (s : State) (met : List ℕ) (flags : List Bool) (at : ℕ)
   pub passed : (v : ℕ) → Contains met v → (get_or flags v false ≡ true) ⊎ IsPassed s at v
 
 -- while literals are resolved
-pub record Collecting (words : List ℕ) (s : State) (e : Conflict) (w : Work) (at : ℕ) : Type 0 where
+pub record CollectionInvariant (words : List ℕ) (s : State) (e : Conflict) (w : Work) (at : ℕ) : Type 0 where
   pub listed : AreListed s w.met w.flags at
   pub met : AreMet words s (falsified words e) w.used w.met
   pub needed : AreNeeded words s (falsified words e) w.used
@@ -76,10 +76,10 @@ pub record Collecting (words : List ℕ) (s : State) (e : Conflict) (w : Work) (
 
 -- no literal was resolved yet
 abbrev pub BeginsCollecting : (words : List ℕ) (s : State) (e : Conflict) (w : Work) → Type 0
-BeginsCollecting words s e w = Collecting words s e w (length s.trail.lits)
+BeginsCollecting words s e w = CollectionInvariant words s e w (length s.trail.lits)
 
 -- when that is done
-pub record Collected (words : List ℕ) (s : State) (e : Conflict) (w : Work) : Type 0 where
+pub record CollectionResult (words : List ℕ) (s : State) (e : Conflict) (w : Work) : Type 0 where
   pub distinct : AreDistinct w.met
   pub within : (v : ℕ) → Contains w.met v → v < length s.values
   pub met : AreMet words s (falsified words e) w.used w.met

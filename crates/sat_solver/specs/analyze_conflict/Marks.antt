@@ -6,9 +6,9 @@ use Rattle.sat_store.specs.clause.Buffer.{IsClause, lits_at}
 use Rattle.sat_parts.specs.declared.prop.graph.Reason.TheVariants.{Long}
 use Rattle.sat_parts.specs.clause.Orders.{AreDistinct}
 use Rattle.sat_parts.specs.prop.Values.{IsFalseLit}
-use Rattle.sat_parts.specs.prop.Graphs.{is_unit}
+use Rattle.sat_parts.specs.prop.Graphs.{is_unit_reason}
 use Rattle.sat_parts.specs.prop.Causes.{causes, falsified}
-use Rattle.sat_parts.specs.prop.State.{State, node, level, current_level, lit_at, IsBefore, Agrees}
+use Rattle.sat_parts.specs.prop.State.{State, node, level, current_level, lit_at, IsBefore, StateIsConsistent}
 use Rattle.sat_parts.specs.prop.Reasons.{IsFalseBefore, AreInTurn}
 use Rattle.sat_parts.specs.prop.TrailWord.{IsLevelled}
 use Rattle.sat_solver.specs.analyze_conflict.Work.{Work}
@@ -24,7 +24,7 @@ causes_at words s l = causes words (node s l).reason
 -- what analysis asks: values, nodes and trail agree, levels begin with decisions, and the literals of the reasons above level 0 were
 -- false before
 pub record CanAnalyze (words : List ℕ) (s : State) : Type 0 where
-  pub agrees : Agrees s
+  pub agrees : StateIsConsistent s
   pub levelled : IsLevelled s
   pub above : 0 < current_level s
   pub before : (p k : ℕ) → get_or s.trail.starts 0 0 ≤ p → p < length s.trail.lits → k < length (causes_at words s (lit_at s p)) →
@@ -105,7 +105,7 @@ pub record IsReasoned (s : State) (at l : ℕ) : Type 0 where
   pub within : place < length s.trail.lits
   pub there : lit_at s place ≡ l
   pub above : 0 < level s l
-  pub caused : is_unit (node s l).reason ≡ false
+  pub caused : is_unit_reason (node s l).reason ≡ false
 
 -- where the literal's variable stands on the trail, counted from 1
 abbrev pub depth : State → ℕ → ℕ
@@ -118,7 +118,7 @@ pub record AreUsed (words : List ℕ) (s : State) (top : ℕ) (w : Work) (at : �
   pub causes : (k : ℕ) → k < length w.used → AreCovered s top w at (causes_at words s (get_or w.used k 0))
 
 -- the resolvent of a clause with the used reasons
-pub record Resolving (words : List ℕ) (s : State) (ls : List ℕ) (w : Work) (at : ℕ) : Type 0 where
+pub record ResolutionInvariant (words : List ℕ) (s : State) (ls : List ℕ) (w : Work) (at : ℕ) : Type 0 where
   pub marks : MarksWork s (current_level s) w at
   pub some : 0 < w.pending
   pub none : w.core ≡ []
@@ -127,7 +127,7 @@ pub record Resolving (words : List ℕ) (s : State) (ls : List ℕ) (w : Work) (
 
 -- the resolvent of the clause that was found false, with the reasons from this place of the trail on
 abbrev pub IsResolvent : (words : List ℕ) (s : State) (e : Conflict) (w : Work) (at : ℕ) → Type 0
-IsResolvent words s e w at = Resolving words s (falsified words e) w at
+IsResolvent words s e w at = ResolutionInvariant words s (falsified words e) w at
 
 -- that clause itself: no reason was resolved with yet
 abbrev pub IsFirstResolvent : (words : List ℕ) (s : State) (e : Conflict) (w : Work) → Type 0

@@ -2,10 +2,10 @@
 use Rattle.std.specs.Prelude.{ℕ, ◌≡◌, ◌+◌, ◌*◌, ◌%◌, ◌^◌, ◌<◌, ◌≤◌, ◌⊎◌, ◌==◌, ◌||◌, ◌&&◌, not, if◌then◌else◌, Bool, true, false, MatchBool, List, [], ◌∷◌, ◌++◌, length, take, slice_index_or as get_or, slice_set as set}
 use Rattle.std.specs.List.{Contains}
 use Rattle.sat_base.specs.values.Literals.{variable, negated}
-use Rattle.sat_store.specs.levels.Levels.{passes}
+use Rattle.sat_store.specs.levels.Levels.{level_passes}
 use Rattle.sat_parts.specs.declared.prop.graph.ImplNode.{ImplNode}
 use Rattle.sat_parts.specs.clause.Orders.{AreDistinct}
-use Rattle.sat_parts.specs.prop.Graphs.{is_unit, node_of}
+use Rattle.sat_parts.specs.prop.Graphs.{is_unit_reason, node_of}
 use Rattle.sat_parts.specs.prop.State.{State, level, current_level}
 use Rattle.sat_solver.specs.analyze_conflict.Work.{Work}
 use Rattle.sat_solver.specs.analyze_conflict.Marks.{causes_at, IsReasoned, IsLower, HasVariable}
@@ -29,7 +29,7 @@ pub data IsUse (s : State) (low : ℕ) (flags : List Bool) (k l : ℕ) : Type 0 
   use_low : low ≤ k → level s l < current_level s → get_or flags (variable l) false ≡ true → IsUse s low flags k l
 
 -- the used literals: those before place at have causes that are accounted for
-pub record Searching (words : List ℕ) (s : State) (conflict : List ℕ) (first low : ℕ) (w : Work) (at : ℕ) : Type 0 where
+pub record MinimizationInvariant (words : List ℕ) (s : State) (conflict : List ℕ) (first low : ℕ) (w : Work) (at : ℕ) : Type 0 where
   pub size : length w.flags ≡ length s.values
   pub within : at ≤ length w.used
   pub behind : low ≤ at
@@ -76,7 +76,7 @@ pub record Followed : Type 0 where
 
 -- may a false literal follow: is its reason a clause, and does the filter let its level pass?
 abbrev pub can_follow : (nodes : List ImplNode) (filter r : ℕ) → Bool
-can_follow nodes filter r = not (is_unit (node_of nodes (variable r)).reason) && passes filter (node_of nodes (variable r)).level
+can_follow nodes filter r = not (is_unit_reason (node_of nodes (variable r)).reason) && level_passes filter (node_of nodes (variable r)).level
 
 -- is a false literal accounted for already: of level 0, or flagged?
 abbrev pub is_settled : (nodes : List ImplNode) (r : ℕ) → Work → Bool
@@ -92,7 +92,7 @@ followed nodes filter (r ∷ rs) w =
 -- the clause while its literals are gone through: the first is of the current level, each other one is false, of a level between 0
 -- and that, and flagged; what is flagged is of the clause or used; and nothing that is used is the negation of one of the clause
 pub record Minimal (words : List ℕ) (s : State) (conflict : List ℕ) (first low : ℕ) (rest : List ℕ) (w : Work) : Type 0 where
-  pub searching : Searching words s conflict first low w (length w.used)
+  pub searching : MinimizationInvariant words s conflict first low w (length w.used)
   pub distinct : AreDistinct rest
   pub has_first : Contains rest first
   pub top : level s first ≡ current_level s
@@ -153,11 +153,11 @@ pub record FallsBefore (nodes : List ImplNode) (ls : List ℕ) (resolved : ℕ) 
   pub lower : (j k : ℕ) → j < resolved → resolved ≤ k → k < length ls → depth_in nodes (get_or ls k 0) ≤ depth_in nodes (get_or ls j 0)
 
 -- the causes of all used literals are accounted for, in the search for literals that follow from the others of the clause
-abbrev pub HasSearched : (words : List ℕ) (s : State) (e : Conflict) (low : ℕ) (w : Work) → Type 0
-HasSearched words s e low w = Searching words s (falsified words e) (get_or w.clause 0 0) low w (length w.used)
+abbrev pub MinimizationIsDone : (words : List ℕ) (s : State) (e : Conflict) (low : ℕ) (w : Work) → Type 0
+MinimizationIsDone words s e low w = MinimizationInvariant words s (falsified words e) (get_or w.clause 0 0) low w (length w.used)
 
 -- whether a literal follows from the others: its negation is used then, with all by which it does, and else nothing has changed
-abbrev pub Searches : (words : List ℕ) (s : State) (e : Conflict) (low r : ℕ) (w w' : Work) → Bool → Type 0
-Searches words s e low r w w' b = MatchBool b
-    (MarksMore (used_up (negated r) w) w' × Searching words s (falsified words e) (get_or w.clause 0 0) low w' (length w'.used))
+abbrev pub MinimizationResult : (words : List ℕ) (s : State) (e : Conflict) (low r : ℕ) (w w' : Work) → Bool → Type 0
+MinimizationResult words s e low r w w' b = MatchBool b
+    (MarksMore (used_up (negated r) w) w' × MinimizationInvariant words s (falsified words e) (get_or w.clause 0 0) low w' (length w'.used))
     (SameWork w w')

@@ -36,9 +36,9 @@ with_met_literal nodes top r w =
     else record w { flags = set w.flags (variable r) true; met = w.met ++ variable r ∷ []; pending = min (w.pending + 1) (2 ^ 64 - 1) }))
 
 -- one after the other
-abbrev pub with_literals : (nodes : List ImplNode) (top : ℕ) → List ℕ → Work → Work
-with_literals nodes top [] w = w
-with_literals nodes top (r ∷ rs) w = with_literals nodes top rs (with_met_literal nodes top r w)
+abbrev pub with_met_literals : (nodes : List ImplNode) (top : ℕ) → List ℕ → Work → Work
+with_met_literals nodes top [] w = w
+with_met_literals nodes top (r ∷ rs) w = with_met_literals nodes top rs (with_met_literal nodes top r w)
 
 -- a true literal isn't to be resolved any more
 abbrev pub passed_by : ℕ → Work → Work

@@ -40,7 +40,7 @@ pub record AreFailed (assumed : List ℕ) (failed : ℕ) (core : List ℕ) : Typ
   pub among : (k : ℕ) → k < length core → Contains assumed (get_or core k 0)
 
 -- a core was told by one step
-pub record ToldCore (steps : List Step) (s : Session) (c c' : Search) : Type 0 where
+pub record CoreWasWritten (steps : List Step) (s : Session) (c c' : Search) : Type 0 where
   pub is : steps ≡ FailedAssumptions (map (with_var (global_in c)) c'.analysis.core) (causes_hashes c.parts c'.analysis.used) ∷ []
   pub failed : AreFailed c.assumptions.lits.items c.failed c'.analysis.core
   pub search : IsSearch s c'
@@ -48,11 +48,11 @@ pub record ToldCore (steps : List Step) (s : Session) (c c' : Search) : Type 0 w
   pub same : c'.parts ≡ c.parts
 
 -- It made the step of a core, or failed.
-pub record TellsCore {W L : Type 0} {G : Ghosts L} (seen : W → Writer) (result : Result (Unit {0}) SolverError) (old new : Proof W L G) (c c' : Search) : Type 0 where
+pub record WritesCoreStep {W L : Type 0} {G : Ghosts L} (seen : W → Writer) (result : Result (Unit {0}) SolverError) (old new : Proof W L G) (c c' : Search) : Type 0 where
   pub steps : List Step
   pub went : EmitsUpToFault seen result steps old new
   pub core : AllByRecursion (λ step. is_core step ≡ true) steps
   pub keeps : HasAllowedSteps new
   pub kept : IfErr result (λ e. IsKept e new)
   pub loss : IfErr result (λ e. NamesLoss e old new)
-  pub ends : MatchResult result (λ _. ToldCore steps (session_of new) c c') IsFault
+  pub ends : MatchResult result (λ _. CoreWasWritten steps (session_of new) c c') IsFault

@@ -4,11 +4,11 @@ use Rattle.sat_base.specs.values.Literals.{negated}
 use Rattle.sat_checker.specs.Propagation.{UnitInTurn}
 use Rattle.sat_parts.specs.clause.Glue.{AreClear}
 use Rattle.sat_parts.specs.clause.Orders.{AreDistinct}
-use Rattle.sat_parts.specs.prop.Graphs.{is_unit}
+use Rattle.sat_parts.specs.prop.Graphs.{is_unit_reason}
 use Rattle.sat_parts.specs.prop.State.{State, node, level, lit_at}
 use Rattle.sat_solver.specs.analyze_conflict.Work.{Work}
 use Rattle.sat_solver.specs.analyze_conflict.Marks.{depth, MarksWork, AreUsed}
-use Rattle.sat_solver.specs.analyze_conflict.Derivation.{clause_of, AreLevelZeroLits, AreGrounds, IsDerivation}
+use Rattle.sat_solver.specs.analyze_conflict.Derivation.{clause_of, AreLevelZeroLits, IsUnorderedDerivation, IsDerivation}
 
 -- a true literal of the trail, above level 0 and from a place on, that has no clause as its reason: a decision or an assumption
 pub record IsChosen (s : State) (at l : ℕ) : Type 0 where
@@ -17,7 +17,7 @@ pub record IsChosen (s : State) (at l : ℕ) : Type 0 where
   pub within : place < length s.trail.lits
   pub there : lit_at s place ≡ l
   pub above : 0 < level s l
-  pub free : is_unit (node s l).reason ≡ true
+  pub free : is_unit_reason (node s l).reason ≡ true
 
 -- the assumption that failed, and then literals that were chosen, from a place of the trail on, the last ones first
 pub record IsCoreFrom (s : State) (failed : ℕ) (core : List ℕ) (at : ℕ) : Type 0 where
@@ -47,7 +47,7 @@ pub data IsFailedAssumption (words : List ℕ) (s : State) (failed : ℕ) (core 
   fails_clauses : IsRefutation words s failed core used → IsFailedAssumption words s failed core used
 
 -- while the reasons are gone back over: flagged literals of all levels above 0 are still to be looked at, those before the place
-pub record Tracing (words : List ℕ) (s : State) (failed : ℕ) (w : Work) (at : ℕ) : Type 0 where
+pub record TraceInvariant (words : List ℕ) (s : State) (failed : ℕ) (w : Work) (at : ℕ) : Type 0 where
   pub marks : MarksWork s 1 w at
   pub uses : AreUsed words s 1 w at
   pub lits : IsCoreFrom s failed w.core at
@@ -55,11 +55,11 @@ pub record Tracing (words : List ℕ) (s : State) (failed : ℕ) (w : Work) (at 
   pub head : get_or w.used 0 0 ≡ negated failed
 
 -- once none is flagged any more
-pub record Traced (words : List ℕ) (s : State) (failed : ℕ) (w : Work) : Type 0 where
+pub record TraceResult (words : List ℕ) (s : State) (failed : ℕ) (w : Work) : Type 0 where
   pub size : length w.flags ≡ length s.values
   pub clear : AreClear w.flags
   pub core : IsDistinctCore s failed w.core
-  pub grounds : AreGrounds words s (clause_of words s (negated failed)) (map negated w.core) w.used
+  pub grounds : IsUnorderedDerivation words s (clause_of words s (negated failed)) (map negated w.core) w.used
   pub falling : (j k : ℕ) → j < k → k < length w.used → depth s (get_or w.used k 0) < depth s (get_or w.used j 0)
   pub some : 0 < length w.used
   pub head : get_or w.used 0 0 ≡ negated failed

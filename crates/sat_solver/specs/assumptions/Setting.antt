@@ -8,7 +8,7 @@ use Rattle.sat_solver.specs.declared.context.Search.{Search}
 
 -- these literals, whose variables have solver names, are assumed in place of the ones before, as the step says that assumes them,
 -- and nothing else changed
-pub record AreAssumed (ls : List ℕ) (c c' : Search) : Type 0 where
+pub record ReplacesAssumed (ls : List ℕ) (c c' : Search) : Type 0 where
   pub lits : c'.assumptions.lits.items ≡ ls
   pub same : c' ≡ record c { assumptions = c'.assumptions }
   pub search : (s : Session) → IsSearch s c → AreMapped (global_in c) s.solver_names ls → IsSearch (after (Assumptions (map (with_var (global_in c)) ls)) s) c'

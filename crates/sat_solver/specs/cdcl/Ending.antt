@@ -15,7 +15,7 @@ use Rattle.sat_solver.specs.cdcl.Rounds.{RoundSays}
 use Rattle.sat_solver.specs.variables.Shared.{SharesIndices}
 use Rattle.sat_solver.specs.unit_simplify.Freed.{KeepsAsked}
 use Rattle.sat_parts.specs.parts.Full.{IsFull}
-use Rattle.sat_solver.specs.unit_simplify.Passes.{FallsOr}
+use Rattle.sat_solver.specs.unit_simplify.Passes.{PassFailsOr}
 
 -- names and search share their indices, unless no valuation is left
 abbrev pub RoundShares : Outcome → Variables → Search → Type 0
@@ -36,4 +36,4 @@ pub record RoundEnds {W L : Type 0} {G : Ghosts L} (seen : W → Writer) (outcom
 
 -- what came of a round, or what it failed of: a full clause buffer only where it is full
 abbrev pub EndsRound : {W L : Type 0} {G : Ghosts L} → (W → Writer) → Result Outcome SolverError → Variables → Variables → Proof W L G → Proof W L G → Search → Search → Type 0
-EndsRound seen r n n' p p' c c' = MatchResult r (λ o. RoundEnds seen o n n' p p' c c') (λ e. FallsOr (IsFull c'.parts) seen e p p')
+EndsRound seen r n n' p p' c c' = MatchResult r (λ o. RoundEnds seen o n n' p p' c c') (λ e. PassFailsOr (IsFull c'.parts) seen e p p')

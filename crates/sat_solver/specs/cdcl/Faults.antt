@@ -10,13 +10,13 @@ use Rattle.sat_solver.specs.declared.error.SolverError.{SolverError}
 use Rattle.sat_solver.specs.declared.error.SolverError.TheVariants as errors
 
 -- the error that is told for a fault of this kind
-abbrev pub error_of : Kind → SolverError
-error_of (kinds.Write cause) = errors.ProofIoError cause
-error_of (kinds.Processor cause) = errors.ProofProcessorError cause
-error_of kinds.OutOfMemory = errors.OutOfMemory
-error_of kinds.StoreFull = errors.StoreFull
-error_of kinds.VariableLimit = errors.VariableLimit
-error_of kinds.CounterEnd = errors.CounterEnd
+abbrev pub reported_error : Kind → SolverError
+reported_error (kinds.Write cause) = errors.ProofIoError cause
+reported_error (kinds.Processor cause) = errors.ProofProcessorError cause
+reported_error kinds.OutOfMemory = errors.OutOfMemory
+reported_error kinds.StoreFull = errors.StoreFull
+reported_error kinds.VariableLimit = errors.VariableLimit
+reported_error kinds.CounterEnd = errors.CounterEnd
 
 -- the proof keeps the cause of this error, where it has one
 abbrev pub IsKept : {W L : Type 0} {G : Ghosts L} → SolverError → Proof W L G → Type 0

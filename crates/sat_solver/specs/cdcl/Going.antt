@@ -45,10 +45,10 @@ check_fault_of checks.CounterEnd = errors.CounterEnd
 check_fault_of (checks.Processor cause) = errors.ProofProcessorError cause
 
 -- why a step wasn't made, or not checked, as a solver tells it
-abbrev pub fault_of : ProofError → SolverError
-fault_of (Write cause) = errors.ProofIoError cause
-fault_of OutOfMemory = errors.OutOfMemory
-fault_of (Check fault) = check_fault_of fault
+abbrev pub proof_fault : ProofError → SolverError
+proof_fault (Write cause) = errors.ProofIoError cause
+proof_fault OutOfMemory = errors.OutOfMemory
+proof_fault (Check fault) = check_fault_of fault
 
 -- what a search may fail of: that the clause buffer is full comes only where this holds
 abbrev pub IsFaultOr : (full : Type 0) → SolverError → Type 0

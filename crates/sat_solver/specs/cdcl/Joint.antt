@@ -1,23 +1,23 @@
 -- What holds of a search and the session behind its proof.
 use Rattle.std.specs.Prelude.{ℕ, ◌≡◌, ◌≤◌, ◌<◌, ◌*◌, ◌⊎◌, Some, List, map, length}
 use Rattle.sat_parts.specs.clause.Glue.{AreClear}
-use Rattle.sat_parts.specs.parts.Assumed.{HaveVariablesIn, ArePlaced, variables}
+use Rattle.sat_parts.specs.parts.Assumed.{HaveVariablesIn, ArePlaced, variables_of_lits}
 use Rattle.sat_parts.specs.parts.Whole.{state}
 use Rattle.sat_parts.specs.parts.Words.{IsIdle}
 use Rattle.sat_solver.specs.session.Session.{Session}
 use Rattle.sat_solver.specs.session.LiveClauses.{with_var}
-use Rattle.sat_solver.specs.session.Naming.{global_of}
+use Rattle.sat_solver.specs.session.Naming.{global_of_index}
 use Rattle.sat_solver.specs.session.Fits.{PartsSessionInvariant}
 use Rattle.sat_solver.specs.unit_simplify.Left.{SameSize}
 use Rattle.sat_solver.specs.declared.context.Search.{Search}
 
 -- the proof variable of a variable of the search
 abbrev pub global_in : Search → ℕ → ℕ
-global_in c = global_of c.globals.items
+global_in c = global_of_index c.globals.items
 
 -- the variables that are assumed
 abbrev pub assumed_in : Search → List ℕ
-assumed_in c = variables c.assumptions.lits.items
+assumed_in c = variables_of_lits c.assumptions.lits.items
 
 -- Each variable has a proof variable, and analysis may begin.
 pub record IsFree (c : Search) : Type 0 where

@@ -10,7 +10,7 @@ use Rattle.sat_parts.specs.clause.Activity.{Scale}
 use Rattle.sat_parts.specs.clause.Glue.{levels_of, different}
 use Rattle.sat_solver.specs.analyze_conflict.Work.{Work}
 use Rattle.sat_parts.specs.declared.parts.Parts.{Parts}
-use Rattle.sat_parts.specs.parts.Frame.{SameClauses, KeepsTo, Learnt}
+use Rattle.sat_parts.specs.parts.Frame.{SameClauses, KeepsTo, AddsLearnedClause}
 use Rattle.sat_parts.specs.parts.Whole.{state, PartsInvariant}
 use Rattle.sat_parts.specs.parts.Words.{TrailWordRises}
 use Rattle.sat_parts.specs.parts.Full.{IsFull}
@@ -25,7 +25,7 @@ use Rattle.sat_solver.specs.session.Quiet.{AreQuiet}
 use Rattle.sat_solver.specs.declared.context.Search.{Search}
 use Rattle.sat_solver.specs.clause.Activity.{all_bumped}
 use Rattle.sat_solver.specs.cdcl.Going.{EmitsStepsOr}
-use Rattle.sat_solver.specs.clause.Assessed.{graded, levels_in, TakePart}
+use Rattle.sat_solver.specs.clause.Assessed.{graded, levels_in, BumpsClauses}
 use Rattle.sat_solver.specs.cdcl.Joint.{IsSearch, SameVarsAndAssumptions}
 use Rattle.sat_solver.specs.unit_simplify.Left.{SameSize}
 
@@ -65,20 +65,20 @@ pub record UndoesAndLearns (p p' : Parts) (header : Header) (ls : List ℕ) (lev
 
 -- The long clauses that took part, the one that was found false first, were raised and improved by the levels that were, and
 -- activities decayed. Then a clause of this header came in, of activity 0.
-pub record Rated (p : Parts) (s : Scale) (w : Work) (header : Header) (p' : Parts) (s' : Scale) : Type 0 where
+pub record BumpsInvolved (p : Parts) (s : Scale) (w : Work) (header : Header) (p' : Parts) (s' : Scale) : Type 0 where
   pub between : Parts
-  pub take : TakePart (levels_in p) p.db.refs w.involved p.clauses s between.clauses s'
+  pub take : BumpsClauses (levels_in p) p.db.refs w.involved p.clauses s between.clauses s'
   pub refs : between.db.refs ≡ p.db.refs
-  pub learnt : Learnt between p' header w.clause
+  pub learnt : AddsLearnedClause between p' header w.clause
 
 -- the same of a search: a learned clause has the glue of its levels
-abbrev pub IsRated : Search → Search → Type 0
-IsRated c c' = Rated c.parts c.activity c'.analysis (graded (different (levels_of c.parts.graph c'.analysis.clause))) c'.parts c'.activity
+abbrev pub SearchBumpsInvolved : Search → Search → Type 0
+SearchBumpsInvolved c c' = BumpsInvolved c.parts c.activity c'.analysis (graded (different (levels_of c.parts.graph c'.analysis.clause))) c'.parts c'.activity
 
 -- and then the variables that were met were raised, each once, and their activities decayed; clauses stayed as they were
-pub record IsRaised (c c' : Search) : Type 0 where
+pub record BumpsMetVars (c c' : Search) : Type 0 where
   pub behind : Search
-  pub rated : IsRated c behind
+  pub rated : SearchBumpsInvolved c behind
   pub rest : c' ≡ record behind { parts = c'.parts }
   pub clauses : SameClauses behind.parts c'.parts
   pub queue : c'.parts.vsids ≡ decayed (all_bumped behind.analysis.met behind.parts.vsids)

@@ -5,7 +5,7 @@ use Rattle.sat_parts.specs.declared.prop.graph.Conflict.{Conflict}
 use Rattle.sat_parts.specs.prop.Values.{IsTrueLit, IsFalseLit}
 use Rattle.sat_parts.specs.declared.parts.assumptions.Assumptions.{Assumptions}
 use Rattle.sat_parts.specs.declared.parts.Parts.{Parts}
-use Rattle.sat_parts.specs.parts.Assumed.{AreDecided, ArePlaced, variables}
+use Rattle.sat_parts.specs.parts.Assumed.{AreDecided, ArePlaced, variables_of_lits}
 use Rattle.sat_parts.specs.parts.Frame.{SameClauses, AddsNoUnit}
 use Rattle.sat_parts.specs.parts.Round.{UnitsAreUncaused, IsBased}
 use Rattle.sat_parts.specs.parts.Whole.{state, PartsInvariant, HoldsBelow, IsFullyPropagated, AllAssigned, IsRefuted}
@@ -45,7 +45,7 @@ pub record GoesDeeper (found : Option FoundConflict) (a a' : Assumptions) (p p' 
   pub holds : PartsInvariant p'
   pub lits : a'.lits ≡ a.lits
   pub placed : ArePlaced a' (state p')
-  pub word : TrailWordExtendsFor (variables a.lits.items) p p'
+  pub word : TrailWordExtendsFor (variables_of_lits a.lits.items) p p'
   pub same : SameClauses p p'
   pub carries : AddsNoUnit (state p) (state p')
   pub stops : OpensLevelOrStops found a.lits.items p p'

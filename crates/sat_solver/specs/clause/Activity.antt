@@ -22,7 +22,7 @@ all_bumped [] q = q
 all_bumped (v ∷ vs) q = all_bumped vs (bumped v q)
 
 -- what is searched is the same, and the trail's words go on
-pub record Bumped (s : Session) (c c' : Search) : Type 0 where
+pub record BumpEffect (s : Session) (c c' : Search) : Type 0 where
   pub search : IsSearch s c'
   pub moved : SameVarsAndAssumptions c c'
   pub word : TrailWordExtends c.parts c'.parts

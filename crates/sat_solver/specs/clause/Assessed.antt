@@ -9,7 +9,7 @@ use Rattle.sat_parts.specs.clause.Activity.{Scale, BumpsBelow, BumpsPast, Decays
 use Rattle.sat_parts.specs.clause.Db.{live_refs, PutsHeader}
 use Rattle.sat_parts.specs.clause.Glue.{levels_of, different, HaveFlags, AreClear}
 use Rattle.sat_parts.specs.declared.parts.Parts.{Parts}
-use Rattle.sat_parts.specs.parts.Frame.{Headed}
+use Rattle.sat_parts.specs.parts.Frame.{ChangesHeaders}
 use Rattle.sat_parts.specs.parts.Whole.{PartsInvariant}
 use Rattle.sat_parts.specs.parts.Words.{TrailWordExtends}
 
@@ -35,7 +35,7 @@ abbrev pub levels_in : Parts → ℕ → ℕ
 levels_in p o = different (levels_of p.graph (lits_at p.clauses o))
 
 -- the activity of the clause at o was raised, and then its header improved
-pub record TakesPart (levels : ℕ) (words words' refs : List ℕ) (o : ℕ) (s s' : Scale) : Type 0 where
+pub record BumpsClause (levels : ℕ) (words words' refs : List ℕ) (o : ℕ) (s s' : Scale) : Type 0 where
   pub raised : List ℕ
   pub one : BumpsBelow words raised refs o s s'
   pub all : BumpsPast words raised refs o s s'
@@ -47,14 +47,14 @@ pub record DecaysActivities (words words' refs : List ℕ) (s s' : Scale) : Type
   pub rescaled : 2 ^ 30 ≤ later_bump s → DecaysAll words words' refs s s'
 
 -- each of these clauses in turn took part, and then activities decayed
-abbrev pub TakePart : (levels : ℕ → ℕ) (refs os words : List ℕ) (s : Scale) (words' : List ℕ) (s' : Scale) → Type 0
-TakePart levels refs [] words s words' s' = DecaysActivities words words' refs s s'
-TakePart levels refs (o ∷ os) words s words' s' = (mid : List ℕ) × (t : Scale) × TakesPart (levels o) words mid refs o s t × TakePart levels refs os mid t words' s'
+abbrev pub BumpsClauses : (levels : ℕ → ℕ) (refs os words : List ℕ) (s : Scale) (words' : List ℕ) (s' : Scale) → Type 0
+BumpsClauses levels refs [] words s words' s' = DecaysActivities words words' refs s s'
+BumpsClauses levels refs (o ∷ os) words s words' s' = (mid : List ℕ) × (t : Scale) × BumpsClause (levels o) words mid refs o s t × BumpsClauses levels refs os mid t words' s'
 
 -- headers of long clauses changed, and nothing else did
-pub record Rates (p p' : Parts) : Type 0 where
+pub record ChangesOnlyHeaders (p p' : Parts) : Type 0 where
   pub holds : PartsInvariant p'
-  pub headed : Headed p p'
+  pub headed : ChangesHeaders p p'
   pub refs : p'.db.refs ≡ p.db.refs
   pub word : TrailWordExtends p p'
 

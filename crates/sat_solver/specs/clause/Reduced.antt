@@ -11,7 +11,7 @@ use Rattle.sat_parts.specs.clause.Db.{live_refs, is_live_of, IsLockedClause}
 use Rattle.sat_parts.specs.clause.Reduced.{reduced}
 use Rattle.sat_solver.specs.declared.config.SolverConfig.{SolverConfig}
 use Rattle.sat_parts.specs.declared.parts.Parts.{Parts}
-use Rattle.sat_parts.specs.parts.Frame.{SameSearch, Headed, Dropped, Copied}
+use Rattle.sat_parts.specs.parts.Frame.{SameSearch, ChangesHeaders, DropsLongClause, MovesLongClauses}
 use Rattle.sat_parts.specs.parts.Reducing.{clause_rank}
 use Rattle.sat_parts.specs.parts.Words.{TrailWordExtends, TrailWordExtendsFor}
 use Rattle.sat_solver.specs.proof.ProofView.{session_of}
@@ -24,7 +24,7 @@ use Rattle.sat_solver.specs.cdcl.Going.{EmitsSteps}
 use Rattle.sat_solver.specs.cdcl.Joint.{assumed_in, IsSearch, SameVarsAndAssumptions}
 
 -- a live long clause that was learned
-pub record IsLearnt (p : Parts) (o : ℕ) : Type 0 where
+pub record IsLearnedLong (p : Parts) (o : ℕ) : Type 0 where
   pub live : Contains (live_refs p.clauses p.db.refs) o
   pub learned : is_redundant p.clauses o ≡ true
 
@@ -33,27 +33,27 @@ abbrev pub IsReason : Parts → ℕ → Type 0
 IsReason p o = IsLockedClause p.clauses p.assignment.current p.graph o
 
 -- the clause at o was deleted where it is no reason, and else nothing changed
-abbrev pub Tried : (deleted : Bool) (o : ℕ) → Parts → Parts → Type 0
-Tried true o p p' = (IsReason p o → ⊥) × Dropped p p' o
-Tried false o p p' = IsReason p o × (p' ≡ p)
+abbrev pub DeletesUnlessReason : (deleted : Bool) (o : ℕ) → Parts → Parts → Type 0
+DeletesUnlessReason true o p p' = (IsReason p o → ⊥) × DropsLongClause p p' o
+DeletesUnlessReason false o p p' = IsReason p o × (p' ≡ p)
 
 -- the clause at o was deleted, or it stands
-pub record Deleted (deleted : Bool) (o : ℕ) (s : Session) (c c' : Search) : Type 0 where
+pub record DeletesIf (deleted : Bool) (o : ℕ) (s : Session) (c c' : Search) : Type 0 where
   pub search : IsSearch s c'
   pub moved : SameVarsAndAssumptions c c'
   pub word : TrailWordExtends c.parts c'.parts
-  pub others : (p : ℕ) → p ≢ o → IsLearnt c.parts p → IsLearnt c'.parts p
-  pub tried : Tried deleted o c.parts c'.parts
+  pub others : (p : ℕ) → p ≢ o → IsLearnedLong c.parts p → IsLearnedLong c'.parts p
+  pub tried : DeletesUnlessReason deleted o c.parts c'.parts
 
 -- what is searched is the same, and the trail's words go on
-pub record Reduced (s : Session) (c c' : Search) : Type 0 where
+pub record ReductionEffect (s : Session) (c c' : Search) : Type 0 where
   pub search : IsSearch s c'
   pub moved : SameVarsAndAssumptions c c'
   pub word : TrailWordExtendsFor (assumed_in c) c.parts c'.parts
 
 -- the same by steps, where the parts changed in this way
-abbrev pub ReducesBy : {W L : Type 0} {G : Ghosts L} → (Changes : Parts → Parts → Type 0) → (W → Writer) → Result (Unit {0}) SolverError → Proof W L G → Proof W L G → Search → Search → Type 0
-ReducesBy Changes seen r p p' c c' = EmitsSteps seen r p p' (λ _ _. Reduced (session_of p') c c' × Changes c.parts c'.parts)
+abbrev pub ReductionBySteps : {W L : Type 0} {G : Ghosts L} → (Changes : Parts → Parts → Type 0) → (W → Writer) → Result (Unit {0}) SolverError → Proof W L G → Proof W L G → Search → Search → Type 0
+ReductionBySteps Changes seen r p p' c c' = EmitsSteps seen r p p' (λ _ _. ReductionEffect (session_of p') c c' × Changes c.parts c'.parts)
 
 -- TIER LOCAL
 
@@ -91,7 +91,7 @@ ReducesLocals false p p' = p' ≡ p
 -- clauses of tier Mid that weren't active came to be of tier Local, the others aren't active any more, and nothing else changed
 pub record MovesMids (p p' : Parts) : Type 0 where
   pub headers : PutsHeaders p.clauses p'.clauses p.db.refs (λ o. reduced (header_at p.clauses o))
-  pub headed : Headed p p'
+  pub headed : ChangesHeaders p p'
 
 -- where that is due
 abbrev pub ReducesMids : Bool → Parts → Parts → Type 0
@@ -102,7 +102,7 @@ ReducesMids false p p' = p' ≡ p
 
 -- where deleted clauses take more than half of the buffer, the live ones came to other places, in order, and no room is lost any more
 pub record CollectsWhereDue (p p' : Parts) : Type 0 where
-  pub due : length p.clauses / 2 < p.db.garbage → Copied p p' × (p'.db.garbage ≡ 0)
+  pub due : length p.clauses / 2 < p.db.garbage → MovesLongClauses p p' × (p'.db.garbage ≡ 0)
   pub not_due : p.db.garbage ≤ length p.clauses / 2 → p' ≡ p
 
 -- ALL OF THESE

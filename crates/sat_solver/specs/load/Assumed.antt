@@ -1,6 +1,6 @@
 -- Assumptions over names, and the marks of their variables.
 use Rattle.std.specs.Prelude.{ℕ, ◌≡◌, ◌∷◌, ◌++◌, [], Bool, true, false, List, map}
-use Rattle.sat_base.specs.script.Judge.{bring_all}
+use Rattle.sat_base.specs.script.ScriptState.{bring_all}
 use Rattle.sat_base.specs.steps.Steps.{Step, Assumptions}
 use Rattle.sat_checker.specs.LiteralSets.{mentions}
 use Rattle.sat_solver.specs.session.Session.{session_after}
@@ -10,9 +10,9 @@ use Rattle.sat_solver.specs.variables.Variables.{data_at, variables_used}
 use Rattle.sat_solver.specs.variables.Naming.{ExtendsNames}
 use Rattle.sat_solver.specs.variables.Refusing.{names_in}
 use Rattle.sat_checker.specs.matching.Expected.{Outcome, Opens, bringing}
-use Rattle.sat_solver.specs.load.Literals.{named_literal, Images, global_in}
+use Rattle.sat_solver.specs.load.Literals.{user_literal, Images, global_with_index}
 use Rattle.sat_solver.specs.variables.Search.{KeepsSearch, GivesIndices}
-use Rattle.sat_solver.specs.variables.Calls.{NamesRefineJudge}
+use Rattle.sat_solver.specs.variables.Calls.{NamesEffect}
 use Rattle.sat_solver.specs.session.Coming.{OnlyAllowedSteps}
 use Rattle.sat_solver.specs.variables.Coming.{MayTake}
 use Rattle.sat_solver.specs.declared.variables.Variables.{Variables}
@@ -42,10 +42,10 @@ pub record PutsMarks (old new : Variables) (ls : List ℕ) : Type 0 where
 
 -- The names of the literals came in, their variables have indices, and they are the assumptions from here on, whatever will be answered.
 pub record BringsAssumptions (old new : Variables) (from to : List Step) (user : List ℕ) (t : Taken) : Type 0 where
-  pub does : (o : Outcome) → NamesRefineJudge old new from to (bring_all (names_in user)) (λ j. bringing (names_in user) j ++ (Opens (map named_literal user) o ∷ []))
+  pub does : (o : Outcome) → NamesEffect old new from to (bring_all (names_in user)) (λ j. bringing (names_in user) j ++ (Opens (map user_literal user) o ∷ []))
   pub extends : ExtendsNames old new
   pub images : Images new user t.order.items
-  pub globals : t.globals.items ≡ map (with_var (global_in new)) t.order.items
+  pub globals : t.globals.items ≡ map (with_var (global_with_index new)) t.order.items
   pub gives : GivesIndices old new (session_after from) t.given.items
   -- the steps before theirs, which the search doesn't see
   pub between : List Step

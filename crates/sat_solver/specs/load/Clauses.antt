@@ -1,15 +1,15 @@
 -- A clause over names, as it is taken and written.
 use Rattle.std.specs.Prelude.{ℕ, ◌≡◌, ◌∷◌, ◌++◌, [], Bool, List, map}
-use Rattle.sat_base.specs.script.Judge.{bring_all, with_clause}
+use Rattle.sat_base.specs.script.ScriptState.{bring_all, with_clause}
 use Rattle.sat_base.specs.steps.Steps.{Step, AddClause}
 use Rattle.sat_checker.specs.LiteralSets.{is_tautology}
 use Rattle.sat_solver.specs.session.Session.{session_after}
 use Rattle.sat_solver.specs.variables.Naming.{ExtendsNames}
 use Rattle.sat_solver.specs.variables.Refusing.{names_in}
 use Rattle.sat_checker.specs.matching.Expected.{Adds, bringing}
-use Rattle.sat_solver.specs.load.Literals.{named_literal, Images, MapsClause}
+use Rattle.sat_solver.specs.load.Literals.{user_literal, Images, MapsClause}
 use Rattle.sat_solver.specs.variables.Search.{KeepsSearch, IsUnseen, GivesIndices}
-use Rattle.sat_solver.specs.variables.Calls.{NamesRefineJudge}
+use Rattle.sat_solver.specs.variables.Calls.{NamesEffect}
 use Rattle.sat_solver.specs.session.Coming.{OnlyAllowedSteps}
 use Rattle.sat_solver.specs.variables.Coming.{IsDue, MayTake}
 use Rattle.sat_solver.specs.declared.variables.Variables.{Variables}
@@ -17,7 +17,7 @@ use Rattle.sat_solver.specs.declared.load.literals.Taken.{Taken}
 
 -- Its names came in, their variables have indices, and it was written.
 pub record BringsClause (old new : Variables) (from to : List Step) (user : List ℕ) (t : Taken) (both_signs : Bool) : Type 0 where
-  pub does : NamesRefineJudge old new from to (λ j. with_clause (map named_literal user) (bring_all (names_in user) j)) (λ j. bringing (names_in user) j ++ (Adds (map named_literal user) ∷ []))
+  pub does : NamesEffect old new from to (λ j. with_clause (map user_literal user) (bring_all (names_in user) j)) (λ j. bringing (names_in user) j ++ (Adds (map user_literal user) ∷ []))
   pub signs : both_signs ≡ is_tautology t.order.items
   pub extends : ExtendsNames old new
   pub images : Images new user t.order.items
@@ -32,7 +32,7 @@ pub record BringsClause (old new : Variables) (from to : List Step) (user : List
 
 -- Its names came in, and it was not written, which the clauses' being unsatisfiable allows.
 pub record LeavesOut (old new : Variables) (from to : List Step) (user : List ℕ) : Type 0 where
-  pub does : NamesRefineJudge old new from to (λ j. with_clause (map named_literal user) (bring_all (names_in user) j)) (bringing (names_in user))
+  pub does : NamesEffect old new from to (λ j. with_clause (map user_literal user) (bring_all (names_in user) j)) (bringing (names_in user))
   pub extends : ExtendsNames old new
   pub unseen : IsUnseen old new from to
   pub comes : OnlyAllowedSteps IsDue from to

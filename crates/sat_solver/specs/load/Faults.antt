@@ -6,8 +6,8 @@ use Rattle.sat_solver.specs.declared.error.SolverError.TheVariants as errors
 use Rattle.sat_solver.specs.cdcl.Going.{check_fault_of}
 
 -- the solver's error for a fault of its names
-abbrev pub told_as : NameError → SolverError
-told_as names.VariableLimit = errors.VariableLimit
-told_as names.OutOfMemory = errors.OutOfMemory
-told_as (names.Write cause) = errors.ProofIoError cause
-told_as (names.Check fault) = check_fault_of fault
+abbrev pub reported_as : NameError → SolverError
+reported_as names.VariableLimit = errors.VariableLimit
+reported_as names.OutOfMemory = errors.OutOfMemory
+reported_as (names.Write cause) = errors.ProofIoError cause
+reported_as (names.Check fault) = check_fault_of fault

@@ -3,7 +3,7 @@ use Rattle.std.specs.Prelude.{ℕ, ◌+◌, ◌<◌, ◌≡◌, Some, List, map,
 use Rattle.std.specs.List.{AllByRecursion}
 use Rattle.sat_base.specs.values.Literals.{variable, is_positive, coded}
 use Rattle.sat_base.specs.script.Script.{Literal, Among}
-use Rattle.sat_base.specs.script.Judge.{bring_all}
+use Rattle.sat_base.specs.script.ScriptState.{bring_all}
 use Rattle.sat_base.specs.steps.Steps.{Step}
 use Rattle.sat_checker.specs.LiteralSets.{canonical}
 use Rattle.sat_solver.specs.session.Session.{session_after}
@@ -14,15 +14,15 @@ use Rattle.sat_solver.specs.variables.Naming.{ExtendsNames}
 use Rattle.sat_solver.specs.variables.Refusing.{names_in}
 use Rattle.sat_checker.specs.matching.Expected.{bringing}
 use Rattle.sat_solver.specs.variables.Search.{KeepsSearch, GivesIndices}
-use Rattle.sat_solver.specs.variables.Calls.{NamesRefineJudge}
+use Rattle.sat_solver.specs.variables.Calls.{NamesEffect}
 use Rattle.sat_solver.specs.session.Coming.{OnlyAllowedSteps}
 use Rattle.sat_solver.specs.variables.Coming.{MayTake}
 use Rattle.sat_solver.specs.declared.variables.Variables.{Variables}
 use Rattle.sat_solver.specs.declared.load.literals.Taken.{Taken}
 
 -- a literal of the user's
-abbrev pub named_literal : ℕ → Literal
-named_literal l = record { name = variable l + 1; positive = is_positive l }
+abbrev pub user_literal : ℕ → Literal
+user_literal l = record { name = variable l + 1; positive = is_positive l }
 
 -- the literal of the proof that stands for one of the user's, over a sampling variable that has an index
 pub record StandsFor (n : Variables) (l code : ℕ) : Type 0 where
@@ -65,12 +65,12 @@ abbrev pub NoWitness : Variables → List ℕ → Type 0
 NoWitness n = AllByRecursion (λ l. IsSampled n (variable l))
 
 -- the variable that an index has
-abbrev pub global_in : Variables → ℕ → ℕ
-global_in n x = get_or n.globals.items x 0
+abbrev pub global_with_index : Variables → ℕ → ℕ
+global_with_index n x = get_or n.globals.items x 0
 
 -- The names of the literals came in, and their variables have indices.
 pub record BringsLiterals (old new : Variables) (from to : List Step) (user : List ℕ) (t : Taken) : Type 0 where
-  pub does : NamesRefineJudge old new from to (bring_all (names_in user)) (bringing (names_in user))
+  pub does : NamesEffect old new from to (bring_all (names_in user)) (bringing (names_in user))
   pub extends : ExtendsNames old new
   pub images : Images new user t.order.items
   pub gives : GivesIndices old new (session_after from) t.given.items
@@ -80,4 +80,4 @@ pub record BringsLiterals (old new : Variables) (from to : List Step) (user : Li
 -- The clause over the proof's variables is the set of the literals, in order of the search's codes.
 pub record MapsClause (new : Variables) (t : Taken) : Type 0 where
   pub lits : t.lits.items ≡ canonical t.order.items
-  pub globals : t.globals.items ≡ map (with_var (global_in new)) t.lits.items
+  pub globals : t.globals.items ≡ map (with_var (global_with_index new)) t.lits.items

@@ -2,11 +2,11 @@
 use Rattle.std.specs.Prelude.{ℕ, ◌≡◌, ◌⊎◌, Bool, true, false, not, ◌||◌, Option, None, Some, List, [], ◌∷◌, ◌++◌, Result, Ok, Err}
 use Rattle.anyhow.specs.declared.error.Error.{Error}
 use Rattle.sat_base.specs.steps.Steps.{Step, End}
-use Rattle.sat_checker.specs.CheckerView.{Seen, HasAccepted, kernel_of, seen_of}
-use Rattle.sat_checker.specs.KernelView.{IsSettled, has_failed}
-use Rattle.sat_checker.specs.announcements.Announcements.{Told}
-use Rattle.sat_checker.specs.telling.ProcessingView.{listeners_of}
-use Rattle.sat_checker.specs.telling.Telling.{Listeners}
+use Rattle.sat_checker.specs.CheckerView.{CheckerView, HasAccepted, kernel_of, seen_of}
+use Rattle.sat_checker.specs.KernelView.{KernelIsSettled, kernel_has_failed}
+use Rattle.sat_checker.specs.announcements.Announcements.{Notice}
+use Rattle.sat_checker.specs.listeners.ProcessingView.{listeners_of}
+use Rattle.sat_checker.specs.listeners.Notifying.{Listeners}
 use Rattle.sat_checker.specs.declared.error.CheckerError.{CheckerError}
 use Rattle.sat_checker.specs.declared.error.CheckerError.TheVariants as errors
 use Rattle.sat_checker.specs.declared.processing.Nobody.{Nobody}
@@ -14,7 +14,7 @@ use Rattle.sat_checker.specs.declared.processing.Processing.{Processing}
 use Rattle.sat_solver.specs.session.Due.{kept_if}
 use Rattle.sat_solver.specs.proof.Listening.{AreJustListeners, Hears, HeardAll, HasHeard, FailedOf}
 use Rattle.sat_solver.specs.session.Session.{MayAll}
-use Rattle.sat_solver.specs.proof.Counting.{width_told, written_for}
+use Rattle.sat_solver.specs.proof.Counting.{width_change, written_for}
 use Rattle.sat_solver.specs.proof.Widths.{IsNarrowedTo, KeepsWidth}
 use Rattle.sat_solver.specs.declared.proof.checker.Checked.{Checked}
 use Rattle.sat_solver.specs.declared.proof.made.CheckFault.{CheckFault}
@@ -40,14 +40,14 @@ has_begun (step ∷ earlier) = not (is_end step) || has_begun earlier
 pub data AreGiven : List Step → List Step → ℕ → Type 0 where
   none_given : AreGiven [] [] 64
   one_given : {steps given : List Step} {before : ℕ} (step : Step) (now : ℕ) → is_end step ≡ false → KeepsWidth step → AreGiven steps given before → AreGiven (step ∷ steps) (written_for before now step ++ given) now
-  end_given : {steps given : List Step} {before : ℕ} (step : Step) (now : ℕ) → is_end step ≡ true → AreGiven steps given before → AreGiven (step ∷ steps) (width_told before now ++ given) now
+  end_given : {steps given : List Step} {before : ℕ} (step : Step) (now : ℕ) → is_end step ≡ true → AreGiven steps given before → AreGiven (step ∷ steps) (width_change before now ++ given) now
 
 -- the same, and then the width of the step that comes next
 pub record AreGivenAndWidth (steps given : List Step) (now : ℕ) : Type 0 where
   pub before : ℕ
   pub earlier : List Step
   pub cut : AreGiven steps earlier before
-  pub told : given ≡ width_told before now ++ earlier
+  pub told : given ≡ width_change before now ++ earlier
 
 -- who listens to it
 abbrev pub who_listens : {L : Type 0} → Checked L → Processing L Nobody
@@ -84,11 +84,11 @@ cause_in (errors.ProofProcessorError cause) = checks.Processor cause
 cause_in e = checks.OutOfMemory
 
 -- what an answer of the checker says: `Ok` that the first holds, an error that it is such a cause, of which the second holds
-abbrev pub OrCause : Result (Unit {0}) CheckerError → Type 0 → (CheckFault → Type 0) → Type 0
-OrCause (Ok x) Fed FailsWhileHeard = Fed
-OrCause (Err e) Fed FailsWhileHeard = IsCause e × FailsWhileHeard (cause_in e)
+abbrev pub OkOrCause : Result (Unit {0}) CheckerError → Type 0 → (CheckFault → Type 0) → Type 0
+OkOrCause (Ok x) Fed FailsWhileHeard = Fed
+OkOrCause (Err e) Fed FailsWhileHeard = IsCause e × FailsWhileHeard (cause_in e)
 
-module _ {L : Type 0} (takes : L → Told → Result Unit Error → L → Type 0) where
+module _ {L : Type 0} (takes : L → Notice → Result Unit Error → L → Type 0) where
   -- it has accepted what it was given, goes on, and has told it to these, since they were added
   pub record IsFedBy (Given : List Step → ℕ → Type 0) (own : Checked L) (added : List L) : Type 0 where
     pub written : List Step
@@ -96,7 +96,7 @@ module _ {L : Type 0} (takes : L → Told → Result Unit Error → L → Type 0
     pub begun : Processing L Nobody
     pub were : AreJustListeners added begun
     pub stands : HasAccepted (Hears takes) [] begun (seen_of own.checker) written
-    pub going : has_failed (kernel_of own.checker) ≡ false
+    pub going : kernel_has_failed (kernel_of own.checker) ≡ false
 
   -- it was given these steps, each at its width
   abbrev pub IsFed : Checked L → List L → List Step → Type 0
@@ -117,22 +117,22 @@ module _ {L : Type 0} (takes : L → Told → Result Unit Error → L → Type 0
   -- a step that may be made is taken, or something failed that isn't the step
   abbrev pub TakesStep : Result (Unit {0}) CheckerError → Checked L → Step → Checked L → Type 0
   TakesStep result old step new = (added : List L) (steps : List Step) → MayAll (step ∷ steps) → IsFed old added steps
-      → OrCause result (IsFed new added (step ∷ steps)) (FailsWhileHeard added (listeners_of (who_listens new)) (step ∷ steps))
+      → OkOrCause result (IsFed new added (step ∷ steps)) (FailsWhileHeard added (listeners_of (who_listens new)) (step ∷ steps))
 
   -- it is told the width of the step that comes next
   abbrev pub TakesWidth : Result (Unit {0}) CheckerError → Checked L → Checked L → Type 0
-  TakesWidth result old new = (added : List L) (steps : List Step) → MayAll steps → IsFed old added steps → OrCause result (IsFedBy (AreGivenAndWidth steps) new added) (FailsWhileHeard added (listeners_of (who_listens new)) steps)
+  TakesWidth result old new = (added : List L) (steps : List Step) → MayAll steps → IsFed old added steps → OkOrCause result (IsFedBy (AreGivenAndWidth steps) new added) (FailsWhileHeard added (listeners_of (who_listens new)) steps)
 
   -- no unit conflict waits for its id any more
   abbrev pub TakesDelayed : Result (Unit {0}) CheckerError → Checked L → Checked L → Type 0
   TakesDelayed result old new = (added : List L) (steps : List Step) → IsFed old added steps
-      → OrCause result (IsFed new added steps × IsSettled (kernel_of new.checker)) (FailsWhileHeard added (listeners_of (who_listens new)) steps)
+      → OkOrCause result (IsFed new added steps × KernelIsSettled (kernel_of new.checker)) (FailsWhileHeard added (listeners_of (who_listens new)) steps)
 
   -- what may be written is never refused
-  abbrev pub FeedsOwnChecker : Result (Unit {0}) CheckerError → Seen (Processing L Nobody) → Step → Seen (Processing L Nobody) → Type 0
+  abbrev pub FeedsOwnChecker : Result (Unit {0}) CheckerError → CheckerView (Processing L Nobody) → Step → CheckerView (Processing L Nobody) → Type 0
   FeedsOwnChecker result old step new =
-      (begun : Processing L Nobody) (written : List Step) → HasAccepted (Hears takes) [] begun old written → has_failed old.kernel ≡ false → MayAll (step ∷ written)
-      → OrCause result (HasAccepted (Hears takes) [] begun new (step ∷ written) × (has_failed new.kernel ≡ false)) (λ fault. FailedOf takes begun new.listeners written fault ⊎ FailedOf takes begun new.listeners (step ∷ written) fault)
+      (begun : Processing L Nobody) (written : List Step) → HasAccepted (Hears takes) [] begun old written → kernel_has_failed old.kernel ≡ false → MayAll (step ∷ written)
+      → OkOrCause result (HasAccepted (Hears takes) [] begun new (step ∷ written) × (kernel_has_failed new.kernel ≡ false)) (λ fault. FailedOf takes begun new.listeners written fault ⊎ FailedOf takes begun new.listeners (step ∷ written) fault)
 
   -- unless a step that was made wasn't taken
   abbrev pub FedUnless : Bool → Option (Checked L) → (added : List L) → List Step → Type 0
@@ -146,7 +146,7 @@ module _ {L : Type 0} (takes : L → Told → Result Unit Error → L → Type 0
   -- another one listens too, or no memory was left for it
   abbrev pub AddsOwnListener : Result (Unit {0}) CheckerError → Checked L → L → Checked L → Type 0
   AddsOwnListener result old processor new = (added : List L) (steps : List Step) → has_begun steps ≡ false → IsFed old added steps
-      → OrCause result (IsFed new (added ++ processor ∷ []) steps) (λ fault. (fault ≡ checks.OutOfMemory) × Heard added (listeners_of (who_listens new)) steps)
+      → OkOrCause result (IsFed new (added ++ processor ∷ []) steps) (λ fault. (fault ≡ checks.OutOfMemory) × Heard added (listeners_of (who_listens new)) steps)
 
   -- it begins anew, and those who listened to it are those who were added to it
   pub record BeginsAnew (old new : Checked L) (added : List L) : Type 0 where

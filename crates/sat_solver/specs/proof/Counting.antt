@@ -5,8 +5,8 @@ use Rattle.sat_solver.specs.proof.Widths.{narrowed, KeepsWidth}
 use Rattle.sat_solver.specs.declared.proof.hash_bits.Counting.{Counting}
 
 -- no clause was counted, hashes are whole, and no ask has begun
-abbrev pub start : Counting
-start = record { clauses = 0; bits = 64; solving = false }
+abbrev pub nothing_counted : Counting
+nothing_counted = record { clauses = 0; bits = 64; solving = false }
 
 -- one more for a clause of two literals or more; the count is held at its largest value
 abbrev pub one_more_if : List ℕ → ℕ → ℕ
@@ -36,9 +36,9 @@ abbrev pub too_long : ℕ → ℕ → Bool
 too_long n bits = nat_lt 6 bits && nat_lt (4 * n) (2 ^ (bits / 2))
 
 -- While the width is too short, two bits are added. No width is more than 32 times that away from another.
-unfoldable pub widened : ℕ → ℕ → ℕ → ℕ
-widened zero n bits = bits
-widened (suc k) n bits = if too_short n bits then widened k n (min (bits + 2) 64) else bits
+unfoldable pub widened_bits : ℕ → ℕ → ℕ → ℕ
+widened_bits zero n bits = bits
+widened_bits (suc k) n bits = if too_short n bits then widened_bits k n (min (bits + 2) 64) else bits
 
 -- While it's too long, two are taken away.
 unfoldable pub shortened : ℕ → ℕ → ℕ → ℕ
@@ -47,20 +47,20 @@ shortened (suc k) n bits = if too_long n bits then shortened k n (bits - 2) else
 
 -- the width for so many clauses, from the one before; it's shortened once the first ask has begun
 abbrev pub fitting : Bool → ℕ → ℕ → ℕ
-fitting false n bits = widened 32 n bits
-fitting true n bits = shortened 32 n (widened 32 n bits)
+fitting false n bits = widened_bits 32 n bits
+fitting true n bits = shortened 32 n (widened_bits 32 n bits)
 
 -- with the step that comes next: it's counted first, and written at the width that fits then
 abbrev pub counted : Step → Counting → Counting
 counted step c = let n : ℕ = count_after step c.clauses in record c { clauses = n; bits = fitting c.solving n c.bits }
 
 -- a width that changes is told
-abbrev pub width_told : ℕ → ℕ → List Step
-width_told before now = if nat_eq before now then [] else ChangeHashBits now ∷ []
+abbrev pub width_change : ℕ → ℕ → List Step
+width_change before now = if nat_eq before now then [] else ChangeHashBits now ∷ []
 
 -- what is written for a step, where the width was this one and is that one now
 abbrev pub written_for : ℕ → ℕ → Step → List Step
-written_for before now step = narrowed now step ∷ width_told before now
+written_for before now step = narrowed now step ∷ width_change before now
 
 -- From there to here: steps that were made, and those that were written for them. Lists have the newest step first.
 pub data TruncatesHashes : Counting → List Step → List Step → Counting → Type 0 where

@@ -7,7 +7,7 @@ use Rattle.sat_base.specs.steps.Steps.{Step}
 use Rattle.sat_checker.specs.Accepts.{AcceptsAll}
 use Rattle.sat_checker.specs.declared.processing.ProofProcessor.{Ghosts}
 use Rattle.sat_solver.specs.proof.Checked.{has_begun}
-use Rattle.sat_solver.specs.proof.Counting.{start, TruncatesHashes}
+use Rattle.sat_solver.specs.proof.Counting.{nothing_counted, TruncatesHashes}
 use Rattle.sat_solver.specs.proof.OutputView.{text_in}
 use Rattle.sat_solver.specs.proof.ProofView.{Target, Open, TargetTakes, TargetFails, GivesWriter, target_of, steps_of}
 use Rattle.sat_solver.specs.session.Session.{MayAll}
@@ -19,7 +19,7 @@ use Rattle.sat_solver.specs.declared.proof.Proof.{Proof}
 pub record FrontText (f : ProofFormat) (from given : Writer) (steps : List Step) : Type 0 where
   pub written : List Step
   pub counting : Counting
-  pub cuts : TruncatesHashes start steps written counting
+  pub cuts : TruncatesHashes nothing_counted steps written counting
   pub may : MayAll written
   pub accepts : AcceptsAll written
   pub front : List ℕ
@@ -40,7 +40,7 @@ abbrev pub TargetTakesFront : Target → List Step → Target → Type 0
 TargetTakesFront old steps new = TargetTakes old steps new ⊎ ((later : List Step) × (first : List Step) × (steps ≡ later ++ first) × TargetFails old first new)
 
 -- it came from there by steps, whether or not a call failed
-pub record WentOn {W L : Type 0} {G : Ghosts L} (seen : W → Writer) (old new : Proof W L G) : Type 0 where
+pub record GoesOnFrom {W L : Type 0} {G : Ghosts L} (seen : W → Writer) (old new : Proof W L G) : Type 0 where
   pub steps : List Step
   pub history : steps_of new ≡ steps ++ steps_of old
   pub target : TargetTakesFront (target_of seen old) steps (target_of seen new)
@@ -49,4 +49,4 @@ pub record WentOn {W L : Type 0} {G : Ghosts L} (seen : W → Writer) (old new :
 -- having taken a front of the text of accepted steps.
 abbrev pub FrontsAreAccepted : Type 0
 FrontsAreAccepted = (f : ProofFormat) (from given : Writer) (before steps : List Step) (now : Target) → has_begun before ≡ false → MayAll (steps ++ before)
-    → TargetTakesFront (Open f start (empty_sink from)) steps now → GivesWriter now (Some given) → FrontSince f from given before (steps ++ before)
+    → TargetTakesFront (Open f nothing_counted (empty_sink from)) steps now → GivesWriter now (Some given) → FrontSince f from given before (steps ++ before)

@@ -4,10 +4,10 @@ use Rattle.anyhow.specs.declared.error.Error.{Error}
 use Rattle.sat_base.specs.steps.Steps.{Step}
 use Rattle.sat_checker.specs.Accepts.{stored_after, ready_after}
 use Rattle.sat_checker.specs.Spent.{IsSpent, SpentBy}
-use Rattle.sat_checker.specs.announcements.Announcements.{Told, told_after, all_told_after}
+use Rattle.sat_checker.specs.announcements.Announcements.{Notice, notices_after, all_notices_after}
 use Rattle.sat_checker.specs.announcements.Transcripts.{Transcribed}
-use Rattle.sat_checker.specs.telling.Hearing.{HearsSince, HearsSinceUpTo}
-use Rattle.sat_checker.specs.telling.ProcessingView.{HearsEach, listeners_of}
+use Rattle.sat_checker.specs.listeners.Hearing.{HearsSince, HearsSinceUpTo}
+use Rattle.sat_checker.specs.listeners.ProcessingView.{HearsEach, listeners_of}
 use Rattle.sat_checker.specs.declared.processing.Nobody.{Nobody}
 use Rattle.sat_checker.specs.declared.processing.Processing.{Processing}
 use Rattle.sat_checker.specs.declared.processing.ProcessingError.{ProcessingError}
@@ -23,19 +23,19 @@ reads_nothing old said result new = (result ≡ Ok tt) × (new ≡ old)
 abbrev pub AreJustListeners : {L : Type 0} → List L → Processing L Nobody → Type 0
 AreJustListeners listed who = listeners_of who ≡ record { processors = listed; transcripts = [] }
 
-module _ {L : Type 0} (takes : L → Told → Result Unit Error → L → Type 0) where
+module _ {L : Type 0} (takes : L → Notice → Result Unit Error → L → Type 0) where
   -- each processor hears what is told, as its relation has it
-  abbrev pub Hears : Processing L Nobody → Told → Result Unit ProcessingError → Processing L Nobody → Type 0
+  abbrev pub Hears : Processing L Nobody → Notice → Result Unit ProcessingError → Processing L Nobody → Type 0
   Hears = HearsEach takes reads_nothing
 
   module _ (begun now : Processing L Nobody) (written : List Step) where
     -- Each announcement of these steps was heard once, in order; the empty clause of a unit conflict that they leave may still wait.
     abbrev pub HeardAll : Type 0
-    HeardAll = HearsSince Hears [] (told_after written) begun now ⊎ HearsSince Hears [] (all_told_after written) begun now
+    HeardAll = HearsSince Hears [] (notices_after written) begun now ⊎ HearsSince Hears [] (all_notices_after written) begun now
 
     -- so it was up to this fault, which a processor answered
     abbrev pub HeardUpTo : ProcessingError → Type 0
-    HeardUpTo e = HearsSinceUpTo Hears e [] (told_after written) begun now ⊎ HearsSinceUpTo Hears e [] (all_told_after written) begun now
+    HeardUpTo e = HearsSinceUpTo Hears e [] (notices_after written) begun now ⊎ HearsSinceUpTo Hears e [] (all_notices_after written) begun now
 
     -- all was heard, or all up to some fault
     abbrev pub HasHeard : Type 0

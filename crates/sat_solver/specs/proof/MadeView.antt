@@ -3,10 +3,10 @@ use Rattle.std.specs.Prelude.{ℕ, ◌≡◌, ◌⊎◌, true, false, Bool, is_s
 use Rattle.anyhow.specs.declared.error.Error.{Error}
 use Rattle.sat_base.specs.steps.Steps.{Step}
 use Rattle.sat_checker.specs.CheckerView.{kernel_of}
-use Rattle.sat_checker.specs.KernelView.{IsSettled}
-use Rattle.sat_checker.specs.announcements.Announcements.{Told}
-use Rattle.sat_checker.specs.telling.ProcessingView.{listeners_of}
-use Rattle.sat_checker.specs.telling.Telling.{Listeners}
+use Rattle.sat_checker.specs.KernelView.{KernelIsSettled}
+use Rattle.sat_checker.specs.announcements.Announcements.{Notice}
+use Rattle.sat_checker.specs.listeners.ProcessingView.{listeners_of}
+use Rattle.sat_checker.specs.listeners.Notifying.{Listeners}
 use Rattle.sat_checker.specs.declared.processing.Nobody.{Nobody}
 use Rattle.sat_checker.specs.declared.processing.ProofProcessor.{Ghosts}
 use Rattle.sat_solver.specs.proof.Complaints.{IsComplaint}
@@ -22,34 +22,34 @@ listed_in None added = None
 listed_in (Some own) added = Some added
 
 -- where there is a checker: those who listen to it, each as it was when it was added, in order
-abbrev pub audience : {L : Type 0} {G : Ghosts L} → Made L G → Option (List L)
-audience m = listed_in m.own m.roll.items
+abbrev pub made_audience : {L : Type 0} {G : Ghosts L} → Made L G → Option (List L)
+made_audience m = listed_in m.own m.roll.items
 
 -- does it have a checker?
-abbrev pub is_checked : {L : Type 0} {G : Ghosts L} → Made L G → Bool
-is_checked m = is_some (audience m)
+abbrev pub made_is_checked : {L : Type 0} {G : Ghosts L} → Made L G → Bool
+made_is_checked m = is_some (made_audience m)
 
 -- has a step been made that the checker wasn't given?
-abbrev pub is_lost : {L : Type 0} {G : Ghosts L} → Made L G → Bool
-is_lost m = m.lost
+abbrev pub made_is_lost : {L : Type 0} {G : Ghosts L} → Made L G → Bool
+made_is_lost m = m.lost
 
 -- a checker, where there is one, lacks no step, and no unit conflict waits in it
 abbrev pub IsUpToDate : {L : Type 0} → Bool → Option (Checked L) → Type 0
 IsUpToDate lost None = Unit {0}
-IsUpToDate lost (Some own) = (lost ≡ false) × IsSettled (kernel_of own.checker)
+IsUpToDate lost (Some own) = (lost ≡ false) × KernelIsSettled (kernel_of own.checker)
 
 -- where there is a checker, it was given each step that was made, and nothing waits in it
-abbrev pub HasTold : {L : Type 0} {G : Ghosts L} → Made L G → Type 0
-HasTold m = IsUpToDate m.lost m.own
+abbrev pub MadeIsReported : {L : Type 0} {G : Ghosts L} → Made L G → Type 0
+MadeIsReported m = IsUpToDate m.lost m.own
 
 -- a checker, where there is one, was told this width last
-abbrev pub IsToldIn : {L : Type 0} → ℕ → Option (Checked L) → Type 0
-IsToldIn bits None = Unit {0}
-IsToldIn bits (Some own) = own.bits ≡ bits
+abbrev pub LastWidthIsIn : {L : Type 0} → ℕ → Option (Checked L) → Type 0
+LastWidthIsIn bits None = Unit {0}
+LastWidthIsIn bits (Some own) = own.bits ≡ bits
 
 -- where there is a checker that was given each step, it was told this width last
-abbrev pub IsTold : {L : Type 0} {G : Ghosts L} → ℕ → Made L G → Type 0
-IsTold bits m = m.lost ≡ false → IsToldIn bits m.own
+abbrev pub LastWidthIs : {L : Type 0} {G : Ghosts L} → ℕ → Made L G → Type 0
+LastWidthIs bits m = m.lost ≡ false → LastWidthIsIn bits m.own
 
 -- a processor's fault comes only where somebody listens
 abbrev pub HasListeners : {L : Type 0} → CheckFault → Option (List L) → Type 0
@@ -57,7 +57,7 @@ HasListeners checks.OutOfMemory listening = Unit {0}
 HasListeners checks.CounterEnd listening = Unit {0}
 HasListeners (checks.Processor cause) listening = listening ≡ Some [] → ⊥
 
-module _ {L : Type 0} (takes : L → Told → Result Unit Error → L → Type 0) where
+module _ {L : Type 0} (takes : L → Notice → Result Unit Error → L → Type 0) where
   -- there is a checker, which failed so by these steps; for a processor's fault somebody listens
   abbrev pub ComplainsIn : CheckFault → Option (Checked L) → (added : List L) → List Step → Type 0
   ComplainsIn fault None added steps = ⊥
@@ -86,64 +86,64 @@ module _ {L : Type 0} (takes : L → Told → Result Unit Error → L → Type 0
   HandedIn (Some added) given steps = ∥ IsHanded added given steps ∥₁
 
 -- its checker failed for this reason: of a processor's fault, one of those who listen answered it, so that there are some
-abbrev pub Complains : {L : Type 0} {G : Ghosts L} → CheckFault → Made L G → Type 0
-Complains {G = G} fault m = ComplainsIn G.takes fault m.own m.roll.items m.history.steps
+abbrev pub MadeComplains : {L : Type 0} {G : Ghosts L} → CheckFault → Made L G → Type 0
+MadeComplains {G = G} fault m = ComplainsIn G.takes fault m.own m.roll.items m.history.steps
 
 -- those who listen are handed back
-abbrev pub Handed : {L : Type 0} {G : Ghosts L} → Made L G → (given : List L) → Type 0
-Handed {G = G} m given = HandedIn G.takes (audience m) given m.history.steps
+abbrev pub MadeHandsBack : {L : Type 0} {G : Ghosts L} → Made L G → (given : List L) → Type 0
+MadeHandsBack {G = G} m given = HandedIn G.takes (made_audience m) given m.history.steps
 
 -- where it took each step they have heard all of it
-abbrev pub HandedWhole : {L : Type 0} {G : Ghosts L} → Made L G → (given : List L) → Type 0
-HandedWhole {G = G} m given = m.lost ≡ false → HandedWholeIn G.takes (audience m) given m.history.steps
+abbrev pub MadeHandsBackWhole : {L : Type 0} {G : Ghosts L} → Made L G → (given : List L) → Type 0
+MadeHandsBackWhole {G = G} m given = m.lost ≡ false → HandedWholeIn G.takes (made_audience m) given m.history.steps
 
 -- what an answer of the checker says: the cause of a fault is kept
-abbrev pub OrComplains : {L : Type 0} {G : Ghosts L} → Result (Unit {0}) CheckFault → Made L G → Type 0
-OrComplains (Ok x) m = Unit {0}
-OrComplains (Err fault) m = Complains fault m × IsComplaint fault m.complaint
+abbrev pub OkOrComplains : {L : Type 0} {G : Ghosts L} → Result (Unit {0}) CheckFault → Made L G → Type 0
+OkOrComplains (Ok x) m = Unit {0}
+OkOrComplains (Err fault) m = MadeComplains fault m × IsComplaint fault m.complaint
 
 -- the same, or it had failed before
 abbrev pub ComplainsOr : {L : Type 0} {G : Ghosts L} → (lost : Bool) → CheckFault → Made L G → Type 0
-ComplainsOr lost fault m = (Complains fault m × IsComplaint fault m.complaint) ⊎ ((lost ≡ true) × (fault ≡ checks.OutOfMemory))
+ComplainsOr lost fault m = (MadeComplains fault m × IsComplaint fault m.complaint) ⊎ ((lost ≡ true) × (fault ≡ checks.OutOfMemory))
 
 -- what an answer says of a checker that may have failed before
-abbrev pub OrComplainsUnless : {L : Type 0} {G : Ghosts L} → (lost : Bool) → Result (Unit {0}) CheckFault → Made L G → Type 0
-OrComplainsUnless lost (Ok x) m = Unit {0}
-OrComplainsUnless lost (Err fault) m = ComplainsOr lost fault m
+abbrev pub OkOrComplainsUnless : {L : Type 0} {G : Ghosts L} → (lost : Bool) → Result (Unit {0}) CheckFault → Made L G → Type 0
+OkOrComplainsUnless lost (Ok x) m = Unit {0}
+OkOrComplainsUnless lost (Err fault) m = ComplainsOr lost fault m
 
 -- its processor's complaint was told
 abbrev pub cleared_complaint : {L : Type 0} {G : Ghosts L} → Made L G → Made L G
 cleared_complaint m = record m { complaint = None }
 
 -- the step was made
-pub record Makes {L : Type 0} {G : Ghosts L} (step : Step) (old new : Made L G) : Type 0 where
+pub record MadeEffect {L : Type 0} {G : Ghosts L} (step : Step) (old new : Made L G) : Type 0 where
   pub steps : new.history.steps ≡ step ∷ old.history.steps
-  pub listening : audience new ≡ audience old
+  pub listening : made_audience new ≡ made_audience old
 
 -- Who listens as checking begins: those who listened before, each as it was when it was added; or, where a step was lost, as it was handed back.
-abbrev pub ListedAnew : {L : Type 0} {G : Ghosts L} → Bool → Made L G → Option (List L) → List L → Type 0
-ListedAnew lost m None begun = begun ≡ []
-ListedAnew false m (Some added) begun = begun ≡ added
-ListedAnew true m (Some added) begun = Handed m begun
+abbrev pub MadeListedAnew : {L : Type 0} {G : Ghosts L} → Bool → Made L G → Option (List L) → List L → Type 0
+MadeListedAnew lost m None begun = begun ≡ []
+MadeListedAnew false m (Some added) begun = begun ≡ added
+MadeListedAnew true m (Some added) begun = MadeHandsBack m begun
 
 -- there is a checker, which lacks no step
-pub record Checks {L : Type 0} {G : Ghosts L} (old new : Made L G) : Type 0 where
+pub record MadeHasChecker {L : Type 0} {G : Ghosts L} (old new : Made L G) : Type 0 where
   pub steps : new.history.steps ≡ old.history.steps
   pub begun : List L
-  pub listening : audience new ≡ Some begun
-  pub listed : ListedAnew old.lost old (audience old) begun
-  pub taking : is_lost new ≡ false
+  pub listening : made_audience new ≡ Some begun
+  pub listed : MadeListedAnew old.lost old (made_audience old) begun
+  pub taking : made_is_lost new ≡ false
 
 -- another processor listens too
-pub record ListensToo {L : Type 0} {G : Ghosts L} (processor : L) (old new : Made L G) : Type 0 where
+pub record MadeListensToo {L : Type 0} {G : Ghosts L} (processor : L) (old new : Made L G) : Type 0 where
   pub before : List L
-  pub listened : audience old ≡ Some before
-  pub listening : audience new ≡ Some (before ++ processor ∷ [])
-  pub taking : is_lost new ≡ false
+  pub listened : made_audience old ≡ Some before
+  pub listening : made_audience new ≡ Some (before ++ processor ∷ [])
+  pub taking : made_is_lost new ≡ false
 
 -- what came of adding it
-abbrev pub TakesListener : {L : Type 0} {G : Ghosts L} → Result (Unit {0}) CheckFault → L → Made L G → Made L G → Type 0
-TakesListener (Ok x) processor old new = ListensToo processor old new
-TakesListener (Err checks.OutOfMemory) processor old new = audience new ≡ audience old
-TakesListener (Err checks.CounterEnd) processor old new = ⊥
-TakesListener (Err (checks.Processor cause)) processor old new = ⊥
+abbrev pub MadeTakesListener : {L : Type 0} {G : Ghosts L} → Result (Unit {0}) CheckFault → L → Made L G → Made L G → Type 0
+MadeTakesListener (Ok x) processor old new = MadeListensToo processor old new
+MadeTakesListener (Err checks.OutOfMemory) processor old new = made_audience new ≡ made_audience old
+MadeTakesListener (Err checks.CounterEnd) processor old new = ⊥
+MadeTakesListener (Err (checks.Processor cause)) processor old new = ⊥

@@ -2,7 +2,7 @@
 use Rattle.std.specs.Prelude.{◌≡◌, ℕ, Bool, true, false, List, [], ◌∷◌, ◌++◌, Result, Ok, Err}
 use Rattle.std.specs.List.{AllByRecursion}
 use Rattle.sat_base.specs.device.Device.{Writer, WriterTakes, WriterBreaks}
-use Rattle.sat_base.specs.device.Sink.{Sink, Sent, empty_sink}
+use Rattle.sat_base.specs.device.Sink.{Sink, AddsToSink, empty_sink}
 use Rattle.sat_base.specs.steps.Steps.{Step}
 use Rattle.sat_base.specs.steps.StepBytes.{step_bytes}
 use Rattle.sat_base.specs.steps.StepText.{SpellsStep}
@@ -41,7 +41,7 @@ AreSpeltInFormat f = AllByRecursion (SpellsIn f)
 -- these steps' text was written to a sink, or waits in it
 pub record SendsSteps (f : ProofFormat) (steps : List Step) (old new : Sink) : Type 0 where
   pub spelt : AreSpeltInFormat f steps
-  pub sent : Sent old new (text_in f steps)
+  pub sent : AddsToSink old new (text_in f steps)
 
 -- what came of writing steps
 abbrev pub PutsSteps : ProofFormat → Result (Unit {0}) OutputError → List Step → Sink → Sink → Type 0

@@ -6,7 +6,7 @@ use Rattle.sat_base.specs.steps.Steps.{Step}
 use Rattle.sat_base.specs.steps.StepText.{SpellsSteps}
 use Rattle.sat_checker.specs.Accepts.{AcceptsAll}
 use Rattle.sat_checker.specs.declared.processing.ProofProcessor.{Ghosts}
-use Rattle.sat_solver.specs.proof.Counting.{start, TruncatesHashes}
+use Rattle.sat_solver.specs.proof.Counting.{nothing_counted, TruncatesHashes}
 use Rattle.sat_solver.specs.proof.OutputView.{text_in}
 use Rattle.sat_solver.specs.proof.ProofView.{Target, Open, TargetTakes, TargetFails, TakesAll, GivesWriter, target_of, steps_of}
 use Rattle.sat_solver.specs.session.Session.{MayAll}
@@ -20,7 +20,7 @@ use Rattle.sat_solver.specs.declared.proof.Proof.{Proof}
 pub record TookText (f : ProofFormat) (from given : Writer) (steps : List Step) : Type 0 where
   pub written : List Step
   pub counting : Counting
-  pub cuts : TruncatesHashes start steps written counting
+  pub cuts : TruncatesHashes nothing_counted steps written counting
   pub spells : f ≡ Varisat → SpellsSteps (reverse written) (text_in f written)
   pub takes : WriterTakes from given (text_in f written)
   pub flushed : given.flushed ≡ true
@@ -29,26 +29,26 @@ pub record TookText (f : ProofFormat) (from given : Writer) (steps : List Step) 
 pub record BrokeText (f : ProofFormat) (from given : Writer) (steps : List Step) : Type 0 where
   pub written : List Step
   pub counting : Counting
-  pub cuts : TruncatesHashes start steps written counting
+  pub cuts : TruncatesHashes nothing_counted steps written counting
   pub breaks : WriterBreaks from given (text_in f written)
 
 -- Where a target was opened when its writer was this one, then these steps were made, and the last one as it was closed.
 abbrev pub ClosedIsText : Type 0
-ClosedIsText = (f : ProofFormat) (from given : Writer) (steps : List Step) (last : Step) (t : Target) → TargetTakes (Open f start (empty_sink from)) steps t → TakesAll t (last ∷ []) given → TookText f from given (last ∷ steps)
+ClosedIsText = (f : ProofFormat) (from given : Writer) (steps : List Step) (last : Step) (t : Target) → TargetTakes (Open f nothing_counted (empty_sink from)) steps t → TakesAll t (last ∷ []) given → TookText f from given (last ∷ steps)
 
 -- Where a call of it failed at the text of these steps, and it was handed back, it took a front of their text, and that call was the last.
 abbrev pub BrokenIsFront : Type 0
-BrokenIsFront = (f : ProofFormat) (from given : Writer) (steps : List Step) (t : Target) → TargetFails (Open f start (empty_sink from)) steps t → GivesWriter t (Some given) → BrokeText f from given steps
+BrokenIsFront = (f : ProofFormat) (from given : Writer) (steps : List Step) (t : Target) → TargetFails (Open f nothing_counted (empty_sink from)) steps t → GivesWriter t (Some given) → BrokeText f from given steps
 
 -- what is written for steps that may be made may be made, whatever widths it has
 abbrev pub CutsAreFree : Type 0
-CutsAreFree = (made written : List Step) (c : Counting) → TruncatesHashes start made written c → MayAll made → MayAt made written c.bits
+CutsAreFree = (made written : List Step) (c : Counting) → TruncatesHashes nothing_counted made written c → MayAll made → MayAt made written c.bits
 
 -- Since a target was opened when its writer was this one and these steps were made, what it took and what waits for it is the text of the steps that were made from there on.
 pub record WroteSince {W L : Type 0} {G : Ghosts L} (seen : W → Writer) (f : ProofFormat) (from : Writer) (before : List Step) (p : Proof W L G) : Type 0 where
   pub steps : List Step
   pub behind : steps_of p ≡ steps ++ before
-  pub target : TargetTakes (Open f start (empty_sink from)) steps (target_of seen p)
+  pub target : TargetTakes (Open f nothing_counted (empty_sink from)) steps (target_of seen p)
 
 -- all steps since an opening, of which a target that is handed back took the text
 pub record TookSince (f : ProofFormat) (from given : Writer) (before now : List Step) : Type 0 where

@@ -1,7 +1,7 @@
 -- What contracts see of the proof that a solver writes: its steps, and where their text goes. Lists of steps have the newest first.
 use Rattle.std.specs.Prelude.{◌≡◌, ◌⊎◌, Bool, true, false, Option, None, Some, List, [], ◌∷◌, ◌++◌, Result, Ok, Err}
 use Rattle.sat_base.specs.device.Device.{Writer, WriterTakes, WriterBreaks}
-use Rattle.sat_base.specs.device.Sink.{Sink, Emptied}
+use Rattle.sat_base.specs.device.Sink.{Sink, SinkIsFlushed}
 use Rattle.sat_base.specs.steps.Steps.{Step, End}
 use Rattle.sat_checker.specs.declared.processing.ProofProcessor.{Ghosts}
 use Rattle.sat_solver.specs.proof.Counting.{TruncatesHashes}
@@ -64,27 +64,27 @@ steps_of p = p.made.history.steps
 
 -- does a checker take them?
 abbrev pub is_checked : {W L : Type 0} {G : Ghosts L} → Proof W L G → Bool
-is_checked p = mades.is_checked p.made
+is_checked p = mades.made_is_checked p.made
 
 -- where there is one: those who listen to it, each as it was when it was added, in order
 abbrev pub audience : {W L : Type 0} {G : Ghosts L} → Proof W L G → Option (List L)
-audience p = mades.audience p.made
+audience p = mades.made_audience p.made
 
 -- has a step been made that the checker wasn't given?
 abbrev pub is_lost : {W L : Type 0} {G : Ghosts L} → Proof W L G → Bool
-is_lost p = mades.is_lost p.made
+is_lost p = mades.made_is_lost p.made
 
 -- where there is a checker, it was given each step that was made, and nothing waits in it
-abbrev pub HasTold : {W L : Type 0} {G : Ghosts L} → Proof W L G → Type 0
-HasTold p = mades.HasTold p.made
+abbrev pub AllStepsReported : {W L : Type 0} {G : Ghosts L} → Proof W L G → Type 0
+AllStepsReported p = mades.MadeIsReported p.made
 
 -- the width that its checker was told last, where there is one, is the one of the target's text
 abbrev pub IsAtWidth : {W L : Type 0} {G : Ghosts L} → Proof W L G → Type 0
-IsAtWidth p = mades.IsTold p.counting.bits p.made
+IsAtWidth p = mades.LastWidthIs p.counting.bits p.made
 
 -- it failed for this reason: of a processor's fault, one of those who listen answered it, so that there are some
 abbrev pub Complains : {W L : Type 0} {G : Ghosts L} → CheckFault → Proof W L G → Type 0
-Complains fault p = mades.Complains fault p.made
+Complains fault p = mades.MadeComplains fault p.made
 
 -- where a call of the target failed, the cause is kept
 abbrev pub HasCause : {W L : Type 0} {G : Ghosts L} → ProofError → Proof W L G → Type 0
@@ -97,20 +97,20 @@ abbrev pub without_complaint : {W L : Type 0} {G : Ghosts L} → Proof W L G →
 without_complaint p = record p { made = mades.cleared_complaint p.made }
 
 -- those who listen are handed back, behind what they have heard of all steps, each once and in order
-abbrev pub Handed : {W L : Type 0} {G : Ghosts L} → Proof W L G → (given : List L) → Type 0
-Handed p given = mades.Handed p.made given
+abbrev pub HandsBackListeners : {W L : Type 0} {G : Ghosts L} → Proof W L G → (given : List L) → Type 0
+HandsBackListeners p given = mades.MadeHandsBack p.made given
 
 -- where the checker took each step they have heard all that is told of all steps
-abbrev pub HandedWhole : {W L : Type 0} {G : Ghosts L} → Proof W L G → (given : List L) → Type 0
-HandedWhole p given = mades.HandedWhole p.made given
+abbrev pub HandsBackWholeListeners : {W L : Type 0} {G : Ghosts L} → Proof W L G → (given : List L) → Type 0
+HandsBackWholeListeners p given = mades.MadeHandsBackWhole p.made given
 
 -- there is a checker, which lacks no step
-abbrev pub Checks : {W L : Type 0} {G : Ghosts L} → Proof W L G → Proof W L G → Type 0
-Checks old new = mades.Checks old.made new.made
+abbrev pub HasFullChecker : {W L : Type 0} {G : Ghosts L} → Proof W L G → Proof W L G → Type 0
+HasFullChecker old new = mades.MadeHasChecker old.made new.made
 
 -- these listen as checking begins
 abbrev pub ListedAnew : {W L : Type 0} {G : Ghosts L} → Proof W L G → List L → Type 0
-ListedAnew p begun = mades.ListedAnew (is_lost p) p.made (audience p) begun
+ListedAnew p begun = mades.MadeListedAnew (is_lost p) p.made (audience p) begun
 
 -- the session behind them
 abbrev pub session_of : {W L : Type 0} {G : Ghosts L} → Proof W L G → Session
@@ -202,7 +202,7 @@ EmitsAsAnswered seen (Err (Check fault)) steps old new = FailsCheck seen fault s
 -- nothing waits for an open target any more, which was flushed
 abbrev pub Flushed : Target → Target → Type 0
 Flushed Closed new = new ≡ Closed
-Flushed (Open f c s) new = (t : Sink) × (new ≡ Open f c t) × Emptied s t
+Flushed (Open f c s) new = (t : Sink) × (new ≡ Open f c t) × SinkIsFlushed s t
 Flushed (Broken w) new = new ≡ Broken w
 
 -- the target was flushed, whatever the checker has told
@@ -212,14 +212,14 @@ pub record Drains {W L : Type 0} {G : Ghosts L} (seen : W → Writer) (old new :
   pub target : Flushed (target_of seen old) (target_of seen new)
 
 -- and the checker has told what waited
-pub record FlushesAndTells {W L : Type 0} {G : Ghosts L} (seen : W → Writer) (old new : Proof W L G) : Type 0 where
+pub record FlushesAndNotifies {W L : Type 0} {G : Ghosts L} (seen : W → Writer) (old new : Proof W L G) : Type 0 where
   pub history : steps_of new ≡ steps_of old
   pub listening : audience new ≡ audience old
   pub taking : is_lost new ≡ is_lost old
   pub asked : has_asked new ≡ has_asked old
   pub width : IsAtWidth old → IsAtWidth new
   pub target : Flushed (target_of seen old) (target_of seen new)
-  pub told : HasTold new
+  pub told : AllStepsReported new
 
 -- what came of a flush of the target alone
 abbrev pub FlushesTarget : {W L : Type 0} {G : Ghosts L} → (W → Writer) → Result (Unit {0}) ProofError → Proof W L G → Proof W L G → Type 0
@@ -230,7 +230,7 @@ FlushesTarget seen (Err (Check fault)) old new = ⊥
 
 -- what came of a flush, behind which the checker tells what waited
 abbrev pub FlushesOrFails : {W L : Type 0} {G : Ghosts L} → (W → Writer) → Result (Unit {0}) ProofError → Proof W L G → Proof W L G → Type 0
-FlushesOrFails seen (Ok x) old new = FlushesAndTells seen old new
+FlushesOrFails seen (Ok x) old new = FlushesAndNotifies seen old new
 FlushesOrFails seen (Err (Write e)) old new = FailsToEmit seen [] old new × (new.cause ≡ Some e)
 FlushesOrFails seen (Err OutOfMemory) old new = ⊥
 FlushesOrFails seen (Err (Check fault)) old new = Drains seen old new × mades.ComplainsOr (is_lost old) fault new.made
@@ -267,7 +267,7 @@ pub record ClosesOne {W L : Type 0} {G : Ghosts L} (seen : W → Writer) (given 
   pub asked : has_asked new ≡ has_asked old
   pub takes : TakesAll (target_of seen old) (End ∷ []) (seen given)
   pub target : target_of seen new ≡ Closed
-  pub told : HasTold new
+  pub told : AllStepsReported new
 
 -- What came of closing a proof. A fault was at the text of the last step, or at what waited then.
 abbrev pub ClosesTarget : {W L : Type 0} {G : Ghosts L} → (W → Writer) → Result (Option W) ProofError → Proof W L G → Proof W L G → Type 0
@@ -284,16 +284,16 @@ GivesWriter (Open f c s) given = given ≡ Some s.writer
 GivesWriter (Broken w) given = given ≡ Some w
 
 -- what contracts see of a writer that is handed back, if one is
-abbrev pub seen_of : {W : Type 0} → (W → Writer) → Option W → Option Writer
-seen_of seen None = None
-seen_of seen (Some w) = Some (seen w)
+abbrev pub handed_writer : {W : Type 0} → (W → Writer) → Option W → Option Writer
+handed_writer seen None = None
+handed_writer seen (Some w) = Some (seen w)
 
 -- the target is handed back as it is
 pub record HandsBack {W L : Type 0} {G : Ghosts L} (seen : W → Writer) (given : Option W) (old new : Proof W L G) : Type 0 where
   pub history : steps_of new ≡ steps_of old
   pub made : new.made ≡ old.made
   pub asked : has_asked new ≡ has_asked old
-  pub gives : GivesWriter (target_of seen old) (seen_of seen given)
+  pub gives : GivesWriter (target_of seen old) (handed_writer seen given)
   pub target : target_of seen new ≡ Closed
 
 -- another processor listens to the checker too

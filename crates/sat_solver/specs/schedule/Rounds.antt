@@ -31,7 +31,7 @@ pub data AreRounds {A N : Type 0} (restarted : A → A → Type 0) (reduced : A 
   one_more : {a b c : A} {n m l : N} {r s t : Restarts} {k j : ℕ} → AreRounds restarted reduced rounded a n r k b m s j → IsRound restarted reduced rounded j outcomes.Learned b m s c l t → AreRounds restarted reduced rounded a n r k c l t (j + 1)
 
 -- the last of them ended in this answer, or there's none
-abbrev pub ComesBy : {A N : Type 0} (restarted : A → A → Type 0) (reduced : A → ℕ → A → Type 0) (rounded : A → N → Outcome → A → N → Type 0) → Option Outcome → A → N → Restarts → ℕ → A → N → Restarts → ℕ → Type 0
-ComesBy restarted reduced rounded None a n r k b m s j = AreRounds restarted reduced rounded a n r k b m s j
-ComesBy {A} {N} restarted reduced rounded (Some o) a n r k b m s j =
+abbrev pub LastRoundAnswers : {A N : Type 0} (restarted : A → A → Type 0) (reduced : A → ℕ → A → Type 0) (rounded : A → N → Outcome → A → N → Type 0) → Option Outcome → A → N → Restarts → ℕ → A → N → Restarts → ℕ → Type 0
+LastRoundAnswers restarted reduced rounded None a n r k b m s j = AreRounds restarted reduced rounded a n r k b m s j
+LastRoundAnswers {A} {N} restarted reduced rounded (Some o) a n r k b m s j =
     (c : A) × (l : N) × (t : Restarts) × (i : ℕ) × (j ≡ i + 1) × AreRounds restarted reduced rounded a n r k c l t i × IsRound restarted reduced rounded i o c l t b m s

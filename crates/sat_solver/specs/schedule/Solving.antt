@@ -25,7 +25,7 @@ use Rattle.sat_solver.specs.declared.variables.Variables.{Variables}
 use Rattle.sat_solver.specs.variables.Shared.{SharesIndices}
 use Rattle.sat_solver.specs.unit_simplify.Freed.{KeepsAsked}
 use Rattle.sat_parts.specs.parts.Full.{IsFull}
-use Rattle.sat_solver.specs.unit_simplify.Passes.{FallsOr}
+use Rattle.sat_solver.specs.unit_simplify.Passes.{PassFailsOr}
 
 -- the step is a derived clause that advances
 abbrev pub IsAdvancing : Session → Step → Type 0
@@ -103,7 +103,7 @@ EndedBy seen rounds answer a n b m = MatchOption answer (Unit {0}) (λ o. Ended 
 
 -- it came to this fault
 abbrev pub BreaksRounds : {W L : Type 0} {G : Ghosts L} → (W → Writer) → Core W L G → SolverError → Core W L G → Type 0
-BreaksRounds seen a e b = FallsOr (IsFull b.search.parts) seen e a.proof b.proof
+BreaksRounds seen a e b = PassFailsOr (IsFull b.search.parts) seen e a.proof b.proof
 
 -- decisions were undone, down to the levels of assumptions, and nothing else changed
 pub record Restarted {W L : Type 0} {G : Ghosts L} (a b : Core W L G) : Type 0 where

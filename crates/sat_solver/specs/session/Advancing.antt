@@ -5,7 +5,7 @@ use Rattle.sat_base.specs.values.Literals.{negated}
 use Rattle.sat_checker.specs.LiteralSets.{is_among}
 use Rattle.sat_parts.specs.declared.prop.graph.Conflict.{Conflict}
 use Rattle.sat_parts.specs.prop.Causes.{falsified}
-use Rattle.sat_solver.specs.session.Session.{Session, IsLive, denied}
+use Rattle.sat_solver.specs.session.Session.{Session, IsLive, denied_in}
 use Rattle.sat_solver.specs.session.LiveClauses.{with_var}
 use Rattle.sat_solver.specs.analyze_conflict.Work.{Work}
 use Rattle.sat_solver.specs.analyze_conflict.Derivation.{Learns}
@@ -32,11 +32,11 @@ AreConsistent holds = (l : ℕ) → holds l ≡ true → holds (negated l) ≡ f
 -- under them assign it or are falsified
 pub record Advances (s : Session) (clause : List ℕ) : Type 0 where
   pub some : 0 < length clause
-  pub agree : AreConsistent (denied s (drop 1 clause))
-  pub stays : (picked : List (List ℕ)) (reached : ℕ → Bool) → LeadsOn s (denied s (drop 1 clause)) picked reached → StaysNew s (get_or clause 0 0) reached
+  pub agree : AreConsistent (denied_in s (drop 1 clause))
+  pub stays : (picked : List (List ℕ)) (reached : ℕ → Bool) → LeadsOn s (denied_in s (drop 1 clause)) picked reached → StaysNew s (get_or clause 0 0) reached
 
 -- what is learned advances in the session
 abbrev pub LearnedAdvancesIn : Type 0
 LearnedAdvancesIn =
     (p : Parts) (e : Conflict) (w : Work) (back : ℕ) (s : Session) (global : ℕ → ℕ) (picked : List (List ℕ)) (reached : ℕ → Bool) → IsRefuted p e → SessionMatchesParts p s global → TrueLitsHaveNames p.assignment.current s global → Learns p.clauses (state p) (falsified p.clauses e) w back →
-    LeadsOn s (denied s (map (with_var global) (drop 1 w.clause))) picked reached → StaysNew s (with_var global (get_or w.clause 0 0)) reached
+    LeadsOn s (denied_in s (map (with_var global) (drop 1 w.clause))) picked reached → StaysNew s (with_var global (get_or w.clause 0 0)) reached

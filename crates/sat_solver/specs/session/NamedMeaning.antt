@@ -4,7 +4,7 @@ use Rattle.std.specs.List.{AllByRecursion}
 use Rattle.sat_base.specs.values.Literals.{coded, variable}
 use Rattle.sat_base.specs.values.Clauses.{Valuation, EachHolds}
 use Rattle.sat_base.specs.script.Script.{Literal, names_of, Among, InOrder}
-use Rattle.sat_base.specs.script.Judge.{Judge, identity_of, IsRightModel, IsRightCore}
+use Rattle.sat_base.specs.script.ScriptState.{ScriptState, identity_of, IsRightModel, IsRightCore}
 use Rattle.sat_base.specs.steps.Steps.{Step, DeleteVar, Model, FailedAssumptions}
 use Rattle.sat_checker.specs.Fold.{Holds}
 use Rattle.sat_solver.specs.session.Session.{MayAll, session_after}
@@ -12,16 +12,16 @@ use Rattle.sat_solver.specs.session.LiveClauses.{with_var}
 use Rattle.sat_solver.specs.session.Promises.{added}
 
 -- a valuation of proof variables and one of identities agree on the names in use, of which each has this variable
-abbrev pub AgreeOn : Judge → (ℕ → Option ℕ) → Valuation → Valuation → Type 0
+abbrev pub AgreeOn : ScriptState → (ℕ → Option ℕ) → Valuation → Valuation → Type 0
 AgreeOn j variable_of a b = (name i v : ℕ) → identity_of j name ≡ Some i → variable_of name ≡ Some v → a v ≡ b i
 
 -- What the steps leave of the names in use is what the accepted clauses leave.
-pub record MeansAcceptedClauses (j : Judge) (variable_of : ℕ → Option ℕ) (steps : List Step) : Type 0 where
+pub record MeansAcceptedClauses (j : ScriptState) (variable_of : ℕ → Option ℕ) (steps : List Step) : Type 0 where
   pub to : (a : Valuation) → Holds steps a → (b : Valuation) × AgreeOn j variable_of a b × EachHolds b j.clauses
   pub back : (b : Valuation) → EachHolds b j.clauses → (a : Valuation) × AgreeOn j variable_of a b × Holds steps a
 
 -- a literal over a name in use, and the one over its proof variable
-pub record IsReadAs (j : Judge) (variable_of : ℕ → Option ℕ) (l : Literal) (code : ℕ) : Type 0 where
+pub record IsReadAs (j : ScriptState) (variable_of : ℕ → Option ℕ) (l : Literal) (code : ℕ) : Type 0 where
   pub identity : ℕ
   pub in_use : identity_of j l.name ≡ Some identity
   pub var : ℕ
@@ -29,32 +29,32 @@ pub record IsReadAs (j : Judge) (variable_of : ℕ → Option ℕ) (l : Literal)
   pub is : code ≡ coded var l.positive
 
 -- each literal is one of those over proof variables
-abbrev pub AllReadAmong : Judge → (ℕ → Option ℕ) → List Literal → List ℕ → Type 0
+abbrev pub AllReadAmong : ScriptState → (ℕ → Option ℕ) → List Literal → List ℕ → Type 0
 AllReadAmong j variable_of ls codes = AllByRecursion (λ l. (code : ℕ) × IsReadAs j variable_of l code × Among code codes) ls
 
 -- each of those over proof variables is one of the literals
-abbrev pub AllFrom : Judge → (ℕ → Option ℕ) → List ℕ → List Literal → Type 0
+abbrev pub AllFrom : ScriptState → (ℕ → Option ℕ) → List ℕ → List Literal → Type 0
 AllFrom j variable_of codes ls = AllByRecursion (λ code. (l : Literal) × IsReadAs j variable_of l code × Among l ls) codes
 
 -- RIGHT ANSWERS
 
 -- a model that may be written gives a right line, one literal for each name in use
 abbrev pub NamedModelsAreRight : Type 0
-NamedModelsAreRight = (j : Judge) (variable_of : ℕ → Option ℕ) (steps : List Step) (codes : List ℕ) (ask line : List Literal)
+NamedModelsAreRight = (j : ScriptState) (variable_of : ℕ → Option ℕ) (steps : List Step) (codes : List ℕ) (ask line : List Literal)
     → MeansAcceptedClauses j variable_of steps → MayAll (Model codes ∷ steps)
     → names_of line ≡ map (λ n. n.name) j.in_use → AllReadAmong j variable_of line codes → AllByRecursion (λ l. Among l line) ask
     → IsRightModel j ask line
 
 -- a failed core that may be written gives a right core, of literals of the ask
 abbrev pub NamedCoresAreRight : Type 0
-NamedCoresAreRight = (j : Judge) (variable_of : ℕ → Option ℕ) (steps : List Step) (codes hashes : List ℕ) (ask core : List Literal)
+NamedCoresAreRight = (j : ScriptState) (variable_of : ℕ → Option ℕ) (steps : List Step) (codes hashes : List ℕ) (ask core : List Literal)
     → MeansAcceptedClauses j variable_of steps → MayAll (FailedAssumptions codes hashes ∷ steps)
     → InOrder core → AllByRecursion (λ l. Among l ask) core → AllFrom j variable_of codes core
     → IsRightCore j ask core
 
 -- once unsat is recorded the empty core is right, whatever is asked
 abbrev pub NamedUnsatIsRight : Type 0
-NamedUnsatIsRight = (j : Judge) (variable_of : ℕ → Option ℕ) (steps : List Step) (ask : List Literal)
+NamedUnsatIsRight = (j : ScriptState) (variable_of : ℕ → Option ℕ) (steps : List Step) (ask : List Literal)
     → MeansAcceptedClauses j variable_of steps → MayAll steps → (session_after steps).unsat ≡ true → IsRightCore j ask []
 
 -- WHERE NO NAME WAS EVER HIDDEN
@@ -69,7 +69,7 @@ DeletesNoVar (DeleteVar v) = ⊥
 DeletesNoVar step = Unit {0}
 
 -- Each identity has a proof variable of its own, none was deleted, and the added clauses are the accepted ones, over proof variables. Once unsat is recorded, accepted clauses may be left out.
-pub record NoneHidden (j : Judge) (variable_of : ℕ → Option ℕ) (steps : List Step) : Type 0 where
+pub record NoneHidden (j : ScriptState) (variable_of : ℕ → Option ℕ) (steps : List Step) : Type 0 where
   pub global : ℕ → ℕ  -- the proof variable of an identity
   pub identity : ℕ → ℕ  -- and back
   pub back : (i : ℕ) → i < j.identity_count → identity (global i) ≡ i
@@ -82,4 +82,4 @@ pub record NoneHidden (j : Judge) (variable_of : ℕ → Option ℕ) (steps : Li
 
 -- then steps that may be written leave of the names what the accepted clauses leave
 abbrev pub NoneHiddenMeans : Type 0
-NoneHiddenMeans = (j : Judge) (variable_of : ℕ → Option ℕ) (steps : List Step) → MayAll steps → NoneHidden j variable_of steps → MeansAcceptedClauses j variable_of steps
+NoneHiddenMeans = (j : ScriptState) (variable_of : ℕ → Option ℕ) (steps : List Step) → MayAll steps → NoneHidden j variable_of steps → MeansAcceptedClauses j variable_of steps

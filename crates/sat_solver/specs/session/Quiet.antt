@@ -4,7 +4,7 @@ use Rattle.std.specs.List.{AllByRecursion}
 use Rattle.sat_base.specs.steps.Steps.{Step, AtClause}
 use Rattle.sat_checker.specs.LiteralSets.{is_among}
 use Rattle.sat_solver.specs.session.Coming.{OnlyAllowedSteps}
-use Rattle.sat_solver.specs.session.Session.{Session, denied, May}
+use Rattle.sat_solver.specs.session.Session.{Session, denied_in, May}
 use Rattle.sat_solver.specs.session.Advancing.{AreConsistent, LeadsOn, StaysNew}
 
 -- the literals of a clause but this one
@@ -16,8 +16,8 @@ others_of l (m ∷ ms) = if m == l then others_of l ms else m ∷ others_of l ms
 -- them assign it or are falsified.
 pub record LeavesLiteralOpen (s : Session) (clause : List ℕ) (l : ℕ) : Type 0 where
   pub among : is_among clause l ≡ true
-  pub agree : AreConsistent (denied s (others_of l clause))
-  pub stays : (picked : List (List ℕ)) (reached : ℕ → Bool) → LeadsOn s (denied s (others_of l clause)) picked reached → StaysNew s l reached
+  pub agree : AreConsistent (denied_in s (others_of l clause))
+  pub stays : (picked : List (List ℕ)) (reached : ℕ → Bool) → LeadsOn s (denied_in s (others_of l clause)) picked reached → StaysNew s l reached
 
 -- the step isn't a derived clause that advances, by any of its literals
 abbrev pub NeverAdvances : Session → Step → Type 0

@@ -12,18 +12,18 @@ abbrev pub pair : ℕ → ℕ → LiveClause
 pair a b = record { redundant = false; literals = a ∷ b ∷ [] }
 
 -- those of a lower literal a, whose negation implies these
-abbrev pub pairs_of : ℕ → List ℕ → List LiveClause
-pairs_of a [] = []
-pairs_of a (m ∷ ms) = if nat_lt a m then pair a m ∷ pairs_of a ms else pairs_of a ms
+abbrev pub binaries_of : ℕ → List ℕ → List LiveClause
+binaries_of a [] = []
+binaries_of a (m ∷ ms) = if nat_lt a m then pair a m ∷ binaries_of a ms else binaries_of a ms
 
 -- those of the lists of what each literal implies, from this literal on
-abbrev pub pairs_from : ℕ → List (List ℕ) → List LiveClause
-pairs_from l [] = []
-pairs_from l (ms ∷ rest) = pairs_of (negated l) ms ++ pairs_from (l + 1) rest
+abbrev pub binaries_from : ℕ → List (List ℕ) → List LiveClause
+binaries_from l [] = []
+binaries_from l (ms ∷ rest) = binaries_of (negated l) ms ++ binaries_from (l + 1) rest
 
 -- all clauses of two literals
 abbrev pub binaries : List (List ℕ) → List LiveClause
-binaries = pairs_from 0
+binaries = binaries_from 0
 
 -- the long ones, redundant or not as the test says
 abbrev pub longs : (ℕ → Bool) → List ℕ → List ℕ → List LiveClause
@@ -35,7 +35,7 @@ abbrev pub solver_clauses : (ℕ → Bool) → List ℕ → List ℕ → List (L
 solver_clauses redundant words live implied = binaries implied ++ longs redundant words live
 
 -- one clause came to stand among the others
-pub record Inserted (old new : List LiveClause) (c : LiveClause) : Type 0 where
+pub record InsertsClause (old new : List LiveClause) (c : LiveClause) : Type 0 where
   pub before : List LiveClause
   pub behind : List LiveClause
   pub was : old ≡ before ++ behind
@@ -50,5 +50,5 @@ is_open_clause values c = list_all (λ l. is_unset values (variable l)) c.litera
 abbrev pub binaries_left : List (Option Bool) → List (List ℕ) → (l k : ℕ) → List LiveClause
 binaries_left values implied l k =
     let ms : List ℕ = implied_by implied l in
-    filter (is_open_clause values) (pairs_from 0 (take l implied))
-    ++ (filter (is_open_clause values) (pairs_of (negated l) (take k ms)) ++ (pairs_of (negated l) (drop k ms) ++ pairs_from (l + 1) (drop (l + 1) implied)))
+    filter (is_open_clause values) (binaries_from 0 (take l implied))
+    ++ (filter (is_open_clause values) (binaries_of (negated l) (take k ms)) ++ (binaries_of (negated l) (drop k ms) ++ binaries_from (l + 1) (drop (l + 1) implied)))

@@ -3,9 +3,9 @@ use Rattle.std.specs.Prelude.{ℕ, ◌-◌, ◌/◌, ◌^◌, ◌<◌, ◌≡◌
 use Rattle.std.specs.List.{Contains}
 use Rattle.sat_base.specs.values.Literals.{variable}
 use Rattle.sat_base.specs.values.Hashes.{hash_of}
-use Rattle.sat_parts.specs.prop.Graphs.{is_unit}
+use Rattle.sat_parts.specs.prop.Graphs.{is_unit_reason}
 use Rattle.sat_parts.specs.prop.Values.{IsTrueLit}
-use Rattle.sat_parts.specs.prop.State.{State, node, lit_at, IsRemoved, Agrees}
+use Rattle.sat_parts.specs.prop.State.{State, node, lit_at, IsRemoved, StateIsConsistent}
 use Rattle.sat_parts.specs.prop.Reasons.{AreInTurn}
 use Rattle.sat_parts.specs.clause.Stored.{size_of}
 use Rattle.sat_solver.specs.session.Session.{Session, IsLive, MayProve, hash_in}
@@ -16,7 +16,7 @@ use Rattle.sat_solver.specs.session.TrailEntries.{reason_clause}
 abbrev pub written_units : List ℕ → State → ℕ → (ℕ → ℕ) → List ℕ → List (ℕ × ℕ)
 written_units words st width global [] = []
 written_units words st width global (l ∷ ls) =
-    if is_unit (node st l).reason then written_units words st width global ls
+    if is_unit_reason (node st l).reason then written_units words st width global ls
     else (with_var global l, hash_of (reason_clause words l (node st l).reason) / 2 ^ (64 - width)) ∷ written_units words st width global ls
 
 -- a clause is live in the session, and has there the hash that is computed over the solver's variables
@@ -31,13 +31,13 @@ HasOwnSolverName s global l = s.solver_names (global (variable l)) ≡ Some (var
 -- what a session and a trail of level 0 have to do with each other
 pub record UnitsFit (words : List ℕ) (st : State) (s : Session) (global : ℕ → ℕ) : Type 0 where
   pub named : (i : ℕ) → i < length st.trail.lits → HasOwnSolverName s global (lit_at st i)
-  pub usable : (i : ℕ) → i < length st.trail.lits → is_unit (node st (lit_at st i)).reason ≡ false → IsUsable s global (reason_clause words (lit_at st i) (node st (lit_at st i)).reason)
-  pub given : (i : ℕ) → i < length st.trail.lits → is_unit (node st (lit_at st i)).reason ≡ true → s.units (with_var global (lit_at st i)) ≡ true
+  pub usable : (i : ℕ) → i < length st.trail.lits → is_unit_reason (node st (lit_at st i)).reason ≡ false → IsUsable s global (reason_clause words (lit_at st i) (node st (lit_at st i)).reason)
+  pub given : (i : ℕ) → i < length st.trail.lits → is_unit_reason (node st (lit_at st i)).reason ≡ true → s.units (with_var global (lit_at st i)) ≡ true
   pub removed : (l : ℕ) → IsRemoved st l → s.units (with_var global l) ≡ true
   pub sound : (l : ℕ) → HasOwnSolverName s global l → s.units (with_var global l) ≡ true → IsTrueLit st.values l
 
 -- they may be written in the order of the trail
 abbrev pub TrailUnitsMay : Type 0
 TrailUnitsMay =
-    (words live : List ℕ) (implied : List (List ℕ)) (st : State) (s : Session) (global : ℕ → ℕ) → ((o : ℕ) → Contains live o → 0 < size_of words o) → Agrees st → AreInTurn words live implied st 0
+    (words live : List ℕ) (implied : List (List ℕ)) (st : State) (s : Session) (global : ℕ → ℕ) → ((o : ℕ) → Contains live o → 0 < size_of words o) → StateIsConsistent st → AreInTurn words live implied st 0
     → UnitsFit words st s global → MayProve s (written_units words st s.width global st.trail.lits)

@@ -2,7 +2,7 @@
 use Rattle.std.specs.Prelude.{ℕ, ◌≡◌, true, Bool, Option, List, [], ◌∷◌, if◌then◌else◌}
 use Rattle.sat_checker.specs.LiteralSets.{is_among}
 use Rattle.sat_checker.specs.SortedSets.{NoRepeats}
-use Rattle.sat_parts.specs.prop.Graphs.{is_unit}
+use Rattle.sat_parts.specs.prop.Graphs.{is_unit_reason}
 use Rattle.sat_parts.specs.prop.Values.{IsTrueLit}
 use Rattle.sat_parts.specs.prop.State.{State, node, level}
 use Rattle.sat_solver.specs.session.Session.{Session}
@@ -12,7 +12,7 @@ use Rattle.sat_solver.specs.session.Fits.{SessionMatches}
 -- those of the literals that have a clause as their reason
 abbrev pub written_lits : State → List ℕ → List ℕ
 written_lits st [] = []
-written_lits st (l ∷ ls) = if is_unit (node st l).reason then written_lits st ls else l ∷ written_lits st ls
+written_lits st (l ∷ ls) = if is_unit_reason (node st l).reason then written_lits st ls else l ∷ written_lits st ls
 
 -- every literal of level 0 is a unit of the session
 pub record FitsAll (words live : List ℕ) (implied : List (List ℕ)) (st : State) (s : Session) (global : ℕ → ℕ) : Type 0 where

@@ -1,12 +1,12 @@
 -- Clauses and assumptions that come to a solver.
 use Rattle.std.specs.Prelude.{ℕ, ◌≡◌, true, false, None, Some, List, [], ◌∷◌, ◌++◌, map, Result, Ok, Err}
 use Rattle.sat_base.specs.device.Device.{Writer}
-use Rattle.sat_base.specs.script.Judge.{Judge, WitnessName, bring_all, with_clause, refused_literal}
+use Rattle.sat_base.specs.script.ScriptState.{ScriptState, WitnessName, bring_all, with_clause, refused_literal}
 use Rattle.sat_checker.specs.declared.processing.ProofProcessor.{Ghosts}
 use Rattle.sat_solver.specs.declared.error.SolverError.{SolverError}
 use Rattle.sat_solver.specs.declared.error.SolverError.TheVariants as errors
-use Rattle.sat_solver.specs.load.Literals.{named_literal}
-use Rattle.sat_solver.specs.variables.Calls.{NamesRefineJudge}
+use Rattle.sat_solver.specs.load.Literals.{user_literal}
+use Rattle.sat_solver.specs.variables.Calls.{NamesEffect}
 use Rattle.sat_solver.specs.variables.Coming.{IsDue, MayAdd, MayTake}
 use Rattle.sat_solver.specs.variables.Ordering.{AddsInOrder}
 use Rattle.sat_solver.specs.session.Coming.{OnlyAllowedSteps}
@@ -15,28 +15,28 @@ use Rattle.sat_solver.specs.proof.ProofView.{IsAtWidth, is_drat, has_asked}
 use Rattle.sat_checker.specs.matching.Expected.{Outcome, Expected, Adds, Opens, bringing}
 use Rattle.sat_checker.specs.matching.Bridge.{Live}
 use Rattle.sat_solver.specs.variables.Refusing.{names_in}
-use Rattle.sat_solver.specs.variables.Room.{HasRoom, users_in}
+use Rattle.sat_solver.specs.variables.VariableRoom.{HasVariablesFor, users_in}
 use Rattle.sat_solver.specs.cdcl.Going.{IsFaultOr}
 use Rattle.sat_solver.specs.declared.solver.Solver.{Solver}
 use Rattle.sat_solver.specs.declared.state.State.{State}
 use Rattle.sat_solver.specs.declared.state.State.TheVariants as states
-use Rattle.sat_solver.specs.solver.Calls.{RefinesJudge, Refuses}
+use Rattle.sat_solver.specs.solver.Calls.{CallEffect, Refuses}
 use Rattle.sat_solver.specs.solver.Taking.{BreaksNamesOff, BreaksNamesOr}
 use Rattle.sat_solver.specs.solver.Whole.{HasFullStore, SolverInvariant, steps_in}
 use Rattle.sat_solver.specs.solver.View.{IsInState, answer_in, assumed_in, assumptions_in, has_failed, inside, is_used, known_names, parameters_in, proof_in, schedule_in, target_in}
 
 -- the literals come in, and then the clause
-abbrev pub with_added : List ℕ → Judge → Judge
-with_added user j = with_clause (map named_literal user) (bring_all (names_in user) j)
+abbrev pub with_added : List ℕ → ScriptState → ScriptState
+with_added user j = with_clause (map user_literal user) (bring_all (names_in user) j)
 
 -- what is due for a clause: once the clauses alone are known to be unsatisfiable, only its names
-abbrev pub due_for_clause : State → List ℕ → Judge → List Expected
+abbrev pub due_for_clause : State → List ℕ → ScriptState → List Expected
 due_for_clause states.Unsat user j = bringing (names_in user) j
-due_for_clause before user j = bringing (names_in user) j ++ (Adds (map named_literal user) ∷ [])
+due_for_clause before user j = bringing (names_in user) j ++ (Adds (map user_literal user) ∷ [])
 
 -- and for assumptions of an ask that will have this outcome
-abbrev pub due_for_asked : Outcome → List ℕ → Judge → List Expected
-due_for_asked o user j = bringing (names_in user) j ++ (Opens (map named_literal user) o ∷ [])
+abbrev pub due_for_asked : Outcome → List ℕ → ScriptState → List Expected
+due_for_asked o user j = bringing (names_in user) j ++ (Opens (map user_literal user) o ∷ [])
 
 -- nothing is known behind it, but that the clauses alone are unsatisfiable
 abbrev pub ForgetsAnswer : State → State → Type 0
@@ -48,11 +48,11 @@ ForgetsAnswer before states.UnsatUnderAssumptions = ⊥
 
 -- the leftmost name of mode witness
 abbrev pub HasWitness : {W L : Type 0} {G : Ghosts L} → Solver W L G → List ℕ → Type 0
-HasWitness s user = (j : Judge) (live : Live) → IsInState s j live → (name : ℕ) × (refused_literal j (names_in user) ≡ Some (WitnessName name))
+HasWitness s user = (j : ScriptState) (live : Live) → IsInState s j live → (name : ℕ) × (refused_literal j (names_in user) ≡ Some (WitnessName name))
 
 -- there's none
 abbrev pub AreSampled : {W L : Type 0} {G : Ghosts L} → Solver W L G → List ℕ → Type 0
-AreSampled s user = (j : Judge) (live : Live) → IsInState s j live → refused_literal j (names_in user) ≡ None
+AreSampled s user = (j : ScriptState) (live : Live) → IsInState s j live → refused_literal j (names_in user) ≡ None
 
 -- a call over names failed, for a full clause buffer only where it is full, and so does each one behind it
 pub record EndsNamesOr {W L : Type 0} {G : Ghosts L} (full : Type 0) (seen : W → Writer) (e : SolverError) (old new : Solver W L G) : Type 0 where
@@ -80,7 +80,7 @@ IsBeforeDrat seen s = IsPastDrat seen s → ⊥
 
 -- no name is of mode witness, but for one that comes in there's no variable left
 abbrev pub LacksRoomForNames : {W L : Type 0} {G : Ghosts L} → Solver W L G → List ℕ → Type 0
-LacksRoomForNames s user = (has_failed s ≡ false) × AreSampled s user × (HasRoom (known_names s) (users_in user) → ⊥)
+LacksRoomForNames s user = (has_failed s ≡ false) × AreSampled s user × (HasVariablesFor (known_names s) (users_in user) → ⊥)
 
 -- Which steps a clause made: only such as may come with one, by increasing index. Once the clauses alone are known to be unsatisfiable they only
 -- bring names in. No ask began.
@@ -94,8 +94,8 @@ pub record StepsOfClause {W L : Type 0} {G : Ghosts L} (old new : Solver W L G) 
 pub record Added {W L : Type 0} {G : Ghosts L} (seen : W → Writer) (old new : Solver W L G) (user : List ℕ) : Type 0 where
   pub before_drat : IsBeforeDrat seen old
   pub sampled : AreSampled old user
-  pub room : HasRoom (known_names old) (users_in user)
-  pub did : RefinesJudge seen old new (with_added user) (due_for_clause (answer_in old) user)
+  pub room : HasVariablesFor (known_names old) (users_in user)
+  pub did : CallEffect seen old new (with_added user) (due_for_clause (answer_in old) user)
   pub assumed : assumed_in new ≡ assumed_in old
   pub clock : schedule_in new ≡ schedule_in old
   pub state : ForgetsAnswer (answer_in old) (answer_in new)
@@ -108,13 +108,13 @@ AddsClause seen (Err errors.WitnessVariable) old new user = Refuses old new (((h
 AddsClause seen (Err errors.NotInDrat) old new user = Refuses old new ((has_failed old ≡ false) × IsPastDrat seen old)
 AddsClause seen (Err errors.VariableLimit) old new user = Refuses old new (IsBeforeDrat seen old × LacksRoomForNames old user)
 AddsClause seen (Err errors.HasFailed) old new user = Refuses old new (has_failed old ≡ true)
-AddsClause seen (Err e) old new user = (IsBeforeDrat seen old × AreSampled old user) × HasRoom (known_names old) (users_in user) × EndsNamesOr (HasFullStore new) seen e old new
+AddsClause seen (Err e) old new user = (IsBeforeDrat seen old × AreSampled old user) × HasVariablesFor (known_names old) (users_in user) × EndsNamesOr (HasFullStore new) seen e old new
 
 -- other assumptions were taken, whatever will be answered
 pub record ReplacesAssumptions {W L : Type 0} {G : Ghosts L} (seen : W → Writer) (old new : Solver W L G) (user : List ℕ) : Type 0 where
   pub sampled : AreSampled old user
-  pub room : HasRoom (known_names old) (users_in user)
-  pub did : (o : Outcome) → RefinesJudge seen old new (bring_all (names_in user)) (due_for_asked o user)
+  pub room : HasVariablesFor (known_names old) (users_in user)
+  pub did : (o : Outcome) → CallEffect seen old new (bring_all (names_in user)) (due_for_asked o user)
   pub comes : OnlyAllowedSteps (MayTake (names_in user)) (steps_in old) (steps_in new)
   pub asked : has_asked (proof_in new) ≡ has_asked (proof_in old)
   pub assumed : assumptions_in new ≡ user
@@ -128,14 +128,14 @@ AssumesOrRefuses seen (Err errors.WitnessVariable) old new user = Refuses old ne
 AssumesOrRefuses seen (Err errors.NotInDrat) old new user = Refuses old new ((has_failed old ≡ false) × IsDrat seen old)
 AssumesOrRefuses seen (Err errors.VariableLimit) old new user = Refuses old new (LacksRoomForNames old user)
 AssumesOrRefuses seen (Err errors.HasFailed) old new user = Refuses old new (has_failed old ≡ true)
-AssumesOrRefuses seen (Err e) old new user = AreSampled old user × HasRoom (known_names old) (users_in user) × EndsNames seen e old new
+AssumesOrRefuses seen (Err e) old new user = AreSampled old user × HasVariablesFor (known_names old) (users_in user) × EndsNames seen e old new
 
 -- INSIDE
 
 -- the same without the flag of failure: what a clause leaves
 pub record AddClauseEffect {W L : Type 0} {G : Ghosts L} (seen : W → Writer) (old new : Solver W L G) (user : List ℕ) : Type 0 where
   pub whole : SolverInvariant new
-  pub does : NamesRefineJudge (known_names old) (known_names new) (steps_in old) (steps_in new) (with_added user) (due_for_clause (answer_in old) user)
+  pub does : NamesEffect (known_names old) (known_names new) (steps_in old) (steps_in new) (with_added user) (due_for_clause (answer_in old) user)
   pub comes : OnlyAllowedSteps (MayAdd (names_in user)) (steps_in old) (steps_in new)
   pub order : (answer_in old ≡ states.Unsat → ⊥) → AddsInOrder (steps_in old) (steps_in new)
   pub left_out : answer_in old ≡ states.Unsat → OnlyAllowedSteps IsDue (steps_in old) (steps_in new)

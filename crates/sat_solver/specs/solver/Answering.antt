@@ -4,7 +4,7 @@ use Rattle.sat_base.specs.device.Device.{Writer}
 use Rattle.sat_base.specs.steps.Steps.{Step, Model}
 use Rattle.sat_checker.specs.declared.processing.ProofProcessor.{Ghosts}
 use Rattle.sat_solver.specs.proof.ProofView.{FailsToEmit, FailsCheck, EmitsChecked, session_of}
-use Rattle.sat_solver.specs.assumptions.Core.{ToldCore}
+use Rattle.sat_solver.specs.assumptions.Core.{CoreWasWritten}
 use Rattle.sat_parts.specs.parts.Full.{IsFull}
 use Rattle.sat_solver.specs.cdcl.Faults.{IsKept, NamesLoss}
 use Rattle.sat_solver.specs.cdcl.Going.{IsFaultOr, EmitsUpToFault}
@@ -16,15 +16,15 @@ use Rattle.sat_solver.specs.declared.variables.Variables.{Variables}
 use Rattle.sat_solver.specs.declared.context.Core.{Core}
 use Rattle.sat_solver.specs.declared.proof.made.CheckFault.TheVariants as checks
 use Rattle.sat_solver.specs.declared.proof.Proof.{Proof}
-use Rattle.sat_solver.specs.solver.Joined.{IsJoined, name_of}
+use Rattle.sat_solver.specs.solver.Joined.{IsJoined, lit_over_names}
 
 -- what the values of the search make of all variables of the proof
 abbrev pub model_of : {W L : Type 0} {G : Ghosts L} → Variables → Core W L G → List ℕ
 model_of n c = model_to n c.search.parts.assignment.current (variables_used n)
 
 -- and of all names
-abbrev pub line_of : {W L : Type 0} {G : Ghosts L} → Variables → Core W L G → List ℕ
-line_of n c = named_to n c.search.parts.assignment.current (names_used n)
+abbrev pub line_of_names : {W L : Type 0} {G : Ghosts L} → Variables → Core W L G → List ℕ
+line_of_names n c = named_to n c.search.parts.assignment.current (names_used n)
 
 -- a call failed by what no input decides, for a full clause buffer only where it is full
 pub record BreaksCall {W L : Type 0} {G : Ghosts L} (seen : W → Writer) (e : SolverError) (a b : Core W L G) : Type 0 where
@@ -60,10 +60,10 @@ ShowsModel seen r n a b = MatchResult r (λ _. Shown seen n a b) (λ e. BreaksOf
 pub record WritesFailedCore {W L : Type 0} {G : Ghosts L} (seen : W → Writer) (n : Variables) (a b : Core W L G) (core : List ℕ) : Type 0 where
   pub steps : List Step
   pub adds : EmitsChecked seen steps a.proof b.proof
-  pub told : ToldCore steps (session_of b.proof) a.search b.search
+  pub told : CoreWasWritten steps (session_of b.proof) a.search b.search
   pub joined : IsJoined n b
   pub config : b.config ≡ a.config
-  pub named : core ≡ map (name_of n) b.search.analysis.core
+  pub named : core ≡ map (lit_over_names n) b.search.analysis.core
 
 -- a failed core was written, or a call failed
 abbrev pub FailsCore : {W L : Type 0} {G : Ghosts L} → (W → Writer) → Result (Unit {0}) SolverError → Variables → Core W L G → Core W L G → List ℕ → Type 0

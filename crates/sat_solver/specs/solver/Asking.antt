@@ -1,11 +1,11 @@
 -- Assumptions that a solver takes.
 use Rattle.std.specs.Prelude.{ℕ, ◌≡◌, List, Result, Ok, Err}
 use Rattle.sat_base.specs.device.Device.{Writer}
-use Rattle.sat_base.specs.script.Judge.{bring_all}
+use Rattle.sat_base.specs.script.ScriptState.{bring_all}
 use Rattle.sat_checker.specs.declared.processing.ProofProcessor.{Ghosts}
 use Rattle.sat_checker.specs.matching.Expected.{Outcome}
 use Rattle.sat_solver.specs.declared.error.SolverError.{SolverError}
-use Rattle.sat_solver.specs.variables.Calls.{NamesRefineJudge}
+use Rattle.sat_solver.specs.variables.Calls.{NamesEffect}
 use Rattle.sat_solver.specs.variables.Coming.{MayTake}
 use Rattle.sat_solver.specs.session.Coming.{OnlyAllowedSteps}
 use Rattle.sat_solver.specs.variables.Refusing.{names_in}
@@ -19,7 +19,7 @@ use Rattle.sat_solver.specs.solver.Whole.{IsWholeOf, steps_in}
 -- these were taken, but for the list over names
 pub record AskedIn {W L : Type 0} {G : Ghosts L} (seen : W → Writer) (old new : Solver W L G) (user : List ℕ) : Type 0 where
   pub whole : IsWholeOf new.core new.names new.asked user new.told.failed_core.items new.clock.restarts.scale new.state
-  pub does : (o : Outcome) → NamesRefineJudge old.names new.names (steps_in old) (steps_in new) (bring_all (names_in user)) (due_for_asked o user)
+  pub does : (o : Outcome) → NamesEffect old.names new.names (steps_in old) (steps_in new) (bring_all (names_in user)) (due_for_asked o user)
   pub comes : OnlyAllowedSteps (MayTake (names_in user)) (steps_in old) (steps_in new)
   pub took : ComesBySteps seen old.core.proof new.core.proof
   pub asked : has_asked new.core.proof ≡ has_asked old.core.proof

@@ -2,21 +2,21 @@
 use Rattle.std.specs.Prelude.{ℕ, ◌+◌, ◌-◌, ◌*◌, ◌<◌, ◌≤◌, ◌≡◌, ◌^◌, Bool, true, false, List, [], ◌∷◌, map, Result, Ok, Err}
 use Rattle.sat_base.specs.device.Device.{Writer}
 use Rattle.sat_base.specs.script.Script.{names_of}
-use Rattle.sat_base.specs.script.Judge.{Judge}
+use Rattle.sat_base.specs.script.ScriptState.{ScriptState}
 use Rattle.sat_base.specs.steps.Steps.{Step}
 use Rattle.sat_checker.specs.declared.processing.ProofProcessor.{Ghosts}
-use Rattle.sat_solver.specs.schedule.Counting.{steps_left}
+use Rattle.sat_solver.specs.schedule.Counting.{round_allowance}
 use Rattle.sat_solver.specs.declared.error.SolverError.{SolverError}
 use Rattle.sat_solver.specs.declared.error.SolverError.TheVariants as errors
 use Rattle.sat_solver.specs.declared.variables.Variables.{Variables}
-use Rattle.sat_solver.specs.load.Literals.{named_literal}
-use Rattle.sat_solver.specs.variables.Calls.{Agree, NamesRefineJudge}
+use Rattle.sat_solver.specs.load.Literals.{user_literal}
+use Rattle.sat_solver.specs.variables.Calls.{NamesAgree, NamesEffect}
 use Rattle.sat_checker.specs.matching.Expected.{Expected, Shows, Fails}
 use Rattle.sat_checker.specs.matching.Bridge.{Live}
 use Rattle.sat_solver.specs.schedule.Solving.{AdvancesIn}
 use Rattle.sat_solver.specs.session.Coming.{OnlyAllowedSteps, EndsAtUnsat}
 use Rattle.sat_solver.specs.session.Making.{ComesBySteps}
-use Rattle.sat_solver.specs.proof.ProofView.{Target, Closed, Open, Broken, FlushesAndTells, HasTold, IsAtWidth, asking, has_asked, is_open, target_of}
+use Rattle.sat_solver.specs.proof.ProofView.{Target, Closed, Open, Broken, FlushesAndNotifies, AllStepsReported, IsAtWidth, asking, has_asked, is_open, target_of}
 use Rattle.sat_solver.specs.declared.proof.Proof.{Proof}
 use Rattle.sat_solver.specs.declared.solver.Solver.{Solver}
 use Rattle.sat_solver.specs.declared.state.State.{State}
@@ -27,27 +27,27 @@ use Rattle.sat_solver.specs.solver.Whole.{SolverInvariant, steps_in, line_in}
 use Rattle.sat_solver.specs.solver.View.{IsInState, OnlyProofDiffers, answer_in, assumed_in, assumptions_in, core_told, has_failed, inside, is_used, known_names, parameters_in, proof_in, rounds_in, schedule_in, target_in, used_now}
 
 -- a call was carried out: what it does to the judge's state, and which steps it has made for it, whatever others come between
-pub record RefinesJudge {W L : Type 0} {G : Ghosts L} (seen : W → Writer) (old new : Solver W L G) (judge : Judge → Judge) (due : Judge → List Expected) : Type 0 where
+pub record CallEffect {W L : Type 0} {G : Ghosts L} (seen : W → Writer) (old new : Solver W L G) (judge : ScriptState → ScriptState) (due : ScriptState → List Expected) : Type 0 where
   pub whole : SolverInvariant new
   pub going : has_failed old ≡ false
   pub failed : has_failed new ≡ false
   pub used : is_used new ≡ true
   pub config : parameters_in new ≡ parameters_in old
-  pub does : NamesRefineJudge (known_names old) (known_names new) (steps_in old) (steps_in new) judge due
+  pub does : NamesEffect (known_names old) (known_names new) (steps_in old) (steps_in new) judge due
   pub took : ComesBySteps seen (proof_in old) (proof_in new)
   -- behind a step the solver's own checker, where there is one, is at the width of the target's text
   pub width : (steps_in new ≡ steps_in old → ⊥) → IsAtWidth (proof_in new)
 
 -- the rounds that a call may make
 abbrev pub rounds_left : {W L : Type 0} {G : Ghosts L} → Solver W L G → ℕ
-rounds_left s = steps_left (parameters_in s).max_steps (rounds_in s)
+rounds_left s = round_allowance (parameters_in s).max_steps (rounds_in s)
 
 -- Rounds become more, but not by more than a call may make, and by fewer than 2^(2n+3), where the judge has given n identities out,
 -- whatever its state is that names and steps agree with.
 pub record RoundsOn (n : Variables) (steps : List Step) (budget before now : ℕ) : Type 0 where
   pub more : before ≤ now
-  pub within : now ≤ before + steps_left budget before
-  pub few : (j : Judge) (live : Live) → Agree n steps j live → now < before + 2 ^ (2 * j.identity_count + 3)
+  pub within : now ≤ before + round_allowance budget before
+  pub few : (j : ScriptState) (live : Live) → NamesAgree n steps j live → now < before + 2 ^ (2 * j.identity_count + 3)
 
 -- the same of the rounds of a call
 abbrev pub CountsRounds : {W L : Type 0} {G : Ghosts L} → Solver W L G → Solver W L G → Type 0
@@ -71,8 +71,8 @@ pub record Refuses {W L : Type 0} {G : Ghosts L} (old new : Solver W L G) (why :
 
 -- what an answer has made due: one that was known makes no step
 abbrev pub due_between_states : (before now : State) → (line asked core : List ℕ) → List Expected
-due_between_states states.Unknown states.Sat line asked core = Shows (names_of (map named_literal line)) (map named_literal asked) (map named_literal line) ∷ []
-due_between_states states.Unknown states.UnsatUnderAssumptions line asked core = Fails (map named_literal asked) (map named_literal core) ∷ []
+due_between_states states.Unknown states.Sat line asked core = Shows (names_of (map user_literal line)) (map user_literal asked) (map user_literal line) ∷ []
+due_between_states states.Unknown states.UnsatUnderAssumptions line asked core = Fails (map user_literal asked) (map user_literal core) ∷ []
 due_between_states before now line asked core = []
 
 -- the same by the solver that has answered now
@@ -85,7 +85,7 @@ pub record Counts {W L : Type 0} {G : Ghosts L} (old new : Solver W L G) : Type 
   pub on : CountsRounds old new
   pub round : answer_in old ≡ states.Unknown → (answer_in new ≡ states.Unknown → ⊥) → rounds_in old < rounds_in new
   pub spent : answer_in new ≡ states.Unknown → rounds_in new ≡ rounds_in old + rounds_left old
-  pub answered : (j : Judge) (live : Live) → IsInState old j live → 2 ^ (2 * j.identity_count + 3) ≤ rounds_left old →
+  pub answered : (j : ScriptState) (live : Live) → IsInState old j live → 2 ^ (2 * j.identity_count + 3) ≤ rounds_left old →
       answer_in new ≡ states.Unknown → ⊥
 
 -- of so many rounds of an ask those that learn a clause: all, but for the one that answers
@@ -115,7 +115,7 @@ pub record AnswersAgain {W L : Type 0} {G : Ghosts L} (old new : Solver W L G) :
 pub record MakesRounds {W L : Type 0} {G : Ghosts L} (seen : W → Writer) (old new : Solver W L G) : Type 0 where
   pub behind : Proof W L G
   pub searched : SearchedBy seen (answer_in new) (schedule_in old) (schedule_in new) (known_names old) (known_names new) (record (inside old) { proof = asking (proof_in old) }) (record (inside new) { proof = behind }) (core_told new)
-  pub flushes : FlushesAndTells seen behind (proof_in new)
+  pub flushes : FlushesAndNotifies seen behind (proof_in new)
 
 -- Which steps an ask made: only such as may come in one, and each round derived a clause that advances, but for the one that answered; nothing
 -- else did. Names stand for the variables for which they stood.
@@ -128,12 +128,12 @@ pub record StepsOfAsk {W L : Type 0} {G : Ghosts L} (seen : W → Writer) (old n
 
 -- An ask was looked at. Assumptions are as they were. The solver's own checker was given all steps, and has told what waited.
 pub record Answered {W L : Type 0} {G : Ghosts L} (seen : W → Writer) (old new : Solver W L G) : Type 0 where
-  pub did : RefinesJudge seen old new (λ j. j) (λ j. due_for_answer (answer_in old) new)
+  pub did : CallEffect seen old new (λ j. j) (λ j. due_for_answer (answer_in old) new)
   pub assumed : assumed_in new ≡ assumed_in old
   pub counts : Counts old new
   pub known : (answer_in old ≡ states.Unknown → ⊥) → AnswersAgain old new
   pub flushed : IsFlushed (target_in seen new)
-  pub told : HasTold (proof_in new)
+  pub told : AllStepsReported (proof_in new)
   pub steps : StepsOfAsk seen old new
 
 -- the answer of an ask by the state that it leaves; an unknown one is no answer

@@ -7,7 +7,7 @@ use Rattle.sat_solver.specs.declared.config.SolverConfigUpdate.{SolverConfigUpda
 use Rattle.sat_solver.specs.declared.error.SolverError.{SolverError}
 use Rattle.sat_solver.specs.declared.error.SolverError.TheVariants as errors
 use Rattle.sat_solver.specs.declared.context.Core.{Core}
-use Rattle.sat_solver.specs.clause.Activity.{Bumped}
+use Rattle.sat_solver.specs.clause.Activity.{BumpEffect}
 use Rattle.sat_solver.specs.cdcl.Joint.{IsSearch}
 use Rattle.sat_solver.specs.declared.solver.Solver.{Solver}
 use Rattle.sat_solver.specs.declared.solver.find.Clock.{Clock}
@@ -18,7 +18,7 @@ use Rattle.sat_solver.specs.solver.View.{answer_in, assumed_in, has_failed, insi
 
 -- the search has the decays of the parameters, and nothing else changed
 pub record SetsDecays {W L : Type 0} {G : Ghosts L} (a b : Core W L G) : Type 0 where
-  pub bumped : (s : Session) → IsSearch s a.search → Bumped s a.search b.search
+  pub bumped : (s : Session) → IsSearch s a.search → BumpEffect s a.search b.search
   pub parts : b.search.parts ≡ record a.search.parts { vsids = record a.search.parts.vsids { decay = a.config.vsids_decay } }
   pub search : b.search ≡ record a.search { parts = b.search.parts; activity = b.search.activity }
   pub same : b ≡ record a { search = b.search }
@@ -28,9 +28,9 @@ abbrev pub at_scale : Option ℕ → Clock → Clock
 at_scale scale clock = record clock { restarts = record clock.restarts { scale = unwrap_or scale clock.restarts.scale } }
 
 -- unless the search is over
-abbrev pub HandsOn : {W L : Type 0} {G : Ghosts L} → State → Core W L G → Core W L G → Type 0
-HandsOn states.Unsat a b = b ≡ a
-HandsOn st a b = SetsDecays a b
+abbrev pub PassesToSearch : {W L : Type 0} {G : Ghosts L} → State → Core W L G → Core W L G → Type 0
+PassesToSearch states.Unsat a b = b ≡ a
+PassesToSearch st a b = SetsDecays a b
 
 -- names, steps, assumptions and what is known of an answer are as they were
 pub record KeepsAllElse {W L : Type 0} {G : Ghosts L} (old new : Solver W L G) : Type 0 where
@@ -49,7 +49,7 @@ pub record Configured {W L : Type 0} {G : Ghosts L} (u : SolverConfigUpdate) (ol
   pub same : KeepsAllElse old new
   -- the schedule of restarts goes on, at the scale of the update
   pub clock : schedule_in new ≡ at_scale u.luby_restart_interval_scale (schedule_in old)
-  pub decays : HandsOn (answer_in old) (record (inside old) { config = updated u (parameters_in old) }) (inside new)
+  pub decays : PassesToSearch (answer_in old) (record (inside old) { config = updated u (parameters_in old) }) (inside new)
   pub failed : has_failed new ≡ false
 
 -- what came of an update of parameters: one out of range changes none

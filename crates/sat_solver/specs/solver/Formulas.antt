@@ -48,12 +48,12 @@ text_fault texts.OutOfMemory = errors.OutOfMemory
 text_fault texts.HasFailed = errors.HasFailed
 
 -- for want of memory the solver has failed then
-abbrev pub is_want : DimacsError → Bool
-is_want (texts.Malformed line) = false
-is_want (texts.Limit line) = false
-is_want texts.Read = false
-is_want texts.OutOfMemory = true
-is_want texts.HasFailed = false
+abbrev pub is_solver_out_of_memory : DimacsError → Bool
+is_solver_out_of_memory (texts.Malformed line) = false
+is_solver_out_of_memory (texts.Limit line) = false
+is_solver_out_of_memory texts.Read = false
+is_solver_out_of_memory texts.OutOfMemory = true
+is_solver_out_of_memory texts.HasFailed = false
 
 -- a solver that has failed by now, or hasn't
 abbrev pub with_failed : {W L : Type 0} {G : Ghosts L} → Bool → Solver W L G → Solver W L G
@@ -68,7 +68,7 @@ pub record TextFails {W L : Type 0} {G : Ghosts L} (seen : W → Writer) (e : So
   pub fails : FailsBehind fault from to clauses
   pub mid : Solver W L G
   pub added : AddsAll seen old clauses mid
-  pub new_is : new ≡ with_failed (is_want fault) mid
+  pub new_is : new ≡ with_failed (is_solver_out_of_memory fault) mid
 
 -- one of the clauses that were read by then was refused, or failed
 pub record ClauseFails {W L : Type 0} {G : Ghosts L} (seen : W → Writer) (e : SolverError) (old new : Solver W L G) (from to : Reader) : Type 0 where
@@ -100,7 +100,7 @@ pub record ReadStops {W L : Type 0} {G : Ghosts L} (seen : W → Writer) (e : So
   pub is : e ≡ text_fault fault
   pub mid : Solver W L G
   pub added : AddsAll seen old clauses mid
-  pub new_is : new ≡ with_failed (is_want fault) mid
+  pub new_is : new ≡ with_failed (is_solver_out_of_memory fault) mid
 
 -- what came of clauses that waited: all were added and the parser told no fault, or something stopped it
 abbrev pub AnswersFormulaRead : {W L : Type 0} {G : Ghosts L} → (W → Writer) → Result (Unit {0}) SolverError → Result (Unit {0}) DimacsError → Solver W L G → Solver W L G → List (List ℕ) → Type 0

@@ -6,7 +6,7 @@ use Rattle.sat_solver.specs.declared.schedule.Outcome.{Outcome}
 use Rattle.sat_solver.specs.declared.schedule.Outcome.TheVariants as outcomes
 use Rattle.sat_solver.specs.declared.error.SolverError.{SolverError}
 use Rattle.sat_solver.specs.cdcl.Turns.{IsComplete, IsFailing}
-use Rattle.sat_solver.specs.schedule.Rounds.{ComesBy}
+use Rattle.sat_solver.specs.schedule.Rounds.{LastRoundAnswers}
 use Rattle.sat_solver.specs.schedule.Solving.{Ended, ComesByRounds, Restarted, ReducedAt, RoundOf}
 use Rattle.sat_solver.specs.declared.variables.Variables.{Variables}
 use Rattle.sat_solver.specs.declared.context.Core.{Core}
@@ -15,7 +15,7 @@ use Rattle.sat_solver.specs.declared.state.State.TheVariants as states
 use Rattle.sat_solver.specs.solver.Joined.{IsJoined}
 use Rattle.sat_solver.specs.solver.Answering.{BreaksOff, Shown, WritesFailedCore}
 use Rattle.sat_solver.specs.declared.solver.find.Clock.{Clock}
-use Rattle.sat_solver.specs.declared.solver.find.Told.{Told}
+use Rattle.sat_solver.specs.declared.solver.find.LastAnswers.{LastAnswers}
 
 -- a model was found in the last of so many rounds, and written
 pub record FoundModel {W L : Type 0} {G : Ghosts L} (seen : W → Writer) (rounds : ℕ) (n m : Variables) (a b : Core W L G) : Type 0 where
@@ -47,7 +47,7 @@ FindsAnswer seen None rounds n m a b core = FoundNone seen rounds n m a b
 FindsAnswer seen (Some state) rounds n m a b core = FoundSays seen state rounds n m a b core
 
 -- the same by the counts of rounds before and now, and by what was told
-abbrev pub FindsBy : {W L : Type 0} {G : Ghosts L} → (W → Writer) → Option State → Clock → Clock → Variables → Variables → Core W L G → Core W L G → Told → Type 0
+abbrev pub FindsBy : {W L : Type 0} {G : Ghosts L} → (W → Writer) → Option State → Clock → Clock → Variables → Variables → Core W L G → Core W L G → LastAnswers → Type 0
 FindsBy seen o before now n m a b told = FindsAnswer seen o (now.rounds - before.rounds) n m a b told.failed_core.items
 
 -- what a search came to, before it's told
@@ -58,15 +58,15 @@ OutcomeHolds outcomes.Failed n c = IsJoined n c × IsFailing c.search.assumption
 OutcomeHolds outcomes.Unsat n c = Unit {0}
 
 -- what telling an outcome leaves, with the state that fits it: of unsat no step is made
-abbrev pub ToldSays : {W L : Type 0} {G : Ghosts L} → (W → Writer) → Option State → Outcome → Variables → Core W L G → Core W L G → List ℕ → Type 0
-ToldSays seen (Some states.Sat) outcomes.Model n a b core = Shown seen n a b
-ToldSays seen (Some states.UnsatUnderAssumptions) outcomes.Failed n a b core = WritesFailedCore seen n a b core
-ToldSays seen (Some states.Unsat) outcomes.Unsat n a b core = b ≡ a
-ToldSays seen o outcome n a b core = ⊥
+abbrev pub ReportSays : {W L : Type 0} {G : Ghosts L} → (W → Writer) → Option State → Outcome → Variables → Core W L G → Core W L G → List ℕ → Type 0
+ReportSays seen (Some states.Sat) outcomes.Model n a b core = Shown seen n a b
+ReportSays seen (Some states.UnsatUnderAssumptions) outcomes.Failed n a b core = WritesFailedCore seen n a b core
+ReportSays seen (Some states.Unsat) outcomes.Unsat n a b core = b ≡ a
+ReportSays seen o outcome n a b core = ⊥
 
 -- so an outcome was told, or a call failed
-abbrev pub TellsOutcome : {W L : Type 0} {G : Ghosts L} → (W → Writer) → Result (Option State) SolverError → Outcome → Variables → Core W L G → Core W L G → List ℕ → Type 0
-TellsOutcome seen r outcome n a b core = MatchResult r (λ o. ToldSays seen o outcome n a b core) (λ e. BreaksOff seen e a b)
+abbrev pub ReportsOutcome : {W L : Type 0} {G : Ghosts L} → (W → Writer) → Result (Option State) SolverError → Outcome → Variables → Core W L G → Core W L G → List ℕ → Type 0
+ReportsOutcome seen r outcome n a b core = MatchResult r (λ o. ReportSays seen o outcome n a b core) (λ e. BreaksOff seen e a b)
 
 -- the state that an answer leaves, or that of no answer
 abbrev pub state_found : Option State → State
@@ -77,12 +77,12 @@ state_found (Some state) = state
 abbrev pub TellsLast : {W L : Type 0} {G : Ghosts L} → (W → Writer) → Option Outcome → State → Variables → Core W L G → Core W L G → List ℕ → Type 0
 TellsLast seen None states.Unknown n a b core = b ≡ a
 TellsLast seen None state n a b core = ⊥
-TellsLast seen (Some outcome) state n a b core = ToldSays seen (Some state) outcome n a b core
+TellsLast seen (Some outcome) state n a b core = ReportSays seen (Some state) outcome n a b core
 
 -- It went from there to here by rounds. A restart and a reduction came before exactly those rounds before which they are due, by the schedule
 -- and the parameters as they were, and the state tells what the last round came to.
 pub record SearchedBy {W L : Type 0} {G : Ghosts L} (seen : W → Writer) (state : State) (before now : Clock) (n m : Variables) (a b : Core W L G) (core : List ℕ) : Type 0 where
   pub outcome : Option Outcome
   pub found : Core W L G
-  pub rounds : ComesBy Restarted (ReducedAt seen) (RoundOf seen) outcome a n before.restarts before.rounds found m now.restarts now.rounds
+  pub rounds : LastRoundAnswers Restarted (ReducedAt seen) (RoundOf seen) outcome a n before.restarts before.rounds found m now.restarts now.rounds
   pub tells : TellsLast seen outcome state m found b core

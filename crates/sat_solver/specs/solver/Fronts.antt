@@ -5,8 +5,8 @@ use Rattle.sat_base.specs.device.Sink.{empty_sink}
 use Rattle.sat_base.specs.steps.Steps.{Step}
 use Rattle.sat_checker.specs.declared.processing.ProofProcessor.{Ghosts}
 use Rattle.sat_solver.specs.proof.Checked.{has_begun}
-use Rattle.sat_solver.specs.proof.Counting.{start}
-use Rattle.sat_solver.specs.proof.Fronts.{FrontSince, WentOn}
+use Rattle.sat_solver.specs.proof.Counting.{nothing_counted}
+use Rattle.sat_solver.specs.proof.Fronts.{FrontSince, GoesOnFrom}
 use Rattle.sat_solver.specs.proof.ProofTexts.{TookText}
 use Rattle.sat_solver.specs.proof.ProofView.{Target, Open, TargetTakes, GivesWriter}
 use Rattle.sat_solver.specs.solver.Adding.{AddsClause, AssumesOrRefuses}
@@ -24,7 +24,7 @@ use Rattle.sat_solver.specs.declared.solver.Solver.{Solver}
 
 -- the solver came from there by steps, whether or not a call failed
 abbrev pub ReachesBySteps : {W L : Type 0} {G : Ghosts L} → (W → Writer) → Solver W L G → Solver W L G → Type 0
-ReachesBySteps seen old new = WentOn seen (proof_in old) (proof_in new)
+ReachesBySteps seen old new = GoesOnFrom seen (proof_in old) (proof_in new)
 
 -- Each call goes on so, whatever it answers, but for one that opens a proof, or hands the target back.
 pub record CallsGoOn {W L : Type 0} {G : Ghosts L} (seen : W → Writer) (old new : Solver W L G) : Type 0 where
@@ -49,9 +49,9 @@ pub record CallsGoOn {W L : Type 0} {G : Ghosts L} (seen : W → Writer) (old ne
 -- front of the text of accepted steps.
 abbrev pub HandsFront : {W L : Type 0} {G : Ghosts L} → (W → Writer) → Option W → Solver W L G → Type 0
 HandsFront {W} {L} {G} seen handed s = (opened : Solver W L G) (f : ProofFormat) (from : Writer) (given : W) → handed ≡ Some given
-    → target_in seen opened ≡ Open f start (empty_sink from) → has_begun (steps_in opened) ≡ false → ReachesBySteps seen opened s
+    → target_in seen opened ≡ Open f nothing_counted (empty_sink from) → has_begun (steps_in opened) ≡ false → ReachesBySteps seen opened s
     → ∥ FrontSince f from (seen given) (steps_in opened) (steps_in s) ∥₁
 
 -- Where no call of it failed, and the last was a flush, it has taken the whole text.
 abbrev pub FlushedIsText : Type 0
-FlushedIsText = (f : ProofFormat) (from given : Writer) (steps : List Step) (now : Target) → TargetTakes (Open f start (empty_sink from)) steps now → IsFlushed now → GivesWriter now (Some given) → TookText f from given steps
+FlushedIsText = (f : ProofFormat) (from given : Writer) (steps : List Step) (now : Target) → TargetTakes (Open f nothing_counted (empty_sink from)) steps now → IsFlushed now → GivesWriter now (Some given) → TookText f from given steps

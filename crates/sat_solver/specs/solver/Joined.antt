@@ -40,5 +40,5 @@ user_by n None = None
 user_by n (Some v) = user_of n v
 
 -- the literal over names for one of the search
-abbrev pub name_of : Variables → ℕ → ℕ
-name_of n l = named_by (user_by n (global_at n (variable l))) l
+abbrev pub lit_over_names : Variables → ℕ → ℕ
+lit_over_names n l = named_by (user_by n (global_at n (variable l))) l

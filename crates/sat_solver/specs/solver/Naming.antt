@@ -3,7 +3,7 @@ use Rattle.std.specs.Prelude.{ℕ, ◌+◌, ◌≡◌, ◌==◌, ◌||◌, not, 
 use Rattle.sat_base.specs.device.Device.{Writer}
 use Rattle.sat_base.specs.values.Literals.{variable}
 use Rattle.sat_base.specs.script.Script.{Among, Hide, Witness, Sample}
-use Rattle.sat_base.specs.script.Judge.{Judge, Sampled, Witnessed, bring_in, new_names, accepted, set_all}
+use Rattle.sat_base.specs.script.ScriptState.{ScriptState, Sampled, Witnessed, bring_in, new_names, accepted, set_all}
 use Rattle.sat_checker.specs.declared.processing.ProofProcessor.{Ghosts}
 use Rattle.sat_solver.specs.declared.error.SolverError.{SolverError}
 use Rattle.sat_solver.specs.declared.error.SolverError.TheVariants as errors
@@ -11,9 +11,9 @@ use Rattle.sat_checker.specs.matching.Expected.{Expected, NewName, hiding, setti
 use Rattle.sat_checker.specs.matching.Bridge.{Live}
 use Rattle.sat_solver.specs.variables.Naming.{IsLowestUnused, NoneLeft}
 use Rattle.sat_solver.specs.variables.Observing.{Observes, IsHidden}
-use Rattle.sat_solver.specs.variables.Room.{HasRoom}
+use Rattle.sat_solver.specs.variables.VariableRoom.{HasVariablesFor}
 use Rattle.sat_solver.specs.Models.{value_in}
-use Rattle.sat_solver.specs.variables.Variables.{global_of, judged_mode}
+use Rattle.sat_solver.specs.variables.Variables.{global_of, script_mode}
 use Rattle.sat_base.specs.steps.Steps.{Step}
 use Rattle.sat_solver.specs.session.Coming.{OnlyAllowedSteps}
 use Rattle.sat_solver.specs.variables.Coming.{IsDue, MayHide, MaySet}
@@ -21,7 +21,7 @@ use Rattle.sat_solver.specs.session.Making.{ComesBySteps}
 use Rattle.sat_solver.specs.proof.ProofView.{IsAtWidth, has_asked}
 use Rattle.sat_solver.specs.declared.solver.Solver.{Solver}
 use Rattle.sat_solver.specs.solver.Adding.{EndsNames}
-use Rattle.sat_solver.specs.solver.Calls.{RefinesJudge, Refuses}
+use Rattle.sat_solver.specs.solver.Calls.{CallEffect, Refuses}
 use Rattle.sat_solver.specs.solver.Whole.{SolverInvariant, steps_in}
 use Rattle.sat_solver.specs.solver.View.{IsInState, answer_in, assumed_in, assumptions_in, has_failed, is_used, known_names, parameters_in, proof_in, schedule_in, told_in}
 
@@ -47,8 +47,8 @@ IsKeptOrFalse (Some a) (Some b) = b ≡ a
 
 -- a call over names was carried out, by steps that may come in it, and what is known of an answer stands: in a model, names that came in
 -- are false
-pub record Renamed {W L : Type 0} {G : Ghosts L} (seen : W → Writer) (old new : Solver W L G) (judge : Judge → Judge) (due : Judge → List Expected) (May : List Step → Step → Type 0) : Type 0 where
-  pub did : RefinesJudge seen old new judge due
+pub record Renamed {W L : Type 0} {G : Ghosts L} (seen : W → Writer) (old new : Solver W L G) (judge : ScriptState → ScriptState) (due : ScriptState → List Expected) (May : List Step → Step → Type 0) : Type 0 where
+  pub did : CallEffect seen old new judge due
   pub comes : OnlyAllowedSteps May (steps_in old) (steps_in new)
   pub asked : has_asked (proof_in new) ≡ has_asked (proof_in old)
   pub assumed : assumed_in new ≡ assumed_in old
@@ -58,12 +58,12 @@ pub record Renamed {W L : Type 0} {G : Ghosts L} (seen : W → Writer) (old new 
   pub values : (user : ℕ) → IsKeptOrFalse (name_value old user) (name_value new user)
 
 -- what came of a call that changes the mode of a name, or hides it; which steps it may make
-abbrev pub ChangesMode : {W L : Type 0} {G : Ghosts L} → (W → Writer) → Result (Unit {0}) SolverError → Solver W L G → Solver W L G → ℕ → (Judge → Judge) → (Judge → List Expected) → (List Step → Step → Type 0) → Type 0
-ChangesMode seen (Ok x) old new user judge due May = (IsAsked old user → ⊥) × Renamed seen old new judge due May × HasRoom (known_names old) (user ∷ [])
+abbrev pub ChangesMode : {W L : Type 0} {G : Ghosts L} → (W → Writer) → Result (Unit {0}) SolverError → Solver W L G → Solver W L G → ℕ → (ScriptState → ScriptState) → (ScriptState → List Expected) → (List Step → Step → Type 0) → Type 0
+ChangesMode seen (Ok x) old new user judge due May = (IsAsked old user → ⊥) × Renamed seen old new judge due May × HasVariablesFor (known_names old) (user ∷ [])
 ChangesMode seen (Err errors.AssumedVariable) old new user judge due May = Refuses old new ((has_failed old ≡ false) × IsAsked old user)
-ChangesMode seen (Err errors.VariableLimit) old new user judge due May = Refuses old new ((has_failed old ≡ false) × (IsAsked old user → ⊥) × (HasRoom (known_names old) (user ∷ []) → ⊥))
+ChangesMode seen (Err errors.VariableLimit) old new user judge due May = Refuses old new ((has_failed old ≡ false) × (IsAsked old user → ⊥) × (HasVariablesFor (known_names old) (user ∷ []) → ⊥))
 ChangesMode seen (Err errors.HasFailed) old new user judge due May = Refuses old new (has_failed old ≡ true)
-ChangesMode seen (Err e) old new user judge due May = (IsAsked old user → ⊥) × HasRoom (known_names old) (user ∷ []) × EndsNames seen e old new
+ChangesMode seen (Err e) old new user judge due May = (IsAsked old user → ⊥) × HasVariablesFor (known_names old) (user ∷ []) × EndsNames seen e old new
 
 -- so of hiding a name, which the judge counts from 1
 abbrev pub Hides : {W L : Type 0} {G : Ghosts L} → (W → Writer) → Result (Unit {0}) SolverError → Solver W L G → Solver W L G → ℕ → Type 0
@@ -79,7 +79,7 @@ Samples seen r old new user = ChangesMode seen r old new user (accepted (Sample 
 
 -- the name comes next, whatever the judge's state is that names and steps agree with
 abbrev pub IsNextName : {W L : Type 0} {G : Ghosts L} → Solver W L G → ℕ → Type 0
-IsNextName s name = (j : Judge) (live : Live) → IsInState s j live → IsLowestUnused j name
+IsNextName s name = (j : ScriptState) (live : Live) → IsInState s j live → IsLowestUnused j name
 
 -- why a call for a new name failed: `VariableLimit` comes exactly where every variable of the proof is in use
 abbrev pub NewFails : {W L : Type 0} {G : Ghosts L} → (W → Writer) → SolverError → Solver W L G → Solver W L G → Type 0
@@ -119,7 +119,7 @@ pub record Observed {W L : Type 0} {G : Ghosts L} (seen : W → Writer) (old new
   pub going : has_failed old ≡ false
   pub failed : has_failed new ≡ false
   pub used : is_used new ≡ (is_used old || not (length users == 0))
-  pub observes : (j : Judge) (live : Live) → IsInState old j live → (k : Judge) × Observes 0 (steps_in old) j live (steps_in new) k users × IsInState new k live
+  pub observes : (j : ScriptState) (live : Live) → IsInState old j live → (k : ScriptState) × Observes 0 (steps_in old) j live (steps_in new) k users × IsInState new k live
   pub all : (v : ℕ) → IsHidden (known_names new) v → ⊥
   pub values : (v : ℕ) → variable_value new (Some v) ≡ variable_value old (Some v)
   pub same : KeepsRest old new
@@ -129,4 +129,4 @@ pub record Observed {W L : Type 0} {G : Ghosts L} (seen : W → Writer) (old new
 
 -- the same for either mode
 abbrev pub SetsMode : {W L : Type 0} {G : Ghosts L} → (W → Writer) → Result (Unit {0}) SolverError → Solver W L G → Solver W L G → ℕ → Bool → Type 0
-SetsMode seen r old new user sample = ChangesMode seen r old new user (set_all (judged_mode sample) ((user + 1) ∷ [])) (setting (judged_mode sample) ((user + 1) ∷ [])) (MaySet (user + 1) sample)
+SetsMode seen r old new user sample = ChangesMode seen r old new user (set_all (script_mode sample) ((user + 1) ∷ [])) (setting (script_mode sample) ((user + 1) ∷ [])) (MaySet (user + 1) sample)

@@ -35,16 +35,16 @@ pub record GoesOnIn {W L : Type 0} {G : Ghosts L} (s : Solver W L G) : Type 0 wh
   pub left : answer_in s ≡ states.Unsat → ⊥
 
 -- how many long clauses of a tier weren't deleted
-abbrev pub clauses_of : Parts → Tier → ℕ
-clauses_of p tier = count_by (is_live_of p.clauses tier) p.db.refs
+abbrev pub live_count_of_tier : Parts → Tier → ℕ
+live_count_of_tier p tier = count_by (is_live_of p.clauses tier) p.db.refs
 
 -- clauses as the search has them: one of two literals is two implications
 pub record CountsClauses (r : Progress) (p : Parts) : Type 0 where
   pub binary : r.binary ≡ implications p.binary.implied / 2
-  pub irred : r.irred ≡ clauses_of p tiers.Irred
-  pub core : r.core ≡ clauses_of p tiers.Core
-  pub mid : r.mid ≡ clauses_of p tiers.Mid
-  pub local : r.local ≡ clauses_of p tiers.Local
+  pub irred : r.irred ≡ live_count_of_tier p tiers.Irred
+  pub core : r.core ≡ live_count_of_tier p tiers.Core
+  pub mid : r.mid ≡ live_count_of_tier p tiers.Mid
+  pub local : r.local ≡ live_count_of_tier p tiers.Local
 
 -- the same of a solver
 abbrev pub CountsClausesIn : {W L : Type 0} {G : Ghosts L} → Progress → Solver W L G → Type 0

@@ -5,7 +5,7 @@ use Rattle.sat_base.specs.device.Sink.{empty_sink}
 use Rattle.sat_base.specs.steps.Steps.{Step, End}
 use Rattle.sat_checker.specs.declared.processing.ProofProcessor.{Ghosts}
 use Rattle.sat_solver.specs.proof.Checked.{has_begun}
-use Rattle.sat_solver.specs.proof.Counting.{start}
+use Rattle.sat_solver.specs.proof.Counting.{nothing_counted}
 use Rattle.sat_solver.specs.proof.Drat.{IsDratDerivation, RefutesByUnits, present}
 use Rattle.sat_solver.specs.proof.ProofTexts.{TookAcceptedSteps, WroteSince}
 use Rattle.sat_solver.specs.proof.ProofView as proofs
@@ -15,7 +15,7 @@ use Rattle.sat_solver.specs.declared.error.SolverError.{SolverError}
 use Rattle.sat_solver.specs.declared.proof.made.CheckFault.{CheckFault}
 use Rattle.sat_solver.specs.declared.proof.made.CheckFault.TheVariants as checks
 use Rattle.sat_solver.specs.declared.error.SolverError.TheVariants as errors
-use Rattle.sat_solver.specs.variables.Calls.{NamesRefineJudge}
+use Rattle.sat_solver.specs.variables.Calls.{NamesEffect}
 use Rattle.sat_solver.specs.cdcl.Faults.{NamesLoss}
 use Rattle.sat_checker.specs.matching.Expected.{Finish}
 use Rattle.sat_solver.specs.declared.solver.Solver.{Solver}
@@ -37,7 +37,7 @@ pub record Opened {W L : Type 0} {G : Ghosts L} (seen : W → Writer) (format : 
   pub steps : steps_in new ≡ steps_in old
   pub checker : KeepsChecker old new
   pub asked : has_asked (proof_in new) ≡ false
-  pub target_is : target_in seen new ≡ Open format start (empty_sink (seen target))
+  pub target_is : target_in seen new ≡ Open format nothing_counted (empty_sink (seen target))
   pub same : OnlyProofDiffers old new
 
 -- what came of opening a proof: only a solver that wasn't used, with no proof open, takes a target
@@ -53,7 +53,7 @@ pub record StartsChecking {W L : Type 0} {G : Ghosts L} (seen : W → Writer) (o
   pub first : is_used old ≡ false
   pub begun : has_begun (steps_in old) ≡ false
   pub target : target_in seen new ≡ target_in seen old
-  pub checks : proofs.Checks (proof_in old) (proof_in new)
+  pub checks : proofs.HasFullChecker (proof_in old) (proof_in new)
   pub asked : has_asked (proof_in new) ≡ has_asked (proof_in old)
   pub same : OnlyProofDiffers old new
 
@@ -104,7 +104,7 @@ AddsProcessor seen (Err e) processor old new = ⊥
 pub record ClosedOne {W L : Type 0} {G : Ghosts L} (seen : W → Writer) (given : W) (old new : Solver W L G) : Type 0 where
   pub going : has_failed old ≡ false
   pub whole : SolverInvariant new
-  pub does : NamesRefineJudge (known_names old) (known_names new) (steps_in old) (steps_in new) (λ j. j) (λ j. Finish ∷ [])
+  pub does : NamesEffect (known_names old) (known_names new) (steps_in old) (steps_in new) (λ j. j) (λ j. Finish ∷ [])
   pub closes : ClosesOne seen given (proof_in old) (proof_in new)
   -- since it was opened, before any step but ends of proofs, it took the text of steps that a checker accepts
   pub certificate : (f : ProofFormat) (from : Writer) (before : List Step) → has_begun before ≡ false → WroteSince seen f from before (proof_in old) → TookAcceptedSteps f from (seen given) before (steps_in new)

@@ -1,11 +1,11 @@
 -- What answers rest on.
 use Rattle.std.specs.Prelude.{ℕ, ◌≡◌, ◌⊎◌, true, false, List, [], map}
-use Rattle.sat_base.specs.script.Judge.{Judge, IsRightModel}
+use Rattle.sat_base.specs.script.ScriptState.{ScriptState, IsRightModel}
 use Rattle.sat_checker.specs.declared.processing.ProofProcessor.{Ghosts}
 use Rattle.sat_solver.specs.declared.error.SolverError.{SolverError}
 use Rattle.sat_solver.specs.declared.error.SolverError.TheVariants as errors
-use Rattle.sat_solver.specs.load.Literals.{named_literal}
-use Rattle.sat_solver.specs.variables.Calls.{HasJudge}
+use Rattle.sat_solver.specs.load.Literals.{user_literal}
+use Rattle.sat_solver.specs.variables.Calls.{HasScriptState}
 use Rattle.sat_checker.specs.matching.Bridge.{Live}
 use Rattle.sat_solver.specs.declared.solver.Solver.{Solver}
 use Rattle.sat_solver.specs.declared.state.State.{State}
@@ -15,20 +15,20 @@ use Rattle.sat_solver.specs.solver.Whole.{IsSolver, steps_in, asked_in, line_in}
 use Rattle.sat_solver.specs.solver.View.{IsInState, answer_in, core_told, has_failed, known_names}
 
 -- some state of the judge is what names and steps say
-abbrev pub IsJudged : {W L : Type 0} {G : Ghosts L} → Solver W L G → Type 0
-IsJudged s = HasJudge (known_names s) (steps_in s)
+abbrev pub MatchesSomeState : {W L : Type 0} {G : Ghosts L} → Solver W L G → Type 0
+MatchesSomeState s = HasScriptState (known_names s) (steps_in s)
 
 -- so it is where a call may be made and none failed
-abbrev pub SolverIsJudged : {W L : Type 0} {G : Ghosts L} → Solver W L G → Type 0
-SolverIsJudged s = IsSolver s → has_failed s ≡ false → IsJudged s
+abbrev pub SolverMatchesSomeState : {W L : Type 0} {G : Ghosts L} → Solver W L G → Type 0
+SolverMatchesSomeState s = IsSolver s → has_failed s ≡ false → MatchesSomeState s
 
 -- right for the assumptions, whatever the judge's state is that names and steps agree with
 abbrev pub IsRightLine : {W L : Type 0} {G : Ghosts L} → Solver W L G → List ℕ → Type 0
-IsRightLine s line = (j : Judge) (live : Live) → IsInState s j live → IsRightModel j (asked_in s) (map named_literal line)
+IsRightLine s line = (j : ScriptState) (live : Live) → IsInState s j live → IsRightModel j (asked_in s) (map user_literal line)
 
 -- the same of a failed core, in whatever order
 abbrev pub IsRightCoreOf : {W L : Type 0} {G : Ghosts L} → Solver W L G → List ℕ → Type 0
-IsRightCoreOf s core = (j : Judge) (live : Live) → IsInState s j live → IsCoreOf j (asked_in s) (map named_literal core)
+IsRightCoreOf s core = (j : ScriptState) (live : Live) → IsInState s j live → IsCoreOf j (asked_in s) (map user_literal core)
 
 -- a model over names
 pub record IsModel {W L : Type 0} {G : Ghosts L} (s : Solver W L G) (line : List ℕ) : Type 0 where

@@ -3,7 +3,7 @@ use Rattle.std.specs.Prelude.{◌-◌, ◌≡◌, [], Result, Ok, Err}
 use Rattle.sat_base.specs.device.Device.{Writer}
 use Rattle.sat_checker.specs.declared.processing.ProofProcessor.{Ghosts}
 use Rattle.sat_solver.specs.declared.error.SolverError.{SolverError}
-use Rattle.sat_solver.specs.variables.Calls.{NamesRefineJudge}
+use Rattle.sat_solver.specs.variables.Calls.{NamesEffect}
 use Rattle.sat_solver.specs.schedule.Solving.{AdvancesIn}
 use Rattle.sat_solver.specs.session.Coming.{OnlyAllowedSteps, EndsAtUnsat}
 use Rattle.sat_solver.specs.session.Making.{ComesBySteps}
@@ -17,7 +17,7 @@ use Rattle.sat_solver.specs.solver.Whole.{SolverInvariant, steps_in}
 -- an answer is known, or the rounds are spent
 pub record Settled {W L : Type 0} {G : Ghosts L} (seen : W → Writer) (old new : Solver W L G) : Type 0 where
   pub whole : SolverInvariant new
-  pub does : NamesRefineJudge old.names new.names (steps_in old) (steps_in new) (λ j. j) (λ j. due_for_answer old.state new)
+  pub does : NamesEffect old.names new.names (steps_in old) (steps_in new) (λ j. j) (λ j. due_for_answer old.state new)
   pub comes : OnlyAllowedSteps EndsAtUnsat (steps_in old) (steps_in new)
   pub took : ComesBySteps seen old.core.proof new.core.proof
   pub width : (steps_in new ≡ steps_in old → ⊥) → IsAtWidth new.core.proof

@@ -1,7 +1,7 @@
 -- A clause, or assumptions, over names: taken by names, search and proof.
 use Rattle.std.specs.Prelude.{ℕ, ◌≡◌, ◌⊎◌, Bool, true, false, List, [], ◌∷◌, ◌++◌, map, MatchResult, Result, Err}
 use Rattle.sat_base.specs.device.Device.{Writer}
-use Rattle.sat_base.specs.script.Judge.{bring_all, with_clause}
+use Rattle.sat_base.specs.script.ScriptState.{bring_all, with_clause}
 use Rattle.sat_base.specs.steps.Steps.{Step}
 use Rattle.sat_checker.specs.declared.processing.ProofProcessor.{Ghosts}
 use Rattle.sat_solver.specs.session.Making.{ComesByCheckedSteps}
@@ -11,8 +11,8 @@ use Rattle.sat_solver.specs.declared.error.SolverError.TheVariants as errors
 use Rattle.sat_parts.specs.parts.Full.{IsFull}
 use Rattle.sat_solver.specs.cdcl.Faults.{IsKept, NamesLoss}
 use Rattle.sat_solver.specs.cdcl.Going.{IsFaultOr, EmitsUpToFault}
-use Rattle.sat_solver.specs.load.Literals.{named_literal, Images}
-use Rattle.sat_solver.specs.variables.Calls.{NamesRefineJudge}
+use Rattle.sat_solver.specs.load.Literals.{user_literal, Images}
+use Rattle.sat_solver.specs.variables.Calls.{NamesEffect}
 use Rattle.sat_solver.specs.variables.Coming.{MayAdd, MayTake}
 use Rattle.sat_solver.specs.variables.Ordering.{AddsInOrder}
 use Rattle.sat_solver.specs.session.Coming.{OnlyAllowedSteps}
@@ -35,7 +35,7 @@ GoesOnOr false n c = (session_of c.proof).unsat ≡ true
 
 -- a clause came in; whether a valuation may be left
 pub record TookClause {W L : Type 0} {G : Ghosts L} (seen : W → Writer) (n n' : Variables) (a b : Core W L G) (user : List ℕ) (left : Bool) : Type 0 where
-  pub does : NamesRefineJudge n n' (steps_of a.proof) (steps_of b.proof) (λ j. with_clause (map named_literal user) (bring_all (names_in user) j)) (λ j. bringing (names_in user) j ++ (Adds (map named_literal user) ∷ []))
+  pub does : NamesEffect n n' (steps_of a.proof) (steps_of b.proof) (λ j. with_clause (map user_literal user) (bring_all (names_in user) j)) (λ j. bringing (names_in user) j ++ (Adds (map user_literal user) ∷ []))
   pub took : ComesByCheckedSteps seen a.proof b.proof
   pub comes : OnlyAllowedSteps (MayAdd (names_in user)) (steps_of a.proof) (steps_of b.proof)
   pub order : AddsInOrder (steps_of a.proof) (steps_of b.proof)
@@ -71,7 +71,7 @@ TakesClause seen r n n' a b user = MatchResult r (TookClause seen n n' a b user)
 
 -- assumptions came in, in place of others
 pub record TookAssumptions {W L : Type 0} {G : Ghosts L} (seen : W → Writer) (n n' : Variables) (a b : Core W L G) (user : List ℕ) (t : Taken) : Type 0 where
-  pub does : (o : Outcome) → NamesRefineJudge n n' (steps_of a.proof) (steps_of b.proof) (bring_all (names_in user)) (λ j. bringing (names_in user) j ++ (Opens (map named_literal user) o ∷ []))
+  pub does : (o : Outcome) → NamesEffect n n' (steps_of a.proof) (steps_of b.proof) (bring_all (names_in user)) (λ j. bringing (names_in user) j ++ (Opens (map user_literal user) o ∷ []))
   pub comes : OnlyAllowedSteps (MayTake (names_in user)) (steps_of a.proof) (steps_of b.proof)
   pub took : ComesByCheckedSteps seen a.proof b.proof
   pub joined : IsJoined n' b

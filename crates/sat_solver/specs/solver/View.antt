@@ -2,20 +2,20 @@
 use Rattle.std.specs.Prelude.{◌≡◌, ℕ, Bool, true, false, Option, None, List, []}
 use Rattle.std.specs.Global.{Vec}
 use Rattle.sat_base.specs.device.Device.{Writer}
-use Rattle.sat_base.specs.script.Judge.{Judge, start}
+use Rattle.sat_base.specs.script.ScriptState.{ScriptState, start}
 use Rattle.sat_base.specs.steps.Steps.{Step}
 use Rattle.sat_checker.specs.matching.Bridge.{Live}
 use Rattle.sat_checker.specs.declared.processing.ProofProcessor.{Ghosts}
 use Rattle.sat_solver.specs.proof.ProofView as proofs
 use Rattle.sat_solver.specs.proof.ProofView.{Target, Closed, target_of}
-use Rattle.sat_solver.specs.variables.Calls.{Agree}
+use Rattle.sat_solver.specs.variables.Calls.{NamesAgree}
 use Rattle.sat_solver.specs.Configs.{defaults}
 use Rattle.sat_solver.specs.declared.config.SolverConfig.{SolverConfig}
 use Rattle.sat_solver.specs.declared.context.Core.{Core}
 use Rattle.sat_solver.specs.declared.proof.Proof.{Proof}
 use Rattle.sat_solver.specs.declared.solver.Solver.{Solver}
 use Rattle.sat_solver.specs.declared.solver.find.Clock.{Clock}
-use Rattle.sat_solver.specs.declared.solver.find.Told.{Told}
+use Rattle.sat_solver.specs.declared.solver.find.LastAnswers.{LastAnswers}
 use Rattle.sat_solver.specs.declared.variables.Variables.{Variables}
 use Rattle.sat_solver.specs.declared.state.State.{State}
 use Rattle.sat_solver.specs.declared.state.State.TheVariants as states
@@ -46,7 +46,7 @@ abbrev pub known_names : {W L : Type 0} {G : Ghosts L} → Solver W L G → Vari
 known_names s = s.names
 
 -- what the last answers were: a model over variables, and a failed core
-abbrev pub told_in : {W L : Type 0} {G : Ghosts L} → Solver W L G → Told
+abbrev pub told_in : {W L : Type 0} {G : Ghosts L} → Solver W L G → LastAnswers
 told_in s = s.told
 
 -- the last failed core, over names
@@ -90,8 +90,8 @@ abbrev pub used_now : {W L : Type 0} {G : Ghosts L} → Solver W L G → Solver 
 used_now s = record s { used = true }
 
 -- the judge's state is this one, with these variables
-abbrev pub IsInState : {W L : Type 0} {G : Ghosts L} → Solver W L G → Judge → Live → Type 0
-IsInState s j live = Agree s.names (steps_in s) j live
+abbrev pub IsInState : {W L : Type 0} {G : Ghosts L} → Solver W L G → ScriptState → Live → Type 0
+IsInState s j live = NamesAgree s.names (steps_in s) j live
 
 -- all of these words at once, as one value
 pub record View (L : Type 0) : Type 0 where

@@ -11,8 +11,8 @@ use Rattle.sat_solver.specs.proof.ProofView.{is_lost, steps_of, session_of}
 use Rattle.sat_solver.specs.session.Session.{Session}
 use Rattle.sat_solver.specs.clause.Activity.{AreDecays}
 use Rattle.sat_solver.specs.cdcl.Turns.{IsComplete}
-use Rattle.sat_solver.specs.load.Literals.{named_literal, Images, GlobalImages}
-use Rattle.sat_solver.specs.variables.Calls.{HasJudge, NamesInvariant}
+use Rattle.sat_solver.specs.load.Literals.{user_literal, Images, GlobalImages}
+use Rattle.sat_solver.specs.variables.Calls.{HasScriptState, NamesInvariant}
 use Rattle.sat_checker.specs.matching.Checking.{variable_of}
 use Rattle.sat_checker.specs.matching.Expected.{SameSet}
 use Rattle.sat_solver.specs.declared.variables.Variables.{Variables}
@@ -22,7 +22,7 @@ use Rattle.sat_solver.specs.declared.solver.Solver.{Solver}
 use Rattle.sat_solver.specs.declared.state.State.{State}
 use Rattle.sat_solver.specs.declared.state.State.TheVariants as states
 use Rattle.sat_solver.specs.solver.Joined.{IsJoined}
-use Rattle.sat_solver.specs.solver.Answering.{line_of}
+use Rattle.sat_solver.specs.solver.Answering.{line_of_names}
 
 -- all steps that it made, the newest first
 abbrev pub steps_in : {W L : Type 0} {G : Ghosts L} → Solver W L G → List Step
@@ -34,11 +34,11 @@ session_in s = session_of s.core.proof
 
 -- the assumptions last accepted
 abbrev pub asked_in : {W L : Type 0} {G : Ghosts L} → Solver W L G → List Literal
-asked_in s = map named_literal s.assumed.items
+asked_in s = map user_literal s.assumed.items
 
 -- the literals of names by the values of the search
 abbrev pub line_in : {W L : Type 0} {G : Ghosts L} → Solver W L G → List ℕ
-line_in s = line_of s.names s.core
+line_in s = line_of_names s.names s.core
 
 -- no variable of a clause is open, and the assumptions are true
 abbrev pub HasModel : {W L : Type 0} {G : Ghosts L} → Core W L G → Type 0
@@ -49,7 +49,7 @@ pub record HasCore {W L : Type 0} {G : Ghosts L} (c : Core W L G) (assumed core 
   pub some : core ≡ [] → ⊥
   pub codes : List ℕ
   pub none : (a : Valuation) → Holds (steps_of c.proof) a → EachTrue a codes → ⊥
-  pub same : SameSet (variable_of (steps_of c.proof)) (map named_literal core) codes
+  pub same : SameSet (variable_of (steps_of c.proof)) (map user_literal core) codes
   pub among : AllByRecursion (λ l. Among l assumed) core
 
 -- the search goes on, under the assumptions
@@ -76,7 +76,7 @@ pub record IsWholeOf {W L : Type 0} {G : Ghosts L} (c : Core W L G) (n : Variabl
   -- the solver's own checker, where there is one, took all steps
   pub taking : is_lost c.proof ≡ false
   -- some state of the judge is what names and steps say
-  pub judged : HasJudge n (steps_of c.proof)
+  pub judged : HasScriptState n (steps_of c.proof)
   pub says : StateSays state c n asked assumed core
 
 -- what holds unless a call failed

@@ -6,7 +6,7 @@ use Rattle.sat_parts.specs.clause.Stored.{lit_of, size_of}
 use Rattle.sat_parts.specs.prop.Values.{IsFalseLit, IsOpenLit}
 use Rattle.sat_solver.specs.session.LiveClauses.{with_var}
 use Rattle.sat_parts.specs.declared.parts.Parts.{Parts}
-use Rattle.sat_parts.specs.parts.Frame.{Reordered, SameSearch, SameState, AddsOriginalClause, Dropped, Shortened}
+use Rattle.sat_parts.specs.parts.Frame.{ReordersLits, SameSearch, SameState, AddsOriginalClause, DropsLongClause, ShortensLongClause}
 use Rattle.sat_parts.specs.parts.Whole.{PartsInvariant}
 use Rattle.sat_parts.specs.parts.Words.{TrailWordExtends}
 use Rattle.sat_solver.specs.declared.context.Search.{Search}
@@ -16,7 +16,7 @@ use Rattle.sat_solver.specs.cdcl.Joint.{global_in}
 -- place, and behind it those that were there
 pub record Gathers (p p' : Parts) (o kept next : ℕ) : Type 0 where
   pub holds : PartsInvariant p'
-  pub moved : Reordered p p'
+  pub moved : ReordersLits p p'
   pub same : SameSearch p p'
   pub db : p'.db ≡ p.db
   pub word : TrailWordExtends p p'
@@ -26,8 +26,8 @@ pub record Gathers (p p' : Parts) (o kept next : ℕ) : Type 0 where
 
 -- the first literals of the clause at o are what is left of it: a long clause, or one of two literals that came in its place
 pub data PutsPart (p p' : Parts) (o len : ℕ) : Type 0 where
-  puts_long : 3 ≤ len → Shortened p p' o len → PutsPart p p' o len
-  puts_pair : len ≡ 2 → (mid : Parts) → AddsOriginalClause p mid (lit_of p.clauses o 0 ∷ lit_of p.clauses o 1 ∷ []) → Dropped mid p' o → PutsPart p p' o len
+  puts_long : 3 ≤ len → ShortensLongClause p p' o len → PutsPart p p' o len
+  puts_pair : len ≡ 2 → (mid : Parts) → AddsOriginalClause p mid (lit_of p.clauses o 0 ∷ lit_of p.clauses o 1 ∷ []) → DropsLongClause mid p' o → PutsPart p p' o len
 
 -- and nothing else changed
 pub record Replaces (p p' : Parts) (o len : ℕ) : Type 0 where

@@ -5,7 +5,7 @@ use Rattle.sat_base.specs.device.Device.{Writer}
 use Rattle.sat_checker.specs.declared.processing.ProofProcessor.{Ghosts}
 use Rattle.sat_parts.specs.clause.Db.{live_refs}
 use Rattle.sat_parts.specs.declared.parts.Parts.{Parts}
-use Rattle.sat_parts.specs.parts.Frame.{SameState, Removed}
+use Rattle.sat_parts.specs.parts.Frame.{SameState, RemovesBinaries}
 use Rattle.sat_parts.specs.parts.Words.{TrailWordExtendsFor}
 use Rattle.sat_solver.specs.proof.ProofView.{session_of}
 use Rattle.sat_solver.specs.session.Session.{Session}
@@ -20,14 +20,14 @@ use Rattle.sat_solver.specs.declared.context.Search.{Search}
 use Rattle.sat_solver.specs.unit_simplify.Looks.{IsOpenClause}
 
 -- no level is open, and nothing is on the trail
-pub record IsFlat (p : Parts) : Type 0 where
+pub record HasEmptyTrail (p : Parts) : Type 0 where
   pub bottom : p.trail.starts ≡ []
   pub empty : p.trail.lits ≡ []
 
 -- clauses of two literals may go with their steps
 pub record MayRemove (c : Search) : Type 0 where
   pub holds : PartsInvariant c.parts
-  pub flat : IsFlat c.parts
+  pub flat : HasEmptyTrail c.parts
   pub paired : ArePaired c.parts.binary.implied
   pub names : length c.parts.assignment.current ≤ length c.globals.items
 
@@ -45,7 +45,7 @@ pub record IsStrengthened (s : Session) (c c' : Search) : Type 0 where
 
 -- the same by steps of clauses of two literals, of which those went that have a variable with a value
 abbrev pub RemovesPairs : {W L : Type 0} {G : Ghosts L} → (W → Writer) → Result (Unit {0}) SolverError → Proof W L G → Proof W L G → Search → Search → Type 0
-RemovesPairs seen r p p' c c' = EmitsSteps seen r p p' (λ _ _. IsStrengthened (session_of p') c c' × Removed c.parts c'.parts)
+RemovesPairs seen r p p' c c' = EmitsSteps seen r p p' (λ _ _. IsStrengthened (session_of p') c c' × RemovesBinaries c.parts c'.parts)
 
 -- one long clause went or lost literals: of what is left of it no literal has a value, and other clauses are as they were, but for their order
 pub record StrengthensClause (s : Session) (c c' : Search) (o : ℕ) : Type 0 where

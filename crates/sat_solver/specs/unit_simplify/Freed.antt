@@ -16,7 +16,7 @@ use Rattle.sat_parts.specs.parts.Words.{TrailWordExtendsFor}
 use Rattle.sat_solver.specs.cdcl.Joint.{assumed_in, IsSearch, SameVarsAndAssumptions}
 use Rattle.sat_solver.specs.declared.context.Search.{Search}
 use Rattle.sat_solver.specs.variables.Shared.{SharesIndices}
-use Rattle.sat_solver.specs.unit_simplify.Flat.{IsFlat}
+use Rattle.sat_solver.specs.unit_simplify.Flat.{HasEmptyTrail}
 
 -- a variable has no index any more, and its units may be forgotten: that is all that a search sees
 pub record LosesIndex (s t : Session) (v : ℕ) : Type 0 where
@@ -28,7 +28,7 @@ pub record LosesIndex (s t : Session) (v : ℕ) : Type 0 where
   pub assumed : t.assumed ≡ s.assumed
 
 -- the same of names, which the judge doesn't see
-pub record GivesUp (old new : Variables) (from to : List Step) (v : ℕ) : Type 0 where
+pub record FreesIndex (old new : Variables) (from to : List Step) (v : ℕ) : Type 0 where
   pub does : DoesNothing old new from to
   pub solvers : (w : ℕ) → solver_of new w ≡ (if w == v then None else solver_of old w)
   pub users : new.global_from_user ≡ old.global_from_user
@@ -41,7 +41,7 @@ pub record MayFree (n : Variables) (steps : List Step) (c : Search) : Type 0 whe
   pub stands : NamesInvariant n steps
   pub search : IsSearch (session_after steps) c
   pub shares : SharesIndices n c
-  pub flat : IsFlat c.parts
+  pub flat : HasEmptyTrail c.parts
 
 -- names stand for the variables for which they stood, and what is assumed is as it was and has its indices
 pub record KeepsAsked (old new : Variables) (s t : Session) : Type 0 where
@@ -56,7 +56,7 @@ pub record FreesSome (old new : Variables) (from to : List Step) (c c' : Search)
   pub quiet : ComesQuietly from to
   pub search : IsSearch (session_after to) c'
   pub shares : SharesIndices new c'
-  pub flat : IsFlat c'.parts
+  pub flat : HasEmptyTrail c'.parts
   pub moved : SameVarsAndAssumptions c c'
   pub same : SameClauses c.parts c'.parts
   pub word : TrailWordExtendsFor (assumed_in c) c.parts c'.parts

@@ -20,7 +20,7 @@ use Rattle.sat_solver.specs.cdcl.Joint.{assumed_in, IsSearch, SameVarsAndAssumpt
 use Rattle.sat_solver.specs.cdcl.Turns.{IsStopped, IsPropagated}
 use Rattle.sat_solver.specs.declared.context.Search.{Search}
 use Rattle.sat_solver.specs.variables.Shared.{SharesIndices}
-use Rattle.sat_solver.specs.unit_simplify.Flat.{IsFlat}
+use Rattle.sat_solver.specs.unit_simplify.Flat.{HasEmptyTrail}
 use Rattle.sat_solver.specs.unit_simplify.Freed.{KeepsAsked, AllLeft}
 use Rattle.sat_solver.specs.unit_simplify.Looks.{IsOpenClause}
 
@@ -51,7 +51,7 @@ pub record PassesQuietly {W L : Type 0} {G : Ghosts L} (seen : W → Writer) (n 
   pub word : TrailWordExtendsFor (assumed_in c) c.parts c'.parts
 
 -- what no input decides went wrong, a full clause buffer only where it is full
-pub record FallsOr {W L : Type 0} {G : Ghosts L} (full : Type 0) (seen : W → Writer) (e : SolverError) (p p' : Proof W L G) : Type 0 where
+pub record PassFailsOr {W L : Type 0} {G : Ghosts L} (full : Type 0) (seen : W → Writer) (e : SolverError) (p p' : Proof W L G) : Type 0 where
   pub fault : IsFaultOr full e
   pub steps : List Step
   pub went : EmitsUpToFault {A = Unit {0}} seen (Err e) steps p p'
@@ -60,19 +60,19 @@ pub record FallsOr {W L : Type 0} {G : Ghosts L} (full : Type 0) (seen : W → W
   pub loss : NamesLoss e p p'
 
 -- the same where no clause is stored
-abbrev pub FallsWithoutStore : {W L : Type 0} {G : Ghosts L} → (W → Writer) → SolverError → Proof W L G → Proof W L G → Type 0
-FallsWithoutStore seen e p p' = FallsOr ⊥ seen e p p'
+abbrev pub PassFails : {W L : Type 0} {G : Ghosts L} → (W → Writer) → SolverError → Proof W L G → Proof W L G → Type 0
+PassFails seen e p p' = PassFailsOr ⊥ seen e p p'
 
 -- nothing is on the trail, no literal of a long clause has a value, and each variable that has an index is in a clause or assumed
 pub record IsSimplifiedPass {W L : Type 0} {G : Ghosts L} (seen : W → Writer) (n n' : Variables) (p p' : Proof W L G) (c c' : Search) : Type 0 where
   pub passes : PassesQuietly seen n n' p p' c c'
-  pub flat : IsFlat c'.parts
+  pub flat : HasEmptyTrail c'.parts
   pub left : (o : ℕ) → Contains (live_refs c'.parts.clauses c'.parts.db.refs) o → IsOpenClause c'.parts o
   pub indices : AllLeft n' (session_of p') c'.parts
 
 -- what came of a simplification, or what it failed of
 abbrev pub Simplifies : {W L : Type 0} {G : Ghosts L} → (W → Writer) → Result (Unit {0}) SolverError → Variables → Variables → Proof W L G → Proof W L G → Search → Search → Type 0
-Simplifies seen r n n' p p' c c' = MatchResult r (λ _. IsSimplifiedPass seen n n' p p' c c') (λ e. FallsWithoutStore seen e p p')
+Simplifies seen r n n' p p' c c' = MatchResult r (λ _. IsSimplifiedPass seen n n' p p' c c') (λ e. PassFails seen e p p')
 
 -- a clause is false, and nothing was written
 pub record FindsFalseClause {W L : Type 0} {G : Ghosts L} (n n' : Variables) (p p' : Proof W L G) (c c' : Search) (e : Conflict) : Type 0 where
@@ -90,4 +90,4 @@ BeginSays seen (Some e) n n' p p' c c' = FindsFalseClause n n' p p' c c' e
 
 -- how a round begins
 abbrev pub BeginsRound : {W L : Type 0} {G : Ghosts L} → (W → Writer) → Result (Option Conflict) SolverError → Variables → Variables → Proof W L G → Proof W L G → Search → Search → Type 0
-BeginsRound seen r n n' p p' c c' = MatchResult r (λ o. BeginSays seen o n n' p p' c c') (λ e. FallsWithoutStore seen e p p')
+BeginsRound seen r n n' p p' c c' = MatchResult r (λ o. BeginSays seen o n n' p p' c c') (λ e. PassFails seen e p p')

@@ -1,43 +1,43 @@
 -- What a call over names leaves of names, proof and judge.
 use Rattle.std.specs.Prelude.{ℕ, ◌+◌, ◌==◌, ◌≡◌, max, false, Some, List, [], ◌∷◌, map, if◌then◌else◌}
-use Rattle.sat_base.specs.script.Judge.{Judge, with_name, with_names, new_names, bring_in}
+use Rattle.sat_base.specs.script.ScriptState.{ScriptState, with_name, with_names, new_names, bring_in}
 use Rattle.sat_base.specs.steps.Steps.{Step, UserVarName}
 use Rattle.sat_solver.specs.session.Session.{MayAll, session_after}
 use Rattle.sat_checker.specs.matching.Bridge.{Live, IsBridge}
-use Rattle.sat_solver.specs.variables.Variables.{AreTidy, AreSaid, AreJudged, global_of, names_used}
+use Rattle.sat_solver.specs.variables.Variables.{AreTidy, NamesMatchSteps, NamesMatchState, global_of, names_used}
 use Rattle.sat_checker.specs.matching.Checking.{variable_of}
-use Rattle.sat_checker.specs.matching.ProofChecking.{the_checking}
+use Rattle.sat_checker.specs.matching.ProofChecking.{checker_rules}
 use Rattle.sat_checker.specs.matching.Expected.{Expected, NewName}
 use Rattle.sat_checker.specs.matching.Traces.{HasTrace}
 use Rattle.sat_solver.specs.variables.Naming.{ExtendsNames}
 use Rattle.sat_solver.specs.variables.Search.{IsUnseen}
 use Rattle.sat_solver.specs.session.Coming.{OnlyAllowedSteps}
 use Rattle.sat_solver.specs.variables.Coming.{IsDue, IsNextVariable}
-use Rattle.sat_solver.specs.variables.Room.{live_count, LeavesRoom}
+use Rattle.sat_solver.specs.variables.VariableRoom.{live_count, LeavesRoom}
 use Rattle.sat_solver.specs.declared.variables.Variables.{Variables}
 
 -- what stands between calls, whatever the judge says: the names fit together, and are what the steps have said, each of which may be written
 pub record NamesInvariant (n : Variables) (steps : List Step) : Type 0 where
   pub tidy : AreTidy n
-  pub said : AreSaid n (session_after steps)
+  pub said : NamesMatchSteps n (session_after steps)
   pub may : MayAll steps
   -- names as matching reads them from the steps
   pub read : (u : ℕ) → variable_of steps (u + 1) ≡ global_of n u
 
 -- the names and the steps are what the judge says
-pub record Agree (n : Variables) (steps : List Step) (j : Judge) (live : Live) : Type 0 where
-  pub judged : AreJudged n j live
-  pub bridge : IsBridge the_checking j steps live
+pub record NamesAgree (n : Variables) (steps : List Step) (j : ScriptState) (live : Live) : Type 0 where
+  pub judged : NamesMatchState n j live
+  pub bridge : IsBridge checker_rules j steps live
 
 -- some state of the judge
-abbrev pub HasJudge : Variables → List Step → Type 0
-HasJudge n steps = (j : Judge) × (live : Live) × Agree n steps j live
+abbrev pub HasScriptState : Variables → List Step → Type 0
+HasScriptState n steps = (j : ScriptState) × (live : Live) × NamesAgree n steps j live
 
 -- the judge's state is this from here on, and the steps' trace is what was expected
-pub record ReachesJudge (new : Variables) (from to : List Step) (j : Judge) (es : List Expected) : Type 0 where
+pub record ReachesScriptState (new : Variables) (from to : List Step) (j : ScriptState) (es : List Expected) : Type 0 where
   pub live : Live
-  pub agree : Agree new to j live
-  pub trace : HasTrace the_checking from to es
+  pub agree : NamesAgree new to j live
+  pub trace : HasTrace checker_rules from to es
 
 -- a name was given to a variable that wasn't known
 pub record NamesOne (old new : Variables) (from to : List Step) (user v : ℕ) : Type 0 where
@@ -45,8 +45,8 @@ pub record NamesOne (old new : Variables) (from to : List Step) (user v : ℕ) :
   pub named : (u : ℕ) → global_of new u ≡ (if u == user then Some v else global_of old u)
   pub used : names_used new ≡ max (names_used old) (user + 1)
   pub step : to ≡ UserVarName v (Some user) ∷ from
-  pub kept : (j : Judge) (live : Live) → Agree old from j live → Agree new to (with_name (user + 1) j) ((v, j.identity_count) ∷ live)
-  pub unknown : the_checking.knows from v ≡ false
+  pub kept : (j : ScriptState) (live : Live) → NamesAgree old from j live → NamesAgree new to (with_name (user + 1) j) ((v, j.identity_count) ∷ live)
+  pub unknown : checker_rules.knows from v ≡ false
   pub live : live_count new ≡ live_count old + 1
   pub next : IsNextVariable (session_after from) user v
   pub extends : ExtendsNames old new
@@ -58,19 +58,19 @@ pub record NamesAll (old new : Variables) (from to : List Step) (names : List �
   pub extends : ExtendsNames old new
   pub unseen : IsUnseen old new from to
   pub comes : OnlyAllowedSteps IsDue from to
-  pub kept : (j : Judge) (live : Live) → Agree old from j live → ReachesJudge new from to (with_names names j) (map NewName names)
+  pub kept : (j : ScriptState) (live : Live) → NamesAgree old from j live → ReachesScriptState new from to (with_names names j) (map NewName names)
 
 -- what a call does to the judge's state, and which steps it has to write for it, whatever others come between
-pub record NamesRefineJudge (old new : Variables) (from to : List Step) (judge : Judge → Judge) (due : Judge → List Expected) : Type 0 where
+pub record NamesEffect (old new : Variables) (from to : List Step) (judge : ScriptState → ScriptState) (due : ScriptState → List Expected) : Type 0 where
   pub stands : NamesInvariant new to
-  pub kept : (j : Judge) (live : Live) → Agree old from j live → ReachesJudge new from to (judge j) (due j)
+  pub kept : (j : ScriptState) (live : Live) → NamesAgree old from j live → ReachesScriptState new from to (judge j) (due j)
 
 -- a name was brought in
 abbrev pub BringsIn : Variables → Variables → List Step → List Step → ℕ → Type 0
-BringsIn old new from to user = NamesRefineJudge old new from to (bring_in (user + 1)) (λ j. map NewName (new_names (user + 1) j))
+BringsIn old new from to user = NamesEffect old new from to (bring_in (user + 1)) (λ j. map NewName (new_names (user + 1) j))
 
 -- the same, and the search sees nothing of it
-pub record Brought (old new : Variables) (from to : List Step) (user : ℕ) : Type 0 where
+pub record BringsInUnseen (old new : Variables) (from to : List Step) (user : ℕ) : Type 0 where
   pub brings : BringsIn old new from to user
   pub extends : ExtendsNames old new
   pub unseen : IsUnseen old new from to
@@ -79,4 +79,4 @@ pub record Brought (old new : Variables) (from to : List Step) (user : ℕ) : Ty
 
 -- the judge sees nothing of it
 abbrev pub DoesNothing : Variables → Variables → List Step → List Step → Type 0
-DoesNothing old new from to = NamesRefineJudge old new from to (λ j. j) (λ j. [])
+DoesNothing old new from to = NamesEffect old new from to (λ j. j) (λ j. [])

@@ -3,7 +3,7 @@ use Rattle.std.specs.Prelude.{ℕ, ◌≡◌, List, Result, Ok, Err, IfErr}
 use Rattle.sat_solver.specs.declared.variables.error.NameError.{NameError}
 use Rattle.sat_solver.specs.declared.variables.error.NameError.TheVariants as errors
 use Rattle.sat_solver.specs.variables.Naming.{NoneLeft}
-use Rattle.sat_solver.specs.variables.Room.{HasRoom}
+use Rattle.sat_solver.specs.variables.VariableRoom.{HasVariablesFor}
 use Rattle.sat_solver.specs.declared.variables.Variables.{Variables}
 
 -- want of memory, or a fault of what takes the steps
@@ -15,7 +15,7 @@ IsFailure (errors.Check fault) = Unit {0}
 
 -- where a variable is left for each name that comes in with these, an error is want of memory or a fault of what takes the steps
 abbrev pub FailsOnlyByFault : {A : Type 0} → Result A NameError → Variables → (users : List ℕ) → Type 0
-FailsOnlyByFault r n users = HasRoom n users → IfErr r IsFailure
+FailsOnlyByFault r n users = HasVariablesFor n users → IfErr r IsFailure
 
 -- It came from there to this fault, which no mode decides: where a step wasn't taken, that was the last.
 abbrev pub EmitsUpTo : {W : Type 0} → (took : W → W → Type 0) (broke : W → NameError → W → Type 0) → W → NameError → W → Type 0

@@ -5,12 +5,12 @@ use Rattle.sat_solver.specs.variables.Counting.{count_to}
 use Rattle.sat_solver.specs.declared.variables.free.FreeIndices.{FreeIndices}
 
 -- whether the node says that an index at or below it is free; past the list none does
-abbrev pub node_at : List Bool → ℕ → Bool
-node_at nodes q = get_or nodes q false
+abbrev pub tree_node_at : List Bool → ℕ → Bool
+tree_node_at nodes q = get_or nodes q false
 
 -- the second half of the nodes are the leaves
 abbrev pub is_free : FreeIndices → ℕ → Bool
-is_free f i = node_at f.nodes.items (f.room + i)
+is_free f i = tree_node_at f.nodes.items (f.room + i)
 
 -- how many leaves a tree has with so many levels above them: a power of two
 unfoldable pub doubled : ℕ → ℕ
@@ -32,7 +32,7 @@ pub record IsTree (f : FreeIndices) : Type 0 where
   pub powers : Powers f
   pub counted : IsCounted f
   -- an inner node is as those below it say
-  pub inner : (q : ℕ) → 0 < q → q < f.room → node_at f.nodes.items q ≡ (node_at f.nodes.items (2 * q) || node_at f.nodes.items (2 * q + 1))
+  pub inner : (q : ℕ) → 0 < q → q < f.room → tree_node_at f.nodes.items q ≡ (tree_node_at f.nodes.items (2 * q) || tree_node_at f.nodes.items (2 * q + 1))
 
 -- a set of indices below this count
 pub record Spans (f : FreeIndices) (count : ℕ) : Type 0 where
@@ -42,12 +42,12 @@ pub record Spans (f : FreeIndices) (count : ℕ) : Type 0 where
 -- one node is as those below it say
 pub record Refreshes (old new : List Bool) (at : ℕ) : Type 0 where
   pub size : length new ≡ length old
-  pub nodes : (q : ℕ) → node_at new q ≡ (if q == at then node_at old (2 * at) || node_at old (2 * at + 1) else node_at old q)
+  pub nodes : (q : ℕ) → tree_node_at new q ≡ (if q == at then tree_node_at old (2 * at) || tree_node_at old (2 * at + 1) else tree_node_at old q)
 
 -- the lower of the two below it that has an index in the set
 pub record IsChild (nodes : List Bool) (at child : ℕ) : Type 0 where
-  pub holds : node_at nodes child ≡ true
-  pub is : (child ≡ 2 * at) ⊎ ((child ≡ 2 * at + 1) × (node_at nodes (2 * at) ≡ false))
+  pub holds : tree_node_at nodes child ≡ true
+  pub is : (child ≡ 2 * at) ⊎ ((child ≡ 2 * at + 1) × (tree_node_at nodes (2 * at) ≡ false))
 
 -- the index is free, and none below it is
 pub record IsLowest (f : FreeIndices) (i : ℕ) : Type 0 where
@@ -57,5 +57,5 @@ pub record IsLowest (f : FreeIndices) (i : ℕ) : Type 0 where
 -- leaves of a list of room nodes and room leaves are those of one of twice as many
 pub record CopiesLeaves (old new : List Bool) (room : ℕ) : Type 0 where
   pub size : length new ≡ length old
-  pub there : (i : ℕ) → i < room → node_at new (2 * room + i) ≡ node_at old (room + i)
-  pub kept : (q : ℕ) → 3 * room ≤ q → node_at new q ≡ node_at old q
+  pub there : (i : ℕ) → i < room → tree_node_at new (2 * room + i) ≡ tree_node_at old (room + i)
+  pub kept : (q : ℕ) → 3 * room ≤ q → tree_node_at new q ≡ tree_node_at old q

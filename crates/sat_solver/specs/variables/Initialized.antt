@@ -9,7 +9,7 @@ use Rattle.sat_parts.specs.declared.parts.Parts.{Parts}
 use Rattle.sat_parts.specs.parts.Whole.{state, PartsInvariant}
 use Rattle.sat_parts.specs.parts.Frame.{SameClauses, IsUnitLit}
 use Rattle.sat_solver.specs.session.Session.{Session}
-use Rattle.sat_solver.specs.session.Naming.{global_of}
+use Rattle.sat_solver.specs.session.Naming.{global_of_index}
 use Rattle.sat_solver.specs.variables.Variables.{says_unit}
 use Rattle.sat_solver.specs.variables.Search.{KeepsSearch, GivenApart, HasGiven}
 use Rattle.sat_solver.specs.declared.variables.solver_vars.Given.{Given}
@@ -53,10 +53,10 @@ pub record Renames (gs : List Given) (globals old new : List ℕ) : Type 0 where
 
 -- the proof variable got this index, which no other had, and this is its unit
 pub record IsGivenTo (globals : List ℕ) (s t : Session) (g : Given) : Type 0 where
-  pub without : s.solver_names (global_of globals g.solver) ≡ None
+  pub without : s.solver_names (global_of_index globals g.solver) ≡ None
   pub free : (v : ℕ) → s.solver_names v ≢ Some g.solver
-  pub named : t.solver_names (global_of globals g.solver) ≡ Some g.solver
-  pub unit : (b : Bool) → s.units (coded (global_of globals g.solver) b) ≡ says_unit g.unit b
+  pub named : t.solver_names (global_of_index globals g.solver) ≡ Some g.solver
+  pub unit : (b : Bool) → s.units (coded (global_of_index globals g.solver) b) ≡ says_unit g.unit b
 
 -- between these sessions proof variables got the indices, and nothing else happened that a search sees
 pub record GivesNames (globals : List ℕ) (gs : List Given) (count : ℕ) (s t : Session) : Type 0 where

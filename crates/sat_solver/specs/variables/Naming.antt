@@ -1,7 +1,7 @@
 -- What calls over names change and write.
 use Rattle.std.specs.Prelude.{ℕ, ◌+◌, ◌<◌, ◌≤◌, ◌==◌, ◌≡◌, ◌≢◌, max, Bool, true, false, not, Option, None, Some, length, get_or, ◌&&◌, get_or, ◌&&◌, if◌then◌else◌}
 use Rattle.sat_base.specs.values.Literals.{var_limit}
-use Rattle.sat_base.specs.script.Judge.{Judge, identity_of}
+use Rattle.sat_base.specs.script.ScriptState.{ScriptState, identity_of}
 use Rattle.sat_store.specs.variables.VarData.{user_variable, unused_variable}
 use Rattle.sat_store.specs.variables.Maps.{AreInverse, Links, Unlinks}
 use Rattle.sat_store.specs.declared.data.SamplingMode.{SamplingMode}
@@ -111,7 +111,7 @@ pub record ExtendsNames (old new : Variables) : Type 0 where
   pub lives : (v : ℕ) → (data_at old v).deleted ≡ false → (data_at new v).deleted ≡ false
 
 -- a name in use has the variable that it had, or one that wasn't in use
-pub record AreFresh (old new : Variables) : Type 0 where
+pub record VariablesAreKeptOrNew (old new : Variables) : Type 0 where
   pub same : (u v w : ℕ) → global_of old u ≡ Some v → global_of new u ≡ Some w → w ≡ v
   pub fresh : (u v : ℕ) → global_of old u ≡ None → global_of new u ≡ Some v → (data_at old v).deleted ≡ true
 
@@ -147,7 +147,7 @@ pub record IsNextUser (n : Variables) (user : ℕ) : Type 0 where
   pub lowest : (m : ℕ) → m < user → global_of n m ≡ None → ⊥
 
 -- the same, as the judge has it: the lowest hidden name, else the first never used
-pub record IsLowestUnused (j : Judge) (name : ℕ) : Type 0 where
+pub record IsLowestUnused (j : ScriptState) (name : ℕ) : Type 0 where
   pub named : 0 < name
   pub unused : identity_of j name ≡ None
   pub lowest : (m : ℕ) → 0 < m → m < name → identity_of j m ≡ None → ⊥

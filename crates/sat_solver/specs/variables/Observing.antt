@@ -1,8 +1,8 @@
 -- Hidden variables that get names.
 use Rattle.std.specs.Prelude.{ℕ, ◌+◌, ◌≤◌, ◌==◌, ◌≡◌, max, set, false, Some, None, List, [], ◌∷◌, if◌then◌else◌}
-use Rattle.sat_base.specs.script.Judge.{Judge, Witnessed, placed}
+use Rattle.sat_base.specs.script.ScriptState.{ScriptState, Witnessed, placed}
 use Rattle.sat_base.specs.steps.Steps.{Step, UserVarName, ChangeSamplingMode}
-use Rattle.sat_solver.specs.variables.Calls.{NamesInvariant, Agree}
+use Rattle.sat_solver.specs.variables.Calls.{NamesInvariant, NamesAgree}
 use Rattle.sat_checker.specs.matching.Checking.{variable_of}
 use Rattle.sat_checker.specs.matching.Bridge.{Live}
 use Rattle.sat_solver.specs.variables.Live.{given}
@@ -12,7 +12,7 @@ use Rattle.sat_solver.specs.variables.Variables.{data_at, user_of, variables_use
 use Rattle.sat_solver.specs.declared.variables.Variables.{Variables}
 
 -- the identity has this name from here on, and mode witness
-abbrev pub observed : ℕ → ℕ → Judge → Judge
+abbrev pub observed : ℕ → ℕ → ScriptState → ScriptState
 observed name identity j = record {
   first_unused = max j.first_unused (name + 1);
   in_use = placed (record { name = name; identity = identity }) j.in_use;
@@ -22,9 +22,9 @@ observed name identity j = record {
 }
 
 -- Each hidden variable in turn, from this one on and by increasing variable, gets the next name: first its mode is written, then its name.
-pub data Observes : ℕ → List Step → Judge → Live → List Step → Judge → List ℕ → Type 0 where
-  all_named : {low : ℕ} {s : List Step} {j : Judge} {live : Live} → Observes low s j live s j []
-  one_more : {low : ℕ} {s t : List Step} {j k : Judge} {live : Live} {users : List ℕ} (v i user : ℕ) → low ≤ v → given live v ≡ Some i → ((name : ℕ) → variable_of s name ≡ Some v → ⊥) → IsLowestUnused j (user + 1)
+pub data Observes : ℕ → List Step → ScriptState → Live → List Step → ScriptState → List ℕ → Type 0 where
+  all_named : {low : ℕ} {s : List Step} {j : ScriptState} {live : Live} → Observes low s j live s j []
+  one_more : {low : ℕ} {s t : List Step} {j k : ScriptState} {live : Live} {users : List ℕ} (v i user : ℕ) → low ≤ v → given live v ≡ Some i → ((name : ℕ) → variable_of s name ≡ Some v → ⊥) → IsLowestUnused j (user + 1)
       → Observes (v + 1) (UserVarName v (Some user) ∷ ChangeSamplingMode v false ∷ s) (observed (user + 1) i j) live t k users → Observes low s j live t k (user ∷ users)
 
 -- a variable that is kept and has no name
@@ -41,7 +41,7 @@ pub record NamesHidden (old new : Variables) (from to : List Step) (v user : ℕ
   pub deleted : (w : ℕ) → (data_at new w).deleted ≡ (data_at old w).deleted
   pub count : variables_used new ≡ variables_used old
   pub names : KeepsNames old new
-  pub kept : (j : Judge) (live : Live) (i : ℕ) → Agree old from j live → given live v ≡ Some i → Agree new to (observed (user + 1) i j) live
+  pub kept : (j : ScriptState) (live : Live) (i : ℕ) → NamesAgree old from j live → given live v ≡ Some i → NamesAgree new to (observed (user + 1) i j) live
   pub unseen : IsUnseen old new from to
 
 -- all hidden variables got names, and mode witness
@@ -49,5 +49,5 @@ pub record NamesAllHidden (old new : Variables) (from to : List Step) (users : L
   pub stands : NamesInvariant new to
   pub all : (v : ℕ) → IsHidden new v → ⊥
   pub names : KeepsNames old new
-  pub kept : (j : Judge) (live : Live) → Agree old from j live → (k : Judge) × Observes 0 from j live to k users × Agree new to k live
+  pub kept : (j : ScriptState) (live : Live) → NamesAgree old from j live → (k : ScriptState) × Observes 0 from j live to k users × NamesAgree new to k live
   pub unseen : IsUnseen old new from to

@@ -3,7 +3,7 @@ use Rattle.std.specs.Prelude.{ℕ, ◌+◌, ◌≡◌, true, Option, None, Some,
 use Rattle.sat_base.specs.values.Literals.{variable}
 use Rattle.sat_solver.specs.variables.Variables.{data_at, global_of}
 use Rattle.sat_solver.specs.declared.variables.Variables.{Variables}
-use Rattle.sat_base.specs.script.Judge.{Refusal, WitnessName}
+use Rattle.sat_base.specs.script.ScriptState.{Refusal, WitnessName}
 
 -- the names of literals
 abbrev pub names_in : List ℕ → List ℕ

@@ -2,13 +2,13 @@
 use Rattle.std.specs.Prelude.{ℕ, ◌≡◌, ◌∷◌, Bool, false, Option, Some, List, map}
 use Rattle.std.specs.List.{AllByRecursion}
 use Rattle.sat_base.specs.values.Literals.{variable}
-use Rattle.sat_base.specs.script.Judge.{Judge}
+use Rattle.sat_base.specs.script.ScriptState.{ScriptState}
 use Rattle.sat_base.specs.steps.Steps.{Step, AtClause, UnitClauses, DeleteClause, ChangeHashBits, Model, FailedAssumptions, End}
 use Rattle.sat_solver.specs.session.Session.{May, session_after}
 use Rattle.sat_checker.specs.matching.Bridge.{Live}
 use Rattle.sat_solver.specs.variables.Variables.{data_at, solver_of}
 use Rattle.sat_solver.specs.variables.Naming.{PutsUnit}
-use Rattle.sat_solver.specs.variables.Calls.{NamesInvariant, Agree}
+use Rattle.sat_solver.specs.variables.Calls.{NamesInvariant, NamesAgree}
 use Rattle.sat_solver.specs.declared.variables.Variables.{Variables}
 
 -- over variables that have indices
@@ -32,8 +32,8 @@ SearchesStand = (n : Variables) (steps : List Step) (step : Step) → NamesInvar
 
 -- The judge is the same behind it.
 abbrev pub SearchesAgree : Type 0
-SearchesAgree = (n : Variables) (steps : List Step) (step : Step) → NamesInvariant n steps → May (session_after steps) step → IsOfSearch n step → (j : Judge) (live : Live) → Agree n steps j live → Agree n (step ∷ steps) j live
+SearchesAgree = (n : Variables) (steps : List Step) (step : Step) → NamesInvariant n steps → May (session_after steps) step → IsOfSearch n step → (j : ScriptState) (live : Live) → NamesAgree n steps j live → NamesAgree n (step ∷ steps) j live
 
 -- Names stand, and the judge is the same, where the value of a unit is noted of a variable that has an index.
 abbrev pub UnitsStand : Type 0
-UnitsStand = (old new : Variables) (steps : List Step) (v x : ℕ) (value : Option Bool) → NamesInvariant old steps → solver_of old v ≡ Some x → PutsUnit old new v value → NamesInvariant new steps × ((j : Judge) (live : Live) → Agree old steps j live → Agree new steps j live)
+UnitsStand = (old new : Variables) (steps : List Step) (v x : ℕ) (value : Option Bool) → NamesInvariant old steps → solver_of old v ≡ Some x → PutsUnit old new v value → NamesInvariant new steps × ((j : ScriptState) (live : Live) → NamesAgree old steps j live → NamesAgree new steps j live)

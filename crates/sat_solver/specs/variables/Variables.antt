@@ -2,9 +2,9 @@
 use Rattle.std.specs.Prelude.{ℕ, ◌+◌, ◌<◌, ◌≤◌, ◌≡◌, ◌≢◌, Bool, true, false, not, ◌&&◌, Option, None, Some, is_some, List, length, get_or, nat_lt, if◌then◌else◌}
 use Rattle.std.specs.List.{AllByRecursion}
 use Rattle.sat_base.specs.values.Literals.{var_limit, coded}
-use Rattle.sat_base.specs.script.Judge.{Judge, Sampled, Witnessed, identity_of}
-use Rattle.sat_base.specs.script.Judge as judged
-use Rattle.sat_base.specs.script.JudgeLaws.{NamesIncrease}
+use Rattle.sat_base.specs.script.ScriptState.{ScriptState, Sampled, Witnessed, identity_of}
+use Rattle.sat_base.specs.script.ScriptState as judged
+use Rattle.sat_base.specs.script.ScriptStateLaws.{NamesIncrease}
 use Rattle.sat_store.specs.declared.data.VarData.{VarData}
 use Rattle.sat_store.specs.declared.data.SamplingMode.{SamplingMode}
 use Rattle.sat_store.specs.declared.data.SamplingMode.TheVariants as kept
@@ -15,7 +15,7 @@ use Rattle.sat_checker.specs.Stored.{Mode, Sample, Witness, Hide, Variable, unkn
 use Rattle.sat_solver.specs.session.Session.{Session}
 use Rattle.sat_solver.specs.variables.Counting.{IsEven}
 use Rattle.sat_solver.specs.variables.Free.{is_free, Spans}
-use Rattle.sat_checker.specs.matching.Bridge.{Live, Apart}
+use Rattle.sat_checker.specs.matching.Bridge.{Live, AreDistinctVariables}
 use Rattle.sat_solver.specs.variables.Live.{given, given_of}
 use Rattle.sat_solver.specs.declared.variables.Variables.{Variables}
 
@@ -90,16 +90,16 @@ pub record AreTidy (n : Variables) : Type 0 where
   pub free_solvers : (x : ℕ) → is_free n.free_solvers x ≡ (nat_lt x (indices_used n) && not (is_some (global_at n x)))
 
 -- the same mode, as the checker has it
-abbrev pub mode_in : SamplingMode → Mode
-mode_in kept.Sample = Sample
-mode_in kept.Witness = Witness
-mode_in kept.Hide = Hide
+abbrev pub checker_mode : SamplingMode → Mode
+checker_mode kept.Sample = Sample
+checker_mode kept.Witness = Witness
+checker_mode kept.Hide = Hide
 
 -- what the proof says of the variable
-abbrev pub variable_at : Variables → ℕ → Variable
-variable_at n v =
+abbrev pub checker_variable_at : Variables → ℕ → Variable
+checker_variable_at n v =
     if (data_at n v).deleted then unknown
-    else record { known = true; mode = mode_in (data_at n v).sampling_mode; name = user_of n v }
+    else record { known = true; mode = checker_mode (data_at n v).sampling_mode; name = user_of n v }
 
 -- is this the value of a variable's unit?
 abbrev pub says_unit : Option Bool → Bool → Bool
@@ -116,8 +116,8 @@ abbrev pub IsInNoNonUnitClause : Session → ℕ → Type 0
 IsInNoNonUnitClause s v = (r : Bool) (set : List ℕ) → 0 < s.live r set → mentions set v ≡ false
 
 -- It is what the proof has said. The unit of a variable that has an index is the search's.
-pub record AreSaid (n : Variables) (s : Session) : Type 0 where
-  pub variables : (v : ℕ) → s.variables v ≡ variable_at n v
+pub record NamesMatchSteps (n : Variables) (s : Session) : Type 0 where
+  pub variables : (v : ℕ) → s.variables v ≡ checker_variable_at n v
   pub solver_names : (v : ℕ) → s.solver_names v ≡ solver_of n v
   pub units : (v : ℕ) → solver_of n v ≡ None → IsUnitOf n s v
   -- clauses are over variables that have indices
@@ -125,17 +125,17 @@ pub record AreSaid (n : Variables) (s : Session) : Type 0 where
   pub marked : (v : ℕ) → mentions s.assumed v ≡ (data_at n v).assumed
 
 -- the mode of an identity whose variable has this one; a hidden one's doesn't count
-abbrev pub IsModeOf : SamplingMode → judged.Mode → Type 0
+abbrev pub IsModeOf : SamplingMode → judged.NameMode → Type 0
 IsModeOf kept.Sample m = m ≡ Sampled
 IsModeOf kept.Witness m = m ≡ Witnessed
 IsModeOf kept.Hide m = Unit {0}
 
 -- It is what the judge says. Name k is the one with index k - 1.
-pub record AreJudged (n : Variables) (j : Judge) (live : Live) : Type 0 where
+pub record NamesMatchState (n : Variables) (j : ScriptState) (live : Live) : Type 0 where
   pub first_unused : j.first_unused ≡ names_used n + 1
   pub no_zero : identity_of j 0 ≡ None
   pub names : (u : ℕ) → identity_of j (u + 1) ≡ given_of live (global_of n u)
-  pub once : Apart live
+  pub once : AreDistinctVariables live
   pub in_use : (v : ℕ) → is_some (given live v) ≡ not (data_at n v).deleted
   pub below : AllByRecursion (λ p. p.1 < j.identity_count) live
   pub distinct : (v w i : ℕ) → given live v ≡ Some i → given live w ≡ Some i → v ≡ w
@@ -151,6 +151,6 @@ mode_for true = kept.Sample
 mode_for false = kept.Witness
 
 -- the same mode in the judge's words
-abbrev pub judged_mode : Bool → judged.Mode
-judged_mode true = Sampled
-judged_mode false = Witnessed
+abbrev pub script_mode : Bool → judged.NameMode
+script_mode true = Sampled
+script_mode false = Witnessed

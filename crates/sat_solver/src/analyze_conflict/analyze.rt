@@ -3,7 +3,7 @@ ghost use Rattle.std.specs.Prelude.{ℕ, ◌≡◌, ◌<◌, length, OnOk, IfOk}
 ghost use Rattle.sat_store.specs.clause.Buffer.{IsClause};
 ghost use Rattle.sat_parts.specs.clause.Glue.{AreClear};
 ghost use Rattle.sat_parts.specs.prop.Causes.{falsified};
-ghost use Rattle.sat_parts.specs.prop.Ready.{IsFalsified, state_of};
+ghost use Rattle.sat_parts.specs.prop.Ready.{AreAllFalse, state_of};
 ghost use Rattle.sat_solver.specs.analyze_conflict.Marks.{CanAnalyze, HasTop};
 ghost use Rattle.sat_solver.specs.analyze_conflict.Derivation.{LearnsFrom};
 ghost use Rattle.sat_solver.specs.analyze_conflict.Involved.{IsResolution};
@@ -28,7 +28,7 @@ pub fn analyze_conflict(
     requires size { length analysis.old.flags ≡ length assignment.now.current }
     requires clear { AreClear analysis.old.flags }
     requires stands { (o : ℕ) → conflict.now ≡ Conflict.Long o → IsClause clauses.now o }
-    requires fails { IsFalsified assignment.now.current (falsified clauses.now conflict.now) }
+    requires fails { AreAllFalse assignment.now.current (falsified clauses.now conflict.now) }
     requires top { HasTop (state_of assignment.now graph.now trail.now) (falsified clauses.now conflict.now) }
     ensures learns { IfOk result (λ back. LearnsFrom clauses.now (state_of assignment.now graph.now trail.now)
         conflict.now analysis.new back) }

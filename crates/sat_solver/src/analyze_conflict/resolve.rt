@@ -3,11 +3,11 @@ ghost use Rattle.std.specs.Prelude.{ℕ, ◌≡◌, ◌<◌, length, OnOk, IfOk}
 ghost use Rattle.sat_store.specs.clause.Buffer.{IsClause};
 ghost use Rattle.sat_parts.specs.clause.Glue.{AreClear, HaveNodes};
 ghost use Rattle.sat_parts.specs.prop.Causes.{falsified};
-ghost use Rattle.sat_parts.specs.prop.Ready.{state_of, IsFalsified};
-ghost use Rattle.sat_solver.specs.analyze_conflict.Work.{with_literals};
+ghost use Rattle.sat_parts.specs.prop.Ready.{state_of, AreAllFalse};
+ghost use Rattle.sat_solver.specs.analyze_conflict.Work.{with_met_literals};
 ghost use Rattle.sat_solver.specs.analyze_conflict.Marks.{CanAnalyze, IsResolvent, IsFirstResolvent, HasTop};
 ghost use Rattle.sat_solver.specs.analyze_conflict.Derivation.{IsUipClause};
-ghost use Rattle.sat_solver.specs.analyze_conflict.Involved.{Collecting, BeginsCollecting, Collected};
+ghost use Rattle.sat_solver.specs.analyze_conflict.Involved.{CollectionInvariant, BeginsCollecting, CollectionResult};
 
 use crate::analyze_conflict::work::Analysis;
 use sat_base::Lit;
@@ -24,7 +24,7 @@ fn add_own(
 ) -> Result<(), AllocError>
     requires nodes { HaveNodes graph.now lits.now }
     requires flags { length analysis.old.flags ≡ length graph.now }
-    ensures meets { OnOk result (analysis.new ≡ with_literals graph.now top lits.now analysis.old) }
+    ensures meets { OnOk result (analysis.new ≡ with_met_literals graph.now top lits.now analysis.old) }
     ensures flags { OnOk result (length analysis.new.flags ≡ length graph.now) }
 {
     for lit in lits {
@@ -42,7 +42,7 @@ fn add_long(
 ) -> Result<(), AllocError>
     requires nodes { HaveNodes graph.now lits.now }
     requires flags { length analysis.old.flags ≡ length graph.now }
-    ensures { OnOk result (analysis.new ≡ with_literals graph.now top lits.now analysis.old) }
+    ensures { OnOk result (analysis.new ≡ with_met_literals graph.now top lits.now analysis.old) }
 {
     for at in 0..lits.len() {
         analysis.add(graph, top, lits.get(at))?;
@@ -59,7 +59,7 @@ pub(crate) fn add_all(
 ) -> Result<(), AllocError>
     requires nodes { HaveNodes graph.now lits.now }
     requires flags { length analysis.old.flags ≡ length graph.now }
-    ensures { OnOk result (analysis.new ≡ with_literals graph.now top lits.now analysis.old) }
+    ensures { OnOk result (analysis.new ≡ with_met_literals graph.now top lits.now analysis.old) }
 {
     let (own, long) = lits.parts();
     add_own(analysis, graph, top, own)?;
@@ -80,12 +80,12 @@ fn resolve_next(
     requires can { CanAnalyze clauses.now (state_of assignment.now graph.now trail.now) }
     requires resolving { IsResolvent clauses.now (state_of assignment.now graph.now trail.now) conflict.now analysis.old
         before }
-    requires collecting { Collecting clauses.now (state_of assignment.now graph.now trail.now) conflict.now analysis.old
+    requires collecting { CollectionInvariant clauses.now (state_of assignment.now graph.now trail.now) conflict.now analysis.old
         before }
     requires two { 1 < analysis.old.pending }
     ensures next { IfOk result (λ p. (p < before)
         × IsResolvent clauses.now (state_of assignment.now graph.now trail.now) conflict.now analysis.new p
-        × Collecting clauses.now (state_of assignment.now graph.now trail.now) conflict.now analysis.new p) }
+        × CollectionInvariant clauses.now (state_of assignment.now graph.now trail.now) conflict.now analysis.new p) }
 {
     let lits = trail.trail();
     let place = analysis.last_flagged(lits, before);
@@ -117,7 +117,7 @@ pub(crate) fn resolve_conflict(
         analysis.old }
     ensures next { IfOk result (λ p. (analysis.new.pending ≡ 1)
         × IsResolvent clauses.now (state_of assignment.now graph.now trail.now) conflict.now analysis.new p
-        × Collecting clauses.now (state_of assignment.now graph.now trail.now) conflict.now analysis.new p) }
+        × CollectionInvariant clauses.now (state_of assignment.now graph.now trail.now) conflict.now analysis.new p) }
 {
     let mut at = trail.trail().len();
     while analysis.pending() > 1 {
@@ -139,7 +139,7 @@ pub(crate) fn begin_conflict(
     requires size { length analysis.old.flags ≡ length assignment.now.current }
     requires clear { AreClear analysis.old.flags }
     requires stands { (o : ℕ) → conflict.now ≡ Conflict.Long o → IsClause clauses.now o }
-    requires fails { IsFalsified assignment.now.current (falsified clauses.now conflict.now) }
+    requires fails { AreAllFalse assignment.now.current (falsified clauses.now conflict.now) }
     requires top { HasTop (state_of assignment.now graph.now trail.now) (falsified clauses.now conflict.now) }
     ensures resolving { OnOk result
         (IsFirstResolvent clauses.now (state_of assignment.now graph.now trail.now) conflict.now analysis.new) }
@@ -169,13 +169,13 @@ pub(crate) fn finish_conflict(
     requires can { CanAnalyze clauses.now (state_of assignment.now graph.now trail.now) }
     requires resolving { IsResolvent clauses.now (state_of assignment.now graph.now trail.now) conflict.now analysis.old
         before }
-    requires collecting { Collecting clauses.now (state_of assignment.now graph.now trail.now) conflict.now analysis.old
+    requires collecting { CollectionInvariant clauses.now (state_of assignment.now graph.now trail.now) conflict.now analysis.old
         before }
     requires one { analysis.old.pending ≡ 1 }
     ensures resolved { OnOk result
         (IsUipClause clauses.now (state_of assignment.now graph.now trail.now) conflict.now analysis.new) }
     ensures collected { OnOk result
-        (Collected clauses.now (state_of assignment.now graph.now trail.now) conflict.now analysis.new) }
+        (CollectionResult clauses.now (state_of assignment.now graph.now trail.now) conflict.now analysis.new) }
 {
     let lits = trail.trail();
     let place = analysis.last_flagged(lits, before);

@@ -1,12 +1,12 @@
 //! Which assumptions make an assumption false.
 ghost use Rattle.std.specs.Prelude.{◌≡◌, ◌<◌, false, length, OnOk, IfOk};
 ghost use Rattle.sat_parts.specs.clause.Glue.{AreClear};
-ghost use Rattle.sat_parts.specs.prop.Graphs.{is_unit};
+ghost use Rattle.sat_parts.specs.prop.Graphs.{is_unit_reason};
 ghost use Rattle.sat_parts.specs.prop.Ready.{state_of};
-ghost use Rattle.sat_parts.specs.prop.State.{Agrees, node, level};
+ghost use Rattle.sat_parts.specs.prop.State.{StateIsConsistent, node, level};
 ghost use Rattle.sat_parts.specs.prop.Values.{IsFalseLit};
 ghost use Rattle.sat_solver.specs.analyze_conflict.Marks.{CanAnalyze};
-ghost use Rattle.sat_solver.specs.assumptions.Failing.{IsFailedAssumption, Tracing, Traced};
+ghost use Rattle.sat_solver.specs.assumptions.Failing.{IsFailedAssumption, TraceInvariant, TraceResult};
 
 use crate::analyze_conflict::resolve::add_all;
 use crate::analyze_conflict::work::Analysis;
@@ -29,8 +29,8 @@ fn begin_trace(
     requires clear { AreClear analysis.old.flags }
     requires fails { IsFalseLit assignment.now.current failed }
     requires above { 0 < level (state_of assignment.now graph.now trail.now) failed }
-    requires caused { is_unit (node (state_of assignment.now graph.now trail.now) failed).reason ≡ false }
-    ensures { IfOk result (λ p. Tracing clauses.now (state_of assignment.now graph.now trail.now) failed analysis.new
+    requires caused { is_unit_reason (node (state_of assignment.now graph.now trail.now) failed).reason ≡ false }
+    ensures { IfOk result (λ p. TraceInvariant clauses.now (state_of assignment.now graph.now trail.now) failed analysis.new
         p) }
 {
     analysis.begin_core(failed)?;
@@ -52,10 +52,10 @@ fn trace_next(
     before: usize,
 ) -> Result<usize, AllocError>
     requires can { CanAnalyze clauses.now (state_of assignment.now graph.now trail.now) }
-    requires tracing { Tracing clauses.now (state_of assignment.now graph.now trail.now) failed analysis.old before }
+    requires tracing { TraceInvariant clauses.now (state_of assignment.now graph.now trail.now) failed analysis.old before }
     requires some { 0 < analysis.old.pending }
     ensures { IfOk result (λ p. (p < before)
-        × Tracing clauses.now (state_of assignment.now graph.now trail.now) failed analysis.new p) }
+        × TraceInvariant clauses.now (state_of assignment.now graph.now trail.now) failed analysis.new p) }
 {
     let lits = trail.trail();
     let place = analysis.last_flagged(lits, before);
@@ -82,8 +82,8 @@ fn trace(
 ) -> Result<(), AllocError>
     requires can { CanAnalyze clauses.now (state_of assignment.now graph.now trail.now) }
     requires fails { IsFalseLit assignment.now.current failed }
-    requires tracing { Tracing clauses.now (state_of assignment.now graph.now trail.now) failed analysis.old from }
-    ensures { OnOk result (Traced clauses.now (state_of assignment.now graph.now trail.now) failed analysis.new) }
+    requires tracing { TraceInvariant clauses.now (state_of assignment.now graph.now trail.now) failed analysis.old from }
+    ensures { OnOk result (TraceResult clauses.now (state_of assignment.now graph.now trail.now) failed analysis.new) }
 {
     let mut at = from;
     while analysis.pending() > 0 {
@@ -101,7 +101,7 @@ pub fn analyze_assumption(
     trail: &Trail,
     failed: Lit,
 ) -> Result<(), AllocError>
-    requires agrees { Agrees (state_of assignment.now graph.now trail.now) }
+    requires agrees { StateIsConsistent (state_of assignment.now graph.now trail.now) }
     requires can { 0 < length trail.now.starts → CanAnalyze clauses.now (state_of assignment.now graph.now trail.now) }
     requires size { length analysis.old.flags ≡ length assignment.now.current }
     requires clear { AreClear analysis.old.flags }

@@ -4,7 +4,7 @@ ghost use Rattle.sat_solver.specs.session.LiveClauses.{with_var};
 ghost use Rattle.sat_solver.specs.proof.ProofView.{HasAllowedSteps, session_of};
 ghost use Rattle.sat_parts.specs.parts.Assumed.{HaveVariablesIn};
 ghost use Rattle.sat_parts.specs.parts.Whole.{PartsInvariant};
-ghost use Rattle.sat_solver.specs.assumptions.Core.{causes_hashes, TellsCore, FailsBy};
+ghost use Rattle.sat_solver.specs.assumptions.Core.{causes_hashes, WritesCoreStep, FailsBy};
 ghost use Rattle.sat_solver.specs.cdcl.Joint.{global_in, IsFree, IsSearch};
 ghost use Rattle.sat_solver.specs.cdcl.Turns.{IsFailing};
 
@@ -71,14 +71,14 @@ fn find_core(search: &mut Search) -> Result<(), AllocError>
 
 /// Writes the step of the assumptions that can't be true together, of which one failed. They stand in the analysis
 /// behind it.
-pub fn tell_core<W: CountedWrite + Drop, P: ProofProcessor>(
+pub fn write_core<W: CountedWrite + Drop, P: ProofProcessor>(
     proof: &mut Proof<W, P>,
     search: &mut Search,
 ) -> Result<(), Fault>
     requires keeps { HasAllowedSteps proof.old }
     requires search { IsSearch (session_of proof.old) search.old }
     requires failing { IsFailing search.old.assumptions.lits.items search.old.parts search.old.failed }
-    ensures { TellsCore W.seen result proof.old proof.new search.old search.new }
+    ensures { WritesCoreStep W.seen result proof.old proof.new search.old search.new }
 {
     find_core(search)?;
     let step = ProofStep::FailedAssumptions {

@@ -1,6 +1,6 @@
 //! Why a call failed, without its cause, which is kept with the proof until a solver tells it.
 ghost use Rattle.std.specs.Prelude.{◌≡◌};
-ghost use Rattle.sat_solver.specs.cdcl.Faults.{error_of, IsKept};
+ghost use Rattle.sat_solver.specs.cdcl.Faults.{reported_error, IsKept};
 ghost use Rattle.sat_solver.specs.proof.ProofView.{without_complaint};
 
 use crate::SolverError;
@@ -34,18 +34,18 @@ pub struct Fault {
 }
 
 impl Model for Fault {
-    ghost use Rattle.sat_solver.specs.cdcl.Faults.{error_of};
+    ghost use Rattle.sat_solver.specs.cdcl.Faults.{reported_error};
     ghost use Rattle.sat_solver.specs.declared.error.SolverError.{SolverError};
 
     ghost Value = { SolverError };
 
-    ghost view = { λ f. error_of f.kind };
+    ghost view = { λ f. reported_error f.kind };
 }
 
 impl Fault {
     /// Of this kind.
     pub fn of(kind: Kind) -> Fault
-        ensures { result ≡ error_of kind }
+        ensures { result ≡ reported_error kind }
     {
         Fault { kind }
     }
@@ -64,9 +64,9 @@ impl From<AllocError> for Fault {
 
 impl From<StoreError> for Fault {
     ghost use Rattle.std.specs.Prelude.{◌≡◌};
-    ghost use Rattle.sat_solver.specs.Recovery.{failure_of};
+    ghost use Rattle.sat_solver.specs.Recovery.{buffer_failure};
 
-    ghost from_gives = { λ s e. e ≡ failure_of s };
+    ghost from_gives = { λ s e. e ≡ buffer_failure s };
 
     fn from(error: StoreError) -> Fault {
         match error {
@@ -93,9 +93,9 @@ impl From<CheckFault> for Fault {
 
 impl From<ProofError> for Fault {
     ghost use Rattle.std.specs.Prelude.{◌≡◌};
-    ghost use Rattle.sat_solver.specs.cdcl.Going.{fault_of};
+    ghost use Rattle.sat_solver.specs.cdcl.Going.{proof_fault};
 
-    ghost from_gives = { λ p e. e ≡ fault_of p };
+    ghost from_gives = { λ p e. e ≡ proof_fault p };
 
     fn from(error: ProofError) -> Fault {
         match error {
@@ -107,7 +107,7 @@ impl From<ProofError> for Fault {
 }
 
 /// A fault as a solver tells it, with its cause, which the proof kept.
-pub fn tell<W: CountedWrite + Drop, P: ProofProcessor>(
+pub fn report<W: CountedWrite + Drop, P: ProofProcessor>(
     fault: Fault,
     proof: &mut Proof<W, P>,
 ) -> SolverError

@@ -6,13 +6,13 @@ ghost use Rattle.sat_solver.specs.proof.ProofView.{HasAllowedSteps, session_of};
 ghost use Rattle.sat_solver.specs.analyze_conflict.Derivation.{Learns, LearnsFrom};
 ghost use Rattle.sat_parts.specs.parts.Round.{UnitsAreUncaused, IsBased};
 ghost use Rattle.sat_parts.specs.parts.Full.{IsFull};
-ghost use Rattle.sat_parts.specs.parts.Learned.{IsLearned};
+ghost use Rattle.sat_parts.specs.parts.Learned.{IsAnalyzedClause};
 ghost use Rattle.sat_parts.specs.parts.Whole.{state, HoldsBelow, IsRefuted};
 ghost use Rattle.sat_solver.specs.session.Fits.{FlagFits};
 ghost use Rattle.sat_solver.specs.clause.Activity.{AreBelow};
 ghost use Rattle.sat_solver.specs.clause.Assessed.{graded, AreInvolved};
 ghost use Rattle.sat_solver.specs.cdcl.Joint.{global_in, IsFree};
-ghost use Rattle.sat_solver.specs.cdcl.Learning.{UndoesAndLearns, Rated, IsRated, IsRaised, LearnsClause};
+ghost use Rattle.sat_solver.specs.cdcl.Learning.{UndoesAndLearns, BumpsInvolved, SearchBumpsInvolved, BumpsMetVars, LearnsClause};
 ghost use Rattle.sat_solver.specs.cdcl.Learning.{learned_hashes};
 ghost use Rattle.sat_solver.specs.cdcl.Turns.{IsStopped};
 ghost use Rattle.sat_store.specs.clause.Full.{OnFull};
@@ -64,14 +64,14 @@ fn take_in(search: &mut Search, header: ClauseHeader, level: usize) -> Result<()
     requires units { UnitsAreUncaused (state search.old.parts) }
     requires base { IsBased search.old.parts.trail }
     requires live { header.deleted ≡ false }
-    requires learned { IsLearned (state search.old.parts) search.old.analysis.clause level }
+    requires learned { IsAnalyzedClause (state search.old.parts) search.old.analysis.clause level }
     requires involved { AreInvolved search.old.parts search.old.flags.flags.items search.old.analysis.involved }
     ensures same { search.new ≡ record search.old
         { parts = search.new.parts; activity = search.new.activity; flags = search.new.flags } }
     ensures flags { search.new.flags.flags.items ≡ search.old.flags.flags.items }
     ensures taken { OnOk result (UndoesAndLearns search.old.parts search.new.parts header search.old.analysis.clause
         level) }
-    ensures rated { OnOk result (Rated search.old.parts search.old.activity search.old.analysis header search.new.parts
+    ensures rated { OnOk result (BumpsInvolved search.old.parts search.old.activity search.old.analysis header search.new.parts
         search.new.activity) }
     ensures full { OnFull result (IsFull search.new.parts) }
 {
@@ -148,7 +148,7 @@ fn learn_clause<W: CountedWrite + Drop, P: ProofProcessor>(
     requires above { 0 < length search.old.parts.trail.starts }
     ensures learned { LearnsClause W.seen result proof.old proof.new search.old search.new }
     ensures met { OnOk result (AreBelow search.new.analysis.met (length search.new.parts.assignment.current)) }
-    ensures rated { OnOk result (IsRated search.old search.new) }
+    ensures rated { OnOk result (SearchBumpsInvolved search.old search.new) }
 {
     let (level, header) = analyze(search, conflict)?;
     let step = ProofStep::AtClause {
@@ -173,7 +173,7 @@ pub fn learn_from<W: CountedWrite + Drop, P: ProofProcessor>(
     requires stopped { IsStopped (session_of proof.old) search.old conflict.now }
     requires above { 0 < length search.old.parts.trail.starts }
     ensures learned { LearnsClause W.seen result proof.old proof.new search.old search.new }
-    ensures raised { OnOk result (IsRaised search.old search.new) }
+    ensures raised { OnOk result (BumpsMetVars search.old search.new) }
 {
     learn_clause(proof, search, conflict)?;
     bump_met(search);

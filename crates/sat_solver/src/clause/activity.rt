@@ -7,8 +7,8 @@ ghost use Rattle.sat_solver.specs.session.Session.{Session};
 ghost use Rattle.sat_parts.specs.parts.Frame.{SameClauses, SameContents};
 ghost use Rattle.sat_parts.specs.parts.Whole.{PartsInvariant, HasClause};
 ghost use Rattle.sat_parts.specs.parts.Words.{TrailWordExtends};
-ghost use Rattle.sat_solver.specs.clause.Activity.{AreBelow, AreDecays, all_bumped, Bumped};
-ghost use Rattle.sat_solver.specs.clause.Assessed.{levels_in, improved, TakesPart, TakePart, Rates, AreInvolved};
+ghost use Rattle.sat_solver.specs.clause.Activity.{AreBelow, AreDecays, all_bumped, BumpEffect};
+ghost use Rattle.sat_solver.specs.clause.Assessed.{levels_in, improved, BumpsClause, BumpsClauses, ChangesOnlyHeaders, AreInvolved};
 ghost use Rattle.sat_solver.specs.cdcl.Joint.{IsSearch};
 
 use crate::SolverConfig;
@@ -38,7 +38,7 @@ fn bump_variables(parts: &mut Parts, vars: &[Var])
 pub fn bump_met(search: &mut Search)
     requires holds { PartsInvariant search.old.parts }
     requires there { AreBelow search.old.analysis.met (length search.old.parts.assignment.current) }
-    ensures bumped { (s : Session) → IsSearch s search.old → Bumped s search.old search.new }
+    ensures bumped { (s : Session) → IsSearch s search.old → BumpEffect s search.old search.new }
     ensures rest { search.new ≡ record search.old { parts = search.new.parts } }
     ensures clauses { SameClauses search.old.parts search.new.parts }
     ensures queue { search.new.parts.vsids ≡ decayed (all_bumped search.old.analysis.met search.old.parts.vsids) }
@@ -50,7 +50,7 @@ pub fn bump_met(search: &mut Search)
 pub fn set_decays(search: &mut Search, config: &SolverConfig)
     requires holds { PartsInvariant search.old.parts }
     requires decays { AreDecays config.now }
-    ensures bumped { (s : Session) → IsSearch s search.old → Bumped s search.old search.new }
+    ensures bumped { (s : Session) → IsSearch s search.old → BumpEffect s search.old search.new }
     ensures rest { search.new ≡ record search.old { parts = search.new.parts; activity = search.new.activity } }
     ensures parts { search.new.parts
         ≡ record search.old.parts { vsids = record search.old.parts.vsids { decay = config.now.vsids_decay } } }
@@ -85,9 +85,9 @@ fn bump_one(parts: &mut Parts, activity: &mut ClauseActivity, flags: &mut TmpFla
     requires live { HasClause parts.old cref }
     requires levels { HaveFlags parts.old.graph flags.old.flags.items (lits_at parts.old.clauses cref) }
     requires clear { AreClear flags.old.flags.items }
-    ensures rates { Rates parts.old parts.new }
+    ensures rates { ChangesOnlyHeaders parts.old parts.new }
     ensures flags { flags.new.flags.items ≡ flags.old.flags.items }
-    ensures takes { TakesPart (levels_in parts.old cref) parts.old.clauses parts.new.clauses parts.old.db.refs cref
+    ensures takes { BumpsClause (levels_in parts.old cref) parts.old.clauses parts.new.clauses parts.old.db.refs cref
         activity.old activity.new }
 {
     bump_clause(parts, activity, cref);
@@ -105,9 +105,9 @@ pub fn bump_clauses(
 )
     requires holds { PartsInvariant parts.old }
     requires involved { AreInvolved parts.old flags.old.flags.items crefs.now }
-    ensures rates { Rates parts.old parts.new }
+    ensures rates { ChangesOnlyHeaders parts.old parts.new }
     ensures flags { flags.new.flags.items ≡ flags.old.flags.items }
-    ensures take { TakePart (levels_in parts.old) parts.old.db.refs crefs.now parts.old.clauses activity.old
+    ensures take { BumpsClauses (levels_in parts.old) parts.old.db.refs crefs.now parts.old.clauses activity.old
         parts.new.clauses activity.new }
 {
     for cref in crefs {

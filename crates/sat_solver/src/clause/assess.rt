@@ -4,7 +4,7 @@ ghost use Rattle.sat_store.specs.clause.Buffer.{header_at};
 ghost use Rattle.sat_parts.specs.clause.Db.{PutsHeader};
 ghost use Rattle.sat_parts.specs.clause.Glue.{levels_of, different, HaveNodes, HaveFlags, AreClear};
 ghost use Rattle.sat_parts.specs.parts.Whole.{PartsInvariant, HasClause};
-ghost use Rattle.sat_solver.specs.clause.Assessed.{tier_for, graded, improved, Rates};
+ghost use Rattle.sat_solver.specs.clause.Assessed.{tier_for, graded, improved, ChangesOnlyHeaders};
 
 use sat_base::Lit;
 use sat_parts::parts::clauses::{put_header, set_tier};
@@ -41,7 +41,7 @@ pub fn assess(flags: &mut TmpFlags, graph: &ImplGraph, lits: &[Lit]) -> ClauseHe
 pub fn improve(parts: &mut Parts, cref: ClauseRef, levels: usize)
     requires holds { PartsInvariant parts.old }
     requires live { HasClause parts.old cref }
-    ensures rates { Rates parts.old parts.new }
+    ensures rates { ChangesOnlyHeaders parts.old parts.new }
     ensures put { PutsHeader parts.old.clauses parts.new.clauses parts.old.db.refs cref
         (improved levels (header_at parts.old.clauses cref)) }
 {

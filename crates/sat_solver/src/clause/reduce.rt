@@ -5,11 +5,11 @@ ghost use Rattle.sat_solver.specs.session.LiveClauses.{with_var};
 ghost use Rattle.sat_solver.specs.proof.ProofView.{HasAllowedSteps, session_of};
 ghost use Rattle.sat_solver.specs.session.Session.{Session};
 ghost use Rattle.sat_parts.specs.parts.Whole.{PartsInvariant};
-ghost use Rattle.sat_solver.specs.session.Naming.{global_of};
+ghost use Rattle.sat_solver.specs.session.Naming.{global_of_index};
 ghost use Rattle.sat_solver.specs.cdcl.Going.{EmitsSteps};
 ghost use Rattle.sat_solver.specs.cdcl.Joint.{IsSearch};
-ghost use Rattle.sat_solver.specs.clause.Reduced.{IsLearnt, Deleted, Reduced, ReducesLocals, ReducesMids};
-ghost use Rattle.sat_solver.specs.clause.Reduced.{CollectsWhereDue, Reduces, ReducesBy};
+ghost use Rattle.sat_solver.specs.clause.Reduced.{IsLearnedLong, DeletesIf, ReductionEffect, ReducesLocals, ReducesMids};
+ghost use Rattle.sat_solver.specs.clause.Reduced.{CollectsWhereDue, Reduces, ReductionBySteps};
 ghost use Rattle.sat_parts.specs.clause.Glue.{VariablesBelow};
 ghost use Rattle.sat_store.specs.clause.Full.{OnFull};
 
@@ -34,7 +34,7 @@ pub fn map_clause(
 ) -> Result<(), AllocError>
     requires clause { IsClause parts.now.clauses cref }
     requires names { VariablesBelow (lits_at parts.now.clauses cref) (length globals.now) }
-    ensures { OnOk result (clause.new.items ≡ map (with_var (global_of globals.now)) (lits_at parts.now.clauses cref)) }
+    ensures { OnOk result (clause.new.items ≡ map (with_var (global_of_index globals.now)) (lits_at parts.now.clauses cref)) }
 {
     let lits = parts.clauses.clause(cref).lits();
     clause.clear();
@@ -54,9 +54,9 @@ fn delete_learned<W: CountedWrite + Drop, P: ProofProcessor>(
 ) -> Result<bool, Fault>
     requires keeps { HasAllowedSteps proof.old }
     requires search { IsSearch (session_of proof.old) search.old }
-    requires learned { IsLearnt search.old.parts cref }
+    requires learned { IsLearnedLong search.old.parts cref }
     ensures { EmitsSteps W.seen result proof.old proof.new
-        (λ deleted _. Deleted deleted cref (session_of proof.new) search.old search.new) }
+        (λ deleted _. DeletesIf deleted cref (session_of proof.new) search.old search.new) }
 {
     map_clause(
         &search.parts,
@@ -92,7 +92,7 @@ fn reduce_locals<W: CountedWrite + Drop, P: ProofProcessor>(
 ) -> Result<(), Fault>
     requires keeps { HasAllowedSteps proof.old }
     requires search { IsSearch (session_of proof.old) search.old }
-    ensures { ReducesBy (ReducesLocals is_due) W.seen result proof.old proof.new search.old search.new }
+    ensures { ReductionBySteps (ReducesLocals is_due) W.seen result proof.old proof.new search.old search.new }
 {
     if !is_due {
         return Ok(());
@@ -114,7 +114,7 @@ fn reduce_locals<W: CountedWrite + Drop, P: ProofProcessor>(
 fn reduce_mids(search: &mut Search, is_due: bool)
     requires holds { PartsInvariant search.old.parts }
     ensures holds { PartsInvariant search.new.parts }
-    ensures reduced { (s : Session) → IsSearch s search.old → Reduced s search.old search.new }
+    ensures reduced { (s : Session) → IsSearch s search.old → ReductionEffect s search.old search.new }
     ensures mids { ReducesMids is_due search.old.parts search.new.parts }
 {
     if !is_due {
@@ -126,7 +126,7 @@ fn reduce_mids(search: &mut Search, is_due: bool)
 /// Where deleted clauses take more than half of the buffer, the others move together.
 fn collect_deleted(search: &mut Search) -> Result<(), StoreError>
     requires holds { PartsInvariant search.old.parts }
-    ensures reduced { OnOk result ((s : Session) → IsSearch s search.old → Reduced s search.old search.new) }
+    ensures reduced { OnOk result ((s : Session) → IsSearch s search.old → ReductionEffect s search.old search.new) }
     ensures collects { OnOk result (CollectsWhereDue search.old.parts search.new.parts) }
     ensures room { OnFull result ⊥ }
 {
@@ -145,7 +145,7 @@ pub fn reduce<W: CountedWrite + Drop, P: ProofProcessor>(
     requires search { IsSearch (session_of proof.old) search.old }
     requires locals { 0 < config.now.reduce_locals_interval }
     requires mids { 0 < config.now.reduce_mids_interval }
-    ensures { ReducesBy (Reduces config.now round) W.seen result proof.old proof.new search.old search.new }
+    ensures { ReductionBySteps (Reduces config.now round) W.seen result proof.old proof.new search.old search.new }
 {
     let are_locals_due = round % config.reduce_locals_interval == 0;
     reduce_locals(proof, search, are_locals_due)?;

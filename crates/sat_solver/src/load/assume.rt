@@ -6,17 +6,17 @@ ghost use Rattle.sat_solver.specs.session.Session.{session_after};
 ghost use Rattle.sat_solver.specs.session.LiveClauses.{with_var};
 ghost use Rattle.sat_store.specs.variables.VarData.{unused_variable};
 ghost use Rattle.sat_solver.specs.variables.Variables.{AreTidy, data_at};
-ghost use Rattle.sat_solver.specs.load.Literals.{NoWitness, Images, global_in};
+ghost use Rattle.sat_solver.specs.load.Literals.{NoWitness, Images, global_with_index};
 ghost use Rattle.sat_solver.specs.load.Assumed.{MarksAssumed, PutsMarks, BringsAssumptions};
 ghost use Rattle.sat_solver.specs.variables.Calls.{NamesInvariant};
 ghost use Rattle.sat_solver.specs.variables.Failing.{EmitsOrFails, FailsOnlyByFault};
-ghost use Rattle.sat_solver.specs.variables.Room.{users_in};
+ghost use Rattle.sat_solver.specs.variables.VariableRoom.{users_in};
 ghost use Rattle.sat_parts.specs.clause.Glue.{VariablesBelow};
 
 use crate::load::literals::{Taken, map_lits, take_names};
 use crate::variables::Variables;
 use crate::variables::error::NameError;
-use crate::variables::log::StepWriter;
+use crate::variables::log::StepLog;
 use crate::variables::maps::set_assumed;
 use sat_base::{Lit, ProofStep};
 use sat_store::VarData;
@@ -45,7 +45,7 @@ fn change_marks(
     requires images { Images variables.old _user.now asked.old.order.items }
     ensures puts { OnOk result (PutsMarks variables.old variables.new asked.new.globals.items) }
     ensures globals { OnOk result (asked.new.globals.items
-        ≡ map (with_var (global_in variables.old)) asked.old.order.items) }
+        ≡ map (with_var (global_with_index variables.old)) asked.old.order.items) }
     ensures order { asked.new.order ≡ asked.old.order }
     ensures given { asked.new.given ≡ asked.old.given }
 {
@@ -57,7 +57,7 @@ fn change_marks(
 
 /// Replaces the assumptions by others without a name of mode witness. `asked` has the assumptions so far, over the
 /// proof's variables, and afterwards those taken.
-pub fn assume<W: StepWriter>(
+pub fn assume<W: StepLog>(
     variables: &mut Variables,
     writer: &mut W,
     lits: &[Lit],

@@ -1,27 +1,27 @@
 //! Takes a clause over names.
 ghost use Rattle.std.specs.Prelude.{◌≡◌, true, ◌∷◌, [], map, OnOk, IfOk, IfErr};
-ghost use Rattle.sat_base.specs.script.Judge.{with_clause};
+ghost use Rattle.sat_base.specs.script.ScriptState.{with_clause};
 ghost use Rattle.sat_base.specs.steps.Steps.{AddClause};
-ghost use Rattle.sat_solver.specs.load.Literals.{NoWitness, SameLiterals, named_literal, Images, MapsClause};
+ghost use Rattle.sat_solver.specs.load.Literals.{NoWitness, SameLiterals, user_literal, Images, MapsClause};
 ghost use Rattle.sat_solver.specs.load.Clauses.{BringsClause, LeavesOut};
 ghost use Rattle.sat_checker.specs.matching.Expected.{Adds};
-ghost use Rattle.sat_solver.specs.variables.Calls.{NamesInvariant, NamesRefineJudge};
+ghost use Rattle.sat_solver.specs.variables.Calls.{NamesInvariant, NamesEffect};
 ghost use Rattle.sat_solver.specs.variables.Variables.{AreTidy};
 ghost use Rattle.sat_solver.specs.session.Session.{session_after};
 ghost use Rattle.sat_checker.specs.LiteralSets.{is_tautology};
 ghost use Rattle.sat_solver.specs.variables.Failing.{IsFailure, EmitsOrFails, FailsOnlyByFault};
-ghost use Rattle.sat_solver.specs.variables.Room.{users_in};
+ghost use Rattle.sat_solver.specs.variables.VariableRoom.{users_in};
 
 use crate::load::literals::{Taken, map_lits, take_names};
 use crate::variables::Variables;
 use crate::variables::error::NameError;
-use crate::variables::log::StepWriter;
+use crate::variables::log::StepLog;
 use crate::variables::user_vars::global_from_user;
 use sat_base::{Lit, ProofStep};
 use sat_checker::sorted_lits::copy_canonical;
 
 /// Writes a clause over variables that names in use have, none of mode witness.
-fn write_clause<W: StepWriter>(
+fn write_clause<W: StepLog>(
     _variables: &Variables,
     writer: &mut W,
     _user: &[Lit],
@@ -30,8 +30,8 @@ fn write_clause<W: StepWriter>(
     requires stands { NamesInvariant _variables.now (W.steps writer.old) }
     requires keeps { W.keeps writer.old }
     requires literals { SameLiterals _variables.now _user.now clause.now }
-    ensures does { OnOk result (NamesRefineJudge _variables.now _variables.now (W.steps writer.old) (W.steps writer.new)
-        (with_clause (map named_literal _user.now)) (λ j. Adds (map named_literal _user.now) ∷ [])) }
+    ensures does { OnOk result (NamesEffect _variables.now _variables.now (W.steps writer.old) (W.steps writer.new)
+        (with_clause (map user_literal _user.now)) (λ j. Adds (map user_literal _user.now) ∷ [])) }
     ensures step { OnOk result (W.steps writer.new ≡ AddClause clause.now ∷ W.steps writer.old) }
     ensures fails { IfErr result IsFailure }
     ensures keeps { OnOk result (W.keeps writer.new) }
@@ -59,7 +59,7 @@ fn map_clause(variables: &Variables, _user: &[Lit], taken: &mut Taken) -> Result
 
 /// Adds a clause without a name of mode witness, while the clauses aren't known to be unsatisfiable. The answer is
 /// whether both signs of a variable are in the clause, which then is written and nothing more.
-pub fn add_clause<W: StepWriter>(
+pub fn add_clause<W: StepLog>(
     variables: &mut Variables,
     writer: &mut W,
     lits: &[Lit],
@@ -81,7 +81,7 @@ pub fn add_clause<W: StepWriter>(
 }
 
 /// Takes a clause once the clauses are known to be unsatisfiable: its names come in, and it isn't written.
-pub fn leave_out_clause<W: StepWriter>(
+pub fn leave_out_clause<W: StepLog>(
     variables: &mut Variables,
     writer: &mut W,
     lits: &[Lit],

@@ -5,9 +5,9 @@ use crate::variables::error::NameError;
 
 impl From<NameError> for Fault {
     ghost use Rattle.std.specs.Prelude.{◌≡◌};
-    ghost use Rattle.sat_solver.specs.load.Faults.{told_as};
+    ghost use Rattle.sat_solver.specs.load.Faults.{reported_as};
 
-    ghost from_gives = { λ n e. e ≡ told_as n };
+    ghost from_gives = { λ n e. e ≡ reported_as n };
 
     fn from(error: NameError) -> Fault {
         match error {

@@ -4,12 +4,12 @@ ghost use Rattle.sat_solver.specs.session.LiveClauses.{with_var};
 ghost use Rattle.sat_solver.specs.load.Literals.{BringsLiterals};
 ghost use Rattle.sat_solver.specs.variables.Calls.{NamesInvariant};
 ghost use Rattle.sat_solver.specs.variables.Failing.{EmitsOrFails, FailsOnlyByFault};
-ghost use Rattle.sat_solver.specs.variables.Room.{users_in};
+ghost use Rattle.sat_solver.specs.variables.VariableRoom.{users_in};
 ghost use Rattle.sat_parts.specs.clause.Glue.{VariablesBelow};
 
 use crate::variables::Variables;
 use crate::variables::error::NameError;
-use crate::variables::log::StepWriter;
+use crate::variables::log::StepLog;
 use crate::variables::solver_vars::{Given, solver_from_global};
 use crate::variables::user_vars::global_from_user;
 use sat_base::{Lit, Var};
@@ -47,7 +47,7 @@ impl Taken {
 }
 
 /// Brings in the names of literals from left to right, and gives their variables indices.
-pub fn take_names<W: StepWriter>(
+pub fn take_names<W: StepLog>(
     variables: &mut Variables,
     writer: &mut W,
     lits: &[Lit],

@@ -2,7 +2,7 @@
 ghost use Rattle.std.specs.Prelude.{◌≡◌, [], OnOk};
 ghost use Rattle.sat_base.specs.steps.StepViews.{step_of};
 ghost use Rattle.sat_checker.specs.CheckerView.{seen_of};
-ghost use Rattle.sat_checker.specs.telling.ProcessingView.{listeners_of};
+ghost use Rattle.sat_checker.specs.listeners.ProcessingView.{listeners_of};
 ghost use Rattle.sat_solver.specs.proof.Checked.{is_end, IsFed, TakesStep, TakesWidth, TakesDelayed, FeedsOwnChecker};
 ghost use Rattle.sat_solver.specs.proof.Checked.{AddsOwnListener, BeginsAnew, who_listens};
 ghost use Rattle.sat_solver.specs.proof.Widths.{narrowed, KeepsWidth};
@@ -60,7 +60,7 @@ impl<P: ProofProcessor> Checked<P> {
     {
         Checked {
             bits: Counting::new().bits,
-            checker: Checker::telling(alloc),
+            checker: Checker::notifying(alloc),
         }
     }
 
@@ -118,14 +118,14 @@ impl<P: ProofProcessor> Checked<P> {
     pub fn begin_anew(&mut self, alloc: Global) -> Roll<P>
         ensures { BeginsAnew P.takes self.old self.new result.items }
     {
-        let former = mem::replace(&mut self.checker, Checker::telling(alloc)).into_processors();
+        let former = mem::replace(&mut self.checker, Checker::notifying(alloc)).into_processors();
         let roll = Roll::of(&former.processors);
         self.bits = Counting::new().bits;
         let listeners = Processors {
             processors: former.processors,
             transcripts: Vec::new(alloc),
         };
-        self.checker = Checker::telling_again(alloc, listeners);
+        self.checker = Checker::with_listeners(alloc, listeners);
         roll
     }
 

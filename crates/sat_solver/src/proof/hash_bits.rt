@@ -1,8 +1,8 @@
 //! How many bits of hashes a proof keeps: their number follows the count of its clauses.
 ghost use Rattle.std.specs.Prelude.{◌≡◌, ◌≤◌, ◌/◌, ◌^◌, ◌&&◌, not};
 ghost use Rattle.sat_base.specs.steps.StepViews.{step_of};
-ghost use Rattle.sat_solver.specs.proof.Counting.{start, one_more_if, one_less_if, count_after, too_short, too_long};
-ghost use Rattle.sat_solver.specs.proof.Counting.{widened, shortened, fitting, counted};
+ghost use Rattle.sat_solver.specs.proof.Counting.{nothing_counted, one_more_if, one_less_if, count_after, too_short, too_long};
+ghost use Rattle.sat_solver.specs.proof.Counting.{widened_bits, shortened, fitting, counted};
 
 use sat_base::{HashBits, Lit, ProofStep};
 
@@ -100,7 +100,7 @@ fn is_long(clauses: u64, bits: u32) -> bool
 /// The width, with two bits more each time it's too short.
 fn widen(clauses: u64, from: u32) -> u32
     requires { from ≤ 64 }
-    ensures value { result ≡ widened 32 clauses from }
+    ensures value { result ≡ widened_bits 32 clauses from }
     ensures bound { result ≤ 64 }
 {
     let mut bits = from;
@@ -155,7 +155,7 @@ fn fit(solving: bool, clauses: u64, from: HashBits) -> HashBits
 impl Counting {
     /// No clause, and whole hashes.
     pub fn new() -> Counting
-        ensures { result ≡ start }
+        ensures { result ≡ nothing_counted }
     {
         Counting {
             clauses: 0,

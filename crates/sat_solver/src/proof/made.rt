@@ -65,15 +65,15 @@ pub struct Made<P: ProofProcessor = Nobody> {
 }
 
 impl<P: ProofProcessor> Made<P> {
-    ghost use Rattle.sat_solver.specs.proof.MadeView.{audience, is_checked, is_lost, Checks, Handed, HandedWhole};
-    ghost use Rattle.sat_solver.specs.proof.MadeView.{HasTold, IsTold, Makes, OrComplains, OrComplainsUnless};
-    ghost use Rattle.sat_solver.specs.proof.MadeView.{TakesListener, cleared_complaint};
+    ghost use Rattle.sat_solver.specs.proof.MadeView.{made_audience, made_is_checked, made_is_lost, MadeHasChecker, MadeHandsBack, MadeHandsBackWhole};
+    ghost use Rattle.sat_solver.specs.proof.MadeView.{MadeIsReported, LastWidthIs, MadeEffect, OkOrComplains, OkOrComplainsUnless};
+    ghost use Rattle.sat_solver.specs.proof.MadeView.{MadeTakesListener, cleared_complaint};
 
     /// No step yet, and no checker.
     pub fn new() -> Made<P>
         ensures steps { result.history.steps ≡ [] }
-        ensures checked { is_checked result ≡ false }
-        ensures taking { is_lost result ≡ false }
+        ensures checked { made_is_checked result ≡ false }
+        ensures taking { made_is_lost result ≡ false }
     {
         Made {
             history: History::new(),
@@ -87,7 +87,7 @@ impl<P: ProofProcessor> Made<P> {
 
     /// Whether there is a checker.
     pub fn is_checked(&self) -> bool
-        ensures { result ≡ is_checked self.now }
+        ensures { result ≡ made_is_checked self.now }
     {
         self.own.is_some()
     }
@@ -102,7 +102,7 @@ impl<P: ProofProcessor> Made<P> {
     /// From here on there is a checker. Takes no memory.
     pub fn check(&mut self, alloc: Global)
         requires { has_begun self.old.history.steps ≡ false }
-        ensures { Checks self.old self.new }
+        ensures { MadeHasChecker self.old self.new }
     {
         let Some(own) = &mut self.own else {
             self.own = Some(Checked::new(alloc));
@@ -119,10 +119,10 @@ impl<P: ProofProcessor> Made<P> {
     /// checker takes no step.
     pub fn add_processor(&mut self, processor: P) -> Result<(), CheckFault>
         requires begun { has_begun self.old.history.steps ≡ false }
-        requires taking { is_lost self.old ≡ false }
-        requires checked { is_checked self.old ≡ true }
+        requires taking { made_is_lost self.old ≡ false }
+        requires checked { made_is_checked self.old ≡ true }
         ensures steps { self.new.history.steps ≡ self.old.history.steps }
-        ensures listens { TakesListener result processor self.old self.new }
+        ensures listens { MadeTakesListener result processor self.old self.new }
     {
         let Some(own) = &mut self.own else {
             return Ok(());
@@ -143,7 +143,7 @@ impl<P: ProofProcessor> Made<P> {
     /// Notes a step that the checker isn't given: it takes none from here on.
     pub fn skip(&mut self, step: &ProofStep<'_>)
         requires { MayAll (step_of step.now ∷ self.old.history.steps) }
-        ensures { Makes (step_of step.now) self.old self.new }
+        ensures { MadeEffect (step_of step.now) self.old self.new }
     {
         self.history = self.history.and(step);
         self.begun = self.begun || !is_end(step);
@@ -160,11 +160,11 @@ impl<P: ProofProcessor> Made<P> {
     ) -> Result<(), CheckFault>
         requires may { MayAll (step_of step.now ∷ self.old.history.steps) }
         requires width { KeepsWidth (step_of step.now) }
-        requires cut { is_checked self.old ≡ true → step_of cut.now ≡ narrowed bits (step_of step.now) }
-        ensures makes { Makes (step_of step.now) self.old self.new }
-        ensures taking { OnOk result (is_lost self.new ≡ is_lost self.old) }
-        ensures width { OnOk result (IsTold bits self.new) }
-        ensures fails { OrComplains result self.new }
+        requires cut { made_is_checked self.old ≡ true → step_of cut.now ≡ narrowed bits (step_of step.now) }
+        ensures makes { MadeEffect (step_of step.now) self.old self.new }
+        ensures taking { OnOk result (made_is_lost self.new ≡ made_is_lost self.old) }
+        ensures width { OnOk result (LastWidthIs bits self.new) }
+        ensures fails { OkOrComplains result self.new }
     {
         let Some(_own) = &self.own else {
             self.history = self.history.and(step);
@@ -184,11 +184,11 @@ impl<P: ProofProcessor> Made<P> {
     ) -> Result<(), CheckFault>
         requires may { MayAll (step_of step.now ∷ self.old.history.steps) }
         requires width { KeepsWidth (step_of step.now) }
-        requires cut { is_checked self.old ≡ true → step_of cut.now ≡ narrowed bits (step_of step.now) }
-        ensures makes { Makes (step_of step.now) self.old self.new }
-        ensures taking { OnOk result (is_lost self.new ≡ is_lost self.old) }
-        ensures width { OnOk result (IsTold bits self.new) }
-        ensures fails { OrComplains result self.new }
+        requires cut { made_is_checked self.old ≡ true → step_of cut.now ≡ narrowed bits (step_of step.now) }
+        ensures makes { MadeEffect (step_of step.now) self.old self.new }
+        ensures taking { OnOk result (made_is_lost self.new ≡ made_is_lost self.old) }
+        ensures width { OnOk result (LastWidthIs bits self.new) }
+        ensures fails { OkOrComplains result self.new }
     {
         self.history = self.history.and(step);
         self.begun = self.begun || !is_end(step);
@@ -210,11 +210,11 @@ impl<P: ProofProcessor> Made<P> {
     /// Has the checker tell what waits for the next step. Where a step was made that it hasn't taken, the call fails.
     pub fn take_delayed(&mut self) -> Result<(), CheckFault>
         ensures steps { self.new.history.steps ≡ self.old.history.steps }
-        ensures listening { audience self.new ≡ audience self.old }
-        ensures taking { OnOk result (is_lost self.new ≡ is_lost self.old) }
-        ensures width { OnOk result ((bits : ℕ) → IsTold bits self.old → IsTold bits self.new) }
-        ensures fails { OrComplainsUnless (is_lost self.old) result self.new }
-        ensures told { OnOk result (HasTold self.new) }
+        ensures listening { made_audience self.new ≡ made_audience self.old }
+        ensures taking { OnOk result (made_is_lost self.new ≡ made_is_lost self.old) }
+        ensures width { OnOk result ((bits : ℕ) → LastWidthIs bits self.old → LastWidthIs bits self.new) }
+        ensures fails { OkOrComplainsUnless (made_is_lost self.old) result self.new }
+        ensures told { OnOk result (MadeIsReported self.new) }
     {
         match &mut self.own {
             None => Ok(()),
@@ -243,8 +243,8 @@ impl<P: ProofProcessor> Made<P> {
 
     /// Those who listen, in the order in which they were added, also after a failure. There is no checker afterwards.
     pub fn take_processors(&mut self, alloc: Global) -> Vec<P>
-        ensures handed { Handed self.old result.items }
-        ensures whole { HandedWhole self.old result.items }
+        ensures handed { MadeHandsBack self.old result.items }
+        ensures whole { MadeHandsBackWhole self.old result.items }
     {
         let own = self.own.take();
         self.roll = Roll::new();

@@ -10,7 +10,7 @@ ghost use Rattle.sat_solver.specs.analyze_conflict.Derivation.{clause_of};
 ghost use Rattle.sat_parts.specs.parts.Whole.{state};
 ghost use Rattle.sat_solver.specs.session.TrailUnits.{written_units};
 ghost use Rattle.sat_solver.specs.session.Going.{IsOrderly};
-ghost use Rattle.sat_solver.specs.session.Naming.{global_of, ReasonsAreStored, ReasonsHaveLiterals};
+ghost use Rattle.sat_solver.specs.session.Naming.{global_of_index, ReasonsAreStored, ReasonsHaveLiterals};
 ghost use Rattle.sat_solver.specs.session.FitLaws.{named_hashes};
 
 use sat_base::{ClauseHash, Lit, Var, lit_hash};
@@ -21,7 +21,7 @@ use std::alloc::AllocError;
 /// Puts the literals, in proof variables, into a list in place of what it had.
 pub fn map_lits(globals: &[Var], lits: &[Lit], clause: &mut Vec<Lit>) -> Result<(), AllocError>
     requires { VariablesBelow lits.now (length globals.now) }
-    ensures { OnOk result (clause.new.items ≡ map (with_var (global_of globals.now)) lits.now) }
+    ensures { OnOk result (clause.new.items ≡ map (with_var (global_of_index globals.now)) lits.now) }
 {
     clause.clear();
     for lit in lits {
@@ -113,7 +113,7 @@ pub fn name_clauses(
 /// The literal in proof variables.
 fn map_lit(globals: &[Var], lit: Lit) -> Lit
     requires { variable lit < length globals.now }
-    ensures { result ≡ with_var (global_of globals.now) lit }
+    ensures { result ≡ with_var (global_of_index globals.now) lit }
 {
     Lit::from_var(globals[lit.index()], lit.is_positive())
 }
@@ -126,7 +126,7 @@ fn unit_of(parts: &Parts, globals: &[Var], lit: Lit) -> (Lit, ClauseHash)
     requires some { (o : ℕ) → (node (state parts.now) lit).reason ≡ Reason.Long o
         → 0 < length (lits_at parts.now.clauses o) }
     ensures { result ≡ (
-      with_var (global_of globals.now) lit,
+      with_var (global_of_index globals.now) lit,
       hash_of
           (clause_of parts.now.clauses (state parts.now) lit),
     ) }
@@ -144,7 +144,7 @@ pub fn collect_units(
     requires orderly { IsOrderly parts.now }
     requires names { length parts.now.assignment.current ≤ length globals.now }
     ensures { OnOk result (units.new.items ≡ written_units parts.now.clauses (state parts.now) 64
-        (global_of globals.now) parts.now.trail.lits) }
+        (global_of_index globals.now) parts.now.trail.lits) }
 {
     units.clear();
     for lit in parts.trail.trail() {

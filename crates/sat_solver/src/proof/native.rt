@@ -3,19 +3,19 @@ ghost use Rattle.std.specs.Prelude.{◌≡◌, ◌∷◌, true, false};
 ghost use Rattle.sat_base.specs.steps.StepViews.{step_of};
 ghost use Rattle.sat_base.specs.steps.StepWriting.{steps_sink};
 ghost use Rattle.sat_solver.specs.declared.proof.format.ProofFormat.TheVariants.{Varisat};
-ghost use Rattle.sat_solver.specs.proof.Counting.{width_told};
+ghost use Rattle.sat_solver.specs.proof.Counting.{width_change};
 ghost use Rattle.sat_solver.specs.proof.OutputView.{PutsSteps, SendsSteps};
 
 use crate::proof::output::OutputError;
 use sat_base::{CountedWrite, HashBits, ProofStep, StepWriter};
 
 /// Writes a width, where it's another than the one before.
-fn tell_width<W: CountedWrite>(
+fn write_width<W: CountedWrite>(
     writer: &mut StepWriter<W>,
     before: HashBits,
     now: HashBits,
 ) -> Result<(), OutputError>
-    ensures { PutsSteps Varisat result (width_told before now) (steps_sink W.seen writer.old)
+    ensures { PutsSteps Varisat result (width_change before now) (steps_sink W.seen writer.old)
         (steps_sink W.seen writer.new) }
 {
     if before.get() == now.get() {
@@ -33,7 +33,7 @@ pub fn try_write_at<W: CountedWrite>(
     widths: (HashBits, HashBits),
     step: &ProofStep<'_>,
 ) -> bool
-    ensures sends { result ≡ true → SendsSteps Varisat (step_of step.now ∷ width_told widths.0 widths.1)
+    ensures sends { result ≡ true → SendsSteps Varisat (step_of step.now ∷ width_change widths.0 widths.1)
         (steps_sink W.seen writer.old) (steps_sink W.seen writer.new) }
     ensures stays { result ≡ false → writer.new ≡ writer.old }
 {
@@ -50,11 +50,11 @@ pub fn write_at<W: CountedWrite>(
     widths: (HashBits, HashBits),
     step: &ProofStep<'_>,
 ) -> Result<(), OutputError>
-    ensures { PutsSteps Varisat result (step_of step.now ∷ width_told widths.0 widths.1)
+    ensures { PutsSteps Varisat result (step_of step.now ∷ width_change widths.0 widths.1)
         (steps_sink W.seen writer.old) (steps_sink W.seen writer.new) }
 {
     let (before, now) = widths;
-    tell_width(writer, before, now)?;
+    write_width(writer, before, now)?;
     writer.write(step)?;
     Ok(())
 }

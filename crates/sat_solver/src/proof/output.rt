@@ -2,7 +2,7 @@
 ghost use Rattle.std.specs.Prelude.{◌≡◌, ◌∷◌, true, false};
 ghost use Rattle.sat_base.specs.device.Sink.{Flushes, empty_sink};
 ghost use Rattle.sat_base.specs.steps.StepViews.{step_of};
-ghost use Rattle.sat_solver.specs.proof.Counting.{width_told};
+ghost use Rattle.sat_solver.specs.proof.Counting.{width_change};
 ghost use Rattle.sat_solver.specs.proof.OutputView.{is_lines, output_format, output_sink, PutsLines, PutsSteps, SendsSteps};
 
 use crate::proof::drat::put_step;
@@ -110,7 +110,7 @@ impl<W: CountedWrite> Output<W> {
         step: &ProofStep<'_>,
     ) -> Result<(), OutputError>
         ensures format { output_format self.new ≡ output_format self.old }
-        ensures puts { PutsSteps (output_format self.old) result (step_of step.now ∷ width_told widths.0 widths.1)
+        ensures puts { PutsSteps (output_format self.old) result (step_of step.now ∷ width_change widths.0 widths.1)
             (output_sink W.seen self.old) (output_sink W.seen self.new) }
     {
         match self {
@@ -125,7 +125,7 @@ impl<W: CountedWrite> Output<W> {
     pub fn try_write(&mut self, widths: (HashBits, HashBits), step: &ProofStep<'_>) -> bool
         ensures format { output_format self.new ≡ output_format self.old }
         ensures sends { result ≡ true → SendsSteps (output_format self.old)
-            (step_of step.now ∷ width_told widths.0 widths.1) (output_sink W.seen self.old) (output_sink W.seen self.new) }
+            (step_of step.now ∷ width_change widths.0 widths.1) (output_sink W.seen self.old) (output_sink W.seen self.new) }
         ensures stays { result ≡ false → self.new ≡ self.old }
     {
         match self {

@@ -3,7 +3,7 @@ ghost use Rattle.std.specs.Prelude.{◌≡◌, false};
 ghost use Rattle.sat_parts.specs.parts.Whole.{PartsInvariant};
 ghost use Rattle.sat_solver.specs.clause.Activity.{AreDecays};
 ghost use Rattle.sat_solver.specs.declared.state.State.TheVariants.{Unsat};
-ghost use Rattle.sat_solver.specs.solver.Configuring.{Configures, HandsOn};
+ghost use Rattle.sat_solver.specs.solver.Configuring.{Configures, PassesToSearch};
 ghost use Rattle.sat_solver.specs.solver.Whole.{IsSolver};
 
 use crate::clause::activity::set_decays;
@@ -18,7 +18,7 @@ use sat_checker::ProofProcessor;
 fn hand_on<W: CountedWrite + Drop, P: ProofProcessor>(core: &mut Core<W, P>, state: State)
     requires holds { (state ≡ Unsat → ⊥) → PartsInvariant core.old.search.parts }
     requires decays { AreDecays core.old.config }
-    ensures { HandsOn state core.old core.new }
+    ensures { PassesToSearch state core.old core.new }
 {
     match state {
         State::Unsat => {}

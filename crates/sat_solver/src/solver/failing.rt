@@ -4,7 +4,7 @@ ghost use Rattle.sat_solver.specs.cdcl.Faults.{IsKept};
 ghost use Rattle.sat_solver.specs.solver.Failing.{failed_with};
 
 use crate::SolverError;
-use crate::cdcl::fault::{Fault, tell};
+use crate::cdcl::fault::{Fault, report};
 use crate::solver::Solver;
 use sat_base::CountedWrite;
 use sat_checker::ProofProcessor;
@@ -17,6 +17,6 @@ impl<W: CountedWrite + Drop, P: ProofProcessor> Solver<W, P> {
         ensures fails { self.new ≡ failed_with self.old }
     {
         self.failed = true;
-        tell(fault, &mut self.core.proof)
+        report(fault, &mut self.core.proof)
     }
 }

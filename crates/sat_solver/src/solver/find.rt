@@ -1,16 +1,16 @@
 //! Rounds up to an answer, which is told by its step.
 ghost use Rattle.std.specs.Prelude.{◌≡◌, ◌<◌, IfOk, IfErr};
-ghost use Rattle.sat_solver.specs.schedule.Counting.{AnswersWithin, CountsOn, SpendsRounds, TakesRound, steps_left};
+ghost use Rattle.sat_solver.specs.schedule.Counting.{AnswersWithin, CountsOn, SpendsRounds, TakesRound, round_allowance};
 ghost use Rattle.sat_solver.specs.schedule.Solving.{values_in};
 ghost use Rattle.sat_solver.specs.solver.Joined.{IsJoined};
 ghost use Rattle.sat_solver.specs.solver.Answering.{BreaksOff};
-ghost use Rattle.sat_solver.specs.solver.Found.{FindsBy, OutcomeHolds, SearchedBy, TellsOutcome, state_found};
+ghost use Rattle.sat_solver.specs.solver.Found.{FindsBy, OutcomeHolds, SearchedBy, ReportsOutcome, state_found};
 
 use crate::cdcl::fault::Fault;
 use crate::context::Core;
 use crate::schedule::restarts::Restarts;
 use crate::schedule::{Outcome, search};
-use crate::solver::tell::{fail_core, show_model};
+use crate::solver::report::{fail_core, show_model};
 use crate::state::State;
 use crate::variables::Variables;
 use sat_base::{CountedWrite, Lit};
@@ -18,7 +18,7 @@ use sat_checker::ProofProcessor;
 
 /// What the last answers were: a model over the proof's variables, a failed core over names.
 #[derive(Drop)]
-pub struct Told {
+pub struct LastAnswers {
     pub model: Vec<Lit>,
     pub failed_core: Vec<Lit>,
 }
@@ -31,14 +31,14 @@ pub struct Clock {
 }
 
 /// Tells what a search came to.
-fn tell<W: CountedWrite + Drop, P: ProofProcessor>(
+fn report<W: CountedWrite + Drop, P: ProofProcessor>(
     core: &mut Core<W, P>,
     names: &Variables,
-    told: &mut Told,
+    told: &mut LastAnswers,
     outcome: Outcome,
 ) -> Result<Option<State>, Fault>
     requires { OutcomeHolds outcome names.now core.old }
-    ensures { TellsOutcome W.seen result outcome names.now core.old core.new told.new.failed_core.items }
+    ensures { ReportsOutcome W.seen result outcome names.now core.old core.new told.new.failed_core.items }
 {
     match outcome {
         Outcome::Learned => Ok(None),
@@ -59,7 +59,7 @@ fn tell<W: CountedWrite + Drop, P: ProofProcessor>(
 pub fn find_answer<W: CountedWrite + Drop, P: ProofProcessor>(
     core: &mut Core<W, P>,
     names: &mut Variables,
-    told: &mut Told,
+    told: &mut LastAnswers,
     clock: &mut Clock,
 ) -> Result<Option<State>, Fault>
     requires joined { IsJoined names.old core.old }
@@ -67,10 +67,10 @@ pub fn find_answer<W: CountedWrite + Drop, P: ProofProcessor>(
     ensures scale { clock.new.restarts.scale ≡ clock.old.restarts.scale }
     ensures counts { CountsOn (values_in core.old) core.old.config.max_steps clock.old.rounds clock.new.rounds }
     ensures round { TakesRound result clock.old.rounds clock.new.rounds }
-    ensures interrupted { SpendsRounds result (steps_left core.old.config.max_steps clock.old.rounds) clock.old.rounds
+    ensures interrupted { SpendsRounds result (round_allowance core.old.config.max_steps clock.old.rounds) clock.old.rounds
         clock.new.rounds }
     ensures answered { AnswersWithin result (values_in core.old)
-        (steps_left core.old.config.max_steps clock.old.rounds) }
+        (round_allowance core.old.config.max_steps clock.old.rounds) }
     ensures finds { IfOk result (λ r. FindsBy W.seen r clock.old clock.new names.old names.new core.old core.new
         told.new) }
     ensures searched { IfOk result (λ r. SearchedBy W.seen (state_found r) clock.old clock.new names.old names.new
@@ -87,6 +87,6 @@ pub fn find_answer<W: CountedWrite + Drop, P: ProofProcessor>(
     )?;
     match found {
         None => Ok(None),
-        Some(outcome) => tell(core, names, told, outcome),
+        Some(outcome) => report(core, names, told, outcome),
     }
 }

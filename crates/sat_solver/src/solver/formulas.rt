@@ -2,7 +2,7 @@
 ghost use Rattle.std.specs.Prelude.{◌≡◌, ◌≤◌, ◌+◌, false};
 ghost use Rattle.sat_base.specs.device.Device.{most_reads};
 ghost use Rattle.sat_base.specs.dimacs.Parsing.{all_taken, no_progress};
-ghost use Rattle.sat_solver.specs.solver.Formulas.{AddsFormula, AddsText, AddsFormulaRead, text_fault, is_want};
+ghost use Rattle.sat_solver.specs.solver.Formulas.{AddsFormula, AddsText, AddsFormulaRead, text_fault, is_solver_out_of_memory};
 ghost use Rattle.sat_solver.specs.solver.Whole.{IsSolver};
 
 use crate::SolverError;
@@ -31,7 +31,7 @@ fn text_fault(error: DimacsError) -> SolverError
 
 /// Whether a solver has failed then: for want of memory.
 fn is_want(error: DimacsError) -> bool
-    ensures { result ≡ is_want error }
+    ensures { result ≡ is_solver_out_of_memory error }
 {
     match error {
         DimacsError::OutOfMemory => true,

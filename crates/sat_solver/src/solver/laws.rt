@@ -1,6 +1,6 @@
 //! What holds of solvers: each law is the contract of a function that does nothing.
 ghost use Rattle.sat_solver.specs.solver.Fronts.{CallsGoOn, FlushedIsText};
-ghost use Rattle.sat_solver.specs.solver.Resting.{SolverIsJudged};
+ghost use Rattle.sat_solver.specs.solver.Resting.{SolverMatchesSomeState};
 
 use crate::solver::Solver;
 use sat_base::CountedWrite;
@@ -17,7 +17,7 @@ pub fn calls_go_on<W: CountedWrite + Drop, P: ProofProcessor>(
 /// Where no call failed some state of the judge is what names and steps say, so that what answers and bounds say of
 /// each such state is said of one.
 pub fn solvers_are_judged<W: CountedWrite + Drop, P: ProofProcessor>(_solver: &Solver<W, P>)
-    ensures { SolverIsJudged _solver.now }
+    ensures { SolverMatchesSomeState _solver.now }
 {}
 
 /// A target that was flushed, no call of which failed, took the text of all steps that were made since it was opened.

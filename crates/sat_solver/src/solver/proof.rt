@@ -1,5 +1,5 @@
 //! The proof of a solver, where its text goes.
-ghost use Rattle.sat_solver.specs.proof.ProofView.{GivesWriter, Handed, HandedWhole, seen_of};
+ghost use Rattle.sat_solver.specs.proof.ProofView.{GivesWriter, HandsBackListeners, HandsBackWholeListeners, handed_writer};
 ghost use Rattle.sat_solver.specs.solver.Fronts.{HandsFront};
 ghost use Rattle.sat_solver.specs.solver.Proving.{AddsProcessor, Enables, OpensProof, ClosesProof};
 ghost use Rattle.sat_solver.specs.solver.View.{proof_in, target_in};
@@ -95,7 +95,7 @@ impl<W: CountedWrite + Drop, P: ProofProcessor> Solver<W, P> {
     /// The target as it is, where a proof is open or its target failed; what waits for it is lost. So who lent a target
     /// to a solver that failed learns what it took: a front of the text of steps that a checker accepts.
     pub fn into_target(self) -> Option<W>
-        ensures gives { GivesWriter (target_in W.seen self) (seen_of W.seen result) }
+        ensures gives { GivesWriter (target_in W.seen self) (handed_writer W.seen result) }
         ensures front { HandsFront W.seen result self }
     {
         let mut solver = self;
@@ -107,10 +107,10 @@ impl<W: CountedWrite + Drop, P: ProofProcessor> Solver<W, P> {
     /// The processors that were added, in their order, and the target as it is, where a proof is open or its target
     /// failed, also after a failure; what waits for the target is lost.
     pub fn into_processors(self) -> HandedBack<W, P>
-        ensures target { GivesWriter (target_in W.seen self) (seen_of W.seen result.target) }
+        ensures target { GivesWriter (target_in W.seen self) (handed_writer W.seen result.target) }
         ensures front { HandsFront W.seen result.target self }
-        ensures processors { Handed (proof_in self) result.processors.items }
-        ensures whole { HandedWhole (proof_in self) result.processors.items }
+        ensures processors { HandsBackListeners (proof_in self) result.processors.items }
+        ensures whole { HandsBackWholeListeners (proof_in self) result.processors.items }
     {
         let mut solver = self;
         let target = solver.core.proof.take_target();

@@ -6,7 +6,7 @@ ghost use Rattle.sat_solver.specs.session.SolverClauses.{pair, is_open_clause};
 ghost use Rattle.sat_solver.specs.proof.ProofView.{HasAllowedSteps, session_of};
 ghost use Rattle.sat_solver.specs.cdcl.Going.{EmitsSteps};
 ghost use Rattle.sat_solver.specs.cdcl.Joint.{IsSearch};
-ghost use Rattle.sat_solver.specs.unit_simplify.Flat.{IsFlat, MayRemove, LeavesPairs, RemovesPairs};
+ghost use Rattle.sat_solver.specs.unit_simplify.Flat.{HasEmptyTrail, MayRemove, LeavesPairs, RemovesPairs};
 
 use crate::cdcl::fault::Fault;
 use crate::context::Search;
@@ -83,7 +83,7 @@ pub fn simplify_binary<W: CountedWrite + Drop, P: ProofProcessor>(
 ) -> Result<(), Fault>
     requires keeps { HasAllowedSteps proof.old }
     requires search { IsSearch (session_of proof.old) search.old }
-    requires flat { IsFlat search.old.parts }
+    requires flat { HasEmptyTrail search.old.parts }
     ensures { RemovesPairs W.seen result proof.old proof.new search.old search.new }
 {
     let count = 2 * search.parts.assignment.assignment().len();

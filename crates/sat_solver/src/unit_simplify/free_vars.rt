@@ -6,13 +6,13 @@ ghost use Rattle.sat_solver.specs.variables.Variables.{solver_of, IsUnitOf, IsIn
 ghost use Rattle.sat_solver.specs.variables.Calls.{NamesInvariant};
 ghost use Rattle.sat_solver.specs.variables.Failing.{IsFailure, EmitsOrFails};
 ghost use Rattle.sat_parts.specs.parts.Whole.{InNoClause};
-ghost use Rattle.sat_solver.specs.unit_simplify.Freed.{GivesUp, MayFree, FreesSome, IsIndexOfAssumed, AllLeft};
+ghost use Rattle.sat_solver.specs.unit_simplify.Freed.{FreesIndex, MayFree, FreesSome, IsIndexOfAssumed, AllLeft};
 ghost use Rattle.sat_solver.specs.unit_simplify.Freeing.{freed_below, freed_search, MarksAtMost};
 
 use crate::context::Search;
 use crate::variables::Variables;
 use crate::variables::error::NameError;
-use crate::variables::log::StepWriter;
+use crate::variables::log::StepLog;
 use crate::variables::modes::forget_idle;
 use crate::variables::solver_vars::remove_solver_var;
 use sat_base::Var;
@@ -20,7 +20,7 @@ use sat_parts::Parts;
 use sat_parts::parts::unused::mark_used;
 
 /// Takes the index of a variable away, whose unit is known by then. A hidden variable is deleted.
-fn give_up<S: StepWriter>(
+fn give_up<S: StepLog>(
     variables: &mut Variables,
     writer: &mut S,
     global: Var,
@@ -31,7 +31,7 @@ fn give_up<S: StepWriter>(
     requires there { solver_of variables.old global ≡ Some index }
     requires unit { IsUnitOf variables.old (session_after (S.steps writer.old)) global }
     requires unused { IsInNoNonUnitClause (session_after (S.steps writer.old)) global }
-    ensures gone { OnOk result (GivesUp variables.old variables.new (S.steps writer.old) (S.steps writer.new) global) }
+    ensures gone { OnOk result (FreesIndex variables.old variables.new (S.steps writer.old) (S.steps writer.new) global) }
     ensures keeps { OnOk result (S.keeps writer.new) }
     ensures fails { IfErr result IsFailure }
     ensures came { EmitsOrFails S.took S.broke result writer.old writer.new }
@@ -53,7 +53,7 @@ fn mark(used: &mut Vec<bool>, index: Var)
 
 /// Releases an index that no clause uses, or marks it if its variable is assumed or no variable has it. The search still
 /// has its value.
-fn release_unused<S: StepWriter>(
+fn release_unused<S: StepLog>(
     variables: &mut Variables,
     writer: &mut S,
     search: &Search,
@@ -107,7 +107,7 @@ fn free_unmarked(parts: &mut Parts, used: &Vec<bool>)
 
 /// Gives the indices up, in order, that no clause has and no assumption. What units they have is noted; hidden
 /// variables are deleted.
-pub fn free_indices<S: StepWriter>(
+pub fn free_indices<S: StepLog>(
     variables: &mut Variables,
     writer: &mut S,
     search: &mut Search,

@@ -2,7 +2,7 @@
 ghost use Rattle.sat_solver.specs.proof.ProofView.{HasAllowedSteps, session_of};
 ghost use Rattle.sat_solver.specs.cdcl.Going.{EmitsSteps};
 ghost use Rattle.sat_solver.specs.cdcl.Joint.{IsSearch};
-ghost use Rattle.sat_solver.specs.unit_simplify.Flat.{IsFlat, StrengthensAll, LightensOne};
+ghost use Rattle.sat_solver.specs.unit_simplify.Flat.{HasEmptyTrail, StrengthensAll, LightensOne};
 ghost use Rattle.sat_solver.specs.unit_simplify.Looks.{HasTrue};
 ghost use Rattle.sat_parts.specs.parts.Whole.{HasClause};
 
@@ -26,7 +26,7 @@ fn delete_true<W: CountedWrite + Drop, P: ProofProcessor>(
 ) -> Result<(), Fault>
     requires keeps { HasAllowedSteps proof.old }
     requires search { IsSearch (session_of proof.old) search.old }
-    requires flat { IsFlat search.old.parts }
+    requires flat { HasEmptyTrail search.old.parts }
     requires live { HasClause search.old.parts cref }
     requires satisfied { HasTrue search.old.parts cref }
     ensures { LightensOne W.seen result proof.old proof.new search.old search.new cref }
@@ -57,7 +57,7 @@ fn simplify_clause<W: CountedWrite + Drop, P: ProofProcessor>(
 ) -> Result<(), Fault>
     requires keeps { HasAllowedSteps proof.old }
     requires search { IsSearch (session_of proof.old) search.old }
-    requires flat { IsFlat search.old.parts }
+    requires flat { HasEmptyTrail search.old.parts }
     requires live { HasClause search.old.parts cref }
     ensures { LightensOne W.seen result proof.old proof.new search.old search.new cref }
 {
@@ -77,7 +77,7 @@ pub fn simplify_clauses<W: CountedWrite + Drop, P: ProofProcessor>(
 ) -> Result<(), Fault>
     requires keeps { HasAllowedSteps proof.old }
     requires search { IsSearch (session_of proof.old) search.old }
-    requires flat { IsFlat search.old.parts }
+    requires flat { HasEmptyTrail search.old.parts }
     ensures { EmitsSteps W.seen result proof.old proof.new
         (λ _ _. StrengthensAll (session_of proof.new) search.old search.new) }
 {

@@ -3,7 +3,7 @@ ghost use Rattle.std.specs.Prelude.{◌≡◌, ◌+◌, ◌<◌, ◌≤◌, leng
 ghost use Rattle.sat_solver.specs.proof.ProofView.{HasAllowedSteps, session_of};
 ghost use Rattle.sat_parts.specs.parts.Round.{UnitsAreUncaused, IsBased};
 ghost use Rattle.sat_parts.specs.parts.Whole.{state, HoldsBelow, IsFullyPropagated};
-ghost use Rattle.sat_solver.specs.session.Naming.{global_of};
+ghost use Rattle.sat_solver.specs.session.Naming.{global_of_index};
 ghost use Rattle.sat_solver.specs.session.Fits.{SessionMatchesParts, TrueLitsHaveNames};
 ghost use Rattle.sat_solver.specs.session.Going.{IsOrderly};
 ghost use Rattle.sat_solver.specs.cdcl.Going.{EmitsSteps};
@@ -27,11 +27,11 @@ pub fn write_units<W: CountedWrite + Drop, P: ProofProcessor>(
     requires keeps { HasAllowedSteps proof.old }
     requires orderly { IsOrderly parts.now }
     requires bottom { length parts.now.trail.starts ≡ 0 }
-    requires fits { SessionMatchesParts parts.now (session_of proof.old) (global_of globals.now) }
-    requires named { TrueLitsHaveNames parts.now.assignment.current (session_of proof.old) (global_of globals.now) }
+    requires fits { SessionMatchesParts parts.now (session_of proof.old) (global_of_index globals.now) }
+    requires named { TrueLitsHaveNames parts.now.assignment.current (session_of proof.old) (global_of_index globals.now) }
     requires names { length parts.now.assignment.current ≤ length globals.now }
     ensures { EmitsSteps W.seen result proof.old proof.new
-        (λ _ _. AllUnits parts.now (session_of proof.new) (global_of globals.now)) }
+        (λ _ _. AllUnits parts.now (session_of proof.new) (global_of_index globals.now)) }
 {
     collect_units(parts, globals, units)?;
     if units.is_empty() {
@@ -52,11 +52,11 @@ pub fn settle<W: CountedWrite + Drop, P: ProofProcessor>(
     requires holds { HoldsBelow (length parts.old.trail.starts + 1) parts.old }
     requires done { IsFullyPropagated parts.old }
     requires units { 0 < length parts.old.trail.starts → UnitsAreUncaused (state parts.old) × IsBased parts.old.trail }
-    requires fits { SessionMatchesParts parts.old (session_of proof.old) (global_of globals.now) }
-    requires named { TrueLitsHaveNames parts.old.assignment.current (session_of proof.old) (global_of globals.now) }
+    requires fits { SessionMatchesParts parts.old (session_of proof.old) (global_of_index globals.now) }
+    requires named { TrueLitsHaveNames parts.old.assignment.current (session_of proof.old) (global_of_index globals.now) }
     requires names { length parts.old.assignment.current ≤ length globals.now }
     ensures { EmitsSteps W.seen result proof.old proof.new
-        (λ _ _. TakesUnitsOff parts.old parts.new (session_of proof.new) (global_of globals.now)) }
+        (λ _ _. TakesUnitsOff parts.old parts.new (session_of proof.new) (global_of_index globals.now)) }
 {
     if parts.trail.current_level() > 0 {
         return Ok(());

@@ -6,7 +6,7 @@ ghost use Rattle.sat_solver.specs.proof.ProofView.{HasAllowedSteps, session_of};
 ghost use Rattle.sat_parts.specs.parts.Whole.{PartsInvariant, HasClause};
 ghost use Rattle.sat_solver.specs.cdcl.Joint.{IsSearch};
 ghost use Rattle.sat_solver.specs.unit_simplify.Cutting.{Gathers, Replaces, NamesCut};
-ghost use Rattle.sat_solver.specs.unit_simplify.Flat.{IsFlat, LightensOne};
+ghost use Rattle.sat_solver.specs.unit_simplify.Flat.{HasEmptyTrail, LightensOne};
 ghost use Rattle.sat_solver.specs.unit_simplify.Looks.{HasTrue, HasFalse};
 
 use crate::cdcl::fault::Fault;
@@ -48,7 +48,7 @@ fn gather_open(parts: &mut Parts, cref: ClauseRef) -> usize
 /// Brings the open literals of a clause to its front, and puts its steps together. Answers how many they are.
 fn name_cut(search: &mut Search, cref: ClauseRef, part: &mut Vec<Lit>) -> Result<usize, AllocError>
     requires holds { PartsInvariant search.old.parts }
-    requires flat { IsFlat search.old.parts }
+    requires flat { HasEmptyTrail search.old.parts }
     requires names { length search.old.parts.assignment.current ≤ length search.old.globals.items }
     requires live { HasClause search.old.parts cref }
     requires none { HasTrue search.old.parts cref → ⊥ }
@@ -72,7 +72,7 @@ fn name_cut(search: &mut Search, cref: ClauseRef, part: &mut Vec<Lit>) -> Result
 /// Puts the first literals of a clause in its place.
 fn replace(parts: &mut Parts, cref: ClauseRef, len: usize) -> Result<(), AllocError>
     requires holds { PartsInvariant parts.old }
-    requires flat { IsFlat parts.old }
+    requires flat { HasEmptyTrail parts.old }
     requires live { HasClause parts.old cref }
     requires some { 2 ≤ len }
     requires within { len ≤ size_of parts.old.clauses cref }
@@ -98,7 +98,7 @@ pub fn cut_clause<W: CountedWrite + Drop, P: ProofProcessor>(
 ) -> Result<(), Fault>
     requires keeps { HasAllowedSteps proof.old }
     requires search { IsSearch (session_of proof.old) search.old }
-    requires flat { IsFlat search.old.parts }
+    requires flat { HasEmptyTrail search.old.parts }
     requires live { HasClause search.old.parts cref }
     requires none { HasTrue search.old.parts cref → ⊥ }
     requires some { HasFalse search.old.parts cref }

@@ -13,7 +13,7 @@ use sat_base::{CountedWrite, ProofStep};
 use sat_checker::ProofProcessor;
 
 /// What takes the steps of a proof, one after another.
-pub trait StepWriter: Drop {
+pub trait StepLog: Drop {
     /// The steps so far, the newest first.
     ghost steps: { Self → List Step };
 
@@ -37,7 +37,7 @@ pub trait StepWriter: Drop {
         ensures came { EmitsOrFails took broke result self.old self.new };
 }
 
-impl<W: CountedWrite + Drop, P: ProofProcessor> StepWriter for Proof<W, P> {
+impl<W: CountedWrite + Drop, P: ProofProcessor> StepLog for Proof<W, P> {
     ghost use Rattle.sat_solver.specs.proof.ProofView.{HasAllowedSteps, steps_of};
     ghost use Rattle.sat_solver.specs.session.Making.{ComesByCheckedSteps};
     ghost use Rattle.sat_solver.specs.variables.Taking.{NotTaken};

@@ -1,27 +1,27 @@
 //! Modes of variables, names that go, and variables that are deleted.
 ghost use Rattle.std.specs.Prelude.{ℕ, ◌≡◌, ◌⊎◌, ◌+◌, true, false, Some, None, [], ◌∷◌, ◌++◌, map, IfErr, OnOk};
-ghost use Rattle.sat_base.specs.script.Judge.{without_name, with_mode, bring_in, new_names};
+ghost use Rattle.sat_base.specs.script.ScriptState.{without_name, with_mode, bring_in, new_names};
 ghost use Rattle.sat_solver.specs.session.Session.{session_after};
-ghost use Rattle.sat_solver.specs.variables.Variables.{data_at, global_of, user_of, solver_of, judged_mode, mode_for};
+ghost use Rattle.sat_solver.specs.variables.Variables.{data_at, global_of, user_of, solver_of, script_mode, mode_for};
 ghost use Rattle.sat_base.specs.steps.Steps.{UserVarName, ChangeSamplingMode, DeleteVar};
 ghost use Rattle.sat_solver.specs.session.Coming.{OnlyAllowedSteps};
 ghost use Rattle.sat_solver.specs.variables.Coming.{ForgetsIdle, LeavesNoneIdle, MayHide, MaySet, TurnsMode};
 ghost use Rattle.sat_checker.specs.matching.Expected.{NewName, NoName};
-ghost use Rattle.sat_solver.specs.variables.Naming.{AreFresh, KeepsOthers};
-ghost use Rattle.sat_solver.specs.variables.Calls.{NamesInvariant, NamesRefineJudge, DoesNothing};
+ghost use Rattle.sat_solver.specs.variables.Naming.{VariablesAreKeptOrNew, KeepsOthers};
+ghost use Rattle.sat_solver.specs.variables.Calls.{NamesInvariant, NamesEffect, DoesNothing};
 ghost use Rattle.sat_solver.specs.variables.Search.{IsUnseen, IsAlike, ForgetsUnits, KeepsUnits};
 ghost use Rattle.sat_solver.specs.variables.Refusing.{IsAssumed};
 ghost use Rattle.sat_solver.specs.variables.Failing.{IsFailure, EmitsOrFails, FailsOnlyByFault};
 
 use crate::variables::Variables;
 use crate::variables::error::NameError;
-use crate::variables::log::StepWriter;
+use crate::variables::log::StepLog;
 use crate::variables::user_vars::global_from_user;
 use sat_base::{ProofStep, Var};
 use sat_store::SamplingMode;
 
 /// A variable loses its name and is hidden.
-fn hide_global<W: StepWriter>(
+fn hide_global<W: StepLog>(
     variables: &mut Variables,
     writer: &mut W,
     user: Var,
@@ -30,7 +30,7 @@ fn hide_global<W: StepWriter>(
     requires stands { NamesInvariant variables.old (W.steps writer.old) }
     requires keeps { W.keeps writer.old }
     requires named { global_of variables.old user ≡ Some global }
-    ensures does { OnOk result (NamesRefineJudge variables.old variables.new (W.steps writer.old) (W.steps writer.new)
+    ensures does { OnOk result (NamesEffect variables.old variables.new (W.steps writer.old) (W.steps writer.new)
         (without_name (user + 1)) (λ j. NoName (user + 1) ∷ [])) }
     ensures unseen { OnOk result (IsUnseen variables.old variables.new (W.steps writer.old) (W.steps writer.new)) }
     ensures others { OnOk result (KeepsOthers variables.old variables.new user) }
@@ -48,7 +48,7 @@ fn hide_global<W: StepWriter>(
 }
 
 /// A hidden variable without an index, in no clause and not assumed, is forgotten.
-pub fn delete_var<W: StepWriter>(
+pub fn delete_var<W: StepLog>(
     variables: &mut Variables,
     writer: &mut W,
     global: Var,
@@ -76,7 +76,7 @@ pub fn delete_var<W: StepWriter>(
 }
 
 /// A hidden variable without an index, which is in no clause, is forgotten, unless an assumption has it.
-pub(crate) fn forget_idle<W: StepWriter>(
+pub(crate) fn forget_idle<W: StepLog>(
     variables: &mut Variables,
     writer: &mut W,
     global: Var,
@@ -105,7 +105,7 @@ pub(crate) fn forget_idle<W: StepWriter>(
 }
 
 /// Brings a name in and hides its variable, which is forgotten at once where it has no index. The name isn't assumed.
-pub fn hide_var<W: StepWriter>(
+pub fn hide_var<W: StepLog>(
     variables: &mut Variables,
     writer: &mut W,
     user: Var,
@@ -113,11 +113,11 @@ pub fn hide_var<W: StepWriter>(
     requires stands { NamesInvariant variables.old (W.steps writer.old) }
     requires keeps { W.keeps writer.old }
     requires free { IsAssumed variables.old user → ⊥ }
-    ensures does { OnOk result (NamesRefineJudge variables.old variables.new (W.steps writer.old) (W.steps writer.new)
+    ensures does { OnOk result (NamesEffect variables.old variables.new (W.steps writer.old) (W.steps writer.new)
         (λ j. without_name (user + 1) (bring_in (user + 1) j))
         (λ j. map NewName (new_names (user + 1) j) ++ (NoName (user + 1) ∷ []))) }
     ensures others { OnOk result (KeepsOthers variables.old variables.new user) }
-    ensures fresh { OnOk result (AreFresh variables.old variables.new) }
+    ensures fresh { OnOk result (VariablesAreKeptOrNew variables.old variables.new) }
     ensures units { OnOk result (KeepsUnits variables.new (W.steps writer.old) (W.steps writer.new)) }
     ensures alike { OnOk result (IsAlike variables.old variables.new (W.steps writer.old) (W.steps writer.new)) }
     ensures comes { OnOk result (OnlyAllowedSteps MayHide (W.steps writer.old) (W.steps writer.new)) }
@@ -156,7 +156,7 @@ fn is_mode(mode: SamplingMode, sample: bool) -> bool
 }
 
 /// A variable with a name is sampled from here on, or a witness. Where it is already, nothing is written.
-fn set_global_mode<W: StepWriter>(
+fn set_global_mode<W: StepLog>(
     variables: &mut Variables,
     writer: &mut W,
     user: Var,
@@ -166,8 +166,8 @@ fn set_global_mode<W: StepWriter>(
     requires stands { NamesInvariant variables.old (W.steps writer.old) }
     requires keeps { W.keeps writer.old }
     requires named { global_of variables.old user ≡ Some global }
-    ensures does { OnOk result (NamesRefineJudge variables.old variables.new (W.steps writer.old) (W.steps writer.new)
-        (with_mode (judged_mode sample) (user + 1)) (λ j. [])) }
+    ensures does { OnOk result (NamesEffect variables.old variables.new (W.steps writer.old) (W.steps writer.new)
+        (with_mode (script_mode sample) (user + 1)) (λ j. [])) }
     ensures sets { OnOk result ((W.steps writer.new ≡ W.steps writer.old)
         ⊎ ((W.steps writer.new ≡ ChangeSamplingMode global sample ∷ W.steps writer.old)
         × TurnsMode (session_after (W.steps writer.old)) global sample)) }
@@ -189,7 +189,7 @@ fn set_global_mode<W: StepWriter>(
 }
 
 /// Brings a name in and sets the mode of its variable. The name isn't assumed.
-pub fn set_sampling_mode<W: StepWriter>(
+pub fn set_sampling_mode<W: StepLog>(
     variables: &mut Variables,
     writer: &mut W,
     user: Var,
@@ -198,11 +198,11 @@ pub fn set_sampling_mode<W: StepWriter>(
     requires stands { NamesInvariant variables.old (W.steps writer.old) }
     requires keeps { W.keeps writer.old }
     requires free { IsAssumed variables.old user → ⊥ }
-    ensures does { OnOk result (NamesRefineJudge variables.old variables.new (W.steps writer.old) (W.steps writer.new)
-        (λ j. with_mode (judged_mode sample) (user + 1) (bring_in (user + 1) j))
+    ensures does { OnOk result (NamesEffect variables.old variables.new (W.steps writer.old) (W.steps writer.new)
+        (λ j. with_mode (script_mode sample) (user + 1) (bring_in (user + 1) j))
         (λ j. map NewName (new_names (user + 1) j) ++ [])) }
     ensures others { OnOk result (KeepsOthers variables.old variables.new user) }
-    ensures fresh { OnOk result (AreFresh variables.old variables.new) }
+    ensures fresh { OnOk result (VariablesAreKeptOrNew variables.old variables.new) }
     ensures unseen { OnOk result (IsUnseen variables.old variables.new (W.steps writer.old) (W.steps writer.new)) }
     ensures comes { OnOk result (OnlyAllowedSteps (MaySet (user + 1) sample) (W.steps writer.old)
         (W.steps writer.new)) }

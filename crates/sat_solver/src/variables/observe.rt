@@ -7,7 +7,7 @@ ghost use Rattle.sat_solver.specs.variables.Failing.{EmitsOrFails};
 
 use crate::variables::Variables;
 use crate::variables::error::NameError;
-use crate::variables::log::StepWriter;
+use crate::variables::log::StepLog;
 use sat_base::{ProofStep, Var};
 
 /// Whether a variable that was used is kept and has no name.
@@ -23,7 +23,7 @@ fn is_hidden(variables: &Variables, global: Var) -> bool
 }
 
 /// Gives a hidden variable the next name, and mode witness. A name is left for it.
-fn observe_var<W: StepWriter>(
+fn observe_var<W: StepLog>(
     variables: &mut Variables,
     writer: &mut W,
     global: Var,
@@ -54,7 +54,7 @@ fn observe_var<W: StepWriter>(
 
 /// Gives each hidden variable that is kept the next name and mode witness, by increasing variable, and puts their names
 /// into a list in place of what it had.
-pub fn observe_internal_vars<W: StepWriter>(
+pub fn observe_internal_vars<W: StepLog>(
     variables: &mut Variables,
     writer: &mut W,
     users: &mut Vec<Var>,

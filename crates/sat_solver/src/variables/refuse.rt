@@ -1,8 +1,8 @@
 //! Which calls are refused, before anything changes.
 ghost use Rattle.std.specs.Prelude.{◌≡◌, ◌+◌, true, false, IfNone};
-ghost use Rattle.sat_base.specs.script.Judge.{Judge, has_witness, identity_of, refused_literal};
+ghost use Rattle.sat_base.specs.script.ScriptState.{ScriptState, has_witness, identity_of, refused_literal};
 ghost use Rattle.sat_checker.specs.matching.Bridge.{Live};
-ghost use Rattle.sat_solver.specs.variables.Variables.{AreTidy, AreJudged, is_witness_kept};
+ghost use Rattle.sat_solver.specs.variables.Variables.{AreTidy, NamesMatchState, is_witness_kept};
 ghost use Rattle.sat_solver.specs.load.Literals.{IsSampled, NoWitness};
 ghost use Rattle.sat_solver.specs.variables.Refusing.{as_refusal, names_in, IsAssumed};
 
@@ -23,7 +23,7 @@ fn is_witness_mode(mode: SamplingMode) -> bool
 /// Whether a name is in use and of mode witness.
 fn is_witness(variables: &Variables, user: Var) -> bool
     requires { AreTidy variables.now }
-    ensures judged { (j : Judge) (live : Live) → AreJudged variables.now j live
+    ensures judged { (j : ScriptState) (live : Live) → NamesMatchState variables.now j live
         → result ≡ has_witness j (identity_of j (user + 1)) }
     ensures sampled { result ≡ false → IsSampled variables.now user }
 {
@@ -39,7 +39,7 @@ fn is_witness(variables: &Variables, user: Var) -> bool
 /// The leftmost literal over a name of mode witness.
 pub fn leftmost_witness(variables: &Variables, lits: &[Lit]) -> Option<Var>
     requires { AreTidy variables.now }
-    ensures judged { (j : Judge) (live : Live) → AreJudged variables.now j live
+    ensures judged { (j : ScriptState) (live : Live) → NamesMatchState variables.now j live
         → refused_literal j (names_in lits.now) ≡ as_refusal result }
     ensures sampled { IfNone result (NoWitness variables.now lits.now) }
 {

@@ -2,7 +2,7 @@
 ghost use Rattle.std.specs.Prelude.{◌≡◌, ◌+◌, ◌<◌, ◌≤◌, [], ◌∷◌, length};
 ghost use Rattle.sat_base.specs.values.Literals.{var_limit};
 ghost use Rattle.sat_checker.specs.LiteralSets.{mentions};
-ghost use Rattle.sat_solver.specs.variables.Room.{live_count, reach, users_in, hidden_count, SaysRoom, hidden_behind};
+ghost use Rattle.sat_solver.specs.variables.VariableRoom.{live_count, reach, users_in, hidden_count, SaysRoom, hidden_behind};
 ghost use Rattle.sat_solver.specs.variables.Variables.{AreTidy};
 
 use crate::variables::Variables;

@@ -8,7 +8,7 @@ ghost use Rattle.sat_solver.specs.variables.Failing.{IsFailure, EmitsOrFails};
 
 use crate::variables::Variables;
 use crate::variables::error::NameError;
-use crate::variables::log::StepWriter;
+use crate::variables::log::StepLog;
 use sat_base::{ProofStep, Var};
 
 /// An index of the search that a variable was given, and the value of the variable's unit, where it has one.
@@ -19,7 +19,7 @@ pub struct Given {
 }
 
 /// A variable that has no index gets the lowest free one, and its unit is handed on with it.
-fn new_index<W: StepWriter>(
+fn new_index<W: StepLog>(
     variables: &mut Variables,
     writer: &mut W,
     global: Var,
@@ -47,7 +47,7 @@ fn new_index<W: StepWriter>(
 }
 
 /// The index of a variable. One that has none gets the lowest free one, which is put behind those given.
-pub fn solver_from_global<W: StepWriter>(
+pub fn solver_from_global<W: StepLog>(
     variables: &mut Variables,
     writer: &mut W,
     global: Var,
@@ -69,7 +69,7 @@ pub fn solver_from_global<W: StepWriter>(
 }
 
 /// Takes the index of a variable away, whose unit is known by then.
-pub fn remove_solver_var<W: StepWriter>(
+pub fn remove_solver_var<W: StepLog>(
     variables: &mut Variables,
     writer: &mut W,
     global: Var,

@@ -1,19 +1,19 @@
 //! Brings names in, and writes the steps.
 ghost use Rattle.std.specs.Prelude.{ℕ, ◌≡◌, ◌≤◌, ◌<◌, ◌+◌, ◌-◌, None, Some, List, ◌∷◌, IfOk, IfErr, OnOk};
-ghost use Rattle.sat_base.specs.script.Judge.{names_from};
+ghost use Rattle.sat_base.specs.script.ScriptState.{names_from};
 ghost use Rattle.sat_solver.specs.variables.Variables.{global_of, names_used};
 ghost use Rattle.sat_solver.specs.variables.Naming.{IsNextUser};
-ghost use Rattle.sat_solver.specs.variables.Calls.{NamesInvariant, NamesOne, NamesAll, Brought};
+ghost use Rattle.sat_solver.specs.variables.Calls.{NamesInvariant, NamesOne, NamesAll, BringsInUnseen};
 ghost use Rattle.sat_solver.specs.variables.Failing.{EmitsOrFails, Limits, FailsOnlyByFault};
-ghost use Rattle.sat_solver.specs.variables.Room.{LeavesRoom};
+ghost use Rattle.sat_solver.specs.variables.VariableRoom.{LeavesRoom};
 
 use crate::variables::Variables;
 use crate::variables::error::NameError;
-use crate::variables::log::StepWriter;
+use crate::variables::log::StepLog;
 use sat_base::{ProofStep, Var};
 
 /// Gives a name that isn't in use to a new variable.
-fn new_name<W: StepWriter>(
+fn new_name<W: StepLog>(
     variables: &mut Variables,
     writer: &mut W,
     user: Var,
@@ -42,7 +42,7 @@ fn new_name<W: StepWriter>(
 
 #[tactic(auto, using(crate::proofs::lemmas::variables::NamingSteps::none_yet, crate::proofs::lemmas::variables::NamingSteps::last_named))]
 /// Brings in all names from the first never used up to this one.
-fn bring_new<W: StepWriter>(
+fn bring_new<W: StepLog>(
     variables: &mut Variables,
     writer: &mut W,
     user: Var,
@@ -66,7 +66,7 @@ fn bring_new<W: StepWriter>(
 
 /// The variable of a name, which is brought in where it isn't in use, with all names below it that were never used.
 #[tactic(auto, using(crate::proofs::lemmas::variables::NamingSteps::last_named, crate::proofs::lemmas::variables::BroughtIn::ok_new))]
-pub fn global_from_user<W: StepWriter>(
+pub fn global_from_user<W: StepLog>(
     variables: &mut Variables,
     writer: &mut W,
     user: Var,
@@ -74,7 +74,7 @@ pub fn global_from_user<W: StepWriter>(
     requires stands { NamesInvariant variables.old (W.steps writer.old) }
     requires keeps { W.keeps writer.old }
     ensures variable { IfOk result (λ v. global_of variables.new user ≡ Some v) }
-    ensures brought { OnOk result (Brought variables.old variables.new (W.steps writer.old) (W.steps writer.new) user) }
+    ensures brought { OnOk result (BringsInUnseen variables.old variables.new (W.steps writer.old) (W.steps writer.new) user) }
     ensures room { (us : List ℕ) → FailsOnlyByFault result variables.old (user ∷ us) }
     ensures keeps { OnOk result (W.keeps writer.new) }
     ensures came { EmitsOrFails W.took W.broke result writer.old writer.new }
@@ -92,14 +92,11 @@ pub fn global_from_user<W: StepWriter>(
 }
 
 /// Brings in the lowest hidden name, else the first never used. Where no variable is left nothing has changed.
-pub fn new_user_var<W: StepWriter>(
-    variables: &mut Variables,
-    writer: &mut W,
-) -> Result<Var, NameError>
+pub fn new_user_var<W: StepLog>(variables: &mut Variables, writer: &mut W) -> Result<Var, NameError>
     requires stands { NamesInvariant variables.old (W.steps writer.old) }
     requires keeps { W.keeps writer.old }
     ensures next { IfOk result (IsNextUser variables.old) }
-    ensures brought { IfOk result (λ user. Brought variables.old variables.new (W.steps writer.old) (W.steps writer.new)
+    ensures brought { IfOk result (λ user. BringsInUnseen variables.old variables.new (W.steps writer.old) (W.steps writer.new)
         user) }
     ensures limit { IfErr result (λ e. Limits e variables.old variables.new writer.old writer.new) }
     ensures keeps { OnOk result (W.keeps writer.new) }

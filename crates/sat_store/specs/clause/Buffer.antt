@@ -23,13 +23,13 @@ abbrev pub swapped : List ℕ → ℕ → ℕ → List ℕ
 swapped ls i j = set (set ls i (get_or ls j 0)) j (get_or ls i 0)
 
 -- the clauses at o and p share no word
-unfoldable pub Apart : List ℕ → ℕ → ℕ → Type 0
-Apart words o p = (o + 3 + get_or words (o + 2) 0 ≤ p) ⊎ (p + 3 + get_or words (p + 2) 0 ≤ o)
+unfoldable pub HaveNoCommonWord : List ℕ → ℕ → ℕ → Type 0
+HaveNoCommonWord words o p = (o + 3 + get_or words (o + 2) 0 ≤ p) ⊎ (p + 3 + get_or words (p + 2) 0 ≤ o)
 
 -- every one of these offsets is a clause, and no two of them share words
 pub record HoldsClauses (words : List ℕ) (live : List ℕ) : Type 0 where
   pub clauses : (o : ℕ) → Contains live o → IsClause words o
-  pub apart : (o p : ℕ) → Contains live o → Contains live p → o ≢ p → Apart words o p
+  pub apart : (o p : ℕ) → Contains live o → Contains live p → o ≢ p → HaveNoCommonWord words o p
 
 -- the clause at p is the same in both buffers
 pub record SameClauseAt (old new : List ℕ) (p : ℕ) : Type 0 where
@@ -46,7 +46,7 @@ pub record HeadedClause : Type 0 where
 pub record ChangesAt (old new : List ℕ) (o : ℕ) : Type 0 where
   pub clause : IsClause new o
   pub size : length new ≡ length old
-  pub others : (p : ℕ) → IsClause old p → Apart old o p → SameClauseAt old new p
+  pub others : (p : ℕ) → IsClause old p → HaveNoCommonWord old o p → SameClauseAt old new p
   pub laid : (live : List ℕ) → Contains live o → HoldsClauses old live → HoldsClauses new live
 
 -- a clause with these literals and this header, except for its length, was appended at c

@@ -1,5 +1,5 @@
 use Rattle.certify.proofs.lemmas.laws.DefinitionLaws.{ask_names}
-use Rattle.certify.proofs.lemmas.laws.TellingTexts.{ask_leaves}
+use Rattle.certify.proofs.lemmas.laws.DistinctTexts.{ask_leaves}
 use Rattle.certify.proofs.laws.ask_binds_nothing.Goals as goal
 
 pub returns : goal.returns

@@ -8,7 +8,7 @@ use Rattle.certify.specs.answers.Answers.{outcome_text, s_satisfiable, s_unsatis
 use Rattle.sat_checker.specs.matching.Expected.{Outcome, Sat, Unsat, Unknown}
 use Rattle.certify.specs.answers.AnswerForms.{HaveNames, IsInForm}
 use Rattle.certify.specs.laws.Laws.{HasPrintableNames}
-use Rattle.certify.specs.answers.AnswerReading.{first_line, second_line, outcome_of}
+use Rattle.certify.specs.answers.AnswerReading.{first_answer_line, second_line, outcome_of}
 use Rattle.certify.specs.declared.answers.read.AnswerKind.{AnswerKind}
 use Rattle.certify.specs.declared.answers.read.AnswerKind.TheVariants as kind
 
@@ -17,7 +17,7 @@ pub record Lines (o : Outcome) (tail bytes : List ℕ) : Type 0 where
   pub kind : AnswerKind
   pub line : List Literal
   pub is : outcome_of kind line ≡ o
-  pub text : bytes ≡ first_line kind ++ (second_line o ++ tail)
+  pub text : bytes ≡ first_answer_line kind ++ (second_line o ++ tail)
 
 pub lines_of : (o : Outcome) (tail bytes : List ℕ) → bytes ≡ outcome_text o ++ tail → Lines o tail bytes
 lines_of (Sat line) tail bytes e = record { kind = kind.Sat; line = line; is = refl; text = e ∙ append_assoc s_satisfiable (v_line line) tail }
@@ -25,7 +25,7 @@ lines_of (Unsat core) tail bytes e = record { kind = kind.Unsat; line = core; is
 lines_of Unknown tail bytes e = record { kind = kind.Unknown; line = []; is = refl; text = e }
 
 -- one first line
-pub same_kind : (k m : AnswerKind) (x y : List ℕ) → first_line k ++ x ≡ first_line m ++ y → (k ≡ m) × (x ≡ y)
+pub same_kind : (k m : AnswerKind) (x y : List ℕ) → first_answer_line k ++ x ≡ first_answer_line m ++ y → (k ≡ m) × (x ≡ y)
 same_kind kind.Sat kind.Sat x y e = (refl, append_cancel_left s_satisfiable x y e)
 same_kind kind.Unsat kind.Unsat x y e = (refl, append_cancel_left s_unsatisfiable x y e)
 same_kind kind.Unknown kind.Unknown x y e = (refl, append_cancel_left s_unknown x y e)

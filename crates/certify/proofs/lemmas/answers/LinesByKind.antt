@@ -5,7 +5,7 @@ use Rattle.sat_base.specs.script.Script.{Literal}
 use Rattle.certify.specs.answers.Answers.{s_satisfiable, s_unsatisfiable, s_unknown, literals_text, outcome_text}
 use Rattle.sat_checker.specs.matching.Expected.{Outcome, Sat, Unsat, Unknown}
 use Rattle.certify.specs.answers.AnswerForms.{IsInForm, literals_of}
-use Rattle.certify.specs.answers.AnswerReading.{NoKind, NoLiterals, NoLine, NoOutcome, StartsNoLine, StartsNoLiterals, HasLine, IsHead, IsCutShort, BeginsNoOutcome, first_line, outcome_of, second_line}
+use Rattle.certify.specs.answers.AnswerReading.{NoKind, NoLiterals, NoLine, NoOutcome, StartsNoLine, StartsNoLiterals, HasLine, IsHead, IsCutShort, BeginsNoOutcome, first_answer_line, outcome_of, second_line}
 use Rattle.certify.specs.declared.answers.read.AnswerKind.{AnswerKind}
 use Rattle.certify.specs.declared.answers.read.AnswerKind.TheVariants as kind
 use Rattle.certify.specs.declared.answers.read.AnswerFault.{AnswerFault}
@@ -51,7 +51,7 @@ no_list k head bytes behind OutOfMemory h some e none =
     (none.0, (ls, l, (none.1.2.0, (head ++ front, tail, (t, b)))))
 
 -- the first line tells the kind
-of_kind : (k : AnswerKind) (o : Outcome) (x y : List ℕ) → first_line k ++ x ≡ outcome_text o ++ y → (ls : List Literal) × ((o ≡ outcome_of k ls) × (x ≡ second_line o ++ y))
+of_kind : (k : AnswerKind) (o : Outcome) (x y : List ℕ) → first_answer_line k ++ x ≡ outcome_text o ++ y → (ls : List Literal) × ((o ≡ outcome_of k ls) × (x ≡ second_line o ++ y))
 of_kind kind.Sat (Sat ls) x y e = (ls, (refl, cc))
 of_kind kind.Unsat (Unsat ls) x y e = (ls, (refl, cc))
 of_kind kind.Unknown Unknown x y e = ([], (refl, cc))
@@ -62,20 +62,20 @@ of_kind kind.Unsat Unknown x y e = let r : ◌≡◌ {A = ℕ} 83 75 = cc in abs
 of_kind kind.Unknown (Sat ls) x y e = let r : ◌≡◌ {A = ℕ} 85 83 = cc in absurd (omega arith)
 of_kind kind.Unknown (Unsat ls) x y e = let r : ◌≡◌ {A = ℕ} 75 83 = cc in absurd (omega arith)
 
-kind_text : (o : Outcome) → (k : AnswerKind) × (outcome_text o ≡ first_line k ++ second_line o)
+kind_text : (o : Outcome) → (k : AnswerKind) × (outcome_text o ≡ first_answer_line k ++ second_line o)
 kind_text (Sat ls) = (kind.Sat, refl)
 kind_text (Unsat ls) = (kind.Unsat, refl)
 kind_text Unknown = (kind.Unknown, refl)
 
 -- no first line
 pub no_kind : (bytes : List ℕ) (fault : AnswerFault) → NoKind bytes fault → NoOutcome bytes fault
-no_kind bytes Missing e = (inl e, λ o tail h f. go (kind_text o).0 (second_line o ++ tail) (sym e ∙ f ∙ ap (λ t. t ++ tail) (kind_text o).1 ∙ append_assoc (first_line (kind_text o).0) (second_line o) tail))
+no_kind bytes Missing e = (inl e, λ o tail h f. go (kind_text o).0 (second_line o ++ tail) (sym e ∙ f ∙ ap (λ t. t ++ tail) (kind_text o).1 ∙ append_assoc (first_answer_line (kind_text o).0) (second_line o) tail))
   where
-    go : (k : AnswerKind) (x : List ℕ) → [] ≡ first_line k ++ x → ⊥
+    go : (k : AnswerKind) (x : List ℕ) → [] ≡ first_answer_line k ++ x → ⊥
     go kind.Sat x e = cc
     go kind.Unsat x e = cc
     go kind.Unknown x e = cc
-no_kind bytes Text none = (cut, λ o tail h f. none.1 (kind_text o).0 (second_line o ++ tail) (f ∙ ap (λ t. t ++ tail) (kind_text o).1 ∙ append_assoc (first_line (kind_text o).0) (second_line o) tail))
+no_kind bytes Text none = (cut, λ o tail h f. none.1 (kind_text o).0 (second_line o ++ tail) (f ∙ ap (λ t. t ++ tail) (kind_text o).1 ∙ append_assoc (first_answer_line (kind_text o).0) (second_line o) tail))
   where
     cut : IsCutShort bytes → ⊥
     cut (inl e) = none.0 e
@@ -84,10 +84,10 @@ no_kind bytes Text none = (cut, λ o tail h f. none.1 (kind_text o).0 (second_li
 no_kind bytes OutOfMemory none = absurd none
 
 -- a first line without its second
-pub no_line : (k : AnswerKind) (bytes behind : List ℕ) (fault : AnswerFault) → bytes ≡ first_line k ++ behind → NoLine k behind fault → NoOutcome bytes fault
-no_line k bytes behind Missing e none = (cut k none.0 (e ∙ ap (λ t. first_line k ++ t) none.1), begins)
+pub no_line : (k : AnswerKind) (bytes behind : List ℕ) (fault : AnswerFault) → bytes ≡ first_answer_line k ++ behind → NoLine k behind fault → NoOutcome bytes fault
+no_line k bytes behind Missing e none = (cut k none.0 (e ∙ ap (λ t. first_answer_line k ++ t) none.1), begins)
   where
-    cut : (k : AnswerKind) → HasLine k → bytes ≡ first_line k ++ [] → IsCutShort bytes
+    cut : (k : AnswerKind) → HasLine k → bytes ≡ first_answer_line k ++ [] → IsCutShort bytes
     cut kind.Sat h e = inr (inl e)
     cut kind.Unsat h e = inr (inr e)
     cut kind.Unknown h e = absurd h
@@ -108,14 +108,14 @@ no_line k bytes behind Text e none = (
       none.1 r.0 tail (subst IsInForm r.1.0 h) (r.1.1 ∙ ap (λ t. second_line t ++ tail) r.1.0),
 )
   where
-    cut : (k : AnswerKind) → behind ≢ [] → bytes ≡ first_line k ++ behind → IsCutShort bytes → ⊥
-    cut kind.Sat some e (inl f) = let r : first_line kind.Sat ++ behind ≡ [] = sym e ∙ f in cc
+    cut : (k : AnswerKind) → behind ≢ [] → bytes ≡ first_answer_line k ++ behind → IsCutShort bytes → ⊥
+    cut kind.Sat some e (inl f) = let r : first_answer_line kind.Sat ++ behind ≡ [] = sym e ∙ f in cc
     cut kind.Sat some e (inr (inl f)) = some (append_cancel_left s_satisfiable behind [] (sym e ∙ f))
     cut kind.Sat some e (inr (inr f)) = let g : s_satisfiable ++ behind ≡ s_unsatisfiable = sym e ∙ f in let r : ◌≡◌ {A = ℕ} 83 85 = cc in omega arith
-    cut kind.Unsat some e (inl f) = let r : first_line kind.Unsat ++ behind ≡ [] = sym e ∙ f in cc
+    cut kind.Unsat some e (inl f) = let r : first_answer_line kind.Unsat ++ behind ≡ [] = sym e ∙ f in cc
     cut kind.Unsat some e (inr (inl f)) = let g : s_unsatisfiable ++ behind ≡ s_satisfiable = sym e ∙ f in let r : ◌≡◌ {A = ℕ} 85 83 = cc in omega arith
     cut kind.Unsat some e (inr (inr f)) = some (append_cancel_left s_unsatisfiable behind [] (sym e ∙ f))
-    cut kind.Unknown some e (inl f) = let r : first_line kind.Unknown ++ behind ≡ [] = sym e ∙ f in cc
+    cut kind.Unknown some e (inl f) = let r : first_answer_line kind.Unknown ++ behind ≡ [] = sym e ∙ f in cc
     cut kind.Unknown some e (inr (inl f)) = let g : s_unknown ++ behind ≡ s_satisfiable = sym e ∙ f in let r : ◌≡◌ {A = ℕ} 85 83 = cc in omega arith
     cut kind.Unknown some e (inr (inr f)) = let g : s_unknown ++ behind ≡ s_unsatisfiable = sym e ∙ f in let r : ◌≡◌ {A = ℕ} 75 83 = cc in omega arith
 no_line k bytes behind OutOfMemory e none = (k, behind, (e, none))

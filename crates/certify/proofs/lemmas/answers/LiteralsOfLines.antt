@@ -7,7 +7,7 @@ use Rattle.sat_base.specs.script.Script.{Literal}
 use Rattle.certify.specs.answers.Answers.{literals_text, word_of}
 use Rattle.certify.specs.answers.AnswerForms.{HaveNames, IsName, named_literal, named_literals}
 use Rattle.certify.specs.answers.AnswerReading.{NoLiteral}
-use Rattle.certify.proofs.lemmas.laws.TellingTexts.{plain_word, at_space, not_end, same_literals as literals_told}
+use Rattle.certify.proofs.lemmas.laws.DistinctTexts.{plain_word, at_space, not_end, same_literals as literals_told}
 
 within_limit : (ls : List Literal) → HaveNames ls → AllByRecursion (λ l. l.name ≤ var_limit) ls
 within_limit [] h = tt

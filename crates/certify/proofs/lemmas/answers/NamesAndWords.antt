@@ -7,7 +7,7 @@ use Rattle.std.specs.Str.Parse.{AllDigits, digits_value}
 use Rattle.sat_base.specs.values.Literals.{var_limit}
 use Rattle.certify.specs.answers.AnswerForms.{IsName}
 use Rattle.certify.specs.answers.AnswerReading.{digits_so_far, NoNameDigit, NoName, NoLiteral, StartsNoLiteral, StartsNoName}
-use Rattle.certify.proofs.lemmas.laws.TellingTexts.{Plain, plain_digits, small, numeral}
+use Rattle.certify.proofs.lemmas.laws.DistinctTexts.{Plain, plain_digits, small, numeral}
 
 -- the last digit, behind nothing or behind the others
 pub one_digit : (n : ℕ) (xs : List ℕ) → n ≤ 9 → xs ++ ((48 + n % 10) ∷ []) ≡ xs ++ decimal n

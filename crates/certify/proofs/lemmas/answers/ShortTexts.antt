@@ -3,11 +3,11 @@ use Rattle.std.proofs.Common.{ℕ, ◌+◌, ◌≡◌, ◌∙◌, Bool, true, fa
 use Rattle.std.specs.Prelude.{is_some, unwrap_or, decimal, if◌then◌else◌}
 use Rattle.sat_base.specs.text.Text.{is_letter, is_none, lines, words, begins_with, digits, header_in, header_if, header_first, on_line, plain, minus, behind_minus, alone, token, tokens_of, scan, tokens, dimacs_header, Token, Number, Letter, Header, Wrong}
 use Rattle.sat_base.specs.script.Script.{Literal, Command, Clause, Ask, Hide, Witness, Sample, ScriptEnding, Clean, Malformed, names_of}
-use Rattle.sat_base.specs.script.Judge.{Judge, Refusal, PastLimit, WitnessName, refusal_of, start}
+use Rattle.sat_base.specs.script.ScriptState.{ScriptState, Refusal, PastLimit, WitnessName, refusal_of, start}
 use Rattle.sat_checker.specs.matching.Expected.{Outcome, Sat, Unsat, Unknown}
-use Rattle.sat_base.specs.script.Language.{Reading, reading, written, with_ask, spoken, Kind, OfClause, OfAsk, OfHide, OfWitness, OfSample, command_of, CommandHand, Nothing, Within, GoesOn, Ends, Fails, commands_of, beginning, behind_turn, command_in, turn_with_literal}
+use Rattle.sat_base.specs.script.Language.{Reading, reading, written, with_ask, spoken, Kind, OfClause, OfAsk, OfHide, OfWitness, OfSample, command_of, CommandHand, Nothing, Within, GoesOn, Ends, Fails, commands_of, beginning, behind_command_turn, command_in, turn_with_literal}
 use Rattle.certify.specs.answers.Answers.{answers_from, literals_text, outcome_text, refused_line, piece, outcomes_left}
-use Rattle.certify.specs.answers.ScriptText.{number, single, token_in, tokens_in, with_literal, going_on, spelled, is_headed, script_in}
+use Rattle.certify.specs.answers.ScriptText.{number, single, token_in, tokens_in, command_with_literal, going_on, spelled, is_headed, script_in}
 use Rattle.certify.specs.answers.AnswersText.{literals_line, outcome_lines, refusal_line, command_lines, lines_from}
 use Rattle.certify.specs.laws.HeadlineLaws.{SameAnswers, SaysTheSame}
 
@@ -92,12 +92,12 @@ Agree short long = (h : CommandHand) → short (hand_in h) ≡ long h
 
 named_turn : (p : Bool) (command : Command) (kind : Kind) (ls : List Literal) (short : Option Command → Reading) (long : CommandHand → Reading)
     → Agree short long → command ≡ command_of kind ls
-    → going_on (cond p (Some command) None) short ≡ behind_turn (cond p (GoesOn (Within kind ls)) Fails) long
+    → going_on (cond p (Some command) None) short ≡ behind_command_turn (cond p (GoesOn (Within kind ls)) Fails) long
 named_turn true command kind ls short long same e = ap (λ (c : Command). short (Some c)) e ∙ same (Within kind ls)
 named_turn false command kind ls short long same e = refl
 
 literal_turn : (h : CommandHand) (l : Literal) (short : Option Command → Reading) (long : CommandHand → Reading) → Agree short long
-    → going_on (with_literal l (unwrap_or (hand_in h) (Clause []))) short ≡ behind_turn (turn_with_literal h l) long
+    → going_on (command_with_literal l (unwrap_or (hand_in h) (Clause []))) short ≡ behind_command_turn (turn_with_literal h l) long
 literal_turn Nothing l short long same = same (Within OfClause (l ∷ []))
 literal_turn (Within OfClause ls) l short long same = same (Within OfClause (ls ++ l ∷ []))
 literal_turn (Within OfAsk ls) l short long same = same (Within OfAsk (ls ++ l ∷ []))
@@ -109,19 +109,19 @@ literal_turn (Within OfSample ls) l short long same =
     named_turn l.positive (Sample (names_of ls ++ l.name ∷ [])) OfSample (ls ++ l ∷ []) short long same (ap Sample (names_append ls l))
 
 ended : (h : CommandHand) (short : Option Command → Reading) (long : CommandHand → Reading) → Agree short long
-    → (unwrap_or (hand_in h) (Clause []) ∷ (short None).0, (short None).1) ≡ behind_turn (Ends (command_in h)) long
+    → (unwrap_or (hand_in h) (Clause []) ∷ (short None).0, (short None).1) ≡ behind_command_turn (Ends (command_in h)) long
 ended Nothing short long same = ap (λ (r : Reading). (Clause [] ∷ r.0, r.1)) (same Nothing)
 ended (Within kind ls) short long same = ap (λ (r : Reading). (command_of kind ls ∷ r.0, r.1)) (same Nothing)
 
 number_turn : (x : Bool) (h : CommandHand) (l : Literal) (short : Option Command → Reading) (long : CommandHand → Reading) → Agree short long
-    → cond x (unwrap_or (hand_in h) (Clause []) ∷ (short None).0, (short None).1) (going_on (with_literal l (unwrap_or (hand_in h) (Clause []))) short)
-    ≡ behind_turn (cond x (Ends (command_in h)) (turn_with_literal h l)) long
+    → cond x (unwrap_or (hand_in h) (Clause []) ∷ (short None).0, (short None).1) (going_on (command_with_literal l (unwrap_or (hand_in h) (Clause []))) short)
+    ≡ behind_command_turn (cond x (Ends (command_in h)) (turn_with_literal h l)) long
 number_turn true h l short long same = ended h short long same
 number_turn false h l short long same = literal_turn h l short long same
 
 letter_turn : (a h w s : Bool) (short : Option Command → Reading) (long : CommandHand → Reading) → Agree short long
     → going_on (cond a (Some (Ask [])) (cond h (Some (Hide [])) (cond w (Some (Witness [])) (cond s (Some (Sample [])) None)))) short
-    ≡ behind_turn (beginning (cond a (Some OfAsk) (cond h (Some OfHide) (cond w (Some OfWitness) (cond s (Some OfSample) None))))) long
+    ≡ behind_command_turn (beginning (cond a (Some OfAsk) (cond h (Some OfHide) (cond w (Some OfWitness) (cond s (Some OfSample) None))))) long
 letter_turn true h w s short long same = same (Within OfAsk [])
 letter_turn false true w s short long same = same (Within OfHide [])
 letter_turn false false true s short long same = same (Within OfWitness [])
@@ -187,7 +187,7 @@ same_next k None (Hide names) os more long same = same os
 same_next k None (Witness names) os more long same = same os
 same_next k None (Sample names) os more long same = same os
 
-same_from : (k : ℕ) (j : Judge) (commands : List Command) (ending : ScriptEnding) (os : List Outcome) → lines_from k j commands ending os ≡ answers_from k j commands ending os
+same_from : (k : ℕ) (j : ScriptState) (commands : List Command) (ending : ScriptEnding) (os : List Outcome) → lines_from k j commands ending os ≡ answers_from k j commands ending os
 same_from k j [] Clean os = refl
 same_from k j [] Malformed os = refl
 same_from k j (command ∷ commands) ending os =

@@ -2,31 +2,31 @@
 use Rattle.std.proofs.Common.{ℕ, append_assoc, ◌+◌, ◌≤◌, ◌≡◌, inl, inr, true, List, [], ◌∷◌, ◌++◌, map, Option, Some, None, sym, ◌∙◌, ap, subst, zero, suc, arith}
 use Rattle.sat_base.specs.values.Literals.{var_limit}
 use Rattle.sat_base.specs.script.Script.{Literal, Command, Ask, ScriptEnding, names_of}
-use Rattle.sat_base.specs.script.Judge.{Judge, accepted, accepted_of, refusal_of}
+use Rattle.sat_base.specs.script.ScriptState.{ScriptState, accepted, accepted_of, refusal_of}
 use Rattle.sat_base.specs.steps.Steps.{Step}
 use Rattle.sat_checker.specs.Accepts.{ready_after}
 use Rattle.sat_checker.specs.matching.Checking.{variable_of}
 use Rattle.sat_checker.specs.matching.Expected.{Outcome, Sat, Unsat, Unknown, Expected, Fails, Opens, Closes, bringing, showing, expected}
 use Rattle.certify.specs.answers.AnswerForms.{IsName, HaveNames, NamesRise, IsInForm}
 use Rattle.certify.specs.answers.Answers.{outcome_text}
-use Rattle.certify.specs.confirm.CertificatePlaces.{CanMeet, MeetsExactly, Bars}
+use Rattle.certify.specs.confirm.CertificatePlaces.{CanMeet, MeetsExactly, MeetsNoneOf}
 use Rattle.certify.specs.confirm.Matches.{InForm}
-use Rattle.certify.specs.judge.Names.{NamesStand}
-use Rattle.sat_base.specs.script.JudgeLaws.{NamesIncrease}
+use Rattle.certify.specs.judge.Names.{NamesHaveState}
+use Rattle.sat_base.specs.script.ScriptStateLaws.{NamesIncrease}
 use Rattle.certify.specs.confirm.Following.{StandFor}
 use Rattle.certify.specs.confirm.Variables.{variable_in}
 use Rattle.certify.specs.declared.judge.names.Names.{Names}
 use Rattle.certify.specs.declared.confirm.variables.NamedVars.{NamedVars}
 use Rattle.certify.proofs.lemmas.confirm.LeftByCommand.{Rest, ask_on, ask_back, left_on, left_back, left_barred, HaveVariables, met_shows, met_fails}
 use Rattle.certify.proofs.lemmas.answers.AnswerLines.{printed}
-use Rattle.certify.proofs.lemmas.laws.TellingTexts.{same_outcome}
+use Rattle.certify.proofs.lemmas.laws.DistinctTexts.{same_outcome}
 use Rattle.certify.proofs.lemmas.confirm.UsedNames.{used_names, line_form}
 
 -- a line that lists the names in use may be printed
-abbrev pub Listed : Judge → Type 0
+abbrev pub Listed : ScriptState → Type 0
 Listed j = (line : List Literal) → names_of line ≡ map (λ n. n.name) j.in_use → HaveNames line × NamesRise (names_of line)
 
-pub all_listed : (names : Names) (j : Judge) → NamesStand names j → NamesIncrease j.in_use → Listed j
+pub all_listed : (names : Names) (j : ScriptState) → NamesHaveState names j → NamesIncrease j.in_use → Listed j
 all_listed names j h up line e =
     let f = h.first in
     let l = h.limit in
@@ -51,7 +51,7 @@ core_form : (ask core : List Literal) (earlier : List Step) (certificate : List 
 core_form ask core earlier certificate es named m = elim (met_fails earlier ask core es certificate m) [ inl e ↦ subst HaveNames (sym e) tt | inr h ↦ variables_named earlier core named h ]
 
 -- what is met for an outcome is an outcome that can be read
-shown_form : (j : Judge) (ask : List Literal) (o : Outcome) (earlier : List Step) (certificate : List ℕ) (es : List Expected) → Listed j → Within earlier → InForm o → CanMeet earlier (showing j ask o ++ es) certificate → IsInForm o
+shown_form : (j : ScriptState) (ask : List Literal) (o : Outcome) (earlier : List Step) (certificate : List ℕ) (es : List Expected) → Listed j → Within earlier → InForm o → CanMeet earlier (showing j ask o ++ es) certificate → IsInForm o
 shown_form j ask (Sat line) earlier certificate es listed named form m = listed line (met_shows earlier (map (λ n. n.name) j.in_use) ask line es certificate m)
 shown_form j ask (Unsat core) earlier certificate es listed named form m = (core_form ask core earlier certificate es named m, form)
 shown_form j ask Unknown earlier certificate es listed named form m = (tt, tt)
@@ -62,7 +62,7 @@ form_of (Unsat core) h = h.1
 form_of Unknown h = tt
 
 -- the answer is still to be read, behind the ask's assumptions
-pub record Answerable (j : Judge) (n : ℕ) (earlier : List Step) (ask : List Literal) (cs : List Command) (ending : ScriptEnding) (answers certificate : List ℕ) : Type 0 where
+pub record Answerable (j : ScriptState) (n : ℕ) (earlier : List Step) (ask : List Literal) (cs : List Command) (ending : ScriptEnding) (answers certificate : List ℕ) : Type 0 where
   pub outcome : Outcome
   pub tail : List ℕ
   pub answered : answers ≡ outcome_text outcome ++ tail
@@ -70,16 +70,16 @@ pub record Answerable (j : Judge) (n : ℕ) (earlier : List Step) (ask : List Li
   pub alone : (ready_after earlier).unsat ≡ true → outcome ≡ Unsat []
   pub left : Rest j n earlier (showing j ask outcome ++ (Closes ∷ [])) cs ending tail certificate
 
-module _ (j : Judge) (n : ℕ) (ask : List Literal) (cs : List Command) (ending : ScriptEnding) (answers : List ℕ) (e : refusal_of j (Ask ask) ≡ None) where
+module _ (j : ScriptState) (n : ℕ) (ask : List Literal) (cs : List Command) (ending : ScriptEnding) (answers : List ℕ) (e : refusal_of j (Ask ask) ≡ None) where
   -- its names can't be met
-  pub ask_unnamed : (first : List Step) (c : List ℕ) → Bars first c (bringing (names_of ask) j) → Rest j n first [] (Ask ask ∷ cs) ending answers c → ⊥
+  pub ask_unnamed : (first : List Step) (c : List ℕ) → MeetsNoneOf first c (bringing (names_of ask) j) → Rest j n first [] (Ask ask ∷ cs) ending answers c → ⊥
   ask_unnamed first c b l =
       let a = ask_on j n first ask cs ending answers c e l in
       left_barred (Opens ask a.outcome ∷ (showing (accepted (Ask ask) j) ask a.outcome ++ (Closes ∷ []))) (accepted (Ask ask) j) (n + 1) cs ending a.tail b a.left
 
   module _ (first second : List Step) (c d : List ℕ) (named : MeetsExactly first c (bringing (names_of ask) j) second d) where
     -- its assumptions can't be met
-    pub ask_unopened : ((o : Outcome) → Bars second d (Opens ask o ∷ [])) → Rest j n first [] (Ask ask ∷ cs) ending answers c → ⊥
+    pub ask_unopened : ((o : Outcome) → MeetsNoneOf second d (Opens ask o ∷ [])) → Rest j n first [] (Ask ask ∷ cs) ending answers c → ⊥
     ask_unopened b l =
         let a = ask_on j n first ask cs ending answers c e l in
         let next = accepted (Ask ask) j in

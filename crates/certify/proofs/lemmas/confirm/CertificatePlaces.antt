@@ -3,15 +3,15 @@ use Rattle.std.proofs.Common.{ℕ, ◌≡◌, Bool, true, false, List, [], ◌�
 use Rattle.std.proofs.lemmas.Bool.{true≢false}
 use Rattle.std.proofs.lemmas.List.{append_cancel_left}
 use Rattle.std.specs.List.{AllByRecursion}
-use Rattle.sat_base.specs.steps.Formats.{OneForm}
+use Rattle.sat_base.specs.steps.Formats.{IsUniquelyDecodable}
 use Rattle.sat_base.specs.steps.Steps.{Step}
 use Rattle.sat_base.specs.steps.StepText.{SpellsStep, SpellsSteps}
 use Rattle.sat_checker.specs.Accepts.{Accepts, ready_after}
 use Rattle.sat_checker.specs.matching.Checking.{is_ordered}
-use Rattle.certify.specs.confirm.Matches.{Meets, Excused, met, cut, other, ordered}
+use Rattle.certify.specs.confirm.Matches.{Meets, MayBeUnmet, met, cut, other, ordered}
 use Rattle.sat_checker.specs.matching.Expected.{Expected, Fits}
-use Rattle.sat_checker.specs.matching.ProofChecking.{the_checking}
-use Rattle.certify.specs.confirm.CertificatePlaces.{CanMeet, MeetsExactly, Bars, Skips, MeetsNothing, Offers}
+use Rattle.sat_checker.specs.matching.ProofChecking.{checker_rules}
+use Rattle.certify.specs.confirm.CertificatePlaces.{CanMeet, MeetsExactly, MeetsNoneOf, SkipsUnordered, MeetsNothing, NextIsOrdered}
 use Rattle.certify.proofs.lemmas.confirm.NextStep.{taken, skipped}
 
 pub leads_nowhere : (earlier : List Step) (certificate : List ℕ) → MeetsExactly earlier certificate [] earlier certificate
@@ -23,55 +23,55 @@ leads_on {earlier} {mid} {later} {bytes} {between} {rest} {p} {q} l m = record {
   back = λ es h. subst (λ xs. CanMeet earlier xs bytes) (sym (append_assoc p q es)) (l.back (q ++ es) (m.back es h));
 }
 
-pub bars_behind : {earlier mid : List Step} {bytes between : List ℕ} {p q : List Expected} → MeetsExactly earlier bytes p mid between → Bars mid between q → Bars earlier bytes (p ++ q)
+pub bars_behind : {earlier mid : List Step} {bytes between : List ℕ} {p q : List Expected} → MeetsExactly earlier bytes p mid between → MeetsNoneOf mid between q → MeetsNoneOf earlier bytes (p ++ q)
 bars_behind {earlier} {mid} {bytes} {between} {p} {q} l b = record { none = λ es h. b.none es (l.on (q ++ es) (subst (λ xs. CanMeet earlier xs bytes) (append_assoc p q es) h)) }
 
-pub bars_more : {earlier : List Step} {bytes : List ℕ} {p : List Expected} (q : List Expected) → Bars earlier bytes p → Bars earlier bytes (p ++ q)
+pub bars_more : {earlier : List Step} {bytes : List ℕ} {p : List Expected} (q : List Expected) → MeetsNoneOf earlier bytes p → MeetsNoneOf earlier bytes (p ++ q)
 bars_more {earlier} {bytes} {p} q b = record { none = λ es h. b.none (q ++ es) (subst (λ xs. CanMeet earlier xs bytes) (append_assoc p q es) h) }
 
 -- once unsat is recorded, all that counts is what may be left unmet
-pub when_cut : (earlier : List Step) (es : List Expected) (bytes : List ℕ) → (ready_after earlier).unsat ≡ true → CanMeet earlier es bytes → AllByRecursion Excused es
+pub when_cut : (earlier : List Step) (es : List Expected) (bytes : List ℕ) → (ready_after earlier).unsat ≡ true → CanMeet earlier es bytes → AllByRecursion MayBeUnmet es
 when_cut earlier es bytes u m = go m.steps es m.meets
   where
-    go : (steps : List Step) (es : List Expected) → Meets the_checking earlier steps es → AllByRecursion Excused es
+    go : (steps : List Step) (es : List Expected) → Meets checker_rules earlier steps es → AllByRecursion MayBeUnmet es
     go steps es (met v) = absurd (true≢false (sym u ∙ v))
     go steps es (cut v x) = x
     go steps es (other v n a k) = absurd (true≢false (sym u ∙ v))
     go steps es (ordered v f a k) = absurd (true≢false (sym u ∙ v))
 
-pub cut_met : (earlier : List Step) (es : List Expected) (bytes : List ℕ) → (ready_after earlier).unsat ≡ true → AllByRecursion Excused es → CanMeet earlier es bytes
+pub cut_met : (earlier : List Step) (es : List Expected) (bytes : List ℕ) → (ready_after earlier).unsat ≡ true → AllByRecursion MayBeUnmet es → CanMeet earlier es bytes
 cut_met earlier es bytes u x = record { steps = []; text = []; rest = bytes; begins = refl; spelt = refl; meets = cut u x }
 
-all_back : (p es : List Expected) → AllByRecursion Excused p → AllByRecursion Excused es → AllByRecursion Excused (p ++ es)
+all_back : (p es : List Expected) → AllByRecursion MayBeUnmet p → AllByRecursion MayBeUnmet es → AllByRecursion MayBeUnmet (p ++ es)
 all_back [] es x y = y
 all_back (e ∷ p) es x y = (x.0, all_back p es x.1 y)
 
-all_behind : (p es : List Expected) → AllByRecursion Excused (p ++ es) → AllByRecursion Excused es
+all_behind : (p es : List Expected) → AllByRecursion MayBeUnmet (p ++ es) → AllByRecursion MayBeUnmet es
 all_behind [] es x = x
 all_behind (e ∷ p) es x = all_behind p es x.1
 
-all_before : (p es : List Expected) → AllByRecursion Excused (p ++ es) → AllByRecursion Excused p
+all_before : (p es : List Expected) → AllByRecursion MayBeUnmet (p ++ es) → AllByRecursion MayBeUnmet p
 all_before [] es x = tt
 all_before (e ∷ p) es x = (x.0, all_before p es x.1)
 
-pub leads_cut : (earlier : List Step) (bytes : List ℕ) (p : List Expected) → (ready_after earlier).unsat ≡ true → AllByRecursion Excused p → MeetsExactly earlier bytes p earlier bytes
+pub leads_cut : (earlier : List Step) (bytes : List ℕ) (p : List Expected) → (ready_after earlier).unsat ≡ true → AllByRecursion MayBeUnmet p → MeetsExactly earlier bytes p earlier bytes
 leads_cut earlier bytes p u x = record {
   on = λ es h. cut_met earlier es bytes u (all_behind p es (when_cut earlier (p ++ es) bytes u h));
   back = λ es h. cut_met earlier (p ++ es) bytes u (all_back p es x (when_cut earlier es bytes u h));
 }
 
-pub bars_cut : (earlier : List Step) (bytes : List ℕ) (p : List Expected) → (ready_after earlier).unsat ≡ true → (AllByRecursion Excused p → ⊥) → Bars earlier bytes p
+pub bars_cut : (earlier : List Step) (bytes : List ℕ) (p : List Expected) → (ready_after earlier).unsat ≡ true → (AllByRecursion MayBeUnmet p → ⊥) → MeetsNoneOf earlier bytes p
 bars_cut earlier bytes p u x = record { none = λ es h. x (all_before p es (when_cut earlier (p ++ es) bytes u h)) }
 
 -- nothing is met from a place where nothing can be expected
-not_over : (earlier : List Step) (e : Expected) (es : List Expected) → (ready_after earlier).unsat ≡ false → Meets the_checking earlier [] (e ∷ es) → ⊥
+not_over : (earlier : List Step) (e : Expected) (es : List Expected) → (ready_after earlier).unsat ≡ false → Meets checker_rules earlier [] (e ∷ es) → ⊥
 not_over earlier e es u (cut v x) = true≢false (sym v ∙ u)
 
 -- no step's text begins the bytes
 pub no_step : (earlier : List Step) (bytes : List ℕ) → (ready_after earlier).unsat ≡ false → ((step : Step) (text rest : List ℕ) → bytes ≡ text ++ rest → SpellsStep step text → ⊥) → MeetsNothing earlier bytes
 no_step earlier bytes u none = record { none = λ e es m. go e es m.rest m.steps m.text m.begins m.spelt m.meets }
   where
-    go : (e : Expected) (es : List Expected) (behind : List ℕ) (steps : List Step) (text : List ℕ) → bytes ≡ text ++ behind → SpellsSteps steps text → Meets the_checking earlier steps (e ∷ es) → ⊥
+    go : (e : Expected) (es : List Expected) (behind : List ℕ) (steps : List Step) (text : List ℕ) → bytes ≡ text ++ behind → SpellsSteps steps text → Meets checker_rules earlier steps (e ∷ es) → ⊥
     go e es behind [] text b s k = not_over earlier e es u k
     go e es behind (step ∷ steps) text b s k = none step s.0 (s.1 ++ behind) (b ∙ ap (λ x. x ++ behind) s.4 ∙ append_assoc s.0 s.1 behind) s.2
 
@@ -82,13 +82,13 @@ record Begun (earlier : List Step) (step : Step) (es : List Expected) (more : Li
   rest : List ℕ
   begins : more ≡ text ++ rest
   spelt : SpellsSteps steps text
-  meets : Meets the_checking earlier (step ∷ steps) es
+  meets : Meets checker_rules earlier (step ∷ steps) es
 
-begun : OneForm SpellsStep → (earlier : List Step) (step : Step) (bytes text more : List ℕ) (e : Expected) (es : List Expected)
+begun : IsUniquelyDecodable SpellsStep → (earlier : List Step) (step : Step) (bytes text more : List ℕ) (e : Expected) (es : List Expected)
     → (ready_after earlier).unsat ≡ false → bytes ≡ text ++ more → SpellsStep step text → CanMeet earlier (e ∷ es) bytes → Begun earlier step (e ∷ es) more
 begun one earlier step bytes text more e es u b s m = go m.steps m.text m.begins m.spelt m.meets
   where
-    go : (steps : List Step) (front : List ℕ) → bytes ≡ front ++ m.rest → SpellsSteps steps front → Meets the_checking earlier steps (e ∷ es) → Begun earlier step (e ∷ es) more
+    go : (steps : List Step) (front : List ℕ) → bytes ≡ front ++ m.rest → SpellsSteps steps front → Meets checker_rules earlier steps (e ∷ es) → Begun earlier step (e ∷ es) more
     go [] front c t k = absurd (not_over earlier e es u k)
     go (first ∷ steps) front c t k =
         let whole : text ++ more ≡ t.0 ++ (t.1 ++ m.rest) = sym b ∙ c ∙ ap (λ x. x ++ m.rest) t.4 ∙ append_assoc t.0 t.1 m.rest in
@@ -99,13 +99,13 @@ begun one earlier step bytes text more e es u b s m = go m.steps m.text m.begins
           rest = m.rest;
           begins = append_cancel_left text more (t.1 ++ m.rest) (whole ∙ ap (λ z. z ++ (t.1 ++ m.rest)) (sym same.0));
           spelt = t.3;
-          meets = subst (λ x. Meets the_checking earlier (x ∷ steps) (e ∷ es)) (sym same.1) k;
+          meets = subst (λ x. Meets checker_rules earlier (x ∷ steps) (e ∷ es)) (sym same.1) k;
         }
 
-pub skips_step : OneForm SpellsStep → (earlier : List Step) (step : Step) (bytes text more : List ℕ) → (ready_after earlier).unsat ≡ false → bytes ≡ text ++ more → SpellsStep step text → is_ordered step ≡ false
-    → Accepts (ready_after earlier) step → Skips earlier bytes (step ∷ earlier) more
+pub skips_step : IsUniquelyDecodable SpellsStep → (earlier : List Step) (step : Step) (bytes text more : List ℕ) → (ready_after earlier).unsat ≡ false → bytes ≡ text ++ more → SpellsStep step text → is_ordered step ≡ false
+    → Accepts (ready_after earlier) step → SkipsUnordered earlier bytes (step ∷ earlier) more
 skips_step one earlier step bytes text more u b s o a = record {
-  on = λ e es m. let g = begun one earlier step bytes text more e es u b s m in record { steps = g.steps; text = g.text; rest = g.rest; begins = g.begins; spelt = g.spelt; meets = (skipped the_checking o g.meets).1 };
+  on = λ e es m. let g = begun one earlier step bytes text more e es u b s m in record { steps = g.steps; text = g.text; rest = g.rest; begins = g.begins; spelt = g.spelt; meets = (skipped checker_rules o g.meets).1 };
   back = λ e es m. record {
     steps = step ∷ m.steps;
     text = text ++ m.text;
@@ -117,16 +117,16 @@ skips_step one earlier step bytes text more u b s o a = record {
 }
 
 -- a step that the checker refuses
-pub stops_at_step : OneForm SpellsStep → (earlier : List Step) (step : Step) (bytes text more : List ℕ) → (ready_after earlier).unsat ≡ false → bytes ≡ text ++ more → SpellsStep step text → is_ordered step ≡ false
+pub stops_at_step : IsUniquelyDecodable SpellsStep → (earlier : List Step) (step : Step) (bytes text more : List ℕ) → (ready_after earlier).unsat ≡ false → bytes ≡ text ++ more → SpellsStep step text → is_ordered step ≡ false
     → (Accepts (ready_after earlier) step → ⊥) → MeetsNothing earlier bytes
-stops_at_step one earlier step bytes text more u b s o a = record { none = λ e es m. let g = begun one earlier step bytes text more e es u b s m in a (skipped the_checking o g.meets).0 }
+stops_at_step one earlier step bytes text more u b s o a = record { none = λ e es m. let g = begun one earlier step bytes text more e es u b s m in a (skipped checker_rules o g.meets).0 }
 
-pub offers_step : OneForm SpellsStep → (earlier : List Step) (step : Step) (bytes text more : List ℕ) → (ready_after earlier).unsat ≡ false → bytes ≡ text ++ more → SpellsStep step text → is_ordered step ≡ true
-    → Offers earlier bytes earlier step more
+pub offers_step : IsUniquelyDecodable SpellsStep → (earlier : List Step) (step : Step) (bytes text more : List ℕ) → (ready_after earlier).unsat ≡ false → bytes ≡ text ++ more → SpellsStep step text → is_ordered step ≡ true
+    → NextIsOrdered earlier bytes earlier step more
 offers_step one earlier step bytes text more u b s o = record {
   on = λ e es m.
       let g = begun one earlier step bytes text more e es u b s m in
-      let t = taken the_checking o g.meets in
+      let t = taken checker_rules o g.meets in
       (t.0, t.1, record { steps = g.steps; text = g.text; rest = g.rest; begins = g.begins; spelt = g.spelt; meets = t.2 });
   back = λ e es f a m. record {
     steps = step ∷ m.steps;
@@ -138,37 +138,37 @@ offers_step one earlier step bytes text more u b s o = record {
   };
 }
 
-pub skips_none : (earlier : List Step) (bytes : List ℕ) → Skips earlier bytes earlier bytes
+pub skips_none : (earlier : List Step) (bytes : List ℕ) → SkipsUnordered earlier bytes earlier bytes
 skips_none earlier bytes = record { on = λ e es m. m; back = λ e es m. m }
 
-pub skips_on : {earlier mid later : List Step} {bytes between rest : List ℕ} → Skips earlier bytes mid between → Skips mid between later rest → Skips earlier bytes later rest
+pub skips_on : {earlier mid later : List Step} {bytes between rest : List ℕ} → SkipsUnordered earlier bytes mid between → SkipsUnordered mid between later rest → SkipsUnordered earlier bytes later rest
 skips_on s t = record { on = λ e es m. t.on e es (s.on e es m); back = λ e es m. s.back e es (t.back e es m) }
 
-pub skips_stop : {earlier mid : List Step} {bytes between : List ℕ} → Skips earlier bytes mid between → MeetsNothing mid between → MeetsNothing earlier bytes
+pub skips_stop : {earlier mid : List Step} {bytes between : List ℕ} → SkipsUnordered earlier bytes mid between → MeetsNothing mid between → MeetsNothing earlier bytes
 skips_stop s t = record { none = λ e es m. t.none e es (s.on e es m) }
 
-pub skips_offer : {earlier mid later : List Step} {bytes between rest : List ℕ} {step : Step} → Skips earlier bytes mid between → Offers mid between later step rest → Offers earlier bytes later step rest
+pub skips_offer : {earlier mid later : List Step} {bytes between rest : List ℕ} {step : Step} → SkipsUnordered earlier bytes mid between → NextIsOrdered mid between later step rest → NextIsOrdered earlier bytes later step rest
 skips_offer s o = record { on = λ e es m. o.on e es (s.on e es m); back = λ e es f a m. s.back e es (o.back e es f a m) }
 
 -- the step that was expected
-pub leads_step : {earlier later : List Step} {bytes rest : List ℕ} {step : Step} (e : Expected) → Offers earlier bytes later step rest → Fits (the_checking.knows later) later e step → Accepts (ready_after later) step → MeetsExactly earlier bytes (e ∷ []) (step ∷ later) rest
+pub leads_step : {earlier later : List Step} {bytes rest : List ℕ} {step : Step} (e : Expected) → NextIsOrdered earlier bytes later step rest → Fits (checker_rules.knows later) later e step → Accepts (ready_after later) step → MeetsExactly earlier bytes (e ∷ []) (step ∷ later) rest
 leads_step e o f a = record { on = λ es m. (o.on e es m).2; back = λ es m. o.back e es f a m }
 
-pub bars_unfit : {earlier later : List Step} {bytes rest : List ℕ} {step : Step} (e : Expected) → Offers earlier bytes later step rest → (Fits (the_checking.knows later) later e step → ⊥) → Bars earlier bytes (e ∷ [])
+pub bars_unfit : {earlier later : List Step} {bytes rest : List ℕ} {step : Step} (e : Expected) → NextIsOrdered earlier bytes later step rest → (Fits (checker_rules.knows later) later e step → ⊥) → MeetsNoneOf earlier bytes (e ∷ [])
 bars_unfit e o n = record { none = λ es m. n (o.on e es m).0 }
 
-pub bars_refused : {earlier later : List Step} {bytes rest : List ℕ} {step : Step} (e : Expected) → Offers earlier bytes later step rest → (Accepts (ready_after later) step → ⊥) → Bars earlier bytes (e ∷ [])
+pub bars_refused : {earlier later : List Step} {bytes rest : List ℕ} {step : Step} (e : Expected) → NextIsOrdered earlier bytes later step rest → (Accepts (ready_after later) step → ⊥) → MeetsNoneOf earlier bytes (e ∷ [])
 bars_refused e o n = record { none = λ es m. n (o.on e es m).1 }
 
-pub bars_stop : {earlier : List Step} {bytes : List ℕ} (e : Expected) → MeetsNothing earlier bytes → Bars earlier bytes (e ∷ [])
+pub bars_stop : {earlier : List Step} {bytes : List ℕ} (e : Expected) → MeetsNothing earlier bytes → MeetsNoneOf earlier bytes (e ∷ [])
 bars_stop e s = record { none = λ es m. s.none e es m }
 
 -- unsat was recorded before the step came
-pub leads_skip : {earlier later : List Step} {bytes rest : List ℕ} (e : Expected) → Skips earlier bytes later rest → (ready_after later).unsat ≡ true → Excused e → MeetsExactly earlier bytes (e ∷ []) later rest
+pub leads_skip : {earlier later : List Step} {bytes rest : List ℕ} (e : Expected) → SkipsUnordered earlier bytes later rest → (ready_after later).unsat ≡ true → MayBeUnmet e → MeetsExactly earlier bytes (e ∷ []) later rest
 leads_skip {earlier} {later} {bytes} {rest} e s u x =
     let l = leads_cut later rest (e ∷ []) u (x, tt) in record { on = λ es m. l.on es (s.on e es m); back = λ es m. s.back e es (l.back es m) }
 
-pub bars_skip : {earlier later : List Step} {bytes rest : List ℕ} (e : Expected) → Skips earlier bytes later rest → (ready_after later).unsat ≡ true → (Excused e → ⊥) → Bars earlier bytes (e ∷ [])
+pub bars_skip : {earlier later : List Step} {bytes rest : List ℕ} (e : Expected) → SkipsUnordered earlier bytes later rest → (ready_after later).unsat ≡ true → (MayBeUnmet e → ⊥) → MeetsNoneOf earlier bytes (e ∷ [])
 bars_skip {earlier} {later} {bytes} {rest} e s u x = record { none = λ es m. (bars_cut later rest (e ∷ []) u (λ h. x h.0)).none es (s.on e es m) }
 
 -- nothing more is expected

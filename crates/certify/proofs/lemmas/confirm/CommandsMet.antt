@@ -2,18 +2,18 @@
 use Rattle.std.proofs.Common.{ℕ, ◌+◌, ◌≡◌, ◌↔◌, true, List, [], ◌∷◌, ◌++◌, Some, None, Result, Ok, Err, refl, sym, ◌∙◌, ap, subst, append_assoc}
 use Rattle.std.proofs.lemmas.List.{append_cancel_left, append-nil}
 use Rattle.sat_base.specs.script.Script.{Literal, Command, Clause, Ask, Hide, Witness, Sample, ScriptEnding, Clean, Malformed, names_of}
-use Rattle.sat_base.specs.script.Judge.{Judge, Sampled, Witnessed, Refusal, refusal_of, accepted, accepted_of, after_command, bring_all, with_clause}
+use Rattle.sat_base.specs.script.ScriptState.{ScriptState, Sampled, Witnessed, Refusal, refusal_of, accepted, accepted_of, after_command, bring_all, with_clause}
 use Rattle.sat_base.specs.steps.Steps.{Step}
 use Rattle.sat_checker.specs.Accepts.{ready_after}
 use Rattle.sat_checker.specs.KernelView.{HasAccepted as HasTakenSteps}
 use Rattle.sat_checker.specs.matching.Expected.{Outcome, Unsat, Expected, Adds, Opens, Closes, Finish, bringing, hiding, setting, showing, expected}
 use Rattle.certify.specs.answers.AnswerForms.{IsInForm}
 use Rattle.certify.specs.answers.Answers.{outcome_text, refused_line, malformed_line, answers_from, outcomes_left, piece}
-use Rattle.certify.specs.confirm.CertificatePlaces.{CanMeet, Bars}
+use Rattle.certify.specs.confirm.CertificatePlaces.{CanMeet, MeetsNoneOf}
 use Rattle.certify.specs.confirm.Lines.{TakesDueLine}
 use Rattle.certify.specs.confirm.Matches.{OneEach}
 use Rattle.certify.specs.confirm.Views.{View}
-use Rattle.certify.specs.judge.Names.{NamesStand}
+use Rattle.certify.specs.judge.Names.{NamesHaveState}
 use Rattle.certify.specs.confirm.Awaiting.{IsDueMet, MeetsDue}
 use Rattle.certify.specs.confirm.Confirming.{Table, HoldsAt, ToConfirm, Confirmed, ConfirmsNext, ConfirmsLast, MeetsCommandNames, MeetsOutcome}
 use Rattle.certify.specs.confirm.Naming.{MeetsAll, GoesOnTo, naming_all, taken_by}
@@ -23,7 +23,7 @@ use Rattle.certify.specs.declared.confirm.variables.NamedVars.{NamedVars}
 use Rattle.certify.specs.declared.verdict.Why.{Why}
 use Rattle.certify.proofs.lemmas.confirm.LeftByCommand.{Rest, refused_on, refused_back, left_on, left_back, left_barred, end_on, end_back}
 use Rattle.certify.proofs.lemmas.confirm.CertificatePlaces.{nothing_met}
-use Rattle.sat_base.proofs.lemmas.script.JudgeStates.{accepted_kept}
+use Rattle.sat_base.proofs.lemmas.script.ScriptStates.{accepted_kept}
 use Rattle.certify.proofs.lemmas.confirm.AskedWhole.{Listed, all_listed, Within, all_within, ask_unnamed, ask_unopened, answered_on, answered_back, ask_unread}
 use Rattle.certify.proofs.lemmas.confirm.NamesExpected.{names_are_expected}
 
@@ -34,7 +34,7 @@ NoAsk (Ask ls) = ⊥
 NoAsk e = Unit {0}
 
 -- for its names
-abbrev for_names : Command → Judge → List Expected
+abbrev for_names : Command → ScriptState → List Expected
 for_names (Clause ls) j = bringing (names_of ls) j
 for_names (Ask ls) j = bringing (names_of ls) j
 for_names (Hide names) j = hiding names j
@@ -46,7 +46,7 @@ abbrev behind_names : Command → List Expected
 behind_names (Clause ls) = Adds ls ∷ []
 behind_names e = []
 
-expected_on : (c : Command) → NoAsk c → (j : Judge) (cs : List Command) (os : List Outcome) → expected j (c ∷ cs) os ≡ (for_names c j ++ behind_names c) ++ expected (accepted c j) cs os
+expected_on : (c : Command) → NoAsk c → (j : ScriptState) (cs : List Command) (os : List Outcome) → expected j (c ∷ cs) os ≡ (for_names c j ++ behind_names c) ++ expected (accepted c j) cs os
 expected_on (Clause ls) a j cs os = sym (append_assoc (bringing (names_of ls) j) (Adds ls ∷ []) (expected (accepted (Clause ls) j) cs os))
 expected_on (Ask ls) a j cs os = absurd a
 expected_on (Hide names) a j cs os = ap (λ (es : List Expected). es ++ expected (accepted (Hide names) j) cs os) (sym (append-nil (hiding names j)))
@@ -65,7 +65,7 @@ all_left : (c : Command) → NoAsk c → (os : List Outcome) → outcomes_left N
 all_left (Ask ls) a os = absurd a
 all_left e a os = refl
 
-command_pending : (c : Command) → NoAsk c → (j : Judge) (n : ℕ) (earlier : List Step) (cs : List Command) (ending : ScriptEnding) (answers certificate : List ℕ) → refusal_of j c ≡ None
+command_pending : (c : Command) → NoAsk c → (j : ScriptState) (n : ℕ) (earlier : List Step) (cs : List Command) (ending : ScriptEnding) (answers certificate : List ℕ) → refusal_of j c ≡ None
     → Rest j n earlier [] (c ∷ cs) ending answers certificate ↔ Rest (accepted c j) (n + 1) earlier (for_names c j ++ behind_names c) cs ending answers certificate
 command_pending c a j n earlier cs ending answers certificate e =
     let next = accepted c j in
@@ -89,14 +89,14 @@ command_pending c a j n earlier cs ending answers certificate e =
 
 -- WHERE A COMMAND IS REFUSED
 
-after_refused : (j : Judge) (c : Command) (r : Refusal) → refusal_of j c ≡ Some r → after_command c j ≡ j
+after_refused : (j : ScriptState) (c : Command) (r : Refusal) → refusal_of j c ≡ Some r → after_command c j ≡ j
 after_refused j c r e = rw e refl
 
-after_accepted : (j : Judge) (c : Command) → refusal_of j c ≡ None → after_command c j ≡ accepted c j
+after_accepted : (j : ScriptState) (c : Command) → refusal_of j c ≡ None → after_command c j ≡ accepted c j
 after_accepted j c e = rw e refl
 
 -- behind a command that leaves this state
-confirmed : (before behind : List ℕ) (old new : View) (j next : Judge) (earlier later : List Step) (n : ℕ) (c : Command) (t : Table) → after_command c j ≡ next → HoldsAt t new next later
+confirmed : (before behind : List ℕ) (old new : View) (j next : ScriptState) (earlier later : List Step) (n : ℕ) (c : Command) (t : Table) → after_command c j ≡ next → HoldsAt t new next later
     → ((cs : List Command) (ending : ScriptEnding) → ToConfirm j n earlier (c ∷ cs) ending before old.rest → ToConfirm next (n + 1) later cs ending behind new.rest)
     → ((cs : List Command) (ending : ScriptEnding) → ToConfirm next (n + 1) later cs ending behind new.rest → ToConfirm j n earlier (c ∷ cs) ending before old.rest)
     → Confirmed before behind old new j earlier n c t
@@ -107,7 +107,7 @@ confirmed before behind old new j next earlier later n c t e s on back = record 
   back = λ cs ending h. back cs ending (subst (λ x. ToConfirm x (n + 1) later cs ending behind new.rest) e h);
 }
 
-pub command_refused : (before behind : List ℕ) (u : View) (n : ℕ) (c : Command) (t : Table) (r : Refusal) (y : Result (Unit {0}) Why) → ((j : Judge) → NamesStand t.names j → refusal_of j c ≡ Some r)
+pub command_refused : (before behind : List ℕ) (u : View) (n : ℕ) (c : Command) (t : Table) (r : Refusal) (y : Result (Unit {0}) Why) → ((j : ScriptState) → NamesHaveState t.names j → refusal_of j c ≡ Some r)
     → TakesDueLine before behind (refused_line n r) y → ConfirmsNext n c t t before behind u u y
 command_refused before behind u n c t r (Ok x) refused line = λ j earlier s.
     let e = refused j s.judged in
@@ -124,7 +124,7 @@ command_refused before behind u n c t r (Err why) refused line = λ j earlier s 
 -- WHERE IT ISN'T
 
 -- what its names expect
-naming_is : (kind : Kind) (ls : List Literal) (j : Judge) → naming_all kind (names_of ls) j ≡ for_names (command_of kind ls) j
+naming_is : (kind : Kind) (ls : List Literal) (j : ScriptState) → naming_all kind (names_of ls) j ≡ for_names (command_of kind ls) j
 naming_is OfClause ls j = names_are_expected.clauses (names_of ls) j
 naming_is OfAsk ls j = names_are_expected.asks (names_of ls) j
 naming_is OfHide ls j = names_are_expected.hides (names_of ls) j
@@ -132,29 +132,29 @@ naming_is OfWitness ls j = names_are_expected.witnesses (names_of ls) j
 naming_is OfSample ls j = names_are_expected.samples (names_of ls) j
 
 -- names and modes don't depend on clauses
-with_clauses : (names : Names) (ls : List Literal) (j : Judge) → NamesStand names j → NamesStand names (with_clause ls j)
+with_clauses : (names : Names) (ls : List Literal) (j : ScriptState) → NamesHaveState names j → NamesHaveState names (with_clause ls j)
 with_clauses names ls j h = record { first = h.first; limit = h.limit; each = h.each; fresh = h.fresh; given = h.given; modes = h.modes; apart = h.apart }
 
 -- what its names leave
-left_is : (kind : Kind) (ls : List Literal) (j : Judge) (names : Names) → NamesStand names (taken_by kind (names_of ls) j) → NamesStand names (accepted (command_of kind ls) j)
-left_is OfClause ls j names h = with_clauses names ls (bring_all (names_of ls) j) (subst (NamesStand names) (names_are_expected.left_by_clause (names_of ls) j) h)
-left_is OfAsk ls j names h = subst (NamesStand names) (names_are_expected.left_by_ask (names_of ls) j) h
-left_is OfHide ls j names h = subst (NamesStand names) (names_are_expected.left_by_hide (names_of ls) j) h
-left_is OfWitness ls j names h = subst (NamesStand names) (names_are_expected.left_by_witness (names_of ls) j) h
-left_is OfSample ls j names h = subst (NamesStand names) (names_are_expected.left_by_sample (names_of ls) j) h
+left_is : (kind : Kind) (ls : List Literal) (j : ScriptState) (names : Names) → NamesHaveState names (taken_by kind (names_of ls) j) → NamesHaveState names (accepted (command_of kind ls) j)
+left_is OfClause ls j names h = with_clauses names ls (bring_all (names_of ls) j) (subst (NamesHaveState names) (names_are_expected.left_by_clause (names_of ls) j) h)
+left_is OfAsk ls j names h = subst (NamesHaveState names) (names_are_expected.left_by_ask (names_of ls) j) h
+left_is OfHide ls j names h = subst (NamesHaveState names) (names_are_expected.left_by_hide (names_of ls) j) h
+left_is OfWitness ls j names h = subst (NamesHaveState names) (names_are_expected.left_by_witness (names_of ls) j) h
+left_is OfSample ls j names h = subst (NamesHaveState names) (names_are_expected.left_by_sample (names_of ls) j) h
 
 -- they can't be met
-unnamed_barred : (c : Command) (j : Judge) (n : ℕ) (earlier : List Step) (cs : List Command) (ending : ScriptEnding) (answers certificate : List ℕ) → refusal_of j c ≡ None → Bars earlier certificate (for_names c j) → Rest j n earlier [] (c ∷ cs) ending answers certificate → ⊥
+unnamed_barred : (c : Command) (j : ScriptState) (n : ℕ) (earlier : List Step) (cs : List Command) (ending : ScriptEnding) (answers certificate : List ℕ) → refusal_of j c ≡ None → MeetsNoneOf earlier certificate (for_names c j) → Rest j n earlier [] (c ∷ cs) ending answers certificate → ⊥
 unnamed_barred (Clause ls) j n earlier cs ending answers certificate e b h = left_barred (Adds ls ∷ []) (accepted (Clause ls) j) (n + 1) cs ending answers b ((command_pending (Clause ls) tt j n earlier cs ending answers certificate e).0 h)
 unnamed_barred (Ask ls) j n earlier cs ending answers certificate e b h = ask_unnamed j n ls cs ending answers e earlier certificate b h
 unnamed_barred x j n earlier cs ending answers certificate e b h = left_barred [] (accepted x j) (n + 1) cs ending answers b ((command_pending x tt j n earlier cs ending answers certificate e).0 h)
 
-pub command_unnamed : (kind : Kind) (ls : List Literal) (t next : Table) (before behind : List ℕ) (u v : View) (n : ℕ) (after : NamedVars) (why : Why) → ((j : Judge) → NamesStand t.names j → refusal_of j (command_of kind ls) ≡ None)
-    → ((j : Judge) → NamesStand t.names j → MeetsAll (naming_all kind (names_of ls) j) t.variables after u v (Err why)) → ConfirmsNext n (command_of kind ls) t next before behind u v (Err why)
+pub command_unnamed : (kind : Kind) (ls : List Literal) (t next : Table) (before behind : List ℕ) (u v : View) (n : ℕ) (after : NamedVars) (why : Why) → ((j : ScriptState) → NamesHaveState t.names j → refusal_of j (command_of kind ls) ≡ None)
+    → ((j : ScriptState) → NamesHaveState t.names j → MeetsAll (naming_all kind (names_of ls) j) t.variables after u v (Err why)) → ConfirmsNext n (command_of kind ls) t next before behind u v (Err why)
 command_unnamed kind ls t next before behind u v n after why allowed met j earlier s cs ending h =
-    unnamed_barred (command_of kind ls) j n earlier cs ending before u.rest (allowed j s.judged) (subst (Bars earlier u.rest) (naming_is kind ls j) (met j s.judged earlier s.at)) h
+    unnamed_barred (command_of kind ls) j n earlier cs ending before u.rest (allowed j s.judged) (subst (MeetsNoneOf earlier u.rest) (naming_is kind ls j) (met j s.judged earlier s.at)) h
 
-named_on : (kind : Kind) (ls : List Literal) (t next : Table) (u v : View) → MeetsCommandNames kind ls t next u v → (j : Judge) (earlier : List Step) → HoldsAt t u j earlier → GoesOnTo (for_names (command_of kind ls) j) next.variables u earlier v
+named_on : (kind : Kind) (ls : List Literal) (t next : Table) (u v : View) → MeetsCommandNames kind ls t next u v → (j : ScriptState) (earlier : List Step) → HoldsAt t u j earlier → GoesOnTo (for_names (command_of kind ls) j) next.variables u earlier v
 named_on kind ls t next u v named j earlier s = subst (λ (es : List Expected). GoesOnTo es next.variables u earlier v) (naming_is kind ls j) (named.met j s.judged earlier s.at)
 
 -- a command that is no ask
@@ -169,7 +169,7 @@ module _ (kind : Kind) (ls : List Literal) (a : NoAsk (command_of kind ls)) (t n
       let second = met first.later first.stands in
       let left = accepted (command_of kind ls) j in
       let pending = command_pending (command_of kind ls) a j n earlier in
-      let stands : NamesStand next.names left = subst (λ (x : Names). NamesStand x left) (sym same) (left_is kind ls j named.names (is.changes j s.judged)) in
+      let stands : NamesHaveState next.names left = subst (λ (x : Names). NamesHaveState x left) (sym same) (left_is kind ls j named.names (is.changes j s.judged)) in
       confirmed before before u w j left earlier second.later n (command_of kind ls) next (after_accepted j (command_of kind ls) e)
       (record { judged = stands; kept = accepted_kept (command_of kind ls) j e s.kept; at = second.stands })
       (λ cs ending h. left_on [] left (n + 1) cs ending before second.leads
@@ -189,7 +189,7 @@ module _ (kind : Kind) (ls : List Literal) (a : NoAsk (command_of kind ls)) (t n
 -- AN ASK
 
 module _ (ls : List Literal) (t named : Table) (u v : View) (n : ℕ) (is : MeetsCommandNames OfAsk ls t named u v) where
-  first : (j : Judge) (earlier : List Step) → HoldsAt t u j earlier → GoesOnTo (bringing (names_of ls) j) named.variables u earlier v
+  first : (j : ScriptState) (earlier : List Step) → HoldsAt t u j earlier → GoesOnTo (bringing (names_of ls) j) named.variables u earlier v
   first j earlier s = named_on OfAsk ls t named u v is j earlier s
 
   pub ask_without_assumptions : (next : Table) (before behind : List ℕ) (after : NamedVars) (w : View) (why : Why) → MeetsDue (λ o ask. Opens ls o) named.variables after v w (Err why) → ConfirmsNext n (Ask ls) t next before behind u w (Err why)
@@ -198,22 +198,22 @@ module _ (ls : List Literal) (t named : Table) (u v : View) (n : ℕ) (is : Meet
       ask_unopened j n ls cs ending before (is.allowed j s.judged) earlier f.later u.rest v.rest f.leads (λ o. bars f.later f.stands o []) h
 
   module _ (asked : Table) (w : View) (same : named.names ≡ asked.names) (opens : MeetsDue (λ o ask. Opens ls o) named.variables asked.variables v w (Ok tt)) (before : List ℕ) where
-    second : (j : Judge) (earlier : List Step) (s : HoldsAt t u j earlier) → IsDueMet (λ o ask. Opens ls o) asked.variables v (first j earlier s).later w
+    second : (j : ScriptState) (earlier : List Step) (s : HoldsAt t u j earlier) → IsDueMet (λ o ask. Opens ls o) asked.variables v (first j earlier s).later w
     second j earlier s = let f = first j earlier s in opens f.later f.stands
 
-    holds : (j : Judge) (earlier : List Step) (s : HoldsAt t u j earlier) → HoldsAt asked w (accepted (Ask ls) j) (second j earlier s).later
+    holds : (j : ScriptState) (earlier : List Step) (s : HoldsAt t u j earlier) → HoldsAt asked w (accepted (Ask ls) j) (second j earlier s).later
     holds j earlier s =
         let e = is.allowed j s.judged in
         record {
-          judged = subst (λ (x : Names). NamesStand x (accepted (Ask ls) j)) same (left_is OfAsk ls j named.names (is.changes j s.judged));
+          judged = subst (λ (x : Names). NamesHaveState x (accepted (Ask ls) j)) same (left_is OfAsk ls j named.names (is.changes j s.judged));
           kept = accepted_kept (Ask ls) j e s.kept;
           at = (second j earlier s).stands;
         }
 
-    listed : (j : Judge) (earlier : List Step) → HoldsAt t u j earlier → Listed (accepted (Ask ls) j)
+    listed : (j : ScriptState) (earlier : List Step) → HoldsAt t u j earlier → Listed (accepted (Ask ls) j)
     listed j earlier s = let h = holds j earlier s in all_listed asked.names (accepted (Ask ls) j) h.judged h.kept.order
 
-    within : (j : Judge) (earlier : List Step) (s : HoldsAt t u j earlier) → Within (second j earlier s).later
+    within : (j : ScriptState) (earlier : List Step) (s : HoldsAt t u j earlier) → Within (second j earlier s).later
     within j earlier s = let h = holds j earlier s in all_within asked.variables (second j earlier s).later h.at.stand
 
     pub ask_without_answer : (next : Table) (behind : List ℕ) (x : View) (why : Why)
@@ -238,7 +238,7 @@ module _ (ls : List Literal) (t named : Table) (u v : View) (n : ℕ) (is : Meet
           let m = met left h.judged h.kept.order g.later g.stands in
           let more = showing left ls o ++ Closes ∷ [] in
           confirmed before behind u y j left earlier m.later n (Ask ls) next (after_accepted j (Ask ls) e)
-          (record { judged = subst (λ (x : Names). NamesStand x left) (sym kept) h.judged; kept = h.kept; at = m.stands })
+          (record { judged = subst (λ (x : Names). NamesHaveState x left) (sym kept) h.judged; kept = h.kept; at = m.stands })
           (λ cs ending p. left_on [] left (n + 1) cs ending behind m.leads
           (subst (λ (es : List Expected). Rest left (n + 1) g.later es cs ending behind w.rest) (sym (append-nil more))
           (answered_on j n ls cs ending before e earlier f.later u.rest v.rest f.leads g.later w.rest (λ o only. g.leads o [] only) (λ o es m closed. g.alone o [] es m closed) (listed j earlier s) (within j earlier s) o behind q.1 q.0 p)))

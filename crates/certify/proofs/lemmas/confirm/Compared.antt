@@ -7,7 +7,7 @@ use Rattle.sat_base.specs.steps.Steps.{Step, UserVarName, AddClause, Model, Assu
 use Rattle.sat_checker.specs.Accepts.{ready_after}
 use Rattle.sat_checker.specs.Stored.{is_known}
 use Rattle.sat_checker.specs.matching.Expected.{NewName, NoName, Adds, Opens, Shows, Fails, Closes, Finish, EachSpelt, SameSet}
-use Rattle.sat_checker.specs.matching.ProofChecking.{the_checking}
+use Rattle.sat_checker.specs.matching.ProofChecking.{checker_rules}
 use Rattle.certify.specs.answers.AnswerForms.{named_literals}
 use Rattle.certify.specs.confirm.SpeltLiterals.{AllAmong}
 use Rattle.certify.specs.judge.Names.{states_of, used_in}
@@ -24,14 +24,14 @@ vars known = variable_in known.variables.now
 
 module _ (known : Known) (step : Step) where
   pub new_name_fits : (name v : ℕ) → step ≡ UserVarName v (Some name) → ((earlier : List Step) → AreKnown known earlier → is_known v (ready_after earlier) ≡ false) → Compares (λ o ask. NewName (name + 1)) known step None
-  new_name_fits name v e unknown earlier k o ask = (fits_new_name the_checking earlier (name + 1) step).1 (v, name, e, refl, unknown earlier k)
+  new_name_fits name v e unknown earlier k o ask = (fits_new_name checker_rules earlier (name + 1) step).1 (v, name, e, refl, unknown earlier k)
 
   pub no_name_fits : (name v : ℕ) → step ≡ UserVarName v None → vars known (name + 1) ≡ Some v → Compares (λ o ask. NoName (name + 1)) known step None
-  no_name_fits name v e at earlier k o ask = (fits_no_name the_checking earlier (name + 1) step).1 (v, e, ap (λ (f : ℕ → Option ℕ). f (name + 1)) k.named ∙ at)
+  no_name_fits name v e at earlier k o ask = (fits_no_name checker_rules earlier (name + 1) step).1 (v, e, ap (λ (f : ℕ → Option ℕ). f (name + 1)) k.named ∙ at)
 
   pub no_name_differs : (name v : ℕ) (why : Why) → step ≡ UserVarName v None → (vars known (name + 1) ≡ Some v → ⊥) → Compares (λ o ask. NoName (name + 1)) known step (Some why)
   no_name_differs name v why e differ earlier k o ask f =
-      let p = (fits_no_name the_checking earlier (name + 1) step).0 f in
+      let p = (fits_no_name checker_rules earlier (name + 1) step).0 f in
       let same : UserVarName v None ≡ UserVarName p.0 None = sym e ∙ p.1 in
       let v_is : v ≡ p.0 = cc in
       differ (sym (ap (λ (f : ℕ → Option ℕ). f (name + 1)) k.named) ∙ p.2 ∙ ap Some (sym v_is))
@@ -42,9 +42,9 @@ module _ (known : Known) (step : Step) where
     clause_told e = subst (Compares (λ o ask. Adds (named_literals ls)) known step) (sym is) (go same told)
       where
         go : (b : Bool) → MatchBool b (SameSet (vars known) (named_literals ls) codes) (SameSet (vars known) (named_literals ls) codes → ⊥) → Compares (λ o ask. Adds (named_literals ls)) known step (cond b None (Some why))
-        go true s = λ earlier k o ask. (fits_adds the_checking earlier (named_literals ls) step).1 (codes, e, subst (λ (f : ℕ → Option ℕ). SameSet f (named_literals ls) codes) (sym k.named) s)
+        go true s = λ earlier k o ask. (fits_adds checker_rules earlier (named_literals ls) step).1 (codes, e, subst (λ (f : ℕ → Option ℕ). SameSet f (named_literals ls) codes) (sym k.named) s)
         go false n = λ earlier k o ask f.
-            let p = (fits_adds the_checking earlier (named_literals ls) step).0 f in
+            let p = (fits_adds checker_rules earlier (named_literals ls) step).0 f in
             let at : AddClause codes ≡ AddClause p.0 = sym e ∙ p.1 in
             let codes_are : p.0 ≡ codes = cc in
             n (subst (λ (cs : List ℕ). SameSet (vars known) (named_literals ls) cs) codes_are (subst (λ (f : ℕ → Option ℕ). SameSet f (named_literals ls) p.0) k.named p.2))
@@ -53,9 +53,9 @@ module _ (known : Known) (step : Step) where
     ask_told e = subst (Compares (λ o ask. Opens (named_literals ls) o) known step) (sym is) (go same told)
       where
         go : (b : Bool) → MatchBool b (SameSet (vars known) (named_literals ls) codes) (SameSet (vars known) (named_literals ls) codes → ⊥) → Compares (λ o ask. Opens (named_literals ls) o) known step (cond b None (Some why))
-        go true s = λ earlier k o ask. (fits_opens the_checking earlier (named_literals ls) o step).1 (codes, e, subst (λ (f : ℕ → Option ℕ). SameSet f (named_literals ls) codes) (sym k.named) s)
+        go true s = λ earlier k o ask. (fits_opens checker_rules earlier (named_literals ls) o step).1 (codes, e, subst (λ (f : ℕ → Option ℕ). SameSet f (named_literals ls) codes) (sym k.named) s)
         go false n = λ earlier k o ask f.
-            let p = (fits_opens the_checking earlier (named_literals ls) o step).0 f in
+            let p = (fits_opens checker_rules earlier (named_literals ls) o step).0 f in
             let at : Assumptions codes ≡ Assumptions p.0 = sym e ∙ p.1 in
             let codes_are : p.0 ≡ codes = cc in
             n (subst (λ (cs : List ℕ). SameSet (vars known) (named_literals ls) cs) codes_are (subst (λ (f : ℕ → Option ℕ). SameSet f (named_literals ls) p.0) k.named p.2))
@@ -64,17 +64,17 @@ module _ (known : Known) (step : Step) where
     core_told hashes e = subst (Compares (λ o ask. Fails ask (named_literals ls)) known step) (sym is) (go same told)
       where
         go : (b : Bool) → MatchBool b (SameSet (vars known) (named_literals ls) codes) (SameSet (vars known) (named_literals ls) codes → ⊥) → Compares (λ o ask. Fails ask (named_literals ls)) known step (cond b None (Some why))
-        go true s = λ earlier k o ask. (fits_fails the_checking earlier ask (named_literals ls) step).1 (codes, hashes, e, subst (λ (f : ℕ → Option ℕ). SameSet f (named_literals ls) codes) (sym k.named) s)
+        go true s = λ earlier k o ask. (fits_fails checker_rules earlier ask (named_literals ls) step).1 (codes, hashes, e, subst (λ (f : ℕ → Option ℕ). SameSet f (named_literals ls) codes) (sym k.named) s)
         go false n = λ earlier k o ask f.
-            let p = (fits_fails the_checking earlier ask (named_literals ls) step).0 f in
+            let p = (fits_fails checker_rules earlier ask (named_literals ls) step).0 f in
             let at : FailedAssumptions codes hashes ≡ FailedAssumptions p.0 p.1 = sym e ∙ p.2 in
             let codes_are : p.0 ≡ codes = cc in
             n (subst (λ (cs : List ℕ). SameSet (vars known) (named_literals ls) cs) codes_are (subst (λ (f : ℕ → Option ℕ). SameSet f (named_literals ls) p.0) k.named p.3))
 
 -- what is looked up of the model that a step is
-pub line_told : (known : Known) (step : Step) (line codes : List ℕ) (shown : Bool) (why : Why) (r : Option Why) → r ≡ cond shown None (Some why) → step ≡ Model codes
+pub line_reported : (known : Known) (step : Step) (line codes : List ℕ) (shown : Bool) (why : Why) (r : Option Why) → r ≡ cond shown None (Some why) → step ≡ Model codes
     → MatchBool shown (EachSpelt (vars known) (named_literals line) codes) (EachSpelt (vars known) (named_literals line) codes → ⊥) → ComparesLine known line step r
-line_told known step line codes shown why r is e told = subst (ComparesLine known line step) (sym is) (go shown told)
+line_reported known step line codes shown why r is e told = subst (ComparesLine known line step) (sym is) (go shown told)
   where
     go : (b : Bool) → MatchBool b (EachSpelt (vars known) (named_literals line) codes) (EachSpelt (vars known) (named_literals line) codes → ⊥) → ComparesLine known line step (cond b None (Some why))
     go true s = (codes, e, s)
@@ -88,31 +88,31 @@ pub model_unlisted : (known : Known) (step : Step) (names : Names) (ask line : L
     → ((names_of (named_literals line) ≡ used_in (states_of names)) × AllAmong ask line → ⊥)
     → Compares (λ o _. Shows (used_in (states_of names)) (named_literals ask) (named_literals line)) known step (Some why)
 model_unlisted known step names ask line why none earlier k o _ f =
-    let p = (fits_shows the_checking earlier (used_in (states_of names)) (named_literals ask) (named_literals line) step).0 f in
+    let p = (fits_shows checker_rules earlier (used_in (states_of names)) (named_literals ask) (named_literals line) step).0 f in
     none (p.2, named_each ask line p.4)
 
-pub model_told : (known : Known) (step : Step) (names : Names) (ask line : List ℕ) (r : Option Why)
+pub model_reported : (known : Known) (step : Step) (names : Names) (ask line : List ℕ) (r : Option Why)
     → (names_of (named_literals line) ≡ used_in (states_of names)) → AllAmong ask line → ComparesLine known line step r
     → Compares (λ o _. Shows (used_in (states_of names)) (named_literals ask) (named_literals line)) known step r
-model_told known step names ask line None listed has c = λ earlier k o _.
-    (fits_shows the_checking earlier (used_in (states_of names)) (named_literals ask) (named_literals line) step).1
+model_reported known step names ask line None listed has c = λ earlier k o _.
+    (fits_shows checker_rules earlier (used_in (states_of names)) (named_literals ask) (named_literals line) step).1
     (c.0, c.1, listed, subst (λ (f : ℕ → Option ℕ). EachSpelt f (named_literals line) c.0) (sym k.named) c.2, each_named ask line has)
-model_told known step names ask line (Some why) listed has c = λ earlier k o _ f.
-    let p = (fits_shows the_checking earlier (used_in (states_of names)) (named_literals ask) (named_literals line) step).0 f in
+model_reported known step names ask line (Some why) listed has c = λ earlier k o _ f.
+    let p = (fits_shows checker_rules earlier (used_in (states_of names)) (named_literals ask) (named_literals line) step).0 f in
     c p.0 p.1 (subst (λ (f : ℕ → Option ℕ). EachSpelt f (named_literals line) p.0) k.named p.3)
 
 pub close_fits : (known : Known) (step : Step) (codes : List ℕ) → step ≡ Assumptions codes → codes ≡ [] → Compares (λ o ask. Closes) known step None
-close_fits known step codes e none earlier k o ask = (fits_closes the_checking earlier step).1 (e ∙ ap Assumptions none)
+close_fits known step codes e none earlier k o ask = (fits_closes checker_rules earlier step).1 (e ∙ ap Assumptions none)
 
 pub close_differs : (known : Known) (step : Step) (codes : List ℕ) (why : Why) → step ≡ Assumptions codes → (codes ≡ [] → ⊥) → Compares (λ o ask. Closes) known step (Some why)
 close_differs known step codes why e some earlier k o ask f =
-    let p = (fits_closes the_checking earlier step).0 f in
+    let p = (fits_closes checker_rules earlier step).0 f in
     let at : Assumptions codes ≡ Assumptions [] = sym e ∙ p in
     let none : codes ≡ [] = cc in
     some none
 
 pub end_fits : (known : Known) (step : Step) → step ≡ End → Compares (λ o ask. Finish) known step None
-end_fits known step e earlier k o ask = (fits_finish the_checking earlier step).1 e
+end_fits known step e earlier k o ask = (fits_finish checker_rules earlier step).1 e
 
 pub if_ok : {A E : Type 0} (r : Result A E) (P Q : A → Type 0) → ((x : A) → P x → Q x) → IfOk r P → IfOk r Q
 if_ok (Ok x) P Q f p = f x p

@@ -3,7 +3,7 @@ use Rattle.std.proofs.Common.{ℕ, ◌+◌, ◌^◌, ◌<◌, ◌≤◌, ◌≡�
 use Rattle.sat_base.specs.device.Reading.{Source, AtEnd}
 use Rattle.sat_base.specs.script.Script.{Command, Clean, Malformed}
 use Rattle.sat_base.specs.script.Language.{Reading, onto_commands}
-use Rattle.sat_base.specs.script.Judge.{Judge, after_command}
+use Rattle.sat_base.specs.script.ScriptState.{ScriptState, after_command}
 use Rattle.sat_base.specs.steps.Steps.{Step}
 use Rattle.certify.specs.confirm.Streams.{Stream, Confirms, Covers, rest_in}
 use Rattle.certify.specs.confirm.VerdictPromises.{numbers}
@@ -19,7 +19,7 @@ use Rattle.certify.specs.confirm.Stopping.{Any, Joins, script_stop}
 use Rattle.sat_base.specs.declared.device.whole.ReadError.{ReadError}
 use Rattle.sat_base.specs.declared.device.whole.ReadError.TheVariants as errors
 use Rattle.certify.specs.confirm.ConfirmedScript.{ConfirmsScript, ConfirmsThrough, ConfirmPlace}
-use Rattle.certify.specs.script.Ahead.{FaultsAhead, NoReadFailedAhead, TakesSome}
+use Rattle.certify.specs.script.LastPiece.{FaultsAhead, NoReadFailedAhead, TakesSome}
 use Rattle.certify.specs.script.Commands.{HasWhole, ReaderMeans, ReachesCommand, end_reading}
 use Rattle.certify.specs.script.Streaming.{Arrives, NextComes}
 use Rattle.certify.proofs.lemmas.confirm.Streams.{all_over, confirms_none, nothing_behind, says_stop, taken_front}
@@ -61,7 +61,7 @@ through_command n m k script c left t between next p q z u v w e f g j earlier s
 
 -- nothing of what is left can be confirmed
 abbrev Nothing : ℕ → Reading → Table → List ℕ → List ℕ → View → View → Result (Unit {0}) Why → Type 0
-Nothing n script t before behind old new r = (j : Judge) (earlier : List Step) → HoldsAt t old j earlier → ToConfirm j n earlier script.0 script.1 before old.rest → ⊥
+Nothing n script t before behind old new r = (j : ScriptState) (earlier : List Step) → HoldsAt t old j earlier → ToConfirm j n earlier script.0 script.1 before old.rest → ⊥
 
 through_last : (n m : ℕ) (script left : Reading) (t between : Table) (p q z : List ℕ) (u v w : View) (y : Result (Unit {0}) Why) → Through n script t m left between p q u v (Ok tt) → ConfirmsLast m left between q v y → ConfirmsLast n script t p u y
 through_last n m script left t between p q z u v w (Ok x) f g = λ j earlier s. let h = f j earlier s in h.back (g h.judge h.later h.stands)

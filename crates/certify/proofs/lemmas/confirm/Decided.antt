@@ -3,13 +3,13 @@ use Rattle.std.proofs.Common.{ℕ, ◌+◌, ◌-◌, ◌^◌, ◌<◌, ◌≤◌
 use Rattle.std.specs.Prelude.{IfOk}
 use Rattle.sat_base.specs.device.Device.{Reader, GaveEnough, most_reads}
 use Rattle.sat_base.specs.device.Reading.{Source, AtEnd, unread}
-use Rattle.sat_base.specs.script.Judge.{start}
+use Rattle.sat_base.specs.script.ScriptState.{start}
 use Rattle.sat_base.specs.steps.Steps.{Step}
 use Rattle.sat_base.proofs.lemmas.device.Given.{enough_as}
-use Rattle.sat_checker.specs.KernelView.{looks_of}
+use Rattle.sat_checker.specs.KernelView.{kernel_looks}
 use Rattle.sat_checker.specs.ProofView.{most_bytes}
 use Rattle.sat_checker.specs.declared.kernel.Kernel.{Kernel}
-use Rattle.sat_checker.specs.matching.ProofChecking.{the_checking}
+use Rattle.sat_checker.specs.matching.ProofChecking.{checker_rules}
 use Rattle.sat_checker.proofs.lemmas.matching.CheckerIsSound.{the_checking_sound}
 use Rattle.certify.specs.confirm.Matches.{Matches}
 use Rattle.certify.specs.confirm.Streams.{Confirms, Covers, rest_in, seen_in}
@@ -19,9 +19,9 @@ use Rattle.certify.specs.confirm.Walks.{LooksReach, FeedsSomeSteps}
 use Rattle.certify.specs.confirm.Confirming.{ConfirmsLast, HoldsAt, Table}
 use Rattle.certify.specs.confirm.Stopping.{Any}
 use Rattle.certify.specs.confirm.ConfirmedScript.{ConfirmsScript, ConfirmPlace, said_by}
-use Rattle.certify.specs.script.Ahead.{FaultsAhead, NoReadFailedAhead, TakesSome, waiting}
+use Rattle.certify.specs.script.LastPiece.{FaultsAhead, NoReadFailedAhead, TakesSome, waiting_bytes}
 use Rattle.sat_base.specs.script.Language.{reading}
-use Rattle.certify.specs.declared.script.ahead.Ahead.{Ahead}
+use Rattle.certify.specs.declared.script.ahead.LastPiece.{LastPiece}
 use Rattle.certify.specs.declared.confirm.stop.Stop.{Stop}
 use Rattle.certify.specs.declared.confirm.stop.Stop.TheVariants as stop
 use Rattle.certify.specs.declared.verdict.ConfirmFault.{ConfirmFault}
@@ -45,12 +45,12 @@ use Rattle.certify.proofs.lemmas.script.FewCommands.{few_read}
 pub sound_as : {E : Type 0} (r : Result Verdict E) (script answers certificate : Reader × Reader) → IfOk r (Exact script answers certificate) → IfOk r (IsSoundVerdict script answers)
 sound_as (Err e) script answers certificate h = tt
 sound_as (Ok v) script answers certificate h = λ said.
-    enough_as script.0 script.1 (λ s. GaveTextWith answers (λ a. GaveTextWith certificate (λ c. (v ≡ Yes) ↔ Matches the_checking reading s a c))) (λ s. GaveTextWith answers (AreRightAnswers s))
+    enough_as script.0 script.1 (λ s. GaveTextWith answers (λ a. GaveTextWith certificate (λ c. (v ≡ Yes) ↔ Matches checker_rules reading s a c))) (λ s. GaveTextWith answers (AreRightAnswers s))
     (λ s g.
-    enough_as answers.0 answers.1 (λ a. GaveTextWith certificate (λ c. (v ≡ Yes) ↔ Matches the_checking reading s a c)) (AreRightAnswers s)
+    enough_as answers.0 answers.1 (λ a. GaveTextWith certificate (λ c. (v ≡ Yes) ↔ Matches checker_rules reading s a c)) (AreRightAnswers s)
     (λ a k.
-    let m : Matches the_checking reading s a (k.text ++ []) = (k.holds [] (λ called ended. refl)).0 said in
-    right_answers s a m.outcomes m.answered (matching_right the_checking the_checking_sound (reading s).0 m.outcomes m.steps m.match))
+    let m : Matches checker_rules reading s a (k.text ++ []) = (k.holds [] (λ called ended. refl)).0 said in
+    right_answers s a m.outcomes m.answered (matching_right checker_rules the_checking_sound (reading s).0 m.outcomes m.steps m.match))
     g) h
 
 -- HOW EACH READER WAS LEFT
@@ -154,37 +154,37 @@ module _ (x a c : Reader) (checker : Kernel) (step : Step) (table : Table) (fres
   abbrev Sure : Verdict → Type 0
   Sure v = Exact (x, new.script.reader) (a, new.answers.reader) (c, new.certificate.source.reader) v
 
-  matched : (s t u : List ℕ) (v : View) → ConfirmsLast 1 (reading s) table t (record { checker = checker; step = step; rest = u }) (Ok tt) → Matches the_checking reading s t u
+  matched : (s t u : List ℕ) (v : View) → ConfirmsLast 1 (reading s) table t (record { checker = checker; step = step; rest = u }) (Ok tt) → Matches checker_rules reading s t u
   matched s t u v h = (left_begins (reading s).0 (reading s).1 t u).1 (h start [] (fresh u))
 
-  unmatched : (s t u : List ℕ) (why : Why) → ConfirmsLast 1 (reading s) table t (record { checker = checker; step = step; rest = u }) (Err why) → Matches the_checking reading s t u → ⊥
+  unmatched : (s t u : List ℕ) (why : Why) → ConfirmsLast 1 (reading s) table t (record { checker = checker; step = step; rest = u }) (Err why) → Matches checker_rules reading s t u → ⊥
   unmatched s t u why h m = h start [] (fresh u) ((left_begins (reading s).0 (reading s).1 t u).0 m)
 
   yes_exact : ConfirmsScript reading (Ok tt) old new → Sure Yes
   yes_exact e =
-      given x new.script (λ s. GaveTextWith (a, new.answers.reader) (λ t. GaveTextWith (c, new.certificate.source.reader) (λ u. (Yes ≡ Yes) ↔ Matches the_checking reading s t u))) e.0
+      given x new.script (λ s. GaveTextWith (a, new.answers.reader) (λ t. GaveTextWith (c, new.certificate.source.reader) (λ u. (Yes ≡ Yes) ↔ Matches checker_rules reading s t u))) e.0
       (λ total k.
       let s = rest_in total (unread x) in
       let j = e.1 total k in
-      given a new.answers (λ t. GaveTextWith (c, new.certificate.source.reader) (λ u. (Yes ≡ Yes) ↔ Matches the_checking reading s t u)) j.0
+      given a new.answers (λ t. GaveTextWith (c, new.certificate.source.reader) (λ u. (Yes ≡ Yes) ↔ Matches checker_rules reading s t u)) j.0
       (λ all l.
       let t = rest_in all (unread a) in
       let p = j.1 all l in
       let h = moves_halt old.certificate new.certificate (unread_open c) p.0 in
-      gave_enough c new.certificate.source h.0.0 (λ u. (Yes ≡ Yes) ↔ Matches the_checking reading s t u) h.0.1 h.1
+      gave_enough c new.certificate.source h.0.0 (λ u. (Yes ≡ Yes) ↔ Matches checker_rules reading s t u) h.0.1 h.1
       (λ more m. ((λ said. matched s t (rest_in more (unread c)) (seen_in more old.certificate) (p.1 more m)), (λ said. refl)))))
 
   no_exact : (ask : ℕ) (why : Why) → ConfirmsScript reading (Err (stop.No why)) old new → Sure (No ask why)
   no_exact ask why e =
-      given x new.script (λ s. GaveTextWith (a, new.answers.reader) (λ t. GaveTextWith (c, new.certificate.source.reader) (λ u. (No ask why ≡ Yes) ↔ Matches the_checking reading s t u))) e.0
+      given x new.script (λ s. GaveTextWith (a, new.answers.reader) (λ t. GaveTextWith (c, new.certificate.source.reader) (λ u. (No ask why ≡ Yes) ↔ Matches checker_rules reading s t u))) e.0
       (λ total k.
       let s = rest_in total (unread x) in
       let j = e.1 total k in
-      given a new.answers (λ t. GaveTextWith (c, new.certificate.source.reader) (λ u. (No ask why ≡ Yes) ↔ Matches the_checking reading s t u)) j.0
+      given a new.answers (λ t. GaveTextWith (c, new.certificate.source.reader) (λ u. (No ask why ≡ Yes) ↔ Matches checker_rules reading s t u)) j.0
       (λ all l.
       let t = rest_in all (unread a) in
       let p = j.1 all l in
-      gave_enough c new.certificate.source p.0.0.0 (λ u. (No ask why ≡ Yes) ↔ Matches the_checking reading s t u) p.0.0.1 p.0.1
+      gave_enough c new.certificate.source p.0.0.0 (λ u. (No ask why ≡ Yes) ↔ Matches checker_rules reading s t u) p.0.0.1 p.0.1
       (λ more m. ((λ said. absurd (cc)), (λ same. absurd (unmatched s t (rest_in more (unread c)) why (p.1 more m) same))))))
 
   tells : (r : Result (Unit {0}) Stop) (asks : ℕ) → new.script.reads ≤ most_reads → new.certificate.source.reads ≤ most_reads → ConfirmsScript reading r old new → Tells x a c new.script new.answers new.certificate.source (said_by r asks)
@@ -227,29 +227,29 @@ module _ (x a c : Reader) (checker : Kernel) (step : Step) (table : Table) (fres
   certified (Err stop.TooMany) e = (Err stop.OutOfMemory, e.2.1)
   certified (Err z) e = (Err z, e.1.1)
 
-  module _ (none : looks_of checker ≡ 0) where
-    reached_by : (bytes : List ℕ) → FeedsSomeSteps (record { checker = checker; step = step; rest = bytes }) (record { checker = new.certificate.checker; step = new.certificate.step; rest = bytes }) → LooksReach [] bytes 0 (looks_of new.certificate.checker)
-    reached_by bytes h = subst (λ k. LooksReach [] bytes k (looks_of new.certificate.checker)) none (h [] (fresh bytes).at.taken)
+  module _ (none : kernel_looks checker ≡ 0) where
+    reached_by : (bytes : List ℕ) → FeedsSomeSteps (record { checker = checker; step = step; rest = bytes }) (record { checker = new.certificate.checker; step = new.certificate.step; rest = bytes }) → LooksReach [] bytes 0 (kernel_looks new.certificate.checker)
+    reached_by bytes h = subst (λ k. LooksReach [] bytes k (kernel_looks new.certificate.checker)) none (h [] (fresh bytes).at.taken)
 
-    took : (q : Result (Unit {0}) Stop) → Confirms q old.certificate new.certificate Any → TakesLooks c new.certificate.source.reader 0 (looks_of new.certificate.checker)
-    took (Ok u) p = took_looks 0 c new.certificate.source p.0.0 (looks_of new.certificate.checker) p.0.1 (λ total k. reached_by (rest_in total (unread c)) (tries_if true (seen_in total old.certificate) (seen_in total new.certificate) (p.2 total k)))
-    took (Err (stop.No why)) p = took_looks 1 c new.certificate.source p.0.0.0 (looks_of new.certificate.checker) p.0.0.1 (λ total k. reached_by (rest_in total (unread c)) (p.2 total k))
-    took (Err stop.CertificateRead) p = took_faulted c new.certificate.source p.0.0 (looks_of new.certificate.checker) p.0.1 (λ total k. reached_by (rest_in total (unread c)) (p.1 total k))
-    took (Err stop.OutOfMemory) p = took_looks 1 c new.certificate.source p.0.0.0 (looks_of new.certificate.checker) p.0.0.1 (λ total k. reached_by (rest_in total (unread c)) (p.1 total k))
-    took (Err stop.CounterEnd) p = took_looks 1 c new.certificate.source p.0.0.0 (looks_of new.certificate.checker) p.0.0.1 (λ total k. reached_by (rest_in total (unread c)) (p.2 total k))
+    took : (q : Result (Unit {0}) Stop) → Confirms q old.certificate new.certificate Any → TakesLooks c new.certificate.source.reader 0 (kernel_looks new.certificate.checker)
+    took (Ok u) p = took_looks 0 c new.certificate.source p.0.0 (kernel_looks new.certificate.checker) p.0.1 (λ total k. reached_by (rest_in total (unread c)) (tries_if true (seen_in total old.certificate) (seen_in total new.certificate) (p.2 total k)))
+    took (Err (stop.No why)) p = took_looks 1 c new.certificate.source p.0.0.0 (kernel_looks new.certificate.checker) p.0.0.1 (λ total k. reached_by (rest_in total (unread c)) (p.2 total k))
+    took (Err stop.CertificateRead) p = took_faulted c new.certificate.source p.0.0 (kernel_looks new.certificate.checker) p.0.1 (λ total k. reached_by (rest_in total (unread c)) (p.1 total k))
+    took (Err stop.OutOfMemory) p = took_looks 1 c new.certificate.source p.0.0.0 (kernel_looks new.certificate.checker) p.0.0.1 (λ total k. reached_by (rest_in total (unread c)) (p.1 total k))
+    took (Err stop.CounterEnd) p = took_looks 1 c new.certificate.source p.0.0.0 (kernel_looks new.certificate.checker) p.0.0.1 (λ total k. reached_by (rest_in total (unread c)) (p.2 total k))
     took (Err e) p = absurd p
 
     -- added to those of others
-    pub looks_added : (r : Result (Unit {0}) Stop) (before after : ℕ) → after ≡ before + looks_of new.certificate.checker → ConfirmsScript reading r old new → TakesLooks c new.certificate.source.reader before after
+    pub looks_added : (r : Result (Unit {0}) Stop) (before after : ℕ) → after ≡ before + kernel_looks new.certificate.checker → ConfirmsScript reading r old new → TakesLooks c new.certificate.source.reader before after
     looks_added r before after e ends =
         let q = certified r ends in
         let t = took q.0 q.1 in
-        let sum : looks_of new.certificate.checker + before ≡ after = omega (arith, e) in
+        let sum : kernel_looks new.certificate.checker + before ≡ after = omega (arith, e) in
         let zero : 0 + before ≡ before = omega arith in
         takes_looks c new.certificate.source.reader t.text before after t.front (omega (arith, e))
         (λ rest k.
         subst (λ to. LooksReach [] (t.text ++ rest) before to) sum
-        (subst (λ from. LooksReach [] (t.text ++ rest) from (looks_of new.certificate.checker + before)) zero (looks_from before [] (t.text ++ rest) 0 (looks_of new.certificate.checker) (t.reached rest k))))
+        (subst (λ from. LooksReach [] (t.text ++ rest) from (kernel_looks new.certificate.checker + before)) zero (looks_from before [] (t.text ++ rest) 0 (kernel_looks new.certificate.checker) (t.reached rest k))))
 
 -- a confirmation of what three readers give keeps its promises
 pub keeps_promises : (x a c : Reader) (checker : Kernel) (step : Step) (table : Table) (new : ConfirmPlace) → IsBegun checker step table → (r : Result (Unit {0}) Stop) (asks : ℕ) → new.script.reads ≤ most_reads → new.answers.reads ≤ most_reads → new.certificate.source.reads ≤ most_reads
@@ -258,11 +258,11 @@ keeps_promises x a c checker step table new fresh r asks m n k h =
     promised x a c new.script new.answers new.certificate.source (said_by r asks) m n k (tells x a c checker step table fresh new r asks m k h)
 
 -- by how the three are read as it begins
-pub begins : (r : Result (Unit {0}) Stop) (x a c : Reader) (script answers : Ahead) (certificate : Source) (checker : Kernel) (step : Step) (number : ℕ) (table : Table) (new : ConfirmPlace)
-    → waiting script ≡ [] → script.reads ≡ 0 → waiting answers ≡ [] → answers.reads ≡ 0 → certificate ≡ unread c → number ≡ 1
+pub begins : (r : Result (Unit {0}) Stop) (x a c : Reader) (script answers : LastPiece) (certificate : Source) (checker : Kernel) (step : Step) (number : ℕ) (table : Table) (new : ConfirmPlace)
+    → waiting_bytes script ≡ [] → script.reads ≡ 0 → waiting_bytes answers ≡ [] → answers.reads ≡ 0 → certificate ≡ unread c → number ≡ 1
     → ConfirmsScript reading r (record {
-      script = record { reader = x; waiting = waiting script; reads = script.reads; names = [] };
-      answers = record { reader = a; waiting = waiting answers; reads = answers.reads; names = [] };
+      script = record { reader = x; waiting = waiting_bytes script; reads = script.reads; names = [] };
+      answers = record { reader = a; waiting = waiting_bytes answers; reads = answers.reads; names = [] };
       certificate = record { source = certificate; checker = checker; step = step };
       number = number;
       table = table;
@@ -280,5 +280,5 @@ begins r x a c script answers certificate checker step number table new e f g h 
     (subst (λ s. ConfirmsScript reading r (at [] 0 [] 0 s number) new) i
     (subst (λ q. ConfirmsScript reading r (at [] 0 [] q certificate number) new) h
     (subst (λ v. ConfirmsScript reading r (at [] 0 v answers.reads certificate number) new) g
-    (subst (λ p. ConfirmsScript reading r (at [] p (waiting answers) answers.reads certificate number) new) f
-    (subst (λ w. ConfirmsScript reading r (at w script.reads (waiting answers) answers.reads certificate number) new) e ends)))))
+    (subst (λ p. ConfirmsScript reading r (at [] p (waiting_bytes answers) answers.reads certificate number) new) f
+    (subst (λ w. ConfirmsScript reading r (at w script.reads (waiting_bytes answers) answers.reads certificate number) new) e ends)))))

@@ -10,7 +10,7 @@ use Rattle.sat_checker.specs.Stored.{Stored}
 use Rattle.sat_checker.specs.Storing.{clause_with, irredundant_count, redundant_count, settled, settled_by}
 use Rattle.sat_checker.proofs.lemmas.checker.Proofs.{taken_one}
 use Rattle.sat_checker.proofs.lemmas.invariants.FewBytes.{ids_within_bytes, none_is_spent}
-use Rattle.certify.specs.confirm.Walks.{Spends, spent_settling, spent_trying, spent_taking}
+use Rattle.certify.specs.confirm.Walks.{ReachesCounterEnd, spent_settling, spent_trying, spent_taking}
 
 -- a pending unit conflict that is settled raises no count
 settled_clauses : (f : Stored) → (settled f).clauses ≡ f.clauses
@@ -39,7 +39,7 @@ longer text step rest bytes e l =
     let b : length bytes ≡ length step + length rest = ap length e ∙ length-append step rest in
     omega arith
 
-none_spent : (earlier done : List Step) (text bytes : List ℕ) → taken_after done [] ≡ earlier → SpellsSteps done text → length text + length bytes ≤ most_bytes → (IsSpent (ready_after earlier) → ⊥) → Spends earlier bytes → ⊥
+none_spent : (earlier done : List Step) (text bytes : List ℕ) → taken_after done [] ≡ earlier → SpellsSteps done text → length text + length bytes ≤ most_bytes → (IsSpent (ready_after earlier) → ⊥) → ReachesCounterEnd earlier bytes → ⊥
 none_spent earlier done text bytes e s l low (spent_settling h) = low h
 none_spent earlier done text bytes e s l low (spent_trying step behind rest cut spelt h) =
     let few : length (text ++ behind) ≤ most_bytes = let k = longer text behind rest bytes cut l in omega arith in
@@ -54,7 +54,7 @@ none_spent earlier done text bytes e s l low (spent_taking step behind rest cut 
     (λ spent. none_is_spent done step (text ++ behind) more few
     (subst (λ z. SpentBy step (stored_after z)) (sym e) (inr (accepts, spent_before (effect step (ready_after earlier)) (length (text ++ behind)) ids few spent)))) h
 
-pub nothing_spent : (bytes : List ℕ) → length bytes ≤ most_bytes → Spends [] bytes → ⊥
+pub nothing_spent : (bytes : List ℕ) → length bytes ≤ most_bytes → ReachesCounterEnd [] bytes → ⊥
 nothing_spent bytes l = none_spent [] [] [] bytes refl refl (let k : length bytes ≤ most_bytes = l in omega arith) none_begun
   where
     none_begun : IsSpent (ready_after []) → ⊥

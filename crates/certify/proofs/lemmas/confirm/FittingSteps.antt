@@ -4,9 +4,9 @@ use Rattle.std.specs.List.{AllByRecursion}
 use Rattle.sat_base.specs.script.Script.{Literal, names_of, Among}
 use Rattle.sat_base.specs.steps.Steps.{Step, UserVarName, AddClause, Model, Assumptions, FailedAssumptions, End}
 use Rattle.sat_checker.specs.matching.Expected.{Outcome, NewName, NoName, Adds, Opens, Shows, Fails, Closes, Finish, EachSpelt, SameSet, Fits, new_name, no_name, adds, opens, shows, fails, closes, finish}
-use Rattle.sat_checker.specs.matching.Checking.{Checking, variable_of}
+use Rattle.sat_checker.specs.matching.Checking.{CheckerRules, variable_of}
 
-module _ (k : Checking) (earlier : List Step) where
+module _ (k : CheckerRules) (earlier : List Step) where
   to_new_name : {name : ℕ} {step : Step} → Fits (k.knows earlier) earlier (NewName name) step → (v : ℕ) × (index : ℕ) × (step ≡ UserVarName v (Some index)) × (index + 1 ≡ name) × (k.knows earlier v ≡ false)
   to_new_name (new_name {v = v} {index = index} is unknown) = (v, index, refl, is, unknown)
 

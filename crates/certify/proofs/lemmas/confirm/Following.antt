@@ -9,7 +9,7 @@ use Rattle.sat_base.specs.steps.Steps.{Step, SolverVarName, UserVarName, DeleteV
 use Rattle.sat_checker.specs.Accepts.{Accepts, ready_after}
 use Rattle.sat_checker.specs.matching.Checking.{Accepted, is_ordered, is_variable, variable_of}
 use Rattle.sat_checker.specs.matching.Expected.{Outcome, Expected, NewName, NoName, Adds, Opens, Shows, Fails, Closes, Finish, Fits, new_name, no_name, adds, opens, shows, fails, closes, finish}
-use Rattle.sat_checker.specs.matching.ProofChecking.{the_checking}
+use Rattle.sat_checker.specs.matching.ProofChecking.{checker_rules}
 use Rattle.sat_checker.proofs.lemmas.matching.CheckerIsSound.{the_checking_sound}
 use Rattle.certify.specs.confirm.Variables.{PutsVariable}
 use Rattle.certify.specs.confirm.Following.{StandFor, NamesFollow, OthersPass}
@@ -29,7 +29,7 @@ unnamed (UserVarName v name) earlier h = absurd (true≢false h)
 unnamed step earlier h = refl
 
 -- what has a name is known still
-known_still : (earlier : List Step) (step : Step) (m v : ℕ) → Accepted the_checking earlier → Accepts (ready_after earlier) step → variable_of earlier m ≡ Some v → the_checking.knows earlier v ≡ true → the_checking.knows (step ∷ earlier) v ≡ true
+known_still : (earlier : List Step) (step : Step) (m v : ℕ) → Accepted checker_rules earlier → Accepts (ready_after earlier) step → variable_of earlier m ≡ Some v → checker_rules.knows earlier v ≡ true → checker_rules.knows (step ∷ earlier) v ≡ true
 known_still earlier step m v all a e k = elim (the_checking_sound.keeps earlier step v a k) [
   | inl h ↦ h
   | inr d ↦ absurd (the_checking_sound.nameless earlier v m all (subst (λ (s : Step). Accepts (ready_after earlier) s) d a) e)
@@ -51,7 +51,7 @@ others variables earlier step s o a = stays variables earlier step s a (unnamed 
 
 -- A NEW NAME
 module _ (old new : NamedVars) (earlier : List Step) (s : StandFor old earlier) where
-  names_a : (v index : ℕ) → the_checking.knows earlier v ≡ false → Accepts (ready_after earlier) (UserVarName v (Some index)) → index + 1 ≤ var_limit → PutsVariable old new (index + 1) (Some v) → StandFor new (UserVarName v (Some index) ∷ earlier)
+  names_a : (v index : ℕ) → checker_rules.knows earlier v ≡ false → Accepts (ready_after earlier) (UserVarName v (Some index)) → index + 1 ≤ var_limit → PutsVariable old new (index + 1) (Some v) → StandFor new (UserVarName v (Some index) ∷ earlier)
   names_a v index unknown a low p = record {
     accepted = (s.accepted, a);
     named = fun_ext (λ m. ap (λ (o : Option ℕ). cond (eqb (index + 1) m) (Some v) o) (ap (λ (f : ℕ → Option ℕ). f m) s.named) ∙ sym (p.each m));
@@ -61,7 +61,7 @@ module _ (old new : NamedVars) (earlier : List Step) (s : StandFor old earlier) 
   }
     where
       fresh : (n w : ℕ) → v ≡ w → variable_of earlier n ≡ Some w → ⊥
-      fresh n w e x = true≢false (sym (s.known n w x) ∙ subst (λ (z : ℕ). the_checking.knows earlier z ≡ false) e unknown)
+      fresh n w e x = true≢false (sym (s.known n w x) ∙ subst (λ (z : ℕ). checker_rules.knows earlier z ≡ false) e unknown)
 
       alone : (m n w : ℕ) (b : Bool) → eqb (index + 1) m ≡ b → (d : Bool) → eqb (index + 1) n ≡ d → cond b (Some v) (variable_of earlier m) ≡ Some w → cond d (Some v) (variable_of earlier n) ≡ Some w → m ≡ n
       alone m n w true e true g x y = sym (eqb-true (index + 1) m e) ∙ eqb-true (index + 1) n g
@@ -69,8 +69,8 @@ module _ (old new : NamedVars) (earlier : List Step) (s : StandFor old earlier) 
       alone m n w false e true g x y = absurd (fresh m w (one_of y) x)
       alone m n w false e false g x y = s.apart m n w x y
 
-      is_known : (m w : ℕ) (b : Bool) → cond b (Some v) (variable_of earlier m) ≡ Some w → the_checking.knows (UserVarName v (Some index) ∷ earlier) w ≡ true
-      is_known m w true x = subst (λ (z : ℕ). the_checking.knows (UserVarName v (Some index) ∷ earlier) z ≡ true) (one_of x) (the_checking_sound.names earlier v index a)
+      is_known : (m w : ℕ) (b : Bool) → cond b (Some v) (variable_of earlier m) ≡ Some w → checker_rules.knows (UserVarName v (Some index) ∷ earlier) w ≡ true
+      is_known m w true x = subst (λ (z : ℕ). checker_rules.knows (UserVarName v (Some index) ∷ earlier) z ≡ true) (one_of x) (the_checking_sound.names earlier v index a)
       is_known m w false x = known_still earlier (UserVarName v (Some index)) m w s.accepted a x (s.known m w x)
 
       is_few : (m w : ℕ) (b : Bool) → eqb (index + 1) m ≡ b → cond b (Some v) (variable_of earlier m) ≡ Some w → m ≤ var_limit
@@ -108,19 +108,19 @@ module _ (old new : NamedVars) (earlier : List Step) (s : StandFor old earlier) 
           go true x = absurd (none_some x)
           go false x = x
 
-  pub puts_new : (name v : ℕ) (step : Step) → Fits (the_checking.knows earlier) earlier (NewName (name + 1)) step → (u : Option ℕ) → step ≡ UserVarName v u → Accepts (ready_after earlier) step → name < var_limit → PutsVariable old new (name + 1) (Some v) → StandFor new (step ∷ earlier)
+  pub puts_new : (name v : ℕ) (step : Step) → Fits (checker_rules.knows earlier) earlier (NewName (name + 1)) step → (u : Option ℕ) → step ≡ UserVarName v u → Accepts (ready_after earlier) step → name < var_limit → PutsVariable old new (name + 1) (Some v) → StandFor new (step ∷ earlier)
   puts_new name v step f u e a low p =
-      let q = (fits_new_name the_checking earlier (name + 1) step).0 f in
+      let q = (fits_new_name checker_rules earlier (name + 1) step).0 f in
       let index : q.1 ≡ name = let at = q.3 in omega arith in
       let same : UserVarName v u ≡ UserVarName q.0 (Some q.1) = sym e ∙ q.2 in
       let v_is : q.0 ≡ v = cc in
       let whole : step ≡ UserVarName v (Some name) = q.2 ∙ ap (λ (x : ℕ). UserVarName x (Some q.1)) v_is ∙ ap (λ (x : ℕ). UserVarName v (Some x)) index in
       subst (λ (z : Step). StandFor new (z ∷ earlier)) (sym whole)
-      (names_a v name (subst (λ (x : ℕ). the_checking.knows earlier x ≡ false) v_is q.4) (subst (λ (z : Step). Accepts (ready_after earlier) z) whole a) (omega arith) p)
+      (names_a v name (subst (λ (x : ℕ). checker_rules.knows earlier x ≡ false) v_is q.4) (subst (λ (z : Step). Accepts (ready_after earlier) z) whole a) (omega arith) p)
 
-  pub takes_name : (name : ℕ) (step : Step) → Fits (the_checking.knows earlier) earlier (NoName name) step → Accepts (ready_after earlier) step → PutsVariable old new name None → StandFor new (step ∷ earlier)
+  pub takes_name : (name : ℕ) (step : Step) → Fits (checker_rules.knows earlier) earlier (NoName name) step → Accepts (ready_after earlier) step → PutsVariable old new name None → StandFor new (step ∷ earlier)
   takes_name name step f a p =
-      let q = (fits_no_name the_checking earlier name step).0 f in
+      let q = (fits_no_name checker_rules earlier name step).0 f in
       subst (λ (z : Step). StandFor new (z ∷ earlier)) (sym q.1) (takes_a name q.0 q.2 (subst (λ (z : Step). Accepts (ready_after earlier) z) q.1 a) p)
 
 abbrev pub puts_name : Expected → Bool
@@ -129,7 +129,7 @@ puts_name (NoName name) = true
 puts_name e = false
 
 -- another step puts no name
-pub unput : (earlier : List Step) (e : Expected) (step : Step) → Fits (the_checking.knows earlier) earlier e step → (b : Bool) → puts_name e ≡ b → b ≡ false → variable_of (step ∷ earlier) ≡ variable_of earlier
+pub unput : (earlier : List Step) (e : Expected) (step : Step) → Fits (checker_rules.knows earlier) earlier e step → (b : Bool) → puts_name e ≡ b → b ≡ false → variable_of (step ∷ earlier) ≡ variable_of earlier
 unput earlier e step (new_name is unknown) b x y = absurd (true≢false (x ∙ y))
 unput earlier e step (no_name at) b x y = absurd (true≢false (x ∙ y))
 unput earlier e step (adds same) b x y = refl

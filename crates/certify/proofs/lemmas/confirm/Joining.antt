@@ -1,7 +1,7 @@
 -- How calls that read answers and a certificate follow one another.
 use Rattle.std.proofs.Common.{ℕ, Bool, true, false, List, [], ◌++◌, Result, Ok, Err, refl, sym, ◌∙◌, arith}
 use Rattle.std.proofs.lemmas.List.{append-nil}
-use Rattle.sat_base.specs.device.Reading.{Source, AtEnd, PassesBut, Passes}
+use Rattle.sat_base.specs.device.Reading.{Source, AtEnd, ConsumesWithReads, ConsumesBytes}
 use Rattle.sat_base.proofs.lemmas.device.ReadLemmas.{passes_none, passes_more, faults_later}
 use Rattle.certify.specs.confirm.Streams.{Stream, Confirms, Covers, rest_in, seen_in}
 use Rattle.certify.specs.confirm.Views.{View}
@@ -9,13 +9,13 @@ use Rattle.certify.specs.declared.confirm.stop.Stop.{Stop}
 use Rattle.certify.specs.declared.confirm.stop.Stop.TheVariants as stop
 use Rattle.certify.specs.declared.verdict.Why.{Why}
 use Rattle.certify.specs.confirm.Stopping.{Any, Joins, Replies}
-use Rattle.certify.specs.script.Ahead.{FaultsAhead, NoReadFailedAhead, TakesSomeOrEnds, TakesSome}
+use Rattle.certify.specs.script.LastPiece.{FaultsAhead, NoReadFailedAhead, TakesSomeOrEnds, TakesSome}
 use Rattle.certify.proofs.lemmas.confirm.Streams.{confirms_none, confirms_so, confirms_stop, confirms_then, covers_back, moves_halt, stays_open, then_stop}
 use Rattle.certify.proofs.lemmas.confirm.Walks.{tries_none}
 
 -- ONE READER
 
-weaker : (s t : Source) (text : List ℕ) → Passes s t text → PassesBut 1 s t text
+weaker : (s t : Source) (text : List ℕ) → ConsumesBytes s t text → ConsumesWithReads 1 s t text
 weaker s t text p = record {
   fresh = p.fresh;
   gave = p.gave;

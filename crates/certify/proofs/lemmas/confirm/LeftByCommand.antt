@@ -2,40 +2,40 @@
 use Rattle.std.proofs.Common.{ℕ, ◌+◌, ◌≡◌, ◌↔◌, ◌⊎◌, inl, inr, List, [], ◌∷◌, ◌++◌, Option, Some, None, refl, sym, ◌∙◌, ap, subst, append_assoc}
 use Rattle.std.specs.List.{AllByRecursion}
 use Rattle.sat_base.specs.script.Script.{Literal, Command, Ask, ScriptEnding, names_of}
-use Rattle.sat_base.specs.script.Judge.{Judge, Refusal, accepted, accepted_of, refusal_of, start}
+use Rattle.sat_base.specs.script.ScriptState.{ScriptState, Refusal, accepted, accepted_of, refusal_of, start}
 use Rattle.sat_base.specs.steps.Steps.{Step}
 use Rattle.certify.specs.answers.Answers.{answers_from, refused_line, outcome_text, outcomes_left, piece, ending_text}
 use Rattle.sat_checker.specs.matching.Expected.{Outcome, EachSpelt, Expected, Opens, Shows, Fails, Closes, Finish, bringing, showing, expected, shows, fails}
 use Rattle.sat_checker.specs.matching.Checking.{variable_of}
 use Rattle.certify.specs.confirm.Matches.{OneEach, InForm, Meets, cut, other, ordered, MatchesCommands}
 use Rattle.certify.specs.confirm.LeftToMatch.{Left, LeftOfAsk}
-use Rattle.sat_checker.specs.matching.ProofChecking.{the_checking}
-use Rattle.certify.specs.confirm.CertificatePlaces.{CanMeet, MeetsExactly, Bars}
+use Rattle.sat_checker.specs.matching.ProofChecking.{checker_rules}
+use Rattle.certify.specs.confirm.CertificatePlaces.{CanMeet, MeetsExactly, MeetsNoneOf}
 use Rattle.certify.proofs.lemmas.confirm.StepTags.{unordered_names}
 
 -- what is left of the commands from number n on
-abbrev pub Rest : Judge → ℕ → List Step → List Expected → List Command → ScriptEnding → List ℕ → List ℕ → Type 0
-Rest j n earlier pending commands ending answers certificate = Left the_checking j n earlier pending commands ending answers certificate
+abbrev pub Rest : ScriptState → ℕ → List Step → List Expected → List Command → ScriptEnding → List ℕ → List ℕ → Type 0
+Rest j n earlier pending commands ending answers certificate = Left checker_rules j n earlier pending commands ending answers certificate
 
-pub left_begins : (commands : List Command) (ending : ScriptEnding) (answers certificate : List ℕ) → MatchesCommands the_checking commands ending answers certificate ↔ Rest start 1 [] [] commands ending answers certificate
+pub left_begins : (commands : List Command) (ending : ScriptEnding) (answers certificate : List ℕ) → MatchesCommands checker_rules commands ending answers certificate ↔ Rest start 1 [] [] commands ending answers certificate
 left_begins commands ending answers certificate = (
   (λ m. record { outcomes = m.outcomes; answered = m.answered; one_each = m.match.one_each; in_form = m.match.in_form; certified = record { steps = m.steps; text = m.text; rest = m.rest; begins = m.begins; spelt = m.spelt; meets = m.match.meets } }),
   (λ l. let c = l.certified in record { outcomes = l.outcomes; steps = c.steps; text = c.text; rest = c.rest; answered = l.answered; begins = c.begins; spelt = c.spelt; match = record { one_each = l.one_each; in_form = l.in_form; meets = c.meets } }),
 )
 
 -- a refused command takes its line
-pub refused_on : (j : Judge) (n : ℕ) (earlier : List Step) (c : Command) (cs : List Command) (ending : ScriptEnding) (answers certificate : List ℕ) (refusal : Refusal) → refusal_of j c ≡ Some refusal
+pub refused_on : (j : ScriptState) (n : ℕ) (earlier : List Step) (c : Command) (cs : List Command) (ending : ScriptEnding) (answers certificate : List ℕ) (refusal : Refusal) → refusal_of j c ≡ Some refusal
     → Rest j n earlier [] (c ∷ cs) ending answers certificate → (tail : List ℕ) × (answers ≡ refused_line n refusal ++ tail) × Rest j (n + 1) earlier [] cs ending tail certificate
 refused_on j n earlier c cs ending answers certificate refusal e l =
     (answers_from (n + 1) j cs ending l.outcomes, rw e at l.answered, record { outcomes = l.outcomes; answered = refl; one_each = rw e at l.one_each; in_form = l.in_form; certified = rw e at l.certified })
 
-pub refused_back : (j : Judge) (n : ℕ) (earlier : List Step) (c : Command) (cs : List Command) (ending : ScriptEnding) (answers tail certificate : List ℕ) (refusal : Refusal) → refusal_of j c ≡ Some refusal
+pub refused_back : (j : ScriptState) (n : ℕ) (earlier : List Step) (c : Command) (cs : List Command) (ending : ScriptEnding) (answers tail certificate : List ℕ) (refusal : Refusal) → refusal_of j c ≡ Some refusal
     → answers ≡ refused_line n refusal ++ tail → Rest j (n + 1) earlier [] cs ending tail certificate → Rest j n earlier [] (c ∷ cs) ending answers certificate
 refused_back j n earlier c cs ending answers tail certificate refusal e a l =
     record { outcomes = l.outcomes; answered = rw e (a ∙ ap (λ t. refused_line n refusal ++ t) l.answered); one_each = rw e l.one_each; in_form = l.in_form; certified = rw e l.certified }
 
 -- an ask that isn't refused takes an outcome
-module _ (j : Judge) (n : ℕ) (earlier : List Step) (ls : List Literal) (cs : List Command) (ending : ScriptEnding) (answers certificate : List ℕ) where
+module _ (j : ScriptState) (n : ℕ) (earlier : List Step) (ls : List Literal) (cs : List Command) (ending : ScriptEnding) (answers certificate : List ℕ) where
   same : (v : Outcome) (vs : List Outcome) → (bringing (names_of ls) j ++ (Opens ls v ∷ (showing (accepted (Ask ls) j) ls v ++ (Closes ∷ [])))) ++ expected (accepted (Ask ls) j) (accepted_of (accepted (Ask ls) j) cs) vs
       ≡ bringing (names_of ls) j ++ (Opens ls v ∷ (showing (accepted (Ask ls) j) ls v ++ (Closes ∷ expected (accepted (Ask ls) j) (accepted_of (accepted (Ask ls) j) cs) vs)))
   same v vs = append_assoc (bringing (names_of ls) j) (Opens ls v ∷ (showing (accepted (Ask ls) j) ls v ++ (Closes ∷ []))) (expected (accepted (Ask ls) j) (accepted_of (accepted (Ask ls) j) cs) vs)
@@ -44,7 +44,7 @@ module _ (j : Judge) (n : ℕ) (earlier : List Step) (ls : List Literal) (cs : L
   to : (vs : List Outcome) → OneEach (Ask ls ∷ accepted_of (accepted (Ask ls) j) cs) vs → AllByRecursion InForm vs
       → answers ≡ piece n None (Ask ls) vs ++ answers_from (n + 1) (accepted (Ask ls) j) cs ending (outcomes_left None (Ask ls) vs)
       → CanMeet earlier (expected j (Ask ls ∷ accepted_of (accepted (Ask ls) j) cs) vs) certificate
-      → LeftOfAsk the_checking (accepted (Ask ls) j) (n + 1) earlier (bringing (names_of ls) j) ls cs ending answers certificate
+      → LeftOfAsk checker_rules (accepted (Ask ls) j) (n + 1) earlier (bringing (names_of ls) j) ls cs ending answers certificate
   to [] o f a m = absurd o
   to (v ∷ vs) o f a m = record {
     outcome = v;
@@ -54,10 +54,10 @@ module _ (j : Judge) (n : ℕ) (earlier : List Step) (ls : List Literal) (cs : L
     left = record { outcomes = vs; answered = refl; one_each = o; in_form = f.1; certified = subst (λ es. CanMeet earlier es certificate) (sym (same v vs)) m };
   }
 
-  pub ask_on : refusal_of j (Ask ls) ≡ None → Rest j n earlier [] (Ask ls ∷ cs) ending answers certificate → LeftOfAsk the_checking (accepted (Ask ls) j) (n + 1) earlier (bringing (names_of ls) j) ls cs ending answers certificate
+  pub ask_on : refusal_of j (Ask ls) ≡ None → Rest j n earlier [] (Ask ls ∷ cs) ending answers certificate → LeftOfAsk checker_rules (accepted (Ask ls) j) (n + 1) earlier (bringing (names_of ls) j) ls cs ending answers certificate
   ask_on e l = to l.outcomes (rw e at l.one_each) l.in_form (rw e at l.answered) (rw e at l.certified)
 
-  pub ask_back : refusal_of j (Ask ls) ≡ None → LeftOfAsk the_checking (accepted (Ask ls) j) (n + 1) earlier (bringing (names_of ls) j) ls cs ending answers certificate → Rest j n earlier [] (Ask ls ∷ cs) ending answers certificate
+  pub ask_back : refusal_of j (Ask ls) ≡ None → LeftOfAsk checker_rules (accepted (Ask ls) j) (n + 1) earlier (bringing (names_of ls) j) ls cs ending answers certificate → Rest j n earlier [] (Ask ls ∷ cs) ending answers certificate
   ask_back e p =
       let l = p.left in
       record {
@@ -69,37 +69,37 @@ module _ (j : Judge) (n : ℕ) (earlier : List Step) (ls : List Literal) (cs : L
       }
 
 -- what is pending is met on the way
-pub left_on : {earlier later : List Step} {certificate rest : List ℕ} {p : List Expected} (q : List Expected) (j : Judge) (n : ℕ) (cs : List Command) (ending : ScriptEnding) (answers : List ℕ)
+pub left_on : {earlier later : List Step} {certificate rest : List ℕ} {p : List Expected} (q : List Expected) (j : ScriptState) (n : ℕ) (cs : List Command) (ending : ScriptEnding) (answers : List ℕ)
     → MeetsExactly earlier certificate p later rest → Rest j n earlier (p ++ q) cs ending answers certificate → Rest j n later q cs ending answers rest
 left_on {earlier} {later} {certificate} {rest} {p} q j n cs ending answers l m =
     let more = expected j (accepted_of j cs) m.outcomes in
     record { outcomes = m.outcomes; answered = m.answered; one_each = m.one_each; in_form = m.in_form; certified = l.on (q ++ more) (subst (λ es. CanMeet earlier es certificate) (append_assoc p q more) m.certified) }
 
-pub left_back : {earlier later : List Step} {certificate rest : List ℕ} {p : List Expected} (q : List Expected) (j : Judge) (n : ℕ) (cs : List Command) (ending : ScriptEnding) (answers : List ℕ)
+pub left_back : {earlier later : List Step} {certificate rest : List ℕ} {p : List Expected} (q : List Expected) (j : ScriptState) (n : ℕ) (cs : List Command) (ending : ScriptEnding) (answers : List ℕ)
     → MeetsExactly earlier certificate p later rest → Rest j n later q cs ending answers rest → Rest j n earlier (p ++ q) cs ending answers certificate
 left_back {earlier} {later} {certificate} {rest} {p} q j n cs ending answers l m =
     let more = expected j (accepted_of j cs) m.outcomes in
     record { outcomes = m.outcomes; answered = m.answered; one_each = m.one_each; in_form = m.in_form; certified = subst (λ es. CanMeet earlier es certificate) (sym (append_assoc p q more)) (l.back (q ++ more) m.certified) }
 
-pub left_barred : {earlier : List Step} {certificate : List ℕ} {p : List Expected} (q : List Expected) (j : Judge) (n : ℕ) (cs : List Command) (ending : ScriptEnding) (answers : List ℕ)
-    → Bars earlier certificate p → Rest j n earlier (p ++ q) cs ending answers certificate → ⊥
+pub left_barred : {earlier : List Step} {certificate : List ℕ} {p : List Expected} (q : List Expected) (j : ScriptState) (n : ℕ) (cs : List Command) (ending : ScriptEnding) (answers : List ℕ)
+    → MeetsNoneOf earlier certificate p → Rest j n earlier (p ++ q) cs ending answers certificate → ⊥
 left_barred {earlier} {certificate} {p} q j n cs ending answers b m =
     let more = expected j (accepted_of j cs) m.outcomes in
     b.none (q ++ more) (subst (λ es. CanMeet earlier es certificate) (append_assoc p q more) m.certified)
 
 -- no command is left
-pub end_on : (j : Judge) (n : ℕ) (earlier : List Step) (ending : ScriptEnding) (answers certificate : List ℕ) → Rest j n earlier [] [] ending answers certificate → (answers ≡ ending_text n ending) × CanMeet earlier (Finish ∷ []) certificate
+pub end_on : (j : ScriptState) (n : ℕ) (earlier : List Step) (ending : ScriptEnding) (answers certificate : List ℕ) → Rest j n earlier [] [] ending answers certificate → (answers ≡ ending_text n ending) × CanMeet earlier (Finish ∷ []) certificate
 end_on j n earlier ending answers certificate l = go l.outcomes l.one_each l.answered l.certified
   where
     go : (vs : List Outcome) → OneEach [] vs → answers ≡ answers_from n j [] ending vs → CanMeet earlier (expected j [] vs) certificate → (answers ≡ ending_text n ending) × CanMeet earlier (Finish ∷ []) certificate
     go [] o a m = (a, m)
     go (v ∷ vs) o a m = absurd o
 
-pub end_back : (j : Judge) (n : ℕ) (earlier : List Step) (ending : ScriptEnding) (answers certificate : List ℕ) → answers ≡ ending_text n ending → CanMeet earlier (Finish ∷ []) certificate → Rest j n earlier [] [] ending answers certificate
+pub end_back : (j : ScriptState) (n : ℕ) (earlier : List Step) (ending : ScriptEnding) (answers certificate : List ℕ) → answers ≡ ending_text n ending → CanMeet earlier (Finish ∷ []) certificate → Rest j n earlier [] [] ending answers certificate
 end_back j n earlier ending answers certificate a m = record { outcomes = []; answered = a; one_each = tt; in_form = tt; certified = m }
 
 -- what a line of a model lists where it is met
-shown_names : (earlier steps : List Step) (names : List ℕ) (ask line : List Literal) (es : List Expected) → Meets the_checking earlier steps (Shows names ask line ∷ es) → names_of line ≡ names
+shown_names : (earlier steps : List Step) (names : List ℕ) (ask line : List Literal) (es : List Expected) → Meets checker_rules earlier steps (Shows names ask line ∷ es) → names_of line ≡ names
 shown_names earlier steps names ask line es (cut u x) = absurd x.0
 shown_names earlier (step ∷ steps) names ask line es (other u n a m) = shown_names (step ∷ earlier) steps names ask line es m
 shown_names earlier (step ∷ steps) names ask line es (ordered u (shows n s k) a m) = n
@@ -115,7 +115,7 @@ have_variables : (names : ℕ → Option ℕ) (core : List Literal) (codes : Lis
 have_variables names [] codes s = tt
 have_variables names (l ∷ ls) codes s = ((s.0.1.variable, s.0.1.named), have_variables names ls codes s.1)
 
-failed_core : (earlier steps : List Step) (ask core : List Literal) (es : List Expected) → Meets the_checking earlier steps (Fails ask core ∷ es) → (core ≡ []) ⊎ HaveVariables earlier core
+failed_core : (earlier steps : List Step) (ask core : List Literal) (es : List Expected) → Meets checker_rules earlier steps (Fails ask core ∷ es) → (core ≡ []) ⊎ HaveVariables earlier core
 failed_core earlier steps ask core es (cut u x) = inl x.0
 failed_core earlier (step ∷ steps) ask core es (other u n a m) =
     elim (failed_core (step ∷ earlier) steps ask core es m) [

@@ -2,22 +2,22 @@
 use Rattle.std.proofs.Common.{ℕ, ◌+◌, ◌%◌, ◌^◌, ◌<◌, ◌≤◌, ◌≡◌, ◌⊎◌, inl, inr, Bool, true, false, cond, List, [], ◌∷◌, ◌++◌, decimal, get_or, length, take, drop, Result, Ok, Err, refl, sym, ◌∙◌, ap, subst, append_assoc, arith}
 use Rattle.std.proofs.lemmas.Fmt.{decimal_by_steps}
 use Rattle.std.proofs.lemmas.List.{append-nil, drop_all, take_all, take_more, take-append-drop}
-use Rattle.sat_base.specs.device.Reading.{Source, AtEnd, Passes}
+use Rattle.sat_base.specs.device.Reading.{Source, AtEnd, ConsumesBytes}
 use Rattle.sat_base.proofs.lemmas.device.ReadLemmas.{ends_there, gave_nothing, gave_some, passes_more}
 use Rattle.sat_base.specs.declared.device.whole.ReadError.{ReadError}
 use Rattle.sat_base.specs.declared.device.whole.ReadError.TheVariants as errors
 use Rattle.sat_base.specs.values.Literals.{var_limit}
 use Rattle.sat_base.specs.script.Script.{Literal}
-use Rattle.sat_base.specs.script.Judge.{Refusal, PastLimit, WitnessName}
+use Rattle.sat_base.specs.script.ScriptState.{Refusal, PastLimit, WitnessName}
 use Rattle.sat_checker.specs.matching.Expected.{Outcome, Sat, Unsat}
 use Rattle.certify.specs.answers.Answers.{outcome_text, refused_line, refusal_text, malformed_line, literals_text, word_of}
 use Rattle.certify.specs.answers.AnswerForms.{HaveNames, IsInForm, named_literals}
-use Rattle.certify.specs.answers.AnswerReading.{HasLine, NoKind, NoLine, StartsNoKind, StartsNoLine, first_line, second_line, outcome_of}
+use Rattle.certify.specs.answers.AnswerReading.{HasLine, NoKind, NoLine, StartsNoKind, StartsNoLine, first_answer_line, second_line, outcome_of}
 use Rattle.certify.specs.confirm.Lines.{TakesDueLine, stop_after}
 use Rattle.certify.specs.confirm.Streams.{Covers, rest_in}
 use Rattle.certify.specs.confirm.Stopping.{Replies, SaysSo, answers_stop}
-use Rattle.certify.specs.confirm.Lines.{EndsPart, GoesUpToLine, HasNoLf, IsOneLine, IsNextLine, IsReply, IsWantedLine, IsWrong, NextLine, ReadsFirst, ReadsLine, ReadsSecond, StartsNone}
-use Rattle.certify.specs.script.Ahead.{NoReadFailedAhead, Refills, TakesSome}
+use Rattle.certify.specs.confirm.Lines.{EndsPart, GoesUpToLine, HasNoLf, IsOneLine, IsNextLine, IsReply, IsWantedLine, IsWrong, NextLine, ReadsFirst, ReadsLineOfKind, ReadsSecond, StartsNone}
+use Rattle.certify.specs.script.LastPiece.{NoReadFailedAhead, RefillsAhead, TakesSome}
 use Rattle.certify.specs.declared.answers.read.AnswerFault.{AnswerFault}
 use Rattle.certify.specs.declared.answers.read.AnswerFault.TheVariants as fault
 use Rattle.certify.specs.declared.answers.read.AnswerKind.{AnswerKind}
@@ -29,7 +29,7 @@ use Rattle.certify.specs.declared.confirm.lines.Wanted.TheVariants as wanted
 use Rattle.certify.specs.declared.verdict.Why.{Why}
 use Rattle.certify.proofs.lemmas.answers.AnswerLines.{lines_of, same_kind, printed}
 use Rattle.certify.proofs.lemmas.confirm.Streams.{all_over, nothing_behind, taken_front}
-use Rattle.certify.proofs.lemmas.laws.TellingTexts.{same_outcome}
+use Rattle.certify.proofs.lemmas.laws.DistinctTexts.{same_outcome}
 use Rattle.certify.proofs.lemmas.confirm.Joining.{failed_then, replies_no, replies_stop, replies_then, took_halted, took_kept, took_none}
 
 -- WHERE A LINE ENDS
@@ -102,7 +102,7 @@ malformed_is_line k low =
     (line_more 102 _ (above 102 (omega arith)) (line_more 111 _ (above 111 (omega arith)) (line_more 114 _ (above 114 (omega arith)) (line_more 109 _ (above 109 (omega arith)) (line_more 101 _ (above 101 (omega arith))
     (line_more 100 _ (above 100 (omega arith)) (line_more 32 _ (above 32 (omega arith)) (number_line k (10 ∷ []) low line_end))))))))))))
 
-first_is_line : (k : AnswerKind) → IsOneLine (first_line k)
+first_is_line : (k : AnswerKind) → IsOneLine (first_answer_line k)
 first_is_line kind.Sat = line_more 115 _ (above 115 (omega arith)) (line_more 32 _ (above 32 (omega arith)) (line_more 83 _ (above 83 (omega arith)) (line_more 65 _ (above 65 (omega arith)) (line_more 84 _ (above 84 (omega arith)) (line_more 73 _ (above 73 (omega arith)) (line_more 83 _ (above 83 (omega arith)) (line_more 70 _ (above 70 (omega arith)) (line_more 73 _ (above 73 (omega arith)) (line_more 65 _ (above 65 (omega arith)) (line_more 66 _ (above 66 (omega arith)) (line_more 76 _ (above 76 (omega arith)) (line_more 69 _ (above 69 (omega arith)) line_end))))))))))))
 first_is_line kind.Unsat = line_more 115 _ (above 115 (omega arith)) (line_more 32 _ (above 32 (omega arith)) (line_more 85 _ (above 85 (omega arith)) (line_more 78 _ (above 78 (omega arith)) (line_more 83 _ (above 83 (omega arith)) (line_more 65 _ (above 65 (omega arith)) (line_more 84 _ (above 84 (omega arith)) (line_more 73 _ (above 73 (omega arith)) (line_more 83 _ (above 83 (omega arith)) (line_more 70 _ (above 70 (omega arith)) (line_more 73 _ (above 73 (omega arith)) (line_more 65 _ (above 65 (omega arith)) (line_more 66 _ (above 66 (omega arith)) (line_more 76 _ (above 76 (omega arith)) (line_more 69 _ (above 69 (omega arith)) line_end))))))))))))))
 first_is_line kind.Unknown = line_more 115 _ (above 115 (omega arith)) (line_more 32 _ (above 32 (omega arith)) (line_more 85 _ (above 85 (omega arith)) (line_more 78 _ (above 78 (omega arith)) (line_more 75 _ (above 75 (omega arith)) (line_more 78 _ (above 78 (omega arith)) (line_more 79 _ (above 79 (omega arith)) (line_more 87 _ (above 87 (omega arith)) (line_more 78 _ (above 78 (omega arith)) line_end))))))))
@@ -180,16 +180,16 @@ module _ (P : List ℕ → Type 0) (a b : Source) (line : List ℕ) (open_yet : 
   due_differs due why right d differ h = (line_halts h, λ total c tail e. differ (the_line P line (rest_in total a) (rest_in total b) due tail right d (first_of P a b line total c h) e).0)
 
   -- AN ANSWER'S FIRST LINE
-  pub kind_read : (k : AnswerKind) (behind : List ℕ) → line ≡ first_line k ++ behind → IsNextLine P a b line → Replies true (Ok k) a b ReadsFirst
-  kind_read k behind e h = line_taken (first_line k) behind (first_is_line k) e h
+  pub kind_read : (k : AnswerKind) (behind : List ℕ) → line ≡ first_answer_line k ++ behind → IsNextLine P a b line → Replies true (Ok k) a b ReadsFirst
+  kind_read k behind e h = line_taken (first_answer_line k) behind (first_is_line k) e h
 
-  pub kind_differs : ((k : AnswerKind) → P (first_line k)) → (w : AnswerFault) → NoKind line w → IsNextLine P a b line → Replies {A = AnswerKind} true (Err (stop_after w)) a b ReadsFirst
+  pub kind_differs : ((k : AnswerKind) → P (first_answer_line k)) → (w : AnswerFault) → NoKind line w → IsNextLine P a b line → Replies {A = AnswerKind} true (Err (stop_after w)) a b ReadsFirst
   kind_differs right fault.Missing n h = (line_halts h, none)
     where
       none : (total : List ℕ) → Covers b total → (o : Outcome) (tail : List ℕ) → rest_in total a ≡ outcome_text o ++ tail → ⊥
       none total c o tail e =
           let l = lines_of o tail (rest_in total a) e in
-          let same = (the_line P line (rest_in total a) (rest_in total b) (first_line l.kind) (second_line o ++ tail) (right l.kind) (first_is_line l.kind) (first_of P a b line total c h) l.text).0 in
+          let same = (the_line P line (rest_in total a) (rest_in total b) (first_answer_line l.kind) (second_line o ++ tail) (right l.kind) (first_is_line l.kind) (first_of P a b line total c h) l.text).0 in
           let t = first_is_line l.kind in
           no_lf_in [] t.front [] tt (sym n ∙ same ∙ t.whole)
   kind_differs right fault.Text n h = (line_halts h, none)
@@ -197,8 +197,8 @@ module _ (P : List ℕ → Type 0) (a b : Source) (line : List ℕ) (open_yet : 
       none : (total : List ℕ) → Covers b total → (o : Outcome) (tail : List ℕ) → rest_in total a ≡ outcome_text o ++ tail → ⊥
       none total c o tail e =
           let l = lines_of o tail (rest_in total a) e in
-          let same = (the_line P line (rest_in total a) (rest_in total b) (first_line l.kind) (second_line o ++ tail) (right l.kind) (first_is_line l.kind) (first_of P a b line total c h) l.text).0 in
-          n.1 l.kind [] (same ∙ sym (append-nil (first_line l.kind)))
+          let same = (the_line P line (rest_in total a) (rest_in total b) (first_answer_line l.kind) (second_line o ++ tail) (right l.kind) (first_is_line l.kind) (first_of P a b line total c h) l.text).0 in
+          n.1 l.kind [] (same ∙ sym (append-nil (first_answer_line l.kind)))
   kind_differs right fault.OutOfMemory n h = absurd n
 
   -- ITS SECOND LINE
@@ -247,13 +247,13 @@ module _ (P : List ℕ → Type 0) (a b : Source) (line : List ℕ) (open_yet : 
 
 -- WHOLE ANSWERS
 
-first_then : (k : AnswerKind) (ls : List Literal) (p q s : List ℕ) → p ≡ first_line k ++ q → q ≡ second_line (outcome_of k ls) ++ s → p ≡ outcome_text (outcome_of k ls) ++ s
-first_then kind.Sat ls p q s e f = e ∙ ap (λ (z : List ℕ). first_line kind.Sat ++ z) f ∙ sym (append_assoc (first_line kind.Sat) (second_line (Sat ls)) s)
-first_then kind.Unsat ls p q s e f = e ∙ ap (λ (z : List ℕ). first_line kind.Unsat ++ z) f ∙ sym (append_assoc (first_line kind.Unsat) (second_line (Unsat ls)) s)
-first_then kind.Unknown ls p q s e f = e ∙ ap (λ (z : List ℕ). first_line kind.Unknown ++ z) f
+first_then : (k : AnswerKind) (ls : List Literal) (p q s : List ℕ) → p ≡ first_answer_line k ++ q → q ≡ second_line (outcome_of k ls) ++ s → p ≡ outcome_text (outcome_of k ls) ++ s
+first_then kind.Sat ls p q s e f = e ∙ ap (λ (z : List ℕ). first_answer_line kind.Sat ++ z) f ∙ sym (append_assoc (first_answer_line kind.Sat) (second_line (Sat ls)) s)
+first_then kind.Unsat ls p q s e f = e ∙ ap (λ (z : List ℕ). first_answer_line kind.Unsat ++ z) f ∙ sym (append_assoc (first_answer_line kind.Unsat) (second_line (Unsat ls)) s)
+first_then kind.Unknown ls p q s e f = e ∙ ap (λ (z : List ℕ). first_answer_line kind.Unknown ++ z) f
 
 -- another outcome stands there than the only one
-pub not_alone : (k : AnswerKind) (p q : List ℕ) → (k ≡ kind.Unsat → ⊥) → p ≡ first_line k ++ q → (o : Outcome) (tail : List ℕ) → o ≡ Unsat [] → p ≡ outcome_text o ++ tail → ⊥
+pub not_alone : (k : AnswerKind) (p q : List ℕ) → (k ≡ kind.Unsat → ⊥) → p ≡ first_answer_line k ++ q → (o : Outcome) (tail : List ℕ) → o ≡ Unsat [] → p ≡ outcome_text o ++ tail → ⊥
 not_alone k p q u e o tail is f =
     let l = lines_of o tail p f in
     let s = same_kind k l.kind q (second_line o ++ tail) (sym e ∙ l.text) in
@@ -264,7 +264,7 @@ not_alone k p q u e o tail is f =
     go kind.Unsat line e = refl
     go kind.Unknown line e = absurd (cc)
 
-pub no_second : (k : AnswerKind) (p q : List ℕ) → p ≡ first_line k ++ q → ((ls : List Literal) (tail : List ℕ) → IsInForm (outcome_of k ls) → q ≡ second_line (outcome_of k ls) ++ tail → ⊥)
+pub no_second : (k : AnswerKind) (p q : List ℕ) → p ≡ first_answer_line k ++ q → ((ls : List Literal) (tail : List ℕ) → IsInForm (outcome_of k ls) → q ≡ second_line (outcome_of k ls) ++ tail → ⊥)
     → (o : Outcome) (tail : List ℕ) → IsInForm o → p ≡ outcome_text o ++ tail → ⊥
 no_second k p q e none o tail form f =
     let l = lines_of o tail p f in
@@ -272,11 +272,11 @@ no_second k p q e none o tail form f =
     let is : outcome_of k l.line ≡ o = ap (λ (m : AnswerKind). outcome_of m l.line) s.0 ∙ l.is in
     none l.line tail (subst IsInForm (sym is) form) (s.1 ∙ ap (λ (v : Outcome). second_line v ++ tail) (sym is))
 
-pub whole_answer : (k : AnswerKind) (ls : List Literal) (p q s : List ℕ) → p ≡ first_line k ++ q → ReadsSecond k ls q s (Ok tt) → (p ≡ outcome_text (outcome_of k ls) ++ s) × IsInForm (outcome_of k ls)
+pub whole_answer : (k : AnswerKind) (ls : List Literal) (p q s : List ℕ) → p ≡ first_answer_line k ++ q → ReadsSecond k ls q s (Ok tt) → (p ≡ outcome_text (outcome_of k ls) ++ s) × IsInForm (outcome_of k ls)
 whole_answer k ls p q s e f = (first_then k ls p q s e f.0, f.1)
 
 -- literals where the only answer has none
-pub not_empty : (k : AnswerKind) (ls : List Literal) (p q s : List ℕ) → (ls ≡ [] → ⊥) → p ≡ first_line k ++ q → ReadsSecond k ls q s (Ok tt) → (o : Outcome) (tail : List ℕ) → o ≡ Unsat [] → p ≡ outcome_text o ++ tail → ⊥
+pub not_empty : (k : AnswerKind) (ls : List Literal) (p q s : List ℕ) → (ls ≡ [] → ⊥) → p ≡ first_answer_line k ++ q → ReadsSecond k ls q s (Ok tt) → (o : Outcome) (tail : List ℕ) → o ≡ Unsat [] → p ≡ outcome_text o ++ tail → ⊥
 not_empty k ls p q s some e f o tail is g =
     let w = whole_answer k ls p q s e f in
     let same = same_outcome (outcome_of k ls) o s tail (printed (outcome_of k ls) w.1) (printed o (subst IsInForm (sym is) (tt, tt))) (sym w.0 ∙ g) in
@@ -319,7 +319,7 @@ line_stops F goes stop.OutOfMemory a b line P h = h
 line_stops F goes e a b line P h = absurd h
 
 -- nor read as an answer's
-pub line_unread : (F : List ℕ → Type 0) (e : ReadError) (a b : Source) (line : List ℕ) → ReadsLine F (Err e) a b line → NextLine F (Err (answers_stop e)) a b line
+pub line_unread : (F : List ℕ → Type 0) (e : ReadError) (a b : Source) (line : List ℕ) → ReadsLineOfKind F (Err e) a b line → NextLine F (Err (answers_stop e)) a b line
 line_unread F errors.Failed a b line h = h
 line_unread F errors.OutOfMemory a b line h = h
 
@@ -334,20 +334,20 @@ line_part false bytes w v count e d h =
     let over : length w ≤ count = let l : length bytes ≡ length w = ap length e in omega (arith, h.0) in
     (parts bytes w v count e d, (subst HasNoLf (sym all) h.1, d ∙ drop_all count w over))
 
-module _ (a b c : Source) (before text line : List ℕ) (p : Passes a b before) (none : HasNoLf before) (is : line ≡ before ++ text) where
-  pub line_came : (F : List ℕ → Type 0) → Passes b c text → IsOneLine text → IsNextLine F a c line
-  line_came F q l = inl (subst (Passes a c) (sym is) (passes_more a b c before text p q), subst IsOneLine (sym is) (line_on before text none l))
+module _ (a b c : Source) (before text line : List ℕ) (p : ConsumesBytes a b before) (none : HasNoLf before) (is : line ≡ before ++ text) where
+  pub line_came : (F : List ℕ → Type 0) → ConsumesBytes b c text → IsOneLine text → IsNextLine F a c line
+  line_came F q l = inl (subst (ConsumesBytes a c) (sym is) (passes_more a b c before text p q), subst IsOneLine (sym is) (line_on before text none l))
 
-  pub part_came : Passes b c text → HasNoLf text → Passes a c line × HasNoLf line
-  part_came q n = (subst (Passes a c) (sym is) (passes_more a b c before text p q), subst HasNoLf (sym is) (no_lf_append before text none n))
+  pub part_came : ConsumesBytes b c text → HasNoLf text → ConsumesBytes a c line × HasNoLf line
+  part_came q n = (subst (ConsumesBytes a c) (sym is) (passes_more a b c before text p q), subst HasNoLf (sym is) (no_lf_append before text none n))
 
-pub line_ends : (F : List ℕ → Type 0) (a b c : Source) (line : List ℕ) (count : ℕ) → Passes a b line → HasNoLf line → count ≡ 0 → Refills (Ok count) b c → IsNextLine F a c line
+pub line_ends : (F : List ℕ → Type 0) (a b c : Source) (line : List ℕ) (count : ℕ) → ConsumesBytes a b line → HasNoLf line → count ≡ 0 → RefillsAhead (Ok count) b c → IsNextLine F a c line
 line_ends F a b c line count p none zero h = inr (inl (ends_there a b c line p (gave_nothing count b c zero h.0, h.1 zero), none))
 
-pub line_goes : (a b c : Source) (line : List ℕ) (count : ℕ) → Passes a b line → (count ≡ 0 → ⊥) → Refills (Ok count) b c → Passes a c line
-line_goes a b c line count p some h = subst (Passes a c) (append-nil line) (passes_more a b c line [] p (gave_some count b c some h.0))
+pub line_goes : (a b c : Source) (line : List ℕ) (count : ℕ) → ConsumesBytes a b line → (count ≡ 0 → ⊥) → RefillsAhead (Ok count) b c → ConsumesBytes a c line
+line_goes a b c line count p some h = subst (ConsumesBytes a c) (append-nil line) (passes_more a b c line [] p (gave_some count b c some h.0))
 
-pub line_fails : (F : List ℕ → Type 0) (e : ReadError) (a b c : Source) (line other : List ℕ) → Passes a b line → Refills (Err e) b c → ReadsLine F (Err e) a c other
+pub line_fails : (F : List ℕ → Type 0) (e : ReadError) (a b c : Source) (line other : List ℕ) → ConsumesBytes a b line → RefillsAhead (Err e) b c → ReadsLineOfKind F (Err e) a c other
 line_fails F errors.Failed a b c line other p h = failed_then a b c (line, p) ([], h)
 line_fails F errors.OutOfMemory a b c line other p h = absurd h
 
@@ -362,7 +362,7 @@ has_line kind.Sat u = tt
 has_line kind.Unsat u = tt
 has_line kind.Unknown u = absurd (u refl)
 
-pub line_kept : (a b : Source) (line : List ℕ) → Passes a b line → NoReadFailedAhead a b
+pub line_kept : (a b : Source) (line : List ℕ) → ConsumesBytes a b line → NoReadFailedAhead a b
 line_kept a b line p = took_kept true a b (line, p)
 
 pub witness_is_line : (k name : ℕ) → k < 2 ^ 64 → name < var_limit → IsOneLine (refused_line k (WitnessName (name + 1)))
@@ -394,7 +394,7 @@ module _ (k : AnswerKind) (a b : Source) (settled : Bool) (open_yet : AtEnd a �
 
   module _ (d : Source) (ls : List Literal) (second : Replies {A = Unit {0}} true (Ok tt) b d (ReadsSecond k ls)) where
     abbrev TwoLines : List ℕ → List ℕ → Result (Unit {0}) Why → Type 0
-    TwoLines p s y = (q : List ℕ) × (p ≡ first_line k ++ q) × ReadsSecond k ls q s (Ok tt)
+    TwoLines p s y = (q : List ℕ) × (p ≡ first_answer_line k ++ q) × ReadsSecond k ls q s (Ok tt)
 
     two : Replies {A = Unit {0}} true (Ok tt) a d TwoLines
     two = replies_then true k (Ok tt) a b d ReadsFirst (λ q s (y : Result (Unit {0}) Why). ReadsSecond k ls q s (Ok tt)) TwoLines open_yet (λ p q s y f g. (q, f, g)) first second

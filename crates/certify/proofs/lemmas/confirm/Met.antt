@@ -9,14 +9,14 @@ use Rattle.sat_checker.specs.Accepts.{Accepts, effect, ready_after}
 use Rattle.sat_checker.specs.KernelView.{LooksAtMost}
 use Rattle.sat_checker.specs.declared.kernel.Kernel.{Kernel}
 use Rattle.sat_checker.specs.matching.Expected.{Outcome, Unknown, Expected, NewName, NoName, Adds, Opens, Shows, Fails, Closes, Finish, Fits, new_name, no_name, adds, opens, shows, fails, closes, finish}
-use Rattle.sat_checker.specs.matching.ProofChecking.{the_checking}
+use Rattle.sat_checker.specs.matching.ProofChecking.{checker_rules}
 use Rattle.certify.specs.confirm.Feeding.{HasTaken, FeedsStep}
-use Rattle.certify.specs.confirm.Matches.{Excused}
+use Rattle.certify.specs.confirm.Matches.{MayBeUnmet}
 use Rattle.certify.specs.confirm.Stepping.{is_fed}
 use Rattle.certify.specs.confirm.Streams.{Stream, seen_in, GoesOrStops, Confirms}
 use Rattle.certify.specs.confirm.Views.{View}
 use Rattle.certify.specs.confirm.Awaiting.{CheckerIsAt, AwaitsNext, MeetsDue, SaysUnmet}
-use Rattle.certify.specs.confirm.Comparing.{MayStayUnmet, AreKnown, Compares, Due, Excuses}
+use Rattle.certify.specs.confirm.Comparing.{MayStayUnmet, AreKnown, Compares, Due, ExcusesDue}
 use Rattle.certify.specs.confirm.Following.{NamesFollow}
 use Rattle.certify.specs.confirm.Variables.{variable_in}
 use Rattle.certify.specs.declared.confirm.ordered.Awaited.{Awaited}
@@ -30,12 +30,12 @@ use Rattle.certify.proofs.lemmas.confirm.CertificatePlaces.{when_cut, leads_skip
 use Rattle.certify.proofs.lemmas.confirm.Settled.{settled_unsat}
 use Rattle.certify.proofs.lemmas.confirm.Streams.{confirms_stop, says_stop, feeds_on, feeds_stop}
 
-allowed : (e : Expected) → Excused e → MayStayUnmet e
+allowed : (e : Expected) → MayBeUnmet e → MayStayUnmet e
 allowed (Opens ls o) h = h
 allowed e h = tt
 
 -- what is assumed records no unsat
-still_allowed : (earlier : List Step) (e : Expected) (step : Step) → Fits (the_checking.knows earlier) earlier e step → (ready_after earlier).unsat ≡ false → (ready_after (step ∷ earlier)).unsat ≡ true → MayStayUnmet e
+still_allowed : (earlier : List Step) (e : Expected) (step : Step) → Fits (checker_rules.knows earlier) earlier e step → (ready_after earlier).unsat ≡ false → (ready_after (step ∷ earlier)).unsat ≡ true → MayStayUnmet e
 still_allowed earlier e step (opens {c = c} same) u v = absurd (true≢false (sym v ∙ settled_unsat (effect (Assumptions c) (ready_after earlier)) ∙ u))
 still_allowed earlier e step (new_name is unknown) u v = tt
 still_allowed earlier e step (no_name at) u v = tt
@@ -49,7 +49,7 @@ module _ (due : Due) (before after : NamedVars) (old mid : View) where
   met_stop : (why : Why) → AwaitsNext before old mid (Err why) → MeetsDue due before after old mid (Err why)
   met_stop why h earlier s o ask = bars_stop (due o ask) (h earlier s)
 
-  unmet_barred : (why : Why) → AwaitsNext before old mid (Ok awaited.Cut) → Excuses due (Some why) → MeetsDue due before after old mid (Err why)
+  unmet_barred : (why : Why) → AwaitsNext before old mid (Ok awaited.Cut) → ExcusesDue due (Some why) → MeetsDue due before after old mid (Err why)
   unmet_barred why h x = λ earlier s o ask. let k = h earlier s in bars_skip (due o ask) k.skips k.closed (x o ask)
 
   module _ (h : AwaitsNext before old mid (Ok awaited.Step)) (known : Known) (at : (earlier : List Step) → CheckerIsAt mid.checker before earlier → AreKnown known earlier) where
@@ -71,7 +71,7 @@ module _ (due : Due) (before after : NamedVars) (old mid : View) where
   met_refused : (next : Kernel) (why : Why) → AwaitsNext before old mid (Ok awaited.Step) → ((steps : List Step) → HasTaken mid.checker steps → Accepts (ready_after steps) mid.step → ⊥) → MeetsDue due before after old (record mid { checker = next }) (Err why)
   met_refused next why h d = λ earlier s o ask. let k = h earlier s in bars_refused (due o ask) k.offers (d k.later k.stands.taken)
 
-unmet_met : (due : Due) (names : NamedVars) (old mid : View) → AwaitsNext names old mid (Ok awaited.Cut) → Excuses due None → MeetsDue due names names old mid (Ok tt)
+unmet_met : (due : Due) (names : NamedVars) (old mid : View) → AwaitsNext names old mid (Ok awaited.Cut) → ExcusesDue due None → MeetsDue due names names old mid (Ok tt)
 unmet_met due names old mid h x = λ earlier s.
     let k = h earlier s in
     record {
@@ -111,7 +111,7 @@ module _ (due : Due) (before after : NamedVars) (a b : Stream) (open_yet : AtEnd
 
 pub expects_cut : (due : Due) (names : NamedVars) (a b : Stream) → (AtEnd a.source → ⊥) → (r : Result (Unit {0}) Stop) → GoesOrStops is_fed (Ok awaited.Cut) a b (AwaitsNext names) → SaysUnmet due r → Confirms r a b (MeetsDue due names names)
 expects_cut due names a b open_yet (Ok u) p s = (p.0, (λ total k. unmet_met due names (seen_in total a) (seen_in total b) (p.1 total k) s), p.2)
-expects_cut due names a b open_yet (Err (stop.No why)) p s = says_stop {B = ℕ} true (stop.No why) a b (λ u v. AwaitsNext names u v (Ok awaited.Cut)) (λ y. Excuses due (Some why)) (MeetsDue due names names) open_yet
+expects_cut due names a b open_yet (Err (stop.No why)) p s = says_stop {B = ℕ} true (stop.No why) a b (λ u v. AwaitsNext names u v (Ok awaited.Cut)) (λ y. ExcusesDue due (Some why)) (MeetsDue due names names) open_yet
     (λ total w h x earlier t o ask. unmet_barred due names names (seen_in total a) (seen_in total b) why h x earlier t o ask) p s
 expects_cut due names a b open_yet (Err e) p s = absurd s
 

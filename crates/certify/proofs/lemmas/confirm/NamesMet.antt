@@ -5,12 +5,12 @@ use Rattle.std.proofs.lemmas.Bool.{true≢false}
 use Rattle.std.specs.List.{AllByRecursion}
 use Rattle.sat_base.specs.device.Reading.{AtEnd}
 use Rattle.sat_base.specs.script.Script.{names_of}
-use Rattle.sat_base.specs.script.Judge.{Judge, new_names}
+use Rattle.sat_base.specs.script.ScriptState.{ScriptState, new_names}
 use Rattle.sat_base.specs.values.Literals.{variable}
 use Rattle.sat_checker.specs.matching.Expected.{Expected, NewName}
 use Rattle.certify.specs.answers.AnswerForms.{named_literals}
 use Rattle.certify.specs.confirm.Streams.{Stream, seen_in, Confirms}
-use Rattle.certify.specs.judge.Names.{BringsNothing, NamesStand, Changes, is_of_literals, taken}
+use Rattle.certify.specs.judge.Names.{BringsNothing, NamesHaveState, Changes, is_of_literals, taken}
 use Rattle.certify.specs.confirm.Naming.{MeetsAll, MeetsName, MeetsNames, expected_naming, naming_all, taken_by}
 use Rattle.sat_base.specs.script.Language.{Kind, OfClause, OfAsk, OfHide, OfWitness, OfSample}
 use Rattle.certify.specs.declared.confirm.stop.Stop.{Stop}
@@ -20,11 +20,11 @@ use Rattle.certify.proofs.lemmas.confirm.Streams.{confirms_none, confirms_then, 
 use Rattle.certify.proofs.lemmas.confirm.Naming.{both, first_barred, nothing}
 use Rattle.certify.proofs.lemmas.judge.Taken.{untaken}
 
-naming_append : (kind : Kind) (xs ys : List ℕ) (j : Judge) → naming_all kind (xs ++ ys) j ≡ naming_all kind xs j ++ naming_all kind ys (taken_by kind xs j)
+naming_append : (kind : Kind) (xs ys : List ℕ) (j : ScriptState) → naming_all kind (xs ++ ys) j ≡ naming_all kind xs j ++ naming_all kind ys (taken_by kind xs j)
 naming_append kind [] ys j = refl
 naming_append kind (x ∷ xs) ys j = ap (λ (es : List Expected). expected_naming kind x j ++ es) (naming_append kind xs ys (taken kind x j)) ∙ sym (append_assoc (expected_naming kind x j) (naming_all kind xs (taken kind x j)) (naming_all kind ys (taken_by kind xs (taken kind x j))))
 
-taken_append : (kind : Kind) (xs ys : List ℕ) (j : Judge) → taken_by kind (xs ++ ys) j ≡ taken_by kind ys (taken_by kind xs j)
+taken_append : (kind : Kind) (xs ys : List ℕ) (j : ScriptState) → taken_by kind (xs ++ ys) j ≡ taken_by kind ys (taken_by kind xs j)
 taken_append kind [] ys j = refl
 taken_append kind (x ∷ xs) ys j = taken_append kind xs ys (taken kind x j)
 
@@ -51,17 +51,17 @@ one_taken kind codes i code v first now next low at is so_far change j h =
     let mid = taken_by kind (listed (take i codes)) j in
     let whole : taken_by kind (listed (take (i + 1) codes)) j ≡ taken kind (v + 1) mid =
     ap (λ (ns : List ℕ). taken_by kind ns j) list ∙ taken_append kind (listed (take i codes)) ((variable code + 1) ∷ []) j ∙ ap (λ (n : ℕ). taken kind (n + 1) mid) (sym is) in
-    subst (NamesStand next) (sym whole) (change mid (so_far j h))
+    subst (NamesHaveState next) (sym whole) (change mid (so_far j h))
 
 pub all_taken : (kind : Kind) (codes : List ℕ) (i : ℕ) (first now : Names) → length codes ≤ i → SoFar kind codes i first now → Changes first now (taken_by kind (listed codes))
-all_taken kind codes i first now over so_far j h = subst (λ (xs : List ℕ). NamesStand now (taken_by kind (listed xs) j)) (take_all i codes over) (so_far j h)
+all_taken kind codes i first now over so_far j h = subst (λ (xs : List ℕ). NamesHaveState now (taken_by kind (listed xs) j)) (take_all i codes over) (so_far j h)
 
 pub none_met : (kind : Kind) (codes : List ℕ) (names : Names) (vars : NamedVars) (a : Stream) → Confirms (Ok tt) a a (MeetsNames kind (listed (take 0 codes)) names vars vars)
 none_met kind codes names vars a = confirms_none tt a (MeetsNames kind (listed (take 0 codes)) names vars vars) (λ total j h. nothing vars (seen_in total a))
 
 module _ (kind : Kind) (codes : List ℕ) (i code v : ℕ) (first now : Names) (before mid after : NamedVars) (low : i < length codes) (at : code ≡ get_or codes i code) (is : v ≡ variable code) (so_far : SoFar kind codes i first now)
     (a b c : Stream) (open_yet : AtEnd a.source → ⊥) (p : Confirms (Ok tt) a b (MeetsNames kind (listed (take i codes)) first before mid)) where
-  next_pending : (j : Judge) → naming_all kind (listed (take i codes)) j ++ expected_naming kind (v + 1) (taken_by kind (listed (take i codes)) j) ≡ naming_all kind (listed (take (i + 1) codes)) j
+  next_pending : (j : ScriptState) → naming_all kind (listed (take i codes)) j ++ expected_naming kind (v + 1) (taken_by kind (listed (take i codes)) j) ≡ naming_all kind (listed (take (i + 1) codes)) j
   next_pending j =
       let before = listed (take i codes) in
       let now = taken_by kind before j in
@@ -90,23 +90,23 @@ pub all_met : (kind : Kind) (codes : List ℕ) (i : ℕ) (names : Names) (before
 all_met kind codes i names before after a b over p = subst (λ (xs : List ℕ). Confirms (Ok tt) a b (MeetsNames kind (listed xs) names before after)) (take_all i codes over) p
 
 -- NAMES IN USE
-unmoved : (kind : Kind) (list : List ℕ) (j : Judge) → is_of_literals kind ≡ true → AllByRecursion (λ name. new_names name j ≡ []) list → taken_by kind list j ≡ j
+unmoved : (kind : Kind) (list : List ℕ) (j : ScriptState) → is_of_literals kind ≡ true → AllByRecursion (λ name. new_names name j ≡ []) list → taken_by kind list j ≡ j
 unmoved kind [] j k h = refl
 unmoved kind (name ∷ list) j k h = ap (taken_by kind list) (untaken kind name j k h.0) ∙ unmoved kind list j k h.1
 
-unnamed : (kind : Kind) (name : ℕ) (j : Judge) → is_of_literals kind ≡ true → new_names name j ≡ [] → expected_naming kind name j ≡ []
+unnamed : (kind : Kind) (name : ℕ) (j : ScriptState) → is_of_literals kind ≡ true → new_names name j ≡ [] → expected_naming kind name j ≡ []
 unnamed OfClause name j k e = ap (λ (ns : List ℕ). map NewName ns ++ []) e
 unnamed OfAsk name j k e = ap (λ (ns : List ℕ). map NewName ns ++ []) e
 unnamed x name j k e = absurd (true≢false (sym k))
 
-unnamed_all : (kind : Kind) (list : List ℕ) (j : Judge) → is_of_literals kind ≡ true → AllByRecursion (λ name. new_names name j ≡ []) list → naming_all kind list j ≡ []
+unnamed_all : (kind : Kind) (list : List ℕ) (j : ScriptState) → is_of_literals kind ≡ true → AllByRecursion (λ name. new_names name j ≡ []) list → naming_all kind list j ≡ []
 unnamed_all kind [] j k h = refl
 unnamed_all kind (name ∷ list) j k h =
     ap (λ (es : List Expected). es ++ naming_all kind list (taken kind name j)) (unnamed kind name j k h.0)
     ∙ ap (naming_all kind list) (untaken kind name j k h.0) ∙ unnamed_all kind list j k h.1
 
 pub known_taken : (kind : Kind) (codes : List ℕ) (names : Names) → BringsNothing kind (listed codes) names → Changes names names (taken_by kind (listed codes))
-known_taken kind codes names b j h = subst (NamesStand names) (sym (unmoved kind (listed codes) j b.of_literals (b.known j h))) h
+known_taken kind codes names b j h = subst (NamesHaveState names) (sym (unmoved kind (listed codes) j b.of_literals (b.known j h))) h
 
 pub known_met : (kind : Kind) (codes : List ℕ) (names : Names) (vars : NamedVars) (a : Stream) → BringsNothing kind (listed codes) names → Confirms (Ok tt) a a (MeetsNames kind (listed codes) names vars vars)
 known_met kind codes names vars a b = confirms_none tt a (MeetsNames kind (listed codes) names vars vars)

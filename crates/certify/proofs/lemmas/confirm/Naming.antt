@@ -3,12 +3,12 @@ use Rattle.std.proofs.Common.{ℕ, true, ◌+◌, ◌-◌, ◌<◌, ◌≡◌, L
 use Rattle.std.proofs.lemmas.List.{map-append}
 use Rattle.sat_base.specs.device.Reading.{AtEnd}
 use Rattle.sat_base.specs.script.Script.{Literal}
-use Rattle.sat_base.specs.script.Judge.{Judge, names_from, new_names}
+use Rattle.sat_base.specs.script.ScriptState.{ScriptState, names_from, new_names}
 use Rattle.sat_checker.specs.matching.Expected.{Outcome, Unknown, Expected, NewName}
-use Rattle.certify.specs.confirm.CertificatePlaces.{MeetsExactly, Bars}
+use Rattle.certify.specs.confirm.CertificatePlaces.{MeetsExactly, MeetsNoneOf}
 use Rattle.certify.specs.confirm.Streams.{Stream, seen_in, Confirms}
 use Rattle.certify.specs.confirm.Views.{View}
-use Rattle.certify.specs.judge.Names.{NamesStand}
+use Rattle.certify.specs.judge.Names.{NamesHaveState}
 use Rattle.certify.specs.confirm.Awaiting.{MeetsDue}
 use Rattle.certify.specs.confirm.Comparing.{MayStayUnmet, Due}
 use Rattle.certify.specs.confirm.Naming.{MeetsAll, MeetsName, hidden_by}
@@ -37,7 +37,7 @@ one due e is free before after u v (Ok x) m = λ earlier s.
       stands = k.stands;
       leads = subst (λ (d : Expected). MeetsExactly earlier u.rest (d ∷ []) k.later v.rest) (is Unknown []) (k.leads Unknown [] (λ closed. subst MayStayUnmet (sym (is Unknown [])) free));
     }
-one due e is free before after u v (Err why) m = λ earlier s. subst (λ (d : Expected). Bars earlier u.rest (d ∷ [])) (is Unknown []) (m earlier s Unknown [])
+one due e is free before after u v (Err why) m = λ earlier s. subst (λ (d : Expected). MeetsNoneOf earlier u.rest (d ∷ [])) (is Unknown []) (m earlier s Unknown [])
 
 -- some things, and then others
 pub both : (p q : List Expected) (first mid last : NamedVars) (u v w : View) (y : Result (Unit {0}) Why) → MeetsAll p first mid u v (Ok tt) → MeetsAll q mid last v w y → MeetsAll (p ++ q) first last u w y
@@ -93,7 +93,7 @@ module _ (count first done name : ℕ) (low : done < count) (is : name ≡ first
 
 -- THE NAMES OF A COMMAND
 
-module _ (kind : Kind) (name : ℕ) (names : Names) (count first : ℕ) (told : (j : Judge) → NamesStand names j → new_names name j ≡ names_from count first) (before after : NamedVars) where
+module _ (kind : Kind) (name : ℕ) (names : Names) (count first : ℕ) (told : (j : ScriptState) → NamesHaveState names j → new_names name j ≡ names_from count first) (before after : NamedVars) where
   pub name_stop : (unused : NamedVars) (e : Stop) (a b : Stream) → Confirms {A = Unit {0}} (Err e) a b (MeetsAll (news count first) before unused) → Confirms {A = Unit {0}} (Err e) a b (MeetsName kind name names before after)
   name_stop unused e a b p = confirms_stop e a b (MeetsAll (news count first) before unused) (MeetsName kind name names before after)
       (λ total why f j s. subst (λ (ns : List ℕ). MeetsAll (map NewName ns ++ hidden_by kind name) before after (seen_in total a) (seen_in total b) (Err why)) (sym (told j s))

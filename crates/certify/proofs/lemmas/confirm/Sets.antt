@@ -47,8 +47,8 @@ and_true : (b : Bool) → b && true ≡ b
 and_true true = refl
 and_true false = refl
 
-pub part_tells : (xs ys a b : List ℕ) (answer : Bool) → a ≡ canonical xs → b ≡ canonical ys → answer ≡ (is_part a b && true) → MatchBool answer (AllAmong xs ys) (AllAmong xs ys → ⊥)
-part_tells xs ys a b answer p q e = go answer (e ∙ and_true (is_part a b) ∙ ap (λ (x : List ℕ). is_part x b) p ∙ ap (λ (x : List ℕ). is_part (canonical xs) x) q)
+pub part_reports : (xs ys a b : List ℕ) (answer : Bool) → a ≡ canonical xs → b ≡ canonical ys → answer ≡ (is_part a b && true) → MatchBool answer (AllAmong xs ys) (AllAmong xs ys → ⊥)
+part_reports xs ys a b answer p q e = go answer (e ∙ and_true (is_part a b) ∙ ap (λ (x : List ℕ). is_part x b) p ∙ ap (λ (x : List ℕ). is_part (canonical xs) x) q)
   where
     go : (y : Bool) → y ≡ is_part (canonical xs) (canonical ys) → MatchBool y (AllAmong xs ys) (AllAmong xs ys → ⊥)
     go true f = parts xs ys (sym f)

@@ -6,21 +6,21 @@ use Rattle.std.specs.Io.KnownBytes.{Consumes, IsAtEnd, prepend_known}
 use Rattle.sat_base.specs.declared.steps.error.StepError.{StepError}
 use Rattle.sat_base.specs.declared.steps.error.StepError.TheVariants as errors
 use Rattle.sat_base.specs.device.Device.{Reader, GaveEnough, ReadFails, most_reads}
-use Rattle.sat_base.specs.device.Reading.{Source, AtEnd, PassesBut, Passes, PassesToEnd, AllTaken, Faults, AnswersStepRead, unread}
+use Rattle.sat_base.specs.device.Reading.{Source, AtEnd, ConsumesWithReads, ConsumesBytes, ConsumesToEnd, AllTaken, ConsumesAndFails, AnswersStepRead, unread}
 use Rattle.sat_base.specs.steps.StepReading.{AnswersUnlessFailed, repeated}
-use Rattle.sat_base.specs.steps.Formats.{Open, IsProperFront}
+use Rattle.sat_base.specs.steps.Formats.{BeginsText, IsProperFront}
 use Rattle.sat_base.specs.steps.Steps.{Step}
 use Rattle.sat_base.specs.steps.StepText.{SpellsStep, tag_of}
 use Rattle.sat_base.proofs.lemmas.device.ReadLemmas.{passes_more, faults_later, passes_none}
 use Rattle.certify.specs.confirm.ReadSteps.{BeginsNoStep, ReadsStep}
 use Rattle.certify.specs.confirm.Feeding.{HasTaken, FeedsStep, SettlesConflict}
-use Rattle.certify.specs.confirm.Streams.{Stream, rest_in, seen_in, Covers, HoldsWhateverFollows, TakesStreamBytes, TakesBytesOrEnds, Going, Confirms, SaysAlone, stop_of, bytes_left}
+use Rattle.certify.specs.confirm.Streams.{Stream, rest_in, seen_in, Covers, HoldsWhateverFollows, TakesStreamBytes, TakesBytesOrEnds, GoesOnWith, Confirms, SaysAlone, stop_of, most_bytes_left}
 use Rattle.certify.specs.confirm.VerdictPromises.{TakesLooks}
 use Rattle.certify.specs.confirm.Walks.{LooksReach, FeedsAllSteps, walks_if, FeedsSomeSteps, RunsOut}
 use Rattle.certify.specs.confirm.Views.{View, certificate_place}
 use Rattle.sat_checker.specs.Accepts.{Accepts, ready_after}
 use Rattle.sat_checker.specs.ProofView.{most_bytes}
-use Rattle.sat_checker.specs.KernelView.{looks_of, LooksAtMost}
+use Rattle.sat_checker.specs.KernelView.{kernel_looks, LooksAtMost}
 use Rattle.sat_checker.specs.declared.kernel.Kernel.{Kernel}
 use Rattle.certify.specs.declared.confirm.stop.Stop.{Stop}
 use Rattle.certify.specs.declared.confirm.stop.Stop.TheVariants as stop
@@ -35,7 +35,7 @@ use Rattle.sat_base.proofs.lemmas.steps.Fronts.{no_whole, no_way}
 -- WHAT CAN FOLLOW
 
 -- a reader that isn't at its end, and what it gave since, can be followed as then
-pub covers_back : (n : ℕ) (s t : Source) (text total : List ℕ) → (AtEnd s → ⊥) → PassesBut n s t text → Covers t total → Covers s total
+pub covers_back : (n : ℕ) (s t : Source) (text total : List ℕ) → (AtEnd s → ⊥) → ConsumesWithReads n s t text → Covers t total → Covers s total
 covers_back n s t text total open_yet p c = record {
   later = p.fresh ++ c.later;
   whole = c.whole ∙ ap (λ (z : List ℕ). z ++ c.later) p.gave ∙ append_assoc s.reader.given p.fresh c.later;
@@ -43,7 +43,7 @@ covers_back n s t text total open_yet p c = record {
 }
 
 -- the same where reading failed
-pub covers_fault : (s t : Source) (text total : List ℕ) → (AtEnd s → ⊥) → Faults s t text → Covers t total → Covers s total
+pub covers_fault : (s t : Source) (text total : List ℕ) → (AtEnd s → ⊥) → ConsumesAndFails s t text → Covers t total → Covers s total
 covers_fault s t text total open_yet p c = record {
   later = p.fresh ++ c.later;
   whole = c.whole ∙ ap (λ (z : List ℕ). z ++ c.later) p.gave ∙ append_assoc s.reader.given p.fresh c.later;
@@ -51,21 +51,21 @@ covers_fault s t text total open_yet p c = record {
 }
 
 -- it goes on not to be at its end
-pub stays_open : (s t : Source) (text : List ℕ) → (AtEnd s → ⊥) → Passes s t text → AtEnd t → ⊥
+pub stays_open : (s t : Source) (text : List ℕ) → (AtEnd s → ⊥) → ConsumesBytes s t text → AtEnd t → ⊥
 stays_open s t text open_yet p h = open_yet (p.going refl h)
 
 rest_is : (s : Source) (total later : List ℕ) → total ≡ s.reader.given ++ later → rest_in total s ≡ s.waiting ++ later
 rest_is s total later e = ap (λ (z : List ℕ). s.waiting ++ drop (length s.reader.given) z) e ∙ ap (λ (z : List ℕ). s.waiting ++ z) (drop-append_seam s.reader.given later)
 
 -- the bytes that were taken stand in front of those still to come
-pub taken_front : (n : ℕ) (s t : Source) (text total : List ℕ) → PassesBut n s t text → Covers t total → rest_in total s ≡ text ++ rest_in total t
+pub taken_front : (n : ℕ) (s t : Source) (text total : List ℕ) → ConsumesWithReads n s t text → Covers t total → rest_in total s ≡ text ++ rest_in total t
 taken_front n s t text total p c =
     let whole : total ≡ s.reader.given ++ (p.fresh ++ c.later) = c.whole ∙ ap (λ (z : List ℕ). z ++ c.later) p.gave ∙ append_assoc s.reader.given p.fresh c.later in
     rest_is s total (p.fresh ++ c.later) whole ∙ sym (append_assoc s.waiting p.fresh c.later) ∙ ap (λ (z : List ℕ). z ++ c.later) p.flows
     ∙ append_assoc text t.waiting c.later ∙ ap (λ (z : List ℕ). text ++ z) (sym (rest_is t total c.later c.whole))
 
 -- none stand behind them where the end was found
-pub nothing_behind : (s t : Source) (text total : List ℕ) → PassesToEnd s t text → Covers t total → rest_in total s ≡ text
+pub nothing_behind : (s t : Source) (text total : List ℕ) → ConsumesToEnd s t text → Covers t total → rest_in total s ≡ text
 nothing_behind s t text total p c =
     let none : c.later ≡ [] = c.none (p.1.read, p.1.ended) in
     let behind : rest_in total t ≡ [] = rest_is t total c.later c.whole ∙ ap (λ (z : List ℕ). z ++ c.later) p.1.waiting ∙ none in
@@ -73,20 +73,20 @@ nothing_behind s t text total p c =
 
 -- WHERE NO STEP STANDS
 
-pub no_step_at_byte : (s t : Source) (front : List ℕ) (byte : ℕ) (total : List ℕ) → Passes s t (front ++ byte ∷ []) → IsProperFront SpellsStep front → (Open SpellsStep (front ++ byte ∷ []) → ⊥) → Covers t total
+pub no_step_at_byte : (s t : Source) (front : List ℕ) (byte : ℕ) (total : List ℕ) → ConsumesBytes s t (front ++ byte ∷ []) → IsProperFront SpellsStep front → (BeginsText SpellsStep (front ++ byte ∷ []) → ⊥) → Covers t total
     → BeginsNoStep (rest_in total s)
 no_step_at_byte s t front byte total p live shut c =
     no_way SpellsStep one_step (rest_in total s) front (rest_in total t) byte (taken_front 0 s t (front ++ byte ∷ []) total p c ∙ append_assoc front (byte ∷ []) (rest_in total t)) live shut
 
-pub no_step_cut : (s t : Source) (text total : List ℕ) → PassesToEnd s t text → IsProperFront SpellsStep text → Covers t total → BeginsNoStep (rest_in total s)
+pub no_step_cut : (s t : Source) (text total : List ℕ) → ConsumesToEnd s t text → IsProperFront SpellsStep text → Covers t total → BeginsNoStep (rest_in total s)
 no_step_cut s t text total p live c = no_whole SpellsStep one_step (rest_in total s) (subst (IsProperFront SpellsStep) (sym (nothing_behind s t text total p c)) live)
 
-pub no_step_over : (s t : Source) (total : List ℕ) → PassesToEnd s t [] → Covers t total → BeginsNoStep (rest_in total s)
+pub no_step_over : (s t : Source) (total : List ℕ) → ConsumesToEnd s t [] → Covers t total → BeginsNoStep (rest_in total s)
 no_step_over s t total p c step text rest e h = let u : [] ≡ tag_of step ∷ (h.0 ++ rest) = sym (nothing_behind s t [] total p c) ∙ e ∙ ap (λ (z : List ℕ). z ++ rest) h.1 in cc
 
 -- ONE CALL AFTER ANOTHER
 
-weaker : (s t : Source) (text : List ℕ) → Passes s t text → PassesBut 1 s t text
+weaker : (s t : Source) (text : List ℕ) → ConsumesBytes s t text → ConsumesWithReads 1 s t text
 weaker s t text p = record {
   fresh = p.fresh;
   gave = p.gave;
@@ -109,17 +109,17 @@ pub moves_halt : (a b : Stream) → (AtEnd a.source → ⊥) → TakesStreamByte
 moves_halt a b open_yet m = ((m.0, weaker a.source b.source m.0 m.1), λ h. absurd (stays_open a.source b.source m.0 open_yet m.1 h))
 
 -- what is so between two views, and then two more
-over_then : (n : ℕ) (a b c : Stream) (text : List ℕ) (P Q R : View → View → Type 0) → (AtEnd b.source → ⊥) → PassesBut n b.source c.source text
+over_then : (n : ℕ) (a b c : Stream) (text : List ℕ) (P Q R : View → View → Type 0) → (AtEnd b.source → ⊥) → ConsumesWithReads n b.source c.source text
     → ((total : List ℕ) → P (seen_in total a) (seen_in total b) → Q (seen_in total b) (seen_in total c) → R (seen_in total a) (seen_in total c)) → HoldsWhateverFollows a b P → HoldsWhateverFollows b c Q → HoldsWhateverFollows a c R
 over_then n a b c text P Q R open_yet p f g h total k = f total (g total (covers_back n b.source c.source text total open_yet p k)) (h total k)
 
-over_fault : (a b c : Stream) (text : List ℕ) (P Q R : View → View → Type 0) → (AtEnd b.source → ⊥) → Faults b.source c.source text
+over_fault : (a b c : Stream) (text : List ℕ) (P Q R : View → View → Type 0) → (AtEnd b.source → ⊥) → ConsumesAndFails b.source c.source text
     → ((total : List ℕ) → P (seen_in total a) (seen_in total b) → Q (seen_in total b) (seen_in total c) → R (seen_in total a) (seen_in total c)) → HoldsWhateverFollows a b P → HoldsWhateverFollows b c Q → HoldsWhateverFollows a c R
 over_fault a b c text P Q R open_yet p f g h total k = f total (g total (covers_fault b.source c.source text total open_yet p k)) (h total k)
 
 -- a call that goes on behind one that went on
 pub going_then : (fed : Bool) (a b c : Stream) (P Q R : View → View → Type 0) → (AtEnd a.source → ⊥)
-    → ((total : List ℕ) → P (seen_in total a) (seen_in total b) → Q (seen_in total b) (seen_in total c) → R (seen_in total a) (seen_in total c)) → Going true a b P → Going fed b c Q → Going fed a c R
+    → ((total : List ℕ) → P (seen_in total a) (seen_in total b) → Q (seen_in total b) (seen_in total c) → R (seen_in total a) (seen_in total c)) → GoesOnWith true a b P → GoesOnWith fed b c Q → GoesOnWith fed a c R
 going_then fed a b c P Q R open_yet f p q =
     let here = stays_open a.source b.source p.0.0 open_yet p.0.1 in (
       (p.0.0 ++ q.0.0, passes_more a.source b.source c.source p.0.0 q.0.0 p.0.1 q.0.1),
@@ -183,7 +183,7 @@ confirms_none x a P f = (([], passes_none a.source), (λ total k. f total), (λ 
 -- an error of what reads nothing, behind a call that went on
 pub says_stop : {B C : Type 0} (fed : Bool) (e : Stop) (a b : Stream) (P : View → View → Type 0) (S : Result B Why → Type 0) (R : View → View → Result C Why → Type 0) → (AtEnd a.source → ⊥)
     → ((total : List ℕ) (why : Why) → P (seen_in total a) (seen_in total b) → S (Err why) → R (seen_in total a) (seen_in total b) (Err why))
-    → Going fed a b P → SaysAlone {A = B} (Err e) S → Confirms {A = C} (Err e) a b R
+    → GoesOnWith fed a b P → SaysAlone {A = B} (Err e) S → Confirms {A = C} (Err e) a b R
 says_stop fed (stop.No why) a b P S R open_yet f p s = (moves_halt a b open_yet p.0, (λ total k. f total why (p.1 total k) s), (λ total k. tries_if fed (seen_in total a) (seen_in total b) (p.2 total k)))
 says_stop fed stop.OutOfMemory a b P S R open_yet f p s = (moves_halt a b open_yet p.0, (λ total k. tries_if fed (seen_in total a) (seen_in total b) (p.2 total k)))
 says_stop fed e a b P S R open_yet f p s = absurd s
@@ -193,14 +193,14 @@ says_stop fed e a b P S R open_yet f p s = absurd s
 -- the step that was read last is accepted
 pub feeds_on : (a b : Stream) (next : Kernel) (P Q : View → View → Type 0) → FeedsStep (Ok tt) b.checker b.step next → LooksAtMost b.checker b.step next
     → ((total : List ℕ) → P (seen_in total a) (seen_in total b) → Q (seen_in total a) (seen_in total (record b { checker = next })))
-    → Going false a b P → Going true a (record b { checker = next }) Q
+    → GoesOnWith false a b P → GoesOnWith true a (record b { checker = next }) Q
 feeds_on a b next P Q fed looks f p =
     (p.0, (λ total k. f total (p.1 total k)), (λ total k. walks_fed (seen_in total a) (seen_in total b) (seen_in total (record b { checker = next })) refl fed looks (p.2 total k)))
 
 -- or isn't
 pub feeds_stop : {C : Type 0} (e : Stop) (a b : Stream) (next : Kernel) (P : View → View → Type 0) (R : View → View → Result C Why → Type 0) → (AtEnd a.source → ⊥) → FeedsStep (Err e) b.checker b.step next → LooksAtMost b.checker b.step next
     → ((total : List ℕ) (why : Why) → P (seen_in total a) (seen_in total b) → ((steps : List Step) → HasTaken b.checker steps → Accepts (ready_after steps) b.step → ⊥) → R (seen_in total a) (seen_in total (record b { checker = next })) (Err why))
-    → Going false a b P → Confirms {A = C} (Err e) a (record b { checker = next }) R
+    → GoesOnWith false a b P → Confirms {A = C} (Err e) a (record b { checker = next }) R
 feeds_stop (stop.No why) a b next P R open_yet fed looks f p =
     (moves_halt a b open_yet p.0, (λ total k. f total why (p.1 total k) fed), (λ total k. tries_fed (seen_in total a) (seen_in total b) (seen_in total (record b { checker = next })) looks (p.2 total k)))
 feeds_stop stop.OutOfMemory a b next P R open_yet fed looks f p = (moves_halt a b open_yet p.0, (λ total k. tries_fed (seen_in total a) (seen_in total b) (seen_in total (record b { checker = next })) looks (p.2 total k)))
@@ -214,18 +214,18 @@ feeds_stop e a b next P R open_yet fed looks f p = absurd fed
 -- a pending unit conflict is settled
 pub settles_on : (fed : Bool) (a b : Stream) (next : Kernel) (P Q : View → View → Type 0) → SettlesConflict (Ok tt) b.checker next
     → ((total : List ℕ) → P (seen_in total a) (seen_in total b) → Q (seen_in total a) (seen_in total (record b { checker = next })))
-    → Going fed a b P → Going fed a (record b { checker = next }) Q
+    → GoesOnWith fed a b P → GoesOnWith fed a (record b { checker = next }) Q
 settles_on fed a b next P Q settled f p =
     (p.0, (λ total k. f total (p.1 total k)), (λ total k. walks_settled fed (seen_in total a) (seen_in total b) (seen_in total (record b { checker = next })) refl refl settled (p.2 total k)))
 
 -- or there is no id for it
 pub settles_stop : {C : Type 0} (e : Stop) (fed : Bool) (a b : Stream) (next : Kernel) (P : View → View → Type 0) (R : View → View → Result C Why → Type 0) → (AtEnd a.source → ⊥) → SettlesConflict (Err e) b.checker next
     → ((total : List ℕ) (why : Why) → P (seen_in total a) (seen_in total b) → ((steps : List Step) → HasTaken b.checker steps → ⊥) → R (seen_in total a) (seen_in total (record b { checker = next })) (Err why))
-    → Going fed a b P → Confirms {A = C} (Err e) a (record b { checker = next }) R
+    → GoesOnWith fed a b P → Confirms {A = C} (Err e) a (record b { checker = next }) R
 settles_stop (stop.No why) fed a b next P R open_yet settled f p = (
   moves_halt a b open_yet p.0,
   (λ total k. f total why (p.1 total k) settled),
-  (λ total k earlier t. never_settled fed (seen_in total a) (seen_in total b) (LooksReach earlier (rest_in total a.source) (looks_of a.checker) (looks_of next)) earlier settled (p.2 total k) t),
+  (λ total k earlier t. never_settled fed (seen_in total a) (seen_in total b) (LooksReach earlier (rest_in total a.source) (kernel_looks a.checker) (kernel_looks next)) earlier settled (p.2 total k) t),
 )
 settles_stop stop.OutOfMemory fed a b next P R open_yet settled f p = (
   moves_halt a b open_yet p.0,
@@ -245,7 +245,7 @@ pub answered : (r : Result Step StepError) (s t : Source) → repeated r ≡ fal
 answered (Err errors.HasFailed) s t e h = absurd (let k : true ≡ false = e in cc)
 answered x s t e h = h
 
-pub step_came : (step : Step) (a b : Stream) → b.step ≡ step → b.checker ≡ a.checker → AnswersStepRead (Ok step) a.source b.source → Going false a b (λ u v. ReadsStep (certificate_place u) (certificate_place v))
+pub step_came : (step : Step) (a b : Stream) → b.step ≡ step → b.checker ≡ a.checker → AnswersStepRead (Ok step) a.source b.source → GoesOnWith false a b (λ u v. ReadsStep (certificate_place u) (certificate_place v))
 step_came step a b e c h =
     let spelt : SpellsStep b.step h.0 = subst (λ (z : Step). SpellsStep z h.0) (sym e) h.2 in (
       (h.0, h.1),
@@ -260,7 +260,7 @@ less_left m a b ls lt lx lf h e k n = omega arith
 flowed : (ws fs xs vs : List ℕ) → ws ++ fs ≡ xs ++ vs → length ws + length fs ≡ length xs + length vs
 flowed ws fs xs vs e = sym (length-append ws fs) ∙ ap length e ∙ length-append xs vs
 
-pub passes_fewer : (s t : Source) (text : List ℕ) → t.reads ≤ most_reads → Passes s t text → 0 < length text → bytes_left t < bytes_left s
+pub passes_fewer : (s t : Source) (text : List ℕ) → t.reads ≤ most_reads → ConsumesBytes s t text → 0 < length text → most_bytes_left t < most_bytes_left s
 passes_fewer s t text k p some = less_left most_reads s.reads t.reads (length s.waiting) (length t.waiting) (length text) (length p.fresh) p.room (flowed s.waiting p.fresh text t.waiting p.flows) some k
 
 none_waits : (known : Option (List ℕ)) (ws : List ℕ) → ws ≡ [] → IsAtEnd (prepend_known ws known) → IsAtEnd known
@@ -284,10 +284,10 @@ none_came errors.HasFailed a b P o c h f = absurd h
 
 -- WHAT THE READER GAVE
 
-told_front : (a b : Option (List ℕ)) (ws text fresh : List ℕ) → fresh ≡ text ++ ws → Consumes (prepend_known [] a) (prepend_known ws b) text → Consumes a b fresh
-told_front None b ws text fresh e h = tt
-told_front (Some x) None ws text fresh e h = absurd h
-told_front (Some x) (Some y) ws text fresh e h = h ∙ sym (append_assoc text ws y) ∙ ap (λ (z : List ℕ). z ++ y) (sym e)
+reported_front : (a b : Option (List ℕ)) (ws text fresh : List ℕ) → fresh ≡ text ++ ws → Consumes (prepend_known [] a) (prepend_known ws b) text → Consumes a b fresh
+reported_front None b ws text fresh e h = tt
+reported_front (Some x) None ws text fresh e h = absurd h
+reported_front (Some x) (Some y) ws text fresh e h = h ∙ sym (append_assoc text ws y) ∙ ap (λ (z : List ℕ). z ++ y) (sym e)
 
 few_of : (rc tc tr : ℕ) (rg tg fresh : List ℕ) → tc + 0 ≡ rc + tr → tr ≤ 0 + length fresh + 1 → tg ≡ rg ++ fresh → tc + length rg ≤ rc + length tg + 1
 few_of rc tc tr rg tg fresh e k g = let l : length tg ≡ length rg + length fresh = ap length g ∙ length-append rg fresh in omega arith
@@ -299,11 +299,11 @@ called_some : (rc tc tr : ℕ) → tc + 0 ≡ rc + tr → 0 < tr → rc < tc
 called_some rc tc tr e h = omega arith
 
 -- what is so whatever would follow is so of what it gave
-pub gave_enough : (r : Reader) (t : Source) (text : List ℕ) (P : List ℕ → Type 0) → PassesBut 1 (unread r) t text → (AtEnd t → IsAtEnd t.reader.to_come)
+pub gave_enough : (r : Reader) (t : Source) (text : List ℕ) (P : List ℕ → Type 0) → ConsumesWithReads 1 (unread r) t text → (AtEnd t → IsAtEnd t.reader.to_come)
     → ((total : List ℕ) → Covers t total → P (rest_in total (unread r))) → GaveEnough r t.reader P
 gave_enough r t text P p over f = record {
   text = p.fresh;
-  front = record { gave = p.gave; told = told_front r.to_come t.reader.to_come t.waiting text p.fresh p.flows p.bytes; loans = p.loans };
+  front = record { gave = p.gave; told = reported_front r.to_come t.reader.to_come t.waiting text p.fresh p.flows p.bytes; loans = p.loans };
   over = λ called e. over (read_some r.calls t.reader.calls t.reads p.calls called, e);
   few = few_of r.calls t.reader.calls t.reads r.given t.reader.given p.fresh p.calls p.few p.gave;
   holds = λ rest k.
@@ -316,33 +316,33 @@ gave_enough r t text P p over f = record {
 few_read : (lf tr : ℕ) → lf + 4096 * 0 ≤ 4096 * tr → tr ≤ most_reads → lf ≤ most_bytes
 few_read lf tr h k = omega arith
 
-pub few_given : (n : ℕ) (r : Reader) (t : Source) (text : List ℕ) → PassesBut n (unread r) t text → t.reads ≤ most_reads → length (rest_in t.reader.given (unread r)) ≤ most_bytes
+pub few_given : (n : ℕ) (r : Reader) (t : Source) (text : List ℕ) → ConsumesWithReads n (unread r) t text → t.reads ≤ most_reads → length (rest_in t.reader.given (unread r)) ≤ most_bytes
 few_given n r t text p k = subst (λ bytes. length bytes ≤ most_bytes) (sym (rest_is (unread r) t.reader.given p.fresh p.gave)) (few_read (length p.fresh) t.reads p.room k)
 
 read_out : (rc tc tr m : ℕ) → tc + 0 ≡ rc + tr → m ≤ tr → tr ≤ m → tc ≡ rc + m
 read_out rc tc tr m e h k = omega arith
 
-pub read_fails : (r : Reader) (t : Source) (text : List ℕ) → t.reads ≤ most_reads → Faults (unread r) t text → ReadFails r t.reader
+pub read_fails : (r : Reader) (t : Source) (text : List ℕ) → t.reads ≤ most_reads → ConsumesAndFails (unread r) t text → ReadFails r t.reader
 read_fails r t text b p = (
   elim p.cause [ inl h ↦ inl (h.0, h.1) | inr h ↦ inr (h.0, read_out r.calls t.reader.calls t.reads most_reads p.calls h.1 b) ],
   few_of r.calls t.reader.calls t.reads r.given t.reader.given p.fresh p.calls p.few p.gave,
 )
 
 -- what is so whatever follows, where the end perhaps wasn't looked for
-pub passed_front : (n : ℕ) (r : Reader) (t : Source) (text : List ℕ) (P : List ℕ → Type 0) → PassesBut n (unread r) t text → ((total : List ℕ) → Covers t total → P (rest_in total (unread r))) → GaveFrontOf r t.reader P
+pub passed_front : (n : ℕ) (r : Reader) (t : Source) (text : List ℕ) (P : List ℕ → Type 0) → ConsumesWithReads n (unread r) t text → ((total : List ℕ) → Covers t total → P (rest_in total (unread r))) → GaveFrontOf r t.reader P
 passed_front n r t text P p f = record {
   text = p.fresh;
-  front = record { gave = p.gave; told = told_front r.to_come t.reader.to_come t.waiting text p.fresh p.flows p.bytes; loans = p.loans };
+  front = record { gave = p.gave; told = reported_front r.to_come t.reader.to_come t.waiting text p.fresh p.flows p.bytes; loans = p.loans };
   holds = λ rest k.
       let whole : t.reader.given ++ rest ≡ r.given ++ (p.fresh ++ rest) = ap (λ (z : List ℕ). z ++ rest) p.gave ∙ append_assoc r.given p.fresh rest in
       subst P (rest_is (unread r) (t.reader.given ++ rest) (p.fresh ++ rest) whole)
       (f (t.reader.given ++ rest) (record { later = rest; whole = refl; none = λ h. k (called_some r.calls t.reader.calls t.reads p.calls h.0) h.1 }));
 }
 
-pub faulted_front : (r : Reader) (t : Source) (text : List ℕ) (P : List ℕ → Type 0) → Faults (unread r) t text → ((total : List ℕ) → Covers t total → P (rest_in total (unread r))) → GaveFrontOf r t.reader P
+pub faulted_front : (r : Reader) (t : Source) (text : List ℕ) (P : List ℕ → Type 0) → ConsumesAndFails (unread r) t text → ((total : List ℕ) → Covers t total → P (rest_in total (unread r))) → GaveFrontOf r t.reader P
 faulted_front r t text P p f = record {
   text = p.fresh;
-  front = record { gave = p.gave; told = told_front r.to_come t.reader.to_come t.waiting text p.fresh (p.flows ∙ sym (append-nil text) ∙ ap (λ (z : List ℕ). text ++ z) (sym p.none)) p.bytes; loans = p.loans };
+  front = record { gave = p.gave; told = reported_front r.to_come t.reader.to_come t.waiting text p.fresh (p.flows ∙ sym (append-nil text) ∙ ap (λ (z : List ℕ). text ++ z) (sym p.none)) p.bytes; loans = p.loans };
   holds = λ rest k.
       let whole : t.reader.given ++ rest ≡ r.given ++ (p.fresh ++ rest) = ap (λ (z : List ℕ). z ++ rest) p.gave ∙ append_assoc r.given p.fresh rest in
       subst P (rest_is (unread r) (t.reader.given ++ rest) (p.fresh ++ rest) whole)
@@ -350,18 +350,18 @@ faulted_front r t text P p f = record {
 }
 
 -- what is so of the looks whatever would follow
-pub took_looks : (n : ℕ) (r : Reader) (t : Source) (text : List ℕ) (to : ℕ) → PassesBut n (unread r) t text → ((total : List ℕ) → Covers t total → LooksReach [] (rest_in total (unread r)) 0 to) → TakesLooks r t.reader 0 to
+pub took_looks : (n : ℕ) (r : Reader) (t : Source) (text : List ℕ) (to : ℕ) → ConsumesWithReads n (unread r) t text → ((total : List ℕ) → Covers t total → LooksReach [] (rest_in total (unread r)) 0 to) → TakesLooks r t.reader 0 to
 took_looks n r t text to p f = takes_looks r t.reader p.fresh 0 to
-    (record { gave = p.gave; told = told_front r.to_come t.reader.to_come t.waiting text p.fresh p.flows p.bytes; loans = p.loans }) (omega arith)
+    (record { gave = p.gave; told = reported_front r.to_come t.reader.to_come t.waiting text p.fresh p.flows p.bytes; loans = p.loans }) (omega arith)
     (λ rest k.
     let whole : t.reader.given ++ rest ≡ r.given ++ (p.fresh ++ rest) = ap (λ (z : List ℕ). z ++ rest) p.gave ∙ append_assoc r.given p.fresh rest in
     subst (λ bytes. LooksReach [] bytes 0 to) (rest_is (unread r) (t.reader.given ++ rest) (p.fresh ++ rest) whole)
     (f (t.reader.given ++ rest) (record { later = rest; whole = refl; none = λ h. k (called_some r.calls t.reader.calls t.reads p.calls h.0) h.1 })))
 
 -- the same where reading failed
-pub took_faulted : (r : Reader) (t : Source) (text : List ℕ) (to : ℕ) → Faults (unread r) t text → ((total : List ℕ) → Covers t total → LooksReach [] (rest_in total (unread r)) 0 to) → TakesLooks r t.reader 0 to
+pub took_faulted : (r : Reader) (t : Source) (text : List ℕ) (to : ℕ) → ConsumesAndFails (unread r) t text → ((total : List ℕ) → Covers t total → LooksReach [] (rest_in total (unread r)) 0 to) → TakesLooks r t.reader 0 to
 took_faulted r t text to p f = takes_looks r t.reader p.fresh 0 to
-    (record { gave = p.gave; told = told_front r.to_come t.reader.to_come t.waiting text p.fresh (p.flows ∙ sym (append-nil text) ∙ ap (λ (z : List ℕ). text ++ z) (sym p.none)) p.bytes; loans = p.loans }) (omega arith)
+    (record { gave = p.gave; told = reported_front r.to_come t.reader.to_come t.waiting text p.fresh (p.flows ∙ sym (append-nil text) ∙ ap (λ (z : List ℕ). text ++ z) (sym p.none)) p.bytes; loans = p.loans }) (omega arith)
     (λ rest k.
     let whole : t.reader.given ++ rest ≡ r.given ++ (p.fresh ++ rest) = ap (λ (z : List ℕ). z ++ rest) p.gave ∙ append_assoc r.given p.fresh rest in
     subst (λ bytes. LooksReach [] bytes 0 to) (rest_is (unread r) (t.reader.given ++ rest) (p.fresh ++ rest) whole)

@@ -4,11 +4,11 @@ use Rattle.std.proofs.lemmas.Bool.{eqb-true, eqb-false, ne_eqb, eq-eqb}
 use Rattle.std.specs.List.{AllByRecursion}
 use Rattle.sat_base.specs.values.Literals.{var_limit}
 use Rattle.sat_base.specs.script.Script.{Literal, names_of}
-use Rattle.sat_base.specs.script.Judge.{Judge, Named, Mode, Sampled, Witnessed, identity_in, identity_of}
+use Rattle.sat_base.specs.script.ScriptState.{ScriptState, Named, NameMode, Sampled, Witnessed, identity_in, identity_of}
 use Rattle.certify.specs.answers.AnswerForms.{HaveNames, NamesRise}
-use Rattle.certify.specs.judge.Names.{states_of, NamesStand, is_hidden, state_of_mode, state_of_identity, used_from, used_in}
+use Rattle.certify.specs.judge.Names.{states_of, NamesHaveState, is_hidden, state_of_mode, state_of_identity, used_from, used_in}
 use Rattle.certify.proofs.lemmas.judge.States.{states_length}
-use Rattle.sat_base.specs.script.JudgeLaws.{NamesIncrease}
+use Rattle.sat_base.specs.script.ScriptStateLaws.{NamesIncrease}
 use Rattle.certify.specs.declared.judge.NameState.{NameState}
 use Rattle.certify.specs.declared.judge.NameState.TheVariants as state
 use Rattle.certify.specs.declared.judge.names.Names.{Names}
@@ -87,11 +87,11 @@ same_from : (ss : List NameState) (first : ℕ) (ns : List Named) → NamesIncre
 same_from [] first ns up a h = ap (map (λ n. n.name)) (no_name first ns a h)
 same_from (s ∷ ss) first ns up a h = at_first first s ss (λ ms. same_from ss (first + 1) ms) ns up a h (is_hidden s) refl
 
-shown_mode : (m : Mode) → is_hidden (state_of_mode m) ≡ false
+shown_mode : (m : NameMode) → is_hidden (state_of_mode m) ≡ false
 shown_mode Sampled = refl
 shown_mode Witnessed = refl
 
-shown_identity : (modes : List Mode) (o : Option ℕ) → is_some o ≡ not (is_hidden (state_of_identity modes o))
+shown_identity : (modes : List NameMode) (o : Option ℕ) → is_some o ≡ not (is_hidden (state_of_identity modes o))
 shown_identity modes None = refl
 shown_identity modes (Some i) = ap not (sym (shown_mode _))
 
@@ -99,7 +99,7 @@ all_above : (ns : List Named) → Above 0 ns
 all_above [] = tt
 all_above (n ∷ ns) = (omega arith, all_above ns)
 
-pub used_names : (names : Names) (j : Judge) → NamesStand names j → NamesIncrease j.in_use → map (λ n. n.name) j.in_use ≡ used_in (states_of names)
+pub used_names : (names : Names) (j : ScriptState) → NamesHaveState names j → NamesIncrease j.in_use → map (λ n. n.name) j.in_use ≡ used_in (states_of names)
 used_names names j h up = same_from (state.Hidden ∷ (states_of names)) 0 j.in_use up (all_above j.in_use) agree
   where
     agree : Agree 0 j.in_use (state.Hidden ∷ (states_of names))

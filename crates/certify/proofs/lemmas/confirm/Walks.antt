@@ -3,13 +3,13 @@ use Rattle.std.proofs.Common.{ℕ, ◌+◌, ◌≤◌, ◌≡◌, Bool, true, fa
 use Rattle.sat_base.specs.steps.Steps.{Step}
 use Rattle.sat_base.specs.steps.StepText.{SpellsStep}
 use Rattle.sat_checker.specs.Accepts.{ready_after}
-use Rattle.sat_checker.specs.KernelView.{looks_of, LooksAtMost}
+use Rattle.sat_checker.specs.KernelView.{kernel_looks, LooksAtMost}
 use Rattle.sat_checker.specs.Looks.{most_looks}
 use Rattle.sat_checker.specs.Spent.{IsSpent}
 use Rattle.sat_checker.specs.declared.kernel.Kernel.{Kernel}
 use Rattle.certify.specs.confirm.Feeding.{HasTaken, FeedsStep, SettlesConflict}
 use Rattle.certify.specs.confirm.Views.{View}
-use Rattle.certify.specs.confirm.Walks.{LooksReach, same_looks, looks_tried, looks_taken, Spends, spent_settling, spent_trying, spent_taking, IsFedFront, FeedsAllSteps, WalksBefore, walks_if, FeedsSomeSteps, RunsOut}
+use Rattle.certify.specs.confirm.Walks.{LooksReach, same_looks, looks_tried, looks_taken, ReachesCounterEnd, spent_settling, spent_trying, spent_taking, IsFedFront, FeedsAllSteps, WalksBefore, walks_if, FeedsSomeSteps, RunsOut}
 use Rattle.certify.specs.declared.confirm.stop.Stop.TheVariants as stop
 
 pub walks_none : (u : View) → FeedsAllSteps u u
@@ -32,7 +32,7 @@ walks_on false u v w f g = (
 )
 
 pub tries_on : (u v w : View) → FeedsAllSteps u v → FeedsSomeSteps v w → FeedsSomeSteps u w
-tries_on u v w f g earlier t = let x = f earlier t in x.reaches (looks_of w.checker) (g x.later x.taken)
+tries_on u v w f g earlier t = let x = f earlier t in x.reaches (kernel_looks w.checker) (g x.later x.taken)
 
 pub runs_on : (u v w : View) → FeedsAllSteps u v → RunsOut v w → RunsOut u w
 runs_on u v w f g earlier t = let x = f earlier t in x.spends (g x.later x.taken)
@@ -40,11 +40,11 @@ runs_on u v w f g earlier t = let x = f earlier t in x.spends (g x.later x.taken
 -- WHERE NOTHING MORE IS FED
 
 pub tries_if : (fed : Bool) (u v : View) → walks_if fed u v → FeedsSomeSteps u v
-tries_if true u v f = λ earlier t. let x = f earlier t in x.reaches (looks_of v.checker) same_looks
-tries_if false u v f = λ earlier t. let x = f.2 earlier t in x.reaches (looks_of v.checker) same_looks
+tries_if true u v f = λ earlier t. let x = f earlier t in x.reaches (kernel_looks v.checker) same_looks
+tries_if false u v f = λ earlier t. let x = f.2 earlier t in x.reaches (kernel_looks v.checker) same_looks
 
 pub tries_none : (u v : View) → v.checker ≡ u.checker → FeedsSomeSteps u v
-tries_none u v e earlier t = subst (λ (c : Kernel). LooksReach earlier u.rest (looks_of u.checker) (looks_of c)) (sym e) same_looks
+tries_none u v e earlier t = subst (λ (c : Kernel). LooksReach earlier u.rest (kernel_looks u.checker) (kernel_looks c)) (sym e) same_looks
 
 -- THE NEXT STEP
 
@@ -55,8 +55,8 @@ walks_read u v text spelt front same = (
   (λ earlier t. subst (λ (c : Kernel). IsFedFront u.checker u.rest c (text ++ v.rest) earlier) (sym same) (record {
     later = earlier;
     taken = t;
-    reaches = λ n r. subst (λ bytes. LooksReach earlier bytes (looks_of u.checker) n) (sym front) r;
-    spends = λ s. subst (Spends earlier) (sym front) s;
+    reaches = λ n r. subst (λ bytes. LooksReach earlier bytes (kernel_looks u.checker) n) (sym front) r;
+    spends = λ s. subst (ReachesCounterEnd earlier) (sym front) s;
   })),
 )
 
@@ -69,12 +69,12 @@ walks_fed u v w same fed most f earlier t =
     record {
       later = v.step ∷ x.later;
       taken = y.1;
-      reaches = λ n r. x.reaches n (looks_taken v.step f.0 w.rest (looks_of w.checker) here f.1 y.0 bound r);
+      reaches = λ n r. x.reaches n (looks_taken v.step f.0 w.rest (kernel_looks w.checker) here f.1 y.0 bound r);
       spends = λ s. x.spends (spent_taking v.step f.0 w.rest here f.1 y.0 s);
     }
 
 pub tries_fed : (u v w : View) → LooksAtMost v.checker v.step w.checker → WalksBefore u v → FeedsSomeSteps u w
-tries_fed u v w most f earlier t = let x = f.2 earlier t in x.reaches (looks_of w.checker) (looks_tried v.step f.0 v.rest refl f.1 (most x.later x.taken.stands))
+tries_fed u v w most f earlier t = let x = f.2 earlier t in x.reaches (kernel_looks w.checker) (looks_tried v.step f.0 v.rest refl f.1 (most x.later x.taken.stands))
 
 pub runs_fed : (u v w : View) (next : Kernel) → FeedsStep (Err stop.CounterEnd) v.checker v.step next → WalksBefore u v → RunsOut u w
 runs_fed u v w next fed f earlier t = let x = f.2 earlier t in x.spends (spent_trying v.step f.0 v.rest refl f.1 (fed x.later x.taken))
@@ -104,22 +104,22 @@ walks_settled false u v w r s settled f = (
 pub record Reached (u v : View) (earlier : List Step) : Type 0 where
   pub later : List Step
   pub taken : HasTaken v.checker later
-  pub looks : LooksReach earlier u.rest (looks_of u.checker) (looks_of v.checker)
-  pub spent : IsSpent (ready_after later) → Spends earlier u.rest
+  pub looks : LooksReach earlier u.rest (kernel_looks u.checker) (kernel_looks v.checker)
+  pub spent : IsSpent (ready_after later) → ReachesCounterEnd earlier u.rest
 
 reached : (fed : Bool) (u v : View) → walks_if fed u v → (earlier : List Step) → HasTaken u.checker earlier → Reached u v earlier
-reached true u v f = λ earlier t. let x = f earlier t in record { later = x.later; taken = x.taken; looks = x.reaches (looks_of v.checker) same_looks; spent = λ s. x.spends (spent_settling s) }
-reached false u v f = λ earlier t. let x = f.2 earlier t in record { later = x.later; taken = x.taken; looks = x.reaches (looks_of v.checker) same_looks; spent = λ s. x.spends (spent_settling s) }
+reached true u v f = λ earlier t. let x = f earlier t in record { later = x.later; taken = x.taken; looks = x.reaches (kernel_looks v.checker) same_looks; spent = λ s. x.spends (spent_settling s) }
+reached false u v f = λ earlier t. let x = f.2 earlier t in record { later = x.later; taken = x.taken; looks = x.reaches (kernel_looks v.checker) same_looks; spent = λ s. x.spends (spent_settling s) }
 
 -- there is no memory
 pub tries_kept : (fed : Bool) (u v w : View) → SettlesConflict (Err stop.OutOfMemory) v.checker w.checker → walks_if fed u v → FeedsSomeSteps u w
 tries_kept fed u v w settled f earlier t =
-    let x = reached fed u v f earlier t in subst (LooksReach earlier u.rest (looks_of u.checker)) (sym (settled x.later x.taken)) x.looks
+    let x = reached fed u v f earlier t in subst (LooksReach earlier u.rest (kernel_looks u.checker)) (sym (settled x.later x.taken)) x.looks
 
 -- there is no id for its empty clause
 pub tries_spent : (fed : Bool) (u v w : View) → SettlesConflict (Err stop.CounterEnd) v.checker w.checker → walks_if fed u v → FeedsSomeSteps u w
 tries_spent fed u v w settled f earlier t =
-    let x = reached fed u v f earlier t in subst (LooksReach earlier u.rest (looks_of u.checker)) (sym (settled x.later x.taken).1) x.looks
+    let x = reached fed u v f earlier t in subst (LooksReach earlier u.rest (kernel_looks u.checker)) (sym (settled x.later x.taken).1) x.looks
 
 pub runs_spent : (fed : Bool) (u v w : View) → SettlesConflict (Err stop.CounterEnd) v.checker w.checker → walks_if fed u v → RunsOut u w
 runs_spent fed u v w settled f earlier t = let x = reached fed u v f earlier t in x.spent (settled x.later x.taken).0

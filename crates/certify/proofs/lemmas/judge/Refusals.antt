@@ -5,24 +5,24 @@ use Rattle.std.proofs.lemmas.Bool.{ltb-true}
 use Rattle.std.specs.List.{AllByRecursion}
 use Rattle.sat_base.specs.values.Literals.{var_limit, variable}
 use Rattle.sat_base.specs.script.Script.{Literal, names_of}
-use Rattle.sat_base.specs.script.Judge.{Judge, Mode, Sampled, Witnessed, identity_of, is_witness, has_witness, WitnessName, refused_literal, refused_name, refusal_of}
+use Rattle.sat_base.specs.script.ScriptState.{ScriptState, NameMode, Sampled, Witnessed, identity_of, is_witness, has_witness, WitnessName, refused_literal, refused_name, refusal_of}
 use Rattle.certify.specs.answers.AnswerForms.{named_literals}
 use Rattle.sat_base.specs.script.Language.{Kind, OfClause, OfAsk, OfHide, OfWitness, OfSample, command_of}
 use Rattle.certify.specs.script.Commands.{kind_of, BeginsPast, IsFront}
 use Rattle.certify.specs.declared.script.Command.{Command as Lent}
 use Rattle.certify.specs.declared.judge.Refusal.{Refusal as CodeRefusal}
 use Rattle.certify.specs.declared.judge.names.Names.{Names}
-use Rattle.certify.specs.judge.Names.{states_of, state_in, state_of_mode, state_of_identity, NamesStand, is_witnessed, limit_refusal, refusal_said, TellsRefusal}
+use Rattle.certify.specs.judge.Names.{states_of, state_in, state_of_mode, state_of_identity, NamesHaveState, is_witnessed, limit_refusal, refusal_said, ReportsRefusal}
 
-witness_at : (j : Judge) (o : Option ℕ) → has_witness j o ≡ is_witnessed (state_of_identity j.modes o)
+witness_at : (j : ScriptState) (o : Option ℕ) → has_witness j o ≡ is_witnessed (state_of_identity j.modes o)
 witness_at j None = refl
 witness_at j (Some i) = go (get_or j.modes i Sampled)
   where
-    go : (m : Mode) → is_witness m ≡ is_witnessed (state_of_mode m)
+    go : (m : NameMode) → is_witness m ≡ is_witnessed (state_of_mode m)
     go Sampled = refl
     go Witnessed = refl
 
-pub witness_is : (names : Names) (j : Judge) (name : ℕ) → NamesStand names j → has_witness j (identity_of j name) ≡ is_witnessed (state_in (states_of names) name)
+pub witness_is : (names : Names) (j : ScriptState) (name : ℕ) → NamesHaveState names j → has_witness j (identity_of j name) ≡ is_witnessed (state_in (states_of names) name)
 witness_is names j name h = witness_at j (identity_of j name) ∙ ap is_witnessed (h.each name)
 
 within : (name : ℕ) → name ≤ var_limit → ltb var_limit name ≡ false
@@ -33,12 +33,12 @@ within name h = go (ltb var_limit name) refl
     go false e = refl
 
 -- the next literal decides, or those behind it
-refused_next : (names : Names) (j : Judge) (code : ℕ) (codes : List ℕ) (tail : List Literal) → NamesStand names j → variable code < var_limit
+refused_next : (names : Names) (j : ScriptState) (code : ℕ) (codes : List ℕ) (tail : List Literal) → NamesHaveState names j → variable code < var_limit
     → refused_literal j (names_of (named_literals (code ∷ codes) ++ tail))
     ≡ cond (is_witnessed (state_in (states_of names) (variable code + 1))) (Some (WitnessName (variable code + 1))) (refused_literal j (names_of (named_literals codes ++ tail)))
 refused_next names j code codes tail h low = rw (within (variable code + 1) (omega arith), witness_is names j (variable code + 1) h) refl
 
-pub refused_at : (names : Names) (j : Judge) (codes : List ℕ) (tail : List Literal) (k code : ℕ) (b : Bool) → NamesStand names j → k < length codes → code ≡ get_or codes k code → variable code < var_limit
+pub refused_at : (names : Names) (j : ScriptState) (codes : List ℕ) (tail : List Literal) (k code : ℕ) (b : Bool) → NamesHaveState names j → k < length codes → code ≡ get_or codes k code → variable code < var_limit
     → is_witnessed (state_in (states_of names) (variable code + 1)) ≡ b
     → refused_literal j (names_of (named_literals (drop k codes) ++ tail)) ≡ cond b (Some (WitnessName (variable code + 1))) (refused_literal j (names_of (named_literals (drop (k + 1) codes) ++ tail)))
 refused_at names j codes tail k code b h within at low e =
@@ -49,7 +49,7 @@ refused_at names j codes tail k code b h within at low e =
     ∙ ap (λ (d : Bool). cond d (Some (WitnessName (variable code + 1))) (refused_literal j (names_of (named_literals (drop (k + 1) codes) ++ tail)))) e
 
 -- behind all codes stands nothing, or a literal past the limit
-past_literals : (j : Judge) (past : Bool) (ls : List Literal) → BeginsPast past ls → refused_literal j (names_of ls) ≡ refusal_said (limit_refusal past)
+past_literals : (j : ScriptState) (past : Bool) (ls : List Literal) → BeginsPast past ls → refused_literal j (names_of ls) ≡ refusal_said (limit_refusal past)
 past_literals j false ls h = ap (λ (ks : List Literal). refused_literal j (names_of ks)) h
 past_literals j true [] h = absurd h
 past_literals j true (l ∷ ls) h = let e : ltb var_limit l.name ≡ true = lt-ltb var_limit l.name h in rw e refl
@@ -59,7 +59,7 @@ past_names false ls h = ap (λ (ks : List Literal). refused_name (names_of ks)) 
 past_names true [] h = absurd h
 past_names true (l ∷ ls) h = let e : ltb var_limit l.name ≡ true = lt-ltb var_limit l.name h in rw e refl
 
-pub refused_end : (j : Judge) (codes : List ℕ) (past : Bool) (ls : List Literal) (k : ℕ) → (f : IsFront codes past ls) → length codes ≤ k → refused_literal j (names_of (named_literals (drop k codes) ++ f.behind)) ≡ refusal_said (limit_refusal past)
+pub refused_end : (j : ScriptState) (codes : List ℕ) (past : Bool) (ls : List Literal) (k : ℕ) → (f : IsFront codes past ls) → length codes ≤ k → refused_literal j (names_of (named_literals (drop k codes) ++ f.behind)) ≡ refusal_said (limit_refusal past)
 refused_end j codes past ls k f over =
     ap (λ (xs : List ℕ). refused_literal j (names_of (named_literals xs ++ f.behind))) (drop_all k codes over) ∙ past_literals j past f.behind f.limit
 
@@ -72,15 +72,15 @@ names_refused codes past ls f = ap (λ (ks : List Literal). refused_name (names_
 
 -- WHOLE COMMANDS
 pub says_literals : (names : Names) (lent : Lent) (r : Option CodeRefusal) → (kind_of lent.kind ≡ OfClause) ⊎ (kind_of lent.kind ≡ OfAsk)
-    → ((j : Judge) (ls : List Literal) → NamesStand names j → IsFront lent.literals.now lent.past_limit ls → refusal_said r ≡ refused_literal j (names_of ls)) → TellsRefusal r names lent
+    → ((j : ScriptState) (ls : List Literal) → NamesHaveState names j → IsFront lent.literals.now lent.past_limit ls → refusal_said r ≡ refused_literal j (names_of ls)) → ReportsRefusal r names lent
 says_literals names lent r (inl k) said j c h (ls, f, e) = said j ls h f ∙ sym (ap (refusal_of j) (e ∙ ap (λ (kind : Kind). command_of kind ls) k))
 says_literals names lent r (inr k) said j c h (ls, f, e) = said j ls h f ∙ sym (ap (refusal_of j) (e ∙ ap (λ (kind : Kind). command_of kind ls) k))
 
-name_refusal : (kind : Kind) (j : Judge) (ls : List Literal) → (kind ≡ OfClause → ⊥) → (kind ≡ OfAsk → ⊥) → refusal_of j (command_of kind ls) ≡ refused_name (names_of ls)
+name_refusal : (kind : Kind) (j : ScriptState) (ls : List Literal) → (kind ≡ OfClause → ⊥) → (kind ≡ OfAsk → ⊥) → refusal_of j (command_of kind ls) ≡ refused_name (names_of ls)
 name_refusal OfClause j ls n m = absurd (n refl)
 name_refusal OfAsk j ls n m = absurd (m refl)
 name_refusal e j ls n m = refl
 
-pub says_names : (names : Names) (lent : Lent) (r : Option CodeRefusal) → (kind_of lent.kind ≡ OfClause → ⊥) → (kind_of lent.kind ≡ OfAsk → ⊥) → r ≡ limit_refusal lent.past_limit → TellsRefusal r names lent
+pub says_names : (names : Names) (lent : Lent) (r : Option CodeRefusal) → (kind_of lent.kind ≡ OfClause → ⊥) → (kind_of lent.kind ≡ OfAsk → ⊥) → r ≡ limit_refusal lent.past_limit → ReportsRefusal r names lent
 says_names names lent r n m said j c h (ls, f, e) =
     ap refusal_said said ∙ sym (names_refused lent.literals.now lent.past_limit ls f) ∙ sym (name_refusal (kind_of lent.kind) j ls n m) ∙ sym (ap (refusal_of j) e)

@@ -5,15 +5,15 @@ use Rattle.std.proofs.Math.Seq.{get_or-append_seam}
 use Rattle.std.proofs.lemmas.List.{length-append, get_or-set_same, get_or-set_other}
 use Rattle.std.proofs.lemmas.Bool.{eqb-true, eqb-false, eq-eqb, ne_eqb, ltb-true, ltb-false}
 use Rattle.sat_base.specs.values.Literals.{var_limit}
-use Rattle.sat_base.specs.script.Judge.{Judge, Named, Mode, Sampled, Witnessed, identity_of, or_zero, with_name, with_names, names_from, new_names, bring_in, without_name, with_mode}
+use Rattle.sat_base.specs.script.ScriptState.{ScriptState, Named, NameMode, Sampled, Witnessed, identity_of, or_zero, with_name, with_names, names_from, new_names, bring_in, without_name, with_mode}
 use Rattle.sat_base.proofs.lemmas.script.LiteralValues.{all_map, placed_found, removed_found, removed_gone}
-use Rattle.sat_base.proofs.lemmas.script.JudgeStates.{placed_all, filtered_all, given_at}
+use Rattle.sat_base.proofs.lemmas.script.ScriptStates.{placed_all, filtered_all, given_at}
 use Rattle.certify.specs.declared.judge.NameState.{NameState}
 use Rattle.certify.specs.declared.judge.NameState.TheVariants as state
 use Rattle.certify.specs.declared.judge.names.Names.{Names}
 use Rattle.sat_base.specs.values.Tables.{value_at, SetsValue}
 use Rattle.sat_base.specs.declared.table.Table.{Table}
-use Rattle.certify.specs.judge.Names.{AreFresh, Changes, IsInUse, changed_to, first_states, state_in, state_of_mode, state_of_identity, states_of, NamesStand}
+use Rattle.certify.specs.judge.Names.{UnusedAreUnlisted, Changes, IsInUse, changed_to, first_states, state_in, state_of_mode, state_of_identity, states_of, NamesHaveState}
 
 none_some : {i : ℕ} → (let o : Option ℕ = None in o) ≡ Some i → ⊥
 none_some e = cc
@@ -111,19 +111,19 @@ module _ (old new : Names) (index name : ℕ) (s : NameState) (low : index < old
           let differ : eqb name (suc i) ≡ false = ne_eqb name (suc i) (λ x. omega arith) in
           past_used new (suc i) (omega arith) ∙ sym (past_used old (suc i) (omega arith)) ∙ ap (λ (b : Bool). cond b s (state_in (states_of old) (suc i))) (sym differ)
 
-  pub set_fresh : AreFresh old → AreFresh new
+  pub set_fresh : UnusedAreUnlisted old → UnusedAreUnlisted new
   set_fresh h v past = sets v ∙ ap (λ (b : Bool). cond b s (value_at state.Sampled old.states v)) (ne_eqb v index (λ x. omega arith)) ∙ h v (omega arith)
 
 -- WHAT A STATE SAYS
-some_used : (modes : List Mode) (i : ℕ) → state_of_identity modes (Some i) ≡ state.Hidden → ⊥
+some_used : (modes : List NameMode) (i : ℕ) → state_of_identity modes (Some i) ≡ state.Hidden → ⊥
 some_used modes i e = go (get_or modes i Sampled) e
   where
-    go : (m : Mode) → state_of_mode m ≡ state.Hidden → ⊥
+    go : (m : NameMode) → state_of_mode m ≡ state.Hidden → ⊥
     go Sampled e = cc
     go Witnessed e = cc
 
 -- a hidden name has no identity
-pub hidden_none : (names : Names) (j : Judge) (name : ℕ) → NamesStand names j → state_in (states_of names) name ≡ state.Hidden → identity_of j name ≡ None
+pub hidden_none : (names : Names) (j : ScriptState) (name : ℕ) → NamesHaveState names j → state_in (states_of names) name ≡ state.Hidden → identity_of j name ≡ None
 hidden_none names j name h e = go (identity_of j name) refl
   where
     go : (o : Option ℕ) → identity_of j name ≡ o → o ≡ None
@@ -131,7 +131,7 @@ hidden_none names j name h e = go (identity_of j name) refl
     go (Some i) x = absurd (some_used j.modes i (ap (state_of_identity j.modes) (sym x) ∙ h.each name ∙ e))
 
 -- another has one
-pub used_some : (names : Names) (j : Judge) (name : ℕ) → NamesStand names j → (state_in (states_of names) name ≡ state.Hidden → ⊥) → (i : ℕ) × (identity_of j name ≡ Some i)
+pub used_some : (names : Names) (j : ScriptState) (name : ℕ) → NamesHaveState names j → (state_in (states_of names) name ≡ state.Hidden → ⊥) → (i : ℕ) × (identity_of j name ≡ Some i)
 used_some names j name h u = go (identity_of j name) refl
   where
     go : (o : Option ℕ) → identity_of j name ≡ o → (i : ℕ) × (identity_of j name ≡ Some i)
@@ -139,13 +139,13 @@ used_some names j name h u = go (identity_of j name) refl
     go (Some i) x = (i, x)
 
 -- A NEW NAME
-named_state : (j : Judge) (o : Option ℕ) → ((i : ℕ) → o ≡ Some i → i < length j.modes) → state_of_identity (j.modes ++ Sampled ∷ []) o ≡ state_of_identity j.modes o
+named_state : (j : ScriptState) (o : Option ℕ) → ((i : ℕ) → o ≡ Some i → i < length j.modes) → state_of_identity (j.modes ++ Sampled ∷ []) o ≡ state_of_identity j.modes o
 named_state j None h = refl
 named_state j (Some i) h = ap state_of_mode (get_or-append j.modes (Sampled ∷ []) Sampled i (h i refl))
 
-pub named : (old new : Names) (j : Judge) (name : ℕ) → NamesStand old j → state_in (states_of old) name ≡ state.Hidden → 1 ≤ name → name ≤ var_limit → name ≤ j.first_unused
-    → new.used ≡ max old.used name → AreFresh new
-    → ((m : ℕ) → state_in (states_of new) m ≡ cond (eqb name m) state.Sampled (state_in (states_of old) m)) → NamesStand new (with_name name j)
+pub named : (old new : Names) (j : ScriptState) (name : ℕ) → NamesHaveState old j → state_in (states_of old) name ≡ state.Hidden → 1 ≤ name → name ≤ var_limit → name ≤ j.first_unused
+    → new.used ≡ max old.used name → UnusedAreUnlisted new
+    → ((m : ℕ) → state_in (states_of new) m ≡ cond (eqb name m) state.Sampled (state_in (states_of old) m)) → NamesHaveState new (with_name name j)
 named old new j name h hidden low high next longer fresh states =
     let n : Named = record { name = name; identity = j.identity_count } in
     let f = h.first in
@@ -173,8 +173,8 @@ named old new j name h hidden low high next longer fresh states =
     alone m k i false e false g x y = h.apart m k i x y
 
 -- A NAME HIDDEN
-pub hidden : (old new : Names) (j : Judge) (name : ℕ) → NamesStand old j → new.used ≡ old.used → AreFresh new
-    → ((m : ℕ) → state_in (states_of new) m ≡ cond (eqb name m) state.Hidden (state_in (states_of old) m)) → NamesStand new (without_name name j)
+pub hidden : (old new : Names) (j : ScriptState) (name : ℕ) → NamesHaveState old j → new.used ≡ old.used → UnusedAreUnlisted new
+    → ((m : ℕ) → state_in (states_of new) m ≡ cond (eqb name m) state.Hidden (state_in (states_of old) m)) → NamesHaveState new (without_name name j)
 hidden old new j name h same fresh states = record {
   fresh = fresh;
   first = let f = h.first in omega arith;
@@ -197,8 +197,8 @@ hidden old new j name h same fresh states = record {
         go false e = sym (removed_found name j.in_use m (λ q. eqb-false name m e (sym q))) ∙ x
 
 -- A MODE SET
-pub moded : (old new : Names) (j : Judge) (mode : Mode) (name : ℕ) → NamesStand old j → (state_in (states_of old) name ≡ state.Hidden → ⊥) → new.used ≡ old.used → AreFresh new
-    → ((m : ℕ) → state_in (states_of new) m ≡ cond (eqb name m) (state_of_mode mode) (state_in (states_of old) m)) → NamesStand new (with_mode mode name j)
+pub moded : (old new : Names) (j : ScriptState) (mode : NameMode) (name : ℕ) → NamesHaveState old j → (state_in (states_of old) name ≡ state.Hidden → ⊥) → new.used ≡ old.used → UnusedAreUnlisted new
+    → ((m : ℕ) → state_in (states_of new) m ≡ cond (eqb name m) (state_of_mode mode) (state_in (states_of old) m)) → NamesHaveState new (with_mode mode name j)
 moded old new j mode name h used same fresh states =
     let u = used_some old j name h used in
     let at_name : or_zero (identity_of j name) ≡ u.0 = ap or_zero u.1 in
@@ -232,25 +232,25 @@ moded old new j mode name h used same fresh states =
         ∙ h.each m
 
 -- NAMES THAT COME IN
-pub new_past : (names : Names) (j : Judge) (name count first : ℕ) → NamesStand names j → j.first_unused ≤ name → count ≡ name + 1 - j.first_unused → first ≡ j.first_unused → new_names name j ≡ names_from count first
+pub new_past : (names : Names) (j : ScriptState) (name count first : ℕ) → NamesHaveState names j → j.first_unused ≤ name → count ≡ name + 1 - j.first_unused → first ≡ j.first_unused → new_names name j ≡ names_from count first
 new_past names j name count first h past c f = rw (c, f) (go (ltb name j.first_unused) refl)
   where
     go : (b : Bool) → ltb name j.first_unused ≡ b → cond b (cond (is_some (identity_of j name)) [] (name ∷ [])) (names_from (name + 1 - j.first_unused) j.first_unused) ≡ names_from (name + 1 - j.first_unused) j.first_unused
     go true e = let x = ltb-true name j.first_unused e in absurd (omega arith)
     go false e = refl
 
-below_at : (j : Judge) (name : ℕ) (b : Bool) → name < j.first_unused → is_some (identity_of j name) ≡ b → new_names name j ≡ cond b [] (name ∷ [])
+below_at : (j : ScriptState) (name : ℕ) (b : Bool) → name < j.first_unused → is_some (identity_of j name) ≡ b → new_names name j ≡ cond b [] (name ∷ [])
 below_at j name b low e = go (ltb name j.first_unused) refl
   where
     go : (d : Bool) → ltb name j.first_unused ≡ d → cond d (cond (is_some (identity_of j name)) [] (name ∷ [])) (names_from (name + 1 - j.first_unused) j.first_unused) ≡ cond b [] (name ∷ [])
     go true x = rw e refl
     go false x = let y = ltb-false name j.first_unused x in absurd (omega arith)
 
-pub new_hidden : (names : Names) (j : Judge) (name : ℕ) → NamesStand names j → name < j.first_unused → state_in (states_of names) name ≡ state.Hidden → new_names name j ≡ name ∷ []
+pub new_hidden : (names : Names) (j : ScriptState) (name : ℕ) → NamesHaveState names j → name < j.first_unused → state_in (states_of names) name ≡ state.Hidden → new_names name j ≡ name ∷ []
 new_hidden names j name h low e = below_at j name false low (ap is_some (hidden_none names j name h e))
 
 -- a name in use doesn't come in again
-pub new_used : (names : Names) (j : Judge) (name : ℕ) → NamesStand names j → (state_in (states_of names) name ≡ state.Hidden → ⊥) → new_names name j ≡ []
+pub new_used : (names : Names) (j : ScriptState) (name : ℕ) → NamesHaveState names j → (state_in (states_of names) name ≡ state.Hidden → ⊥) → new_names name j ≡ []
 new_used names j name h u = below_at j name true (low (ltb names.used name) refl) (ap is_some (used_some names j name h u).1)
   where
     low : (b : Bool) → ltb names.used name ≡ b → name < j.first_unused
@@ -259,7 +259,7 @@ new_used names j name h u = below_at j name true (low (ltb names.used name) refl
 
 -- so bringing it in changes nothing
 pub stays : (names : Names) (name : ℕ) → IsInUse names name → Changes names names (bring_in name)
-stays names name u j h = subst (λ (ns : List ℕ). NamesStand names (with_names ns j)) (sym (new_used names j name h u)) h
+stays names name u j h = subst (λ (ns : List ℕ). NamesHaveState names (with_names ns j)) (sym (new_used names j name h u)) h
 
 pub witnessed_used : (s : NameState) → s ≡ state.Witnessed → s ≡ state.Hidden → ⊥
 witnessed_used s e h = cc
@@ -268,11 +268,11 @@ pub sampled_used : (s : NameState) → s ≡ state.Sampled → s ≡ state.Hidde
 sampled_used s e h = cc
 
 -- BY INDEX
-pub hide_at : (old new : Names) (j : Judge) (index name : ℕ) → NamesStand old j → index < old.used → index + 1 ≡ name → new.used ≡ old.used → SetsValue state.Sampled old.states new.states index state.Hidden → NamesStand new (without_name name j)
+pub hide_at : (old new : Names) (j : ScriptState) (index name : ℕ) → NamesHaveState old j → index < old.used → index + 1 ≡ name → new.used ≡ old.used → SetsValue state.Sampled old.states new.states index state.Hidden → NamesHaveState new (without_name name j)
 hide_at old new j index name h low n same sets = hidden old new j name h same (set_fresh old new index name state.Hidden low n same sets h.fresh) (set_at old new index name state.Hidden low n same sets)
 
-mode_at : (old new : Names) (j : Judge) (mode : Mode) (index name : ℕ) → NamesStand old j → index < old.used → index + 1 ≡ name → new.used ≡ old.used → SetsValue state.Sampled old.states new.states index (state_of_mode mode)
-    → (state_in (states_of old) name ≡ state.Hidden → ⊥) → NamesStand new (with_mode mode name j)
+mode_at : (old new : Names) (j : ScriptState) (mode : NameMode) (index name : ℕ) → NamesHaveState old j → index < old.used → index + 1 ≡ name → new.used ≡ old.used → SetsValue state.Sampled old.states new.states index (state_of_mode mode)
+    → (state_in (states_of old) name ≡ state.Hidden → ⊥) → NamesHaveState new (with_mode mode name j)
 mode_at old new j mode index name h low n same sets used =
     moded old new j mode name h used same (set_fresh old new index name (state_of_mode mode) low n same sets h.fresh) (set_at old new index name (state_of_mode mode) low n same sets)
 
@@ -284,13 +284,13 @@ state_set old new state.Sampled index name low n same sets used j h = mode_at ol
 state_set old new state.Witnessed index name low n same sets used j h = mode_at old new j Witnessed index name h low n same sets used
 
 -- a hidden name is used again
-pub again_at : (old new : Names) (j : Judge) (index name : ℕ) → NamesStand old j → index < old.used → index + 1 ≡ name → index < var_limit → new.used ≡ old.used → SetsValue state.Sampled old.states new.states index state.Sampled
-    → state_in (states_of old) name ≡ state.Hidden → NamesStand new (bring_in name j)
+pub again_at : (old new : Names) (j : ScriptState) (index name : ℕ) → NamesHaveState old j → index < old.used → index + 1 ≡ name → index < var_limit → new.used ≡ old.used → SetsValue state.Sampled old.states new.states index state.Sampled
+    → state_in (states_of old) name ≡ state.Hidden → NamesHaveState new (bring_in name j)
 again_at old new j index name h low n within same sets hidden_yet =
     let f = h.first in
     let longer : new.used ≡ max old.used name = omega arith in
-    let b : NamesStand new (with_name name j) = named old new j name h hidden_yet (omega arith) (omega arith) (omega arith) longer (set_fresh old new index name state.Sampled low n same sets h.fresh) (set_at old new index name state.Sampled low n same sets) in
-    subst (λ (ns : List ℕ). NamesStand new (with_names ns j)) (sym (new_hidden old j name h (omega arith) hidden_yet)) b
+    let b : NamesHaveState new (with_name name j) = named old new j name h hidden_yet (omega arith) (omega arith) (omega arith) longer (set_fresh old new index name state.Sampled low n same sets h.fresh) (set_at old new index name state.Sampled low n same sets) in
+    subst (λ (ns : List ℕ). NamesHaveState new (with_names ns j)) (sym (new_hidden old j name h (omega arith) hidden_yet)) b
 
 -- which is in use then
 pub again_used : (old new : Names) (index name : ℕ) → index < old.used → index + 1 ≡ name → new.used ≡ old.used → SetsValue state.Sampled old.states new.states index state.Sampled → IsInUse new name

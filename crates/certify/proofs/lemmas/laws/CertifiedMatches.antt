@@ -5,33 +5,33 @@ use Rattle.std.proofs.lemmas.List.{append-nil, reverse-append}
 use Rattle.std.specs.Prelude.{reverse}
 use Rattle.std.specs.List.{AllByRecursion}
 use Rattle.sat_base.specs.script.Script.{Command, Clause, Ask, Hide, Witness, Sample, ScriptEnding}
-use Rattle.sat_base.specs.script.Judge.{Judge, accepted, accepted_of, start}
+use Rattle.sat_base.specs.script.ScriptState.{ScriptState, accepted, accepted_of, start}
 use Rattle.sat_base.specs.steps.Steps.{Step}
 use Rattle.sat_base.specs.steps.StepText.{SpellsSteps}
 use Rattle.sat_checker.specs.Accepts.{AcceptsAll, effect, ready_after}
 use Rattle.sat_checker.proofs.lemmas.invariants.Stored.{unsat_stays}
 use Rattle.sat_checker.specs.matching.Checking.{Accepted}
 use Rattle.sat_checker.specs.matching.Expected.{Outcome, Sat, Unsat, Unknown, Expected, NewName, NoName, Adds, Opens, Shows, Fails, Closes, Finish, expected}
-use Rattle.sat_checker.specs.matching.ProofChecking.{the_checking}
+use Rattle.sat_checker.specs.matching.ProofChecking.{checker_rules}
 use Rattle.certify.specs.answers.Answers.{answers_text}
 use Rattle.certify.specs.answers.RightAnswers.{AreRight, AnswersAreRight}
-use Rattle.certify.specs.confirm.Matches.{OneEach, InForm, Excused, Meets, met, cut, other, ordered, Matches}
+use Rattle.certify.specs.confirm.Matches.{OneEach, InForm, MayBeUnmet, Meets, met, cut, other, ordered, Matches}
 use Rattle.certify.specs.run.Certifies as by
 use Rattle.certify.specs.run.Certifies.{Certifies, MayLack, MayStand}
 use Rattle.certify.proofs.lemmas.confirm.Settled.{settled_unsat}
 
 -- recorded unsat stays
-stays : (s : List Step) (step : Step) → the_checking.unsat s ≡ true → the_checking.unsat (step ∷ s) ≡ true
+stays : (s : List Step) (step : Step) → checker_rules.unsat s ≡ true → checker_rules.unsat (step ∷ s) ≡ true
 stays s step u = settled_unsat (effect step (ready_after s)) ∙ unsat_stays (ready_after s) step u
 
 -- WHAT MAY BE LEFT UNMET
 
-lacked_excused : (e : Expected) → MayLack e → Excused e
+lacked_excused : (e : Expected) → MayLack e → MayBeUnmet e
 lacked_excused (Adds ls) h = tt
 lacked_excused (Fails ask core) h = h
 lacked_excused e h = absurd h
 
-stood_excused : (e : Expected) → MayStand true e → Excused e
+stood_excused : (e : Expected) → MayStand true e → MayBeUnmet e
 stood_excused (Fails ask core) h = absurd (both_ways true h refl)
 stood_excused (Opens ls o) h = absurd h
 stood_excused (Shows names ask line) h = absurd (both_ways true h refl)
@@ -39,7 +39,7 @@ stood_excused e h = tt
 
 -- once unsat is recorded, all that is expected
 excused : {all : List Step} {current : Option Outcome} {earlier : List Step} {es : List Expected} {counts : List ℕ}
-    → Certifies the_checking all current earlier es counts → the_checking.unsat earlier ≡ true → AllByRecursion Excused es
+    → Certifies checker_rules all current earlier es counts → checker_rules.unsat earlier ≡ true → AllByRecursion MayBeUnmet es
 excused by.complete u = tt
 excused (by.left_out {e = e} m r c) u = (lacked_excused e m, excused c u)
 excused (by.other {earlier = earlier} {step = step} n c) u = excused c (stays earlier step u)
@@ -60,13 +60,13 @@ onto_reversed [] earlier = sym (append-nil (reverse earlier))
 onto_reversed (step ∷ steps) earlier =
     onto_reversed steps (step ∷ earlier) ∙ ap (λ s. s ++ steps) (reverse-append (step ∷ []) earlier) ∙ append_assoc (reverse earlier) (step ∷ []) steps
 
-accepted_front : (steps earlier : List Step) → Accepted the_checking (onto steps earlier) → Accepted the_checking earlier
+accepted_front : (steps earlier : List Step) → Accepted checker_rules (onto steps earlier) → Accepted checker_rules earlier
 accepted_front [] earlier h = h
 accepted_front (step ∷ steps) earlier h = (accepted_front steps (step ∷ earlier) h).0
 
 -- all steps are some behind those so far
 behind : {all : List Step} {current : Option Outcome} {earlier : List Step} {es : List Expected} {counts : List ℕ}
-    → Certifies the_checking all current earlier es counts → (steps : List Step) × (all ≡ onto steps earlier)
+    → Certifies checker_rules all current earlier es counts → (steps : List Step) × (all ≡ onto steps earlier)
 behind by.complete = ([], refl)
 behind (by.left_out m r c) = behind c
 behind (by.other {step = step} n c) = let h = behind c in (step ∷ h.0, h.1)
@@ -76,10 +76,10 @@ behind (by.answered {step = step} i f c) = let h = behind c in (step ∷ h.0, h.
 
 -- the next step is accepted
 next_accepted : {all : List Step} {current : Option Outcome} {step : Step} {earlier : List Step} {es : List Expected} {counts : List ℕ}
-    → Accepted the_checking all → Certifies the_checking all current (step ∷ earlier) es counts → the_checking.Accepts earlier step
+    → Accepted checker_rules all → Certifies checker_rules all current (step ∷ earlier) es counts → checker_rules.Accepts earlier step
 next_accepted {step = step} {earlier = earlier} a c =
     let h = behind c in
-    (accepted_front h.0 (step ∷ earlier) (subst (Accepted the_checking) h.1 a)).1
+    (accepted_front h.0 (step ∷ earlier) (subst (Accepted checker_rules) h.1 a)).1
 
 -- WHAT IS MET
 
@@ -87,35 +87,35 @@ next_accepted {step = step} {earlier = earlier} a c =
 record Front (all earlier : List Step) (es : List Expected) : Type 0 where
   pub steps : List Step
   pub rest : List Step
-  pub meets : Meets the_checking earlier steps es
+  pub meets : Meets checker_rules earlier steps es
   pub whole : all ≡ onto (steps ++ rest) earlier
 
-module _ (all : List Step) (a : Accepted the_checking all) where
+module _ (all : List Step) (a : Accepted checker_rules all) where
   met_by : {current : Option Outcome} {earlier : List Step} {es : List Expected} {counts : List ℕ}
-      → Certifies the_checking all current earlier es counts → (b : Bool) → the_checking.unsat earlier ≡ b → Front all earlier es
+      → Certifies checker_rules all current earlier es counts → (b : Bool) → checker_rules.unsat earlier ≡ b → Front all earlier es
   met_by c true u = let h = behind c in record { steps = []; rest = h.0; meets = cut u (excused c u); whole = h.1 }
   met_by by.complete false u = record { steps = []; rest = []; meets = met u; whole = refl }
-  met_by (by.left_out {earlier = earlier} m r c) false u = absurd (both_ways (the_checking.unsat earlier) u r.recorded)
+  met_by (by.left_out {earlier = earlier} m r c) false u = absurd (both_ways (checker_rules.unsat earlier) u r.recorded)
   met_by (by.other {earlier = earlier} {step = step} n c) false u =
-      let h = met_by c (the_checking.unsat (step ∷ earlier)) refl in
+      let h = met_by c (checker_rules.unsat (step ∷ earlier)) refl in
       record { steps = step ∷ h.steps; rest = h.rest; meets = other u n (next_accepted a c) h.meets; whole = h.whole }
   met_by (by.ordered {earlier = earlier} {step = step} m f c) false u =
-      let h = met_by c (the_checking.unsat (step ∷ earlier)) refl in
+      let h = met_by c (checker_rules.unsat (step ∷ earlier)) refl in
       record { steps = step ∷ h.steps; rest = h.rest; meets = ordered u f (next_accepted a c) h.meets; whole = h.whole }
   met_by (by.asked {earlier = earlier} {step = step} i f c) false u =
-      let h = met_by c (the_checking.unsat (step ∷ earlier)) refl in
+      let h = met_by c (checker_rules.unsat (step ∷ earlier)) refl in
       record { steps = step ∷ h.steps; rest = h.rest; meets = ordered u f (next_accepted a c) h.meets; whole = h.whole }
   met_by (by.answered {earlier = earlier} {step = step} i f c) false u =
-      let h = met_by c (the_checking.unsat (step ∷ earlier)) refl in
+      let h = met_by c (checker_rules.unsat (step ∷ earlier)) refl in
       record { steps = step ∷ h.steps; rest = h.rest; meets = ordered u f (next_accepted a c) h.meets; whole = h.whole }
 
-accepted_each : (steps : List Step) → AcceptsAll steps → Accepted the_checking steps
+accepted_each : (steps : List Step) → AcceptsAll steps → Accepted checker_rules steps
 accepted_each [] h = tt
 accepted_each (step ∷ earlier) h = (accepted_each earlier h.0, h.1)
 
 -- OUTCOMES
 
-one_each : (j : Judge) (commands : List Command) (outcomes : List Outcome) → AreRight j commands outcomes → OneEach commands outcomes
+one_each : (j : ScriptState) (commands : List Command) (outcomes : List Outcome) → AreRight j commands outcomes → OneEach commands outcomes
 one_each j [] [] h = tt
 one_each j [] (o ∷ os) h = absurd h
 one_each j (Ask ls ∷ commands) [] h = absurd h
@@ -125,7 +125,7 @@ one_each j (Hide names ∷ commands) os h = one_each (accepted (Hide names) j) c
 one_each j (Witness names ∷ commands) os h = one_each (accepted (Witness names) j) commands os h
 one_each j (Sample names ∷ commands) os h = one_each (accepted (Sample names) j) commands os h
 
-in_form : (j : Judge) (commands : List Command) (outcomes : List Outcome) → AreRight j commands outcomes → AllByRecursion InForm outcomes
+in_form : (j : ScriptState) (commands : List Command) (outcomes : List Outcome) → AreRight j commands outcomes → AllByRecursion InForm outcomes
 in_form j commands [] h = tt
 in_form j [] (o ∷ os) h = absurd h
 in_form j (Ask ls ∷ commands) (Sat line ∷ os) h = (tt, in_form (accepted (Ask ls) j) commands os h.1)
@@ -159,12 +159,12 @@ text_front (step ∷ front) rest text h =
 pub certified_matches : (reading : List ℕ → List Command × ScriptEnding) (script certificate : List ℕ) (outcomes : List Outcome) (steps : List Step) (counts : List ℕ)
     → AnswersAreRight (reading script).0 outcomes
     → AcceptsAll steps
-    → Certifies the_checking steps None [] (expected start (accepted_of start (reading script).0) outcomes) counts
+    → Certifies checker_rules steps None [] (expected start (accepted_of start (reading script).0) outcomes) counts
     → SpellsSteps (reverse steps) certificate
-    → Matches the_checking reading script (answers_text (reading script).0 (reading script).1 outcomes) certificate
+    → Matches checker_rules reading script (answers_text (reading script).0 (reading script).1 outcomes) certificate
 certified_matches reading script certificate outcomes steps counts right a c spelt =
     let commands : List Command = accepted_of start (reading script).0 in
-    let h = met_by steps (accepted_each steps a) c (the_checking.unsat []) refl in
+    let h = met_by steps (accepted_each steps a) c (checker_rules.unsat []) refl in
     let whole : reverse steps ≡ h.steps ++ h.rest = ap reverse h.whole ∙ onto_reversed (h.steps ++ h.rest) [] in
     let t = text_front h.steps h.rest certificate (subst (λ s. SpellsSteps s certificate) whole spelt) in
     record {

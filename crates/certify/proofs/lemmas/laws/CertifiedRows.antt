@@ -5,7 +5,7 @@ use Rattle.sat_base.specs.script.Script.{Literal}
 use Rattle.sat_base.specs.steps.Steps.{Step, UserVarName, AddClause, AtClause, Assumptions, End}
 use Rattle.sat_checker.specs.matching.Expected.{Outcome, Sat, Unsat, Expected, NewName, Adds, Opens, Shows, Closes, Finish, Fits, new_name, adds, opens, shows, closes, finish}
 use Rattle.sat_checker.specs.matching.Checking.{is_ordered}
-use Rattle.sat_checker.specs.matching.ProofChecking.{the_checking}
+use Rattle.sat_checker.specs.matching.ProofChecking.{checker_rules}
 use Rattle.certify.specs.run.Certifies.{Certifies, IsKnown, complete, left_out, other, ordered, asked, answered}
 use Rattle.certify.specs.laws.Rows.{BehindEndUncertified, ChainCertified, ClauseAndAskCertified, ClauseUncertified, CoreUncertified, EarlyUncertified, EndAloneUncertified, KnownWithoutRounds, LeftOutCertified, ModelUncertified, UnknownUncertified, neg, pos}
 use Rattle.certify.proofs.lemmas.confirm.FittingSteps.{fits_new_name, fits_adds, fits_shows}
@@ -51,64 +51,64 @@ chain hashes = ordered tt (new_name refl refl)
     (answered (λ u. refl) closes (ordered tt finish complete)))))))))))
 
 -- the step that comes next is this one
-is_next : {all : List Step} {current : Option Outcome} {earlier : List Step} {es : List Expected} {counts : List ℕ} (later : List Step) (step next : Step) → all ≡ later ++ step ∷ earlier → Certifies the_checking all current (next ∷ earlier) es counts → next ≡ step
+is_next : {all : List Step} {current : Option Outcome} {earlier : List Step} {es : List Expected} {counts : List ℕ} (later : List Step) (step next : Step) → all ≡ later ++ step ∷ earlier → Certifies checker_rules all current (next ∷ earlier) es counts → next ≡ step
 is_next {earlier = earlier} later step next e c = let f = certified_front c in next_same f.0 later next step earlier (sym f.1 ∙ e)
 
 -- what stands first is what is expected first
 no_other : {all earlier : List Step} {current : Option Outcome} {es : List Expected} {counts : List ℕ} (later : List Step) (step : Step) → all ≡ later ++ step ∷ earlier → is_ordered step ≡ true
-    → (next : Step) → is_ordered next ≡ false → Certifies the_checking all current (next ∷ earlier) es counts → ⊥
+    → (next : Step) → is_ordered next ≡ false → Certifies checker_rules all current (next ∷ earlier) es counts → ⊥
 no_other later step first i next o c = true≢false (sym i ∙ ap is_ordered (sym (is_next later step next first c)) ∙ o)
 
 next_name : {all earlier : List Step} {current : Option Outcome} {name : ℕ} {es : List Expected} {counts : List ℕ} (later : List Step) (step : Step) → all ≡ later ++ step ∷ earlier → is_ordered step ≡ true
-    → Certifies the_checking all current earlier (NewName name ∷ es) counts → Fits (the_checking.knows earlier) earlier (NewName name) step × Certifies the_checking all current (step ∷ earlier) es counts
+    → Certifies checker_rules all current earlier (NewName name ∷ es) counts → Fits (checker_rules.knows earlier) earlier (NewName name) step × Certifies checker_rules all current (step ∷ earlier) es counts
 next_name later step first i (left_out m r c) = absurd m
 next_name later step first i (other {step = next} o c) = absurd (no_other later step first i next o c)
 next_name {all} {earlier} {current} {name} {es} {counts} later step first i (ordered {step = next} s f c) =
     let e = is_next later step next first c in
-    (subst (λ x. Fits (the_checking.knows earlier) earlier (NewName name) x) e f, subst (λ (x : Step). Certifies the_checking all current (x ∷ earlier) es counts) e c)
+    (subst (λ x. Fits (checker_rules.knows earlier) earlier (NewName name) x) e f, subst (λ (x : Step). Certifies checker_rules all current (x ∷ earlier) es counts) e c)
 
 next_added : {all earlier : List Step} {current : Option Outcome} {ls : List Literal} {es : List Expected} {counts : List ℕ} (later : List Step) (step : Step) → all ≡ later ++ step ∷ earlier → is_ordered step ≡ true
-    → the_checking.unsat earlier ≡ false → Certifies the_checking all current earlier (Adds ls ∷ es) counts → Fits (the_checking.knows earlier) earlier (Adds ls) step × Certifies the_checking all current (step ∷ earlier) es counts
+    → checker_rules.unsat earlier ≡ false → Certifies checker_rules all current earlier (Adds ls ∷ es) counts → Fits (checker_rules.knows earlier) earlier (Adds ls) step × Certifies checker_rules all current (step ∷ earlier) es counts
 next_added later step first i u (left_out m r c) = absurd (true≢false (sym r.recorded ∙ u))
 next_added later step first i u (other {step = next} o c) = absurd (no_other later step first i next o c)
 next_added {all} {earlier} {current} {ls} {es} {counts} later step first i u (ordered {step = next} s f c) =
     let e = is_next later step next first c in
-    (subst (λ x. Fits (the_checking.knows earlier) earlier (Adds ls) x) e f, subst (λ (x : Step). Certifies the_checking all current (x ∷ earlier) es counts) e c)
+    (subst (λ x. Fits (checker_rules.knows earlier) earlier (Adds ls) x) e f, subst (λ (x : Step). Certifies checker_rules all current (x ∷ earlier) es counts) e c)
 
 left_added : {all earlier : List Step} {current : Option Outcome} {ls : List Literal} {es : List Expected} {counts : List ℕ} (later : List Step) (step : Step) → all ≡ later ++ step ∷ earlier → is_ordered step ≡ true
-    → the_checking.unsat earlier ≡ true → Certifies the_checking all current earlier (Adds ls ∷ es) counts → Fits (the_checking.knows earlier) earlier (Adds ls) step ⊎ Certifies the_checking all current earlier es counts
+    → checker_rules.unsat earlier ≡ true → Certifies checker_rules all current earlier (Adds ls ∷ es) counts → Fits (checker_rules.knows earlier) earlier (Adds ls) step ⊎ Certifies checker_rules all current earlier es counts
 left_added later step first i u (left_out m r c) = inr c
 left_added later step first i u (other {step = next} o c) = absurd (no_other later step first i next o c)
-left_added {earlier = earlier} {ls = ls} later step first i u (ordered {step = next} s f c) = inl (subst (λ x. Fits (the_checking.knows earlier) earlier (Adds ls) x) (is_next later step next first c) f)
+left_added {earlier = earlier} {ls = ls} later step first i u (ordered {step = next} s f c) = inl (subst (λ x. Fits (checker_rules.knows earlier) earlier (Adds ls) x) (is_next later step next first c) f)
 
 -- an ask is opened, of which so much is known by then
 record OpenedBy (all earlier : List Step) (step : Step) (o : Outcome) (es : List Expected) (counts : List ℕ) : Type 0 where
   rounds : ℕ
   rest : List ℕ
   counts_are : counts ≡ rounds ∷ rest
-  known : the_checking.unsat earlier ≡ true → IsKnown o rounds
-  leads : Certifies the_checking all (Some o) (step ∷ earlier) es rest
+  known : checker_rules.unsat earlier ≡ true → IsKnown o rounds
+  leads : Certifies checker_rules all (Some o) (step ∷ earlier) es rest
 
-next_asked : {all earlier : List Step} {ask : List Literal} {o : Outcome} {es : List Expected} {counts : List ℕ} (later : List Step) (step : Step) → all ≡ later ++ step ∷ earlier → is_ordered step ≡ true → Certifies the_checking all None earlier (Opens ask o ∷ es) counts → OpenedBy all earlier step o es counts
+next_asked : {all earlier : List Step} {ask : List Literal} {o : Outcome} {es : List Expected} {counts : List ℕ} (later : List Step) (step : Step) → all ≡ later ++ step ∷ earlier → is_ordered step ≡ true → Certifies checker_rules all None earlier (Opens ask o ∷ es) counts → OpenedBy all earlier step o es counts
 next_asked later step first i (left_out m r c) = absurd m
 next_asked later step first i (other {step = next} o c) = absurd (no_other later step first i next o c)
 next_asked later step first i (ordered s f c) = absurd s
 next_asked {all} {earlier} {o = o} {es = es} later step first i (asked {step = next} {n = n} {counts = counts} k f c) =
     let e = is_next later step next first c in
-    record { rounds = n; rest = counts; counts_are = refl; known = k; leads = subst (λ (x : Step). Certifies the_checking all (Some o) (x ∷ earlier) es counts) e c }
+    record { rounds = n; rest = counts; counts_are = refl; known = k; leads = subst (λ (x : Step). Certifies checker_rules all (Some o) (x ∷ earlier) es counts) e c }
 
 closes_ordered : {knows : ℕ → Bool} {earlier : List Step} {step : Step} → Fits knows earlier Closes step → is_ordered step ≡ true
 closes_ordered closes = refl
 
 -- another step within an ask
-next_other : {all earlier : List Step} {o : Outcome} {es : List Expected} {counts : List ℕ} (later : List Step) (step : Step) → all ≡ later ++ step ∷ earlier → is_ordered step ≡ false → Certifies the_checking all (Some o) earlier (Closes ∷ es) counts → Certifies the_checking all (Some o) (step ∷ earlier) (Closes ∷ es) counts
+next_other : {all earlier : List Step} {o : Outcome} {es : List Expected} {counts : List ℕ} (later : List Step) (step : Step) → all ≡ later ++ step ∷ earlier → is_ordered step ≡ false → Certifies checker_rules all (Some o) earlier (Closes ∷ es) counts → Certifies checker_rules all (Some o) (step ∷ earlier) (Closes ∷ es) counts
 next_other later step first i (left_out m r c) = absurd m
-next_other {all} {earlier} {o} {es} {counts} later step first i (other {step = next} q c) = subst (λ (x : Step). Certifies the_checking all (Some o) (x ∷ earlier) (Closes ∷ es) counts) (is_next later step next first c) c
+next_other {all} {earlier} {o} {es} {counts} later step first i (other {step = next} q c) = subst (λ (x : Step). Certifies checker_rules all (Some o) (x ∷ earlier) (Closes ∷ es) counts) (is_next later step next first c) c
 next_other later step first i (ordered s f c) = absurd s
 next_other later step first i (answered {step = next} k f c) = absurd (true≢false (sym (closes_ordered f) ∙ ap is_ordered (is_next later step next first c) ∙ i))
 
 -- what closes an ask once unsat is recorded
-next_closed : {all earlier : List Step} {o : Outcome} {es : List Expected} {counts : List ℕ} (later : List Step) (step : Step) → all ≡ later ++ step ∷ earlier → is_ordered step ≡ true → the_checking.unsat earlier ≡ true → Certifies the_checking all (Some o) earlier (Closes ∷ es) counts → o ≡ Unsat []
+next_closed : {all earlier : List Step} {o : Outcome} {es : List Expected} {counts : List ℕ} (later : List Step) (step : Step) → all ≡ later ++ step ∷ earlier → is_ordered step ≡ true → checker_rules.unsat earlier ≡ true → Certifies checker_rules all (Some o) earlier (Closes ∷ es) counts → o ≡ Unsat []
 next_closed later step first i u (left_out m r c) = absurd m
 next_closed later step first i u (other {step = next} q c) = absurd (true≢false (sym i ∙ ap is_ordered (sym (is_next later step next first c)) ∙ q))
 next_closed later step first i u (ordered s f c) = absurd s
@@ -130,8 +130,8 @@ core shown counts c =
     split [] ys s zs = refl
     split (x ∷ xs) ys s zs = ap (λ ws. x ∷ ws) (split xs ys s zs)
 
-no_fit : (earlier : List Step) (ls : List Literal) (c : List ℕ) → Fits (the_checking.knows earlier) earlier (Adds ls) (Assumptions c) → ⊥
-no_fit earlier ls c f = let p = (fits_adds the_checking earlier ls (Assumptions c)).0 f in absurd (let q = p.1 in cc)
+no_fit : (earlier : List Step) (ls : List Literal) (c : List ℕ) → Fits (checker_rules.knows earlier) earlier (Adds ls) (Assumptions c) → ⊥
+no_fit earlier ls c f = let p = (fits_adds checker_rules earlier ls (Assumptions c)).0 f in absurd (let q = p.1 in cc)
 
 pub without_rounds : KnownWithoutRounds
 without_rounds o n c =
@@ -193,27 +193,27 @@ unknown hashes counts c =
     absurd (let k = next_closed (End ∷ []) (Assumptions []) refl refl refl more in cc)
 
 pub end_alone : EndAloneUncertified
-end_alone outcomes counts c = let p = (fits_new_name the_checking [] 1 End).0 (next_name [] End refl refl c).0 in absurd (let q = p.2 in cc)
+end_alone outcomes counts c = let p = (fits_new_name checker_rules [] 1 End).0 (next_name [] End refl refl c).0 in absurd (let q = p.2 in cc)
 
-no_clause : (counts : List ℕ) → Certifies the_checking (End ∷ UserVarName 0 (Some 0) ∷ []) None (UserVarName 0 (Some 0) ∷ []) (Adds (pos 1 ∷ []) ∷ Finish ∷ []) counts → ⊥
-no_clause counts c = let p = (fits_adds the_checking (UserVarName 0 (Some 0) ∷ []) (pos 1 ∷ []) End).0 (next_added [] End refl refl refl c).0 in absurd (let q = p.1 in cc)
+no_clause : (counts : List ℕ) → Certifies checker_rules (End ∷ UserVarName 0 (Some 0) ∷ []) None (UserVarName 0 (Some 0) ∷ []) (Adds (pos 1 ∷ []) ∷ Finish ∷ []) counts → ⊥
+no_clause counts c = let p = (fits_adds checker_rules (UserVarName 0 (Some 0) ∷ []) (pos 1 ∷ []) End).0 (next_added [] End refl refl refl c).0 in absurd (let q = p.1 in cc)
 
 pub clause_needed : ClauseUncertified
 clause_needed counts c = no_clause counts (next_name (End ∷ []) (UserVarName 0 (Some 0)) refl refl c).1
 
-no_model : (counts : List ℕ) → Certifies the_checking (End ∷ Assumptions [] ∷ Assumptions [] ∷ []) (Some (Sat [])) (Assumptions [] ∷ []) (Shows [] [] [] ∷ Closes ∷ Finish ∷ []) counts → ⊥
+no_model : (counts : List ℕ) → Certifies checker_rules (End ∷ Assumptions [] ∷ Assumptions [] ∷ []) (Some (Sat [])) (Assumptions [] ∷ []) (Shows [] [] [] ∷ Closes ∷ Finish ∷ []) counts → ⊥
 no_model counts (left_out m none c) = m
 no_model counts (other {step = next} o c) = no_other (End ∷ []) (Assumptions []) refl refl next o c
 no_model counts (ordered {step = next} s f c) =
     let e = is_next (End ∷ []) (Assumptions []) next refl c in
-    let p = (fits_shows the_checking (Assumptions [] ∷ []) [] [] [] (Assumptions [])).0 (subst (λ x. Fits (the_checking.knows (Assumptions [] ∷ [])) (Assumptions [] ∷ []) (Shows [] [] []) x) e f) in
+    let p = (fits_shows checker_rules (Assumptions [] ∷ []) [] [] [] (Assumptions [])).0 (subst (λ x. Fits (checker_rules.knows (Assumptions [] ∷ [])) (Assumptions [] ∷ []) (Shows [] [] []) x) e f) in
     absurd (let q = p.1 in cc)
 
 pub model_needed : ModelUncertified
 model_needed counts c = let opened = next_asked (End ∷ Assumptions [] ∷ []) (Assumptions []) refl refl c in no_model opened.rest opened.leads
 
 -- where nothing is expected, nothing stands
-none_behind : {all : List Step} {current : Option Outcome} {earlier : List Step} {es : List Expected} {counts : List ℕ} → Certifies the_checking all current earlier es counts → es ≡ [] → all ≡ earlier
+none_behind : {all : List Step} {current : Option Outcome} {earlier : List Step} {es : List Expected} {counts : List ℕ} → Certifies checker_rules all current earlier es counts → es ≡ [] → all ≡ earlier
 none_behind complete e = refl
 none_behind (left_out m none c) e = absurd (cc)
 none_behind (other o c) e = absurd (cc)

@@ -5,7 +5,7 @@ use Rattle.std.specs.List.{AllByRecursion}
 use Rattle.sat_base.specs.values.Literals.{coded}
 use Rattle.sat_base.specs.values.Clauses.{Valuation, literal_true, clause_true}
 use Rattle.sat_base.specs.script.Script.{Literal, Among}
-use Rattle.sat_base.specs.script.Judge.{Judge, or_zero, identity_of, over, bring_all}
+use Rattle.sat_base.specs.script.ScriptState.{ScriptState, or_zero, identity_of, over, bring_all}
 use Rattle.certify.specs.laws.Laws.{NotBoth, RepeatChangesNothing, TautologyChangesNothing, AskLeavesNames}
 use Rattle.sat_base.proofs.lemmas.script.LiteralValues.{literal_coded, among_true, among_mapped, some_mapped, all_at, all_map, true_mapped, mapped_true}
 
@@ -16,7 +16,7 @@ not_both j ask line core m c = c.none m.valuation
     m.clauses
 
 -- where a clause holds, so does one with all its literals
-held_in : (j : Judge) (ls ks : List Literal) (a : Valuation) → AllByRecursion (λ l. Among l ks) ls → clause_true a (map (over j) ls) ≡ true → clause_true a (map (over j) ks) ≡ true
+held_in : (j : ScriptState) (ls ks : List Literal) (a : Valuation) → AllByRecursion (λ l. Among l ks) ls → clause_true a (map (over j) ls) ≡ true → clause_true a (map (over j) ks) ≡ true
 held_in j ls ks a h t =
     let s = some_mapped a (over j) ls t in
     among_true a (over j s.0) (map (over j) ks) (among_mapped (over j) s.0 ks (all_at (λ l. Among l ks) s.0 ls h s.1)) s.2

@@ -2,17 +2,17 @@
 use Rattle.std.proofs.Common.{ℕ, List, [], ◌∷◌, ◌++◌, map, Option, Some, None, refl, subst, append_assoc}
 use Rattle.std.specs.List.{AllByRecursion}
 use Rattle.sat_base.specs.script.Script.{Literal, Command, Clause, Ask, Hide, Witness, Sample, names_of}
-use Rattle.sat_base.specs.script.Judge.{Judge, Mode, Sampled, Witnessed, with_name, with_names, new_names, bring_in, bring_all, without_name, with_mode, with_clause, hide_all, set_all, accepted, accepted_of, start}
+use Rattle.sat_base.specs.script.ScriptState.{ScriptState, NameMode, Sampled, Witnessed, with_name, with_names, new_names, bring_in, bring_all, without_name, with_mode, with_clause, hide_all, set_all, accepted, accepted_of, start}
 use Rattle.sat_base.specs.steps.Steps.{Step}
 use Rattle.sat_checker.specs.matching.Expected.{Outcome, Sat, Unsat, Unknown, Expected, NewName, NoName, Adds, Opens, Shows, Fails, Closes, Finish, bringing, hiding, setting, showing, expected}
 use Rattle.certify.specs.answers.RightAnswers.{IsRight, AreRight, AnswersAreRight}
-use Rattle.sat_checker.specs.matching.Checking.{Checking, IsSound}
+use Rattle.sat_checker.specs.matching.Checking.{CheckerRules, IsSound}
 use Rattle.certify.specs.confirm.Matches.{OneEach, InForm, StepsMatch}
 use Rattle.sat_checker.proofs.lemmas.matching.Bridge.{begun}
 use Rattle.certify.proofs.lemmas.laws.MatchingSteps.{RightFor, right_for}
 
 -- modes show in no ordered step
-modes_aside : (es : List Expected) (q : Option (List Literal)) (j : Judge) (m : List Mode) → RightFor q j es → RightFor q (record j { modes = m }) es
+modes_aside : (es : List Expected) (q : Option (List Literal)) (j : ScriptState) (m : List NameMode) → RightFor q j es → RightFor q (record j { modes = m }) es
 modes_aside [] q j m h = tt
 modes_aside (NewName name ∷ es) q j m h = modes_aside es None (with_name name j) (m ++ Sampled ∷ []) h
 modes_aside (NoName name ∷ es) q j m h = modes_aside es None (without_name name j) m h
@@ -24,39 +24,39 @@ modes_aside (Closes ∷ es) q j m h = modes_aside es None j m h
 modes_aside (Finish ∷ es) q j m h = modes_aside es q j m h
 
 -- some ask is open, or none
-abbrev From : Judge → List Expected → Type 0
+abbrev From : ScriptState → List Expected → Type 0
 From j es = (q : Option (List Literal)) × RightFor q j es
 
-named : (names : List ℕ) (q : Option (List Literal)) (j : Judge) (es : List Expected) → RightFor q j (map NewName names ++ es) → From (with_names names j) es
+named : (names : List ℕ) (q : Option (List Literal)) (j : ScriptState) (es : List Expected) → RightFor q j (map NewName names ++ es) → From (with_names names j) es
 named [] q j es h = (q, h)
 named (name ∷ names) q j es h = named names None (with_name name j) es h
 
-brought : (names : List ℕ) (q : Option (List Literal)) (j : Judge) (es : List Expected) → RightFor q j (bringing names j ++ es) → From (bring_all names j) es
+brought : (names : List ℕ) (q : Option (List Literal)) (j : ScriptState) (es : List Expected) → RightFor q j (bringing names j ++ es) → From (bring_all names j) es
 brought [] q j es h = (q, h)
 brought (name ∷ names) q j es h =
     let p = named (new_names name j) q j (bringing names (bring_in name j) ++ es) (subst (RightFor q j) (append_assoc (map NewName (new_names name j)) (bringing names (bring_in name j)) es) h) in
     brought names p.0 (bring_in name j) es p.1
 
-hidden : (names : List ℕ) (q : Option (List Literal)) (j : Judge) (es : List Expected) → RightFor q j (hiding names j ++ es) → From (hide_all names j) es
+hidden : (names : List ℕ) (q : Option (List Literal)) (j : ScriptState) (es : List Expected) → RightFor q j (hiding names j ++ es) → From (hide_all names j) es
 hidden [] q j es h = (q, h)
 hidden (name ∷ names) q j es h =
     let rest = hiding names (without_name name (bring_in name j)) in
     let p = named (new_names name j) q j (NoName name ∷ (rest ++ es)) (subst (RightFor q j) (append_assoc (map NewName (new_names name j)) (NoName name ∷ rest) es) h) in
     hidden names None (without_name name (bring_in name j)) es p.1
 
-set_to : (mode : Mode) (names : List ℕ) (q : Option (List Literal)) (j : Judge) (es : List Expected) → RightFor q j (setting mode names j ++ es) → From (set_all mode names j) es
+set_to : (mode : NameMode) (names : List ℕ) (q : Option (List Literal)) (j : ScriptState) (es : List Expected) → RightFor q j (setting mode names j ++ es) → From (set_all mode names j) es
 set_to mode [] q j es h = (q, h)
 set_to mode (name ∷ names) q j es h =
     let next = with_mode mode name (bring_in name j) in
     let p = named (new_names name j) q j (setting mode names next ++ es) (subst (RightFor q j) (append_assoc (map NewName (new_names name j)) (setting mode names next) es) h) in
     set_to mode names p.0 next es (modes_aside (setting mode names next ++ es) p.0 (bring_in name j) next.modes p.1)
 
-answered : (v : Outcome) (ask : List Literal) (j : Judge) (es : List Expected) → InForm v → RightFor (Some ask) j (showing j ask v ++ (Closes ∷ es)) → IsRight j ask v × RightFor None j es
+answered : (v : Outcome) (ask : List Literal) (j : ScriptState) (es : List Expected) → InForm v → RightFor (Some ask) j (showing j ask v ++ (Closes ∷ es)) → IsRight j ask v × RightFor None j es
 answered (Sat line) ask j es f h = (h.0 refl, h.1)
 answered (Unsat core) ask j es f h = let r = h.0 refl in (record { order = f; among = r.among; none = r.none }, h.1)
 answered Unknown ask j es f h = (tt, h)
 
-rights : (commands : List Command) (vs : List Outcome) (q : Option (List Literal)) (j : Judge) → OneEach commands vs → AllByRecursion InForm vs → RightFor q j (expected j commands vs) → AreRight j commands vs
+rights : (commands : List Command) (vs : List Outcome) (q : Option (List Literal)) (j : ScriptState) → OneEach commands vs → AllByRecursion InForm vs → RightFor q j (expected j commands vs) → AreRight j commands vs
 rights [] [] q j o f h = tt
 rights [] (v ∷ vs) q j o f h = o
 rights (Ask ls ∷ commands) [] q j o f h = o
@@ -79,6 +79,6 @@ rights (Sample names ∷ commands) vs q j o f h =
     rights commands vs p.0 (accepted (Sample names) j) o f p.1
 
 -- the main law
-pub matching_right : (k : Checking) → IsSound k → (commands : List Command) (outcomes : List Outcome) (steps : List Step) → StepsMatch k commands outcomes steps → AnswersAreRight commands outcomes
+pub matching_right : (k : CheckerRules) → IsSound k → (commands : List Command) (outcomes : List Outcome) (steps : List Step) → StepsMatch k commands outcomes steps → AnswersAreRight commands outcomes
 matching_right k sound commands outcomes steps m =
     rights (accepted_of start commands) outcomes None start m.one_each m.in_form (right_for k sound m.meets None start [] (begun k) tt)

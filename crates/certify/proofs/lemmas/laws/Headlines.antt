@@ -2,7 +2,7 @@
 use Rattle.std.proofs.Common.{ℕ, ◌+◌, ◌≡◌, ◌∙◌, Bool, true, false, cond, List, [], ◌∷◌, map, refl, sym, ap, subst, lt_of_not-le}
 use Rattle.std.specs.Prelude.{◌↔◌, is_some}
 use Rattle.sat_base.specs.script.Script.{Literal, Command, Clause, Ask, Hide, Witness, Sample}
-use Rattle.sat_base.specs.script.Judge.{Judge, accepted, accepted_of, refusal_of, start}
+use Rattle.sat_base.specs.script.ScriptState.{ScriptState, accepted, accepted_of, refusal_of, start}
 use Rattle.sat_base.specs.script.Language.{Reading, reading}
 use Rattle.certify.specs.answers.Answers.{answers_text}
 use Rattle.sat_checker.specs.matching.Expected.{Outcome, Unknown}
@@ -10,7 +10,7 @@ use Rattle.certify.specs.answers.RightAnswers.{AreRight, AnswersAreRight}
 use Rattle.certify.specs.answers.AnswersText.{lines_from}
 use Rattle.certify.specs.confirm.VerdictPromises.{AreRightAnswers}
 use Rattle.certify.specs.answers.Asks.{Asked, asks_of, EachIsRight}
-use Rattle.certify.specs.run.FinishedRun.{AreSpent, answer_kind, asked_steps, identities_given}
+use Rattle.certify.specs.run.FinishedRun.{AreWithinBudget, answer_kind, rounds_of_asks, identities_given}
 use Rattle.certify.specs.laws.Headline.{EachTookRounds}
 use Rattle.certify.specs.laws.HeadlineLaws.{CertifiedIsHeadline, RightByAsks, RightByOutcomes}
 use Rattle.certify.specs.declared.summary.Answer.TheVariants as kind
@@ -21,11 +21,11 @@ use Rattle.certify.specs.declared.summary.AskReport.{AskReport}
 -- ASK BY ASK
 
 -- of these commands, outcomes are right just where they are of their asks
-abbrev Same : Judge → List Command → Type 0
+abbrev Same : ScriptState → List Command → Type 0
 Same j commands = (os : List Outcome) → AreRight j (accepted_of j commands) os ↔ EachIsRight (asks_of j commands) os
 
 -- a command that is no ask, refused or not
-plain : (b : Bool) (j k : Judge) (c : Command) (commands : List Command)
+plain : (b : Bool) (j k : ScriptState) (c : Command) (commands : List Command)
     → ((os : List Outcome) → AreRight j (c ∷ accepted_of k commands) os ↔ AreRight k (accepted_of k commands) os)
     → Same j commands → Same k commands → (os : List Outcome)
     → AreRight j (cond b (accepted_of j commands) (c ∷ accepted_of k commands)) os ↔ EachIsRight (asks_of (cond b j k) commands) os
@@ -33,7 +33,7 @@ plain true j k c commands f old new os = old os
 plain false j k c commands f old new os = (λ h. (new os).0 ((f os).0 h), λ h. (f os).1 ((new os).1 h))
 
 -- an ask
-ask : (b : Bool) (j : Judge) (ls : List Literal) (commands : List Command)
+ask : (b : Bool) (j : ScriptState) (ls : List Literal) (commands : List Command)
     → Same j commands → Same (accepted (Ask ls) j) commands → (os : List Outcome)
     → AreRight j (cond b (accepted_of j commands) (Ask ls ∷ accepted_of (accepted (Ask ls) j) commands)) os
     ↔ EachIsRight (cond b (asks_of j commands) (record { state = accepted (Ask ls) j; literals = ls } ∷ asks_of (accepted (Ask ls) j) commands)) os
@@ -41,7 +41,7 @@ ask true j ls commands old new os = old os
 ask false j ls commands old new [] = (λ h. h, λ h. h)
 ask false j ls commands old new (o ∷ os) = (λ h. (h.0, (new os).0 h.1), λ h. (h.0, (new os).1 h.1))
 
-same_right : (j : Judge) (commands : List Command) → Same j commands
+same_right : (j : ScriptState) (commands : List Command) → Same j commands
 same_right j [] [] = (λ h. h, λ h. h)
 same_right j [] (o ∷ os) = (λ h. h, λ h. h)
 same_right j (Ask ls ∷ commands) os =
@@ -63,24 +63,24 @@ right_by_asks commands outcomes = same_right start commands outcomes
 abbrev variables_at : List Asked → List ℕ
 variables_at asks = map (λ a. a.state.identity_count) asks
 
-abbrev SameGiven : Judge → List Command → Type 0
+abbrev SameGiven : ScriptState → List Command → Type 0
 SameGiven j commands = identities_given j (accepted_of j commands) ≡ variables_at (asks_of j commands)
 
-plain_given : (b : Bool) (j k : Judge) (c : Command) (commands : List Command)
+plain_given : (b : Bool) (j k : ScriptState) (c : Command) (commands : List Command)
     → identities_given j (c ∷ accepted_of k commands) ≡ identities_given k (accepted_of k commands)
     → SameGiven j commands → SameGiven k commands
     → identities_given j (cond b (accepted_of j commands) (c ∷ accepted_of k commands)) ≡ variables_at (asks_of (cond b j k) commands)
 plain_given true j k c commands f old new = old
 plain_given false j k c commands f old new = f ∙ new
 
-ask_given : (b : Bool) (j : Judge) (ls : List Literal) (commands : List Command)
+ask_given : (b : Bool) (j : ScriptState) (ls : List Literal) (commands : List Command)
     → SameGiven j commands → SameGiven (accepted (Ask ls) j) commands
     → identities_given j (cond b (accepted_of j commands) (Ask ls ∷ accepted_of (accepted (Ask ls) j) commands))
     ≡ variables_at (cond b (asks_of j commands) (record { state = accepted (Ask ls) j; literals = ls } ∷ asks_of (accepted (Ask ls) j) commands))
 ask_given true j ls commands old new = old
 ask_given false j ls commands old new = ap (λ (ns : List ℕ). (accepted (Ask ls) j).identity_count ∷ ns) new
 
-same_given : (j : Judge) (commands : List Command) → SameGiven j commands
+same_given : (j : ScriptState) (commands : List Command) → SameGiven j commands
 same_given j [] = refl
 same_given j (Ask ls ∷ commands) =
     ask_given (is_some (refusal_of j (Ask ls))) j ls commands (same_given j commands) (same_given (accepted (Ask ls) j) commands)
@@ -96,8 +96,8 @@ same_given j (Sample names ∷ commands) = let k = accepted (Sample names) j in
 -- ROUNDS
 
 took : (budget before : ℕ) (asks : List Asked) (outcomes : List Outcome) (reports : List AskReport)
-    → map (λ r. r.answer) reports ≡ map answer_kind outcomes → AreSpent budget before (variables_at asks) reports
-    → EachTookRounds budget before asks outcomes (asked_steps reports)
+    → map (λ r. r.answer) reports ≡ map answer_kind outcomes → AreWithinBudget budget before (variables_at asks) reports
+    → EachTookRounds budget before asks outcomes (rounds_of_asks reports)
 took budget before [] [] [] k h = tt
 took budget before [] (o ∷ os) [] k h = absurd (cc)
 took budget before [] os (r ∷ rs) k h = absurd h
@@ -140,10 +140,10 @@ certified_headline script budget claimed shown summary answers certificate own o
     let commands = (reading script).0 in
     record {
       answered = right_answers script answers a.outcomes a.answers a.right;
-      spent = subst (λ (r : Reading). EachTookRounds budget 0 (asks_of start r.0) a.outcomes (asked_steps summary.asks.items)) (sym (says_the_same script))
+      spent = subst (λ (r : Reading). EachTookRounds budget 0 (asks_of start r.0) a.outcomes (rounds_of_asks summary.asks.items)) (sym (says_the_same script))
           (took budget 0 (asks_of start commands) a.outcomes summary.asks.items a.kinds
-          (subst (λ ns. AreSpent budget 0 ns summary.asks.items) (same_given start commands) a.spent));
-      in_certificate = rounds_are_shown c.answered.steps a.outcomes (asked_steps summary.asks.items) certificate c.answered.learns c.answered.certificate;
+          (subst (λ ns. AreWithinBudget budget 0 ns summary.asks.items) (same_given start commands) a.spent));
+      in_certificate = rounds_are_shown c.answered.steps a.outcomes (rounds_of_asks summary.asks.items) certificate c.answered.learns c.answered.certificate;
       confirmed = c.confirmed;
       any = c.any.sound;
       looks = c.looks;

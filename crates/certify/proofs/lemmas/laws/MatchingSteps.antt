@@ -4,22 +4,22 @@ use Rattle.std.proofs.lemmas.Bool.{true≢false}
 use Rattle.std.specs.List.{AllByRecursion}
 use Rattle.sat_base.specs.values.Clauses.{Valuation, literal_true, EachTrue, EachHolds}
 use Rattle.sat_base.specs.script.Script.{Literal, names_of, Among}
-use Rattle.sat_base.specs.script.Judge.{Judge, over, with_name, without_name, with_clause, IsRightModel}
+use Rattle.sat_base.specs.script.ScriptState.{ScriptState, over, with_name, without_name, with_clause, IsRightModel}
 use Rattle.sat_base.specs.steps.Steps.{Step, SolverVarName, UserVarName, DeleteVar, ChangeSamplingMode, AddClause, AtClause, UnitClauses, DeleteClause, ChangeHashBits, Model, Assumptions, FailedAssumptions, End}
-use Rattle.sat_checker.specs.matching.Checking.{variable_of, assumed, is_ordered, Checking, IsSound}
-use Rattle.certify.specs.confirm.Matches.{Excused, Meets, met, cut, other, ordered}
+use Rattle.sat_checker.specs.matching.Checking.{variable_of, assumed, is_ordered, CheckerRules, IsSound}
+use Rattle.certify.specs.confirm.Matches.{MayBeUnmet, Meets, met, cut, other, ordered}
 use Rattle.sat_checker.specs.matching.Expected.{Expected, NewName, NoName, Adds, Opens, Shows, Fails, Closes, Finish, Spells, EachSpelt, SameSet, new_name, no_name, adds, opens, shows, fails, closes, finish}
 use Rattle.sat_checker.specs.matching.Bridge.{Live, IsBridge}
 use Rattle.sat_base.proofs.lemmas.script.LiteralValues.{all_at, all_map, true_mapped, mapped_true, coded_same}
 use Rattle.sat_checker.proofs.lemmas.matching.Bridge.{line_true, core_true, pulled, pulled_agrees, without, nothing_new, added, named_new, unnamed, deleted}
 
 -- a right core, but for its order
-pub record IsCore (j : Judge) (ask core : List Literal) : Type 0 where
+pub record IsCore (j : ScriptState) (ask core : List Literal) : Type 0 where
   pub among : AllByRecursion (λ l. Among l ask) core
   pub none : (a : Valuation) → EachTrue a (map (over j) core) → EachHolds a j.clauses → ⊥
 
 -- What is expected shows right answers, from a judge's state; q is the ask that is open, no name having come or gone since.
-abbrev pub RightFor : Option (List Literal) → Judge → List Expected → Type 0
+abbrev pub RightFor : Option (List Literal) → ScriptState → List Expected → Type 0
 RightFor q j [] = Unit {0}
 RightFor q j (NewName name ∷ es) = RightFor None (with_name name j) es
 RightFor q j (NoName name ∷ es) = RightFor None (without_name name j) es
@@ -31,7 +31,7 @@ RightFor q j (Closes ∷ es) = RightFor None j es
 RightFor q j (Finish ∷ es) = RightFor q j es
 
 -- where nothing satisfies the clauses, and no model is expected
-dead_for : (es : List Expected) (q : Option (List Literal)) (j : Judge) → ((b : Valuation) → EachHolds b j.clauses → ⊥) → AllByRecursion Excused es → RightFor q j es
+dead_for : (es : List Expected) (q : Option (List Literal)) (j : ScriptState) → ((b : Valuation) → EachHolds b j.clauses → ⊥) → AllByRecursion MayBeUnmet es → RightFor q j es
 dead_for [] q j d x = tt
 dead_for (NewName name ∷ es) q j d x = dead_for es None (with_name name j) d x.1
 dead_for (NoName name ∷ es) q j d x = dead_for es None (without_name name j) d x.1
@@ -48,7 +48,7 @@ Asked None earlier = Unit {0}
 Asked (Some ask) earlier = SameSet (variable_of earlier) ask (assumed earlier)
 
 -- literals of one variable and sign are one
-spelt_once : (k : Checking) (j : Judge) (earlier : List Step) (live : Live) → IsBridge k j earlier live → (l m : Literal) (code : ℕ) → Spells (variable_of earlier) l code → Spells (variable_of earlier) m code → l ≡ m
+spelt_once : (k : CheckerRules) (j : ScriptState) (earlier : List Step) (live : Live) → IsBridge k j earlier live → (l m : Literal) (code : ℕ) → Spells (variable_of earlier) l code → Spells (variable_of earlier) m code → l ≡ m
 spelt_once k j earlier live bridge l m code s t =
     let e = coded_same s.variable t.variable l.positive m.positive (sym s.is ∙ t.is) in
     let n : l.name ≡ m.name = bridge.distinct l.name m.name t.variable (s.named ∙ ap Some e.0) t.named in
@@ -57,12 +57,12 @@ spelt_once k j earlier live bridge l m code s t =
     one : (x y : ℕ) (s t : Bool) → x ≡ y → s ≡ t → (let z : Literal = record { name = x; positive = s } in z) ≡ record { name = y; positive = t }
     one x y s t e f = cc
 
-module _ (k : Checking) (sound : IsSound k) where
+module _ (k : CheckerRules) (sound : IsSound k) where
   -- a step that isn't ordered
-  data After (earlier : List Step) (q : Option (List Literal)) (j : Judge) (step : Step) : Type 0 where
+  data After (earlier : List Step) (q : Option (List Literal)) (j : ScriptState) (step : Step) : Type 0 where
     after : (live : Live) → IsBridge k j (step ∷ earlier) live → Asked q (step ∷ earlier) → After earlier q j step
 
-  passed : (earlier : List Step) (q : Option (List Literal)) (j : Judge) (live : Live) (step : Step) → is_ordered step ≡ false → IsBridge k j earlier live → Asked q earlier → k.Accepts earlier step → After earlier q j step
+  passed : (earlier : List Step) (q : Option (List Literal)) (j : ScriptState) (live : Live) (step : Step) → is_ordered step ≡ false → IsBridge k j earlier live → Asked q earlier → k.Accepts earlier step → After earlier q j step
   passed earlier q j live (SolverVarName v name) o b w acc = after live (nothing_new k sound j earlier live b (SolverVarName v name) acc (λ w e. cc) (λ n. refl) (λ a h. h) (λ a h. h)) (keep q w)
     where
       keep : (q : Option (List Literal)) → Asked q earlier → Asked q (SolverVarName v name ∷ earlier)
@@ -101,10 +101,10 @@ module _ (k : Checking) (sound : IsSound k) where
   passed earlier q j live step o b w acc = absurd (true≢false o)
 
   -- recorded unsat leaves nothing
-  dead : (j : Judge) (earlier : List Step) (live : Live) → IsBridge k j earlier live → k.unsat earlier ≡ true → (b : Valuation) → EachHolds b j.clauses → ⊥
+  dead : (j : ScriptState) (earlier : List Step) (live : Live) → IsBridge k j earlier live → k.unsat earlier ≡ true → (b : Valuation) → EachHolds b j.clauses → ⊥
   dead j earlier live bridge u b h = sound.none_left earlier (pulled live b) bridge.accepted u (bridge.back (pulled live b) (b, pulled_agrees live b bridge.once, h))
 
-  right_model : (j : Judge) (earlier : List Step) (live : Live) → IsBridge k j earlier live → (names c : List ℕ) (ask line : List Literal) → names_of line ≡ names → EachSpelt (variable_of earlier) line c → AllByRecursion (λ l. Among l line) ask → k.Accepts earlier (Model c) → names ≡ map (λ n. n.name) j.in_use → IsRightModel j ask line
+  right_model : (j : ScriptState) (earlier : List Step) (live : Live) → IsBridge k j earlier live → (names c : List ℕ) (ask line : List Literal) → names_of line ≡ names → EachSpelt (variable_of earlier) line c → AllByRecursion (λ l. Among l line) ask → k.Accepts earlier (Model c) → names ≡ map (λ n. n.name) j.in_use → IsRightModel j ask line
   right_model j earlier live bridge names c ask line n spelt asked acc e =
       let a = sound.model earlier c bridge.accepted acc in
       let m = bridge.to a.0 a.1 in
@@ -117,7 +117,7 @@ module _ (k : Checking) (sound : IsSound k) where
         asked = true_mapped m.0 (over j) ask (all_map (λ l. Among l line) (λ l. literal_true m.0 (over j l) ≡ true) ask (λ l x. all_at (λ l. literal_true m.0 (over j l) ≡ true) l line t x) asked);
       }
 
-  is_core : (j : Judge) (earlier : List Step) (live : Live) → IsBridge k j earlier live → (c hashes : List ℕ) (ask core : List Literal) → SameSet (variable_of earlier) core c → k.Accepts earlier (FailedAssumptions c hashes) → SameSet (variable_of earlier) ask (assumed earlier) → IsCore j ask core
+  is_core : (j : ScriptState) (earlier : List Step) (live : Live) → IsBridge k j earlier live → (c hashes : List ℕ) (ask core : List Literal) → SameSet (variable_of earlier) core c → k.Accepts earlier (FailedAssumptions c hashes) → SameSet (variable_of earlier) ask (assumed earlier) → IsCore j ask core
   is_core j earlier live bridge c hashes ask core same acc asked = record {
     among = all_map (λ l. (code : ℕ) × Spells (variable_of earlier) l code × Among code c) (λ l. Among l ask) core
         (λ l x.
@@ -131,7 +131,7 @@ module _ (k : Checking) (sound : IsSound k) where
         sound.core earlier c hashes a bridge.accepted acc (bridge.back a (b, g, h)) (core_true k j earlier live bridge a b g core c same (mapped_true b (over j) core t));
   }
 
-  pub right_for : {earlier steps : List Step} {es : List Expected} → Meets k earlier steps es → (q : Option (List Literal)) (j : Judge) (live : Live) → IsBridge k j earlier live → Asked q earlier → RightFor q j es
+  pub right_for : {earlier steps : List Step} {es : List Expected} → Meets k earlier steps es → (q : Option (List Literal)) (j : ScriptState) (live : Live) → IsBridge k j earlier live → Asked q earlier → RightFor q j es
   right_for (met u) q j live b w = tt
   right_for (cut {earlier = earlier} {es = es} u x) q j live b w = dead_for es q j (dead j earlier live b u) x
   right_for (other {earlier = earlier} {step = step} {e = e} {es = es} u o acc m) q j live b w = go (passed earlier q j live step o b w acc) (λ live b w. right_for m q j live b w)

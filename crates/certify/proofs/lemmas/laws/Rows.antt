@@ -13,14 +13,14 @@ use Rattle.sat_checker.specs.Stored.{Sample, unknown, is_known}
 use Rattle.sat_checker.specs.Accepts.{MayGetName, ready_after}
 use Rattle.certify.specs.answers.Answers.{answers_text, outcome_text}
 use Rattle.sat_checker.specs.matching.Expected.{Outcome, Sat, Unsat, Unknown, Fits, NewName, new_name, adds, opens, shows, closes, finish}
-use Rattle.sat_checker.specs.matching.Checking.{Checking}
+use Rattle.sat_checker.specs.matching.Checking.{CheckerRules}
 use Rattle.certify.specs.confirm.Matches.{met, cut, ordered, OneEach, StepsMatch}
-use Rattle.sat_checker.specs.matching.ProofChecking.{the_checking}
-use Rattle.certify.specs.laws.Rows.{AskAloneText, clause_and_ask, clause_and_ask_text, ClauseAndAskText, ClauseAndAskExpected, ClauseAndAskRight, ClauseAndAskSteps, ClauseAndAskMatches, TwoUnitsRight, TwoUnitsSteps, TwoUnitsMatches, EmptyMatches, HiddenAndBackState, HiddenAndBackExpected, HiddenAtOnceState, WitnessRefusedText, LeftmostRefuses, WitnessRefusesAsk, MalformedText, EmptyText, NameOnOldVariable, EndAlone, NoAnswers, AnswersTwice, pos, neg}
+use Rattle.sat_checker.specs.matching.ProofChecking.{checker_rules}
+use Rattle.certify.specs.laws.Rows.{AskAloneText, clause_and_ask, clause_and_ask_text, ClauseAndAskText, ClauseAndAskExpected, ClauseAndAskRight, ClauseAndAskSteps, ClauseAndAskMatches, TwoUnitsRight, TwoUnitsSteps, TwoUnitsMatches, EmptyMatches, HiddenAndBackState, HiddenAndBackExpected, HiddenAtOnceState, WitnessRefusedText, LeftmostRefuses, WitnessRefusesAsk, MalformedText, EmptyText, NameOnOldVariable, EndAloneMatches, NoAnswers, AnswersTwice, pos, neg}
 use Rattle.certify.proofs.lemmas.confirm.NextStep.{taken, skipped, fits_new}
 use Rattle.certify.proofs.lemmas.laws.ExpectedOutcomes.{matching_right}
 use Rattle.sat_checker.proofs.lemmas.matching.CheckerIsSound.{the_checking_sound}
-use Rattle.certify.proofs.lemmas.laws.TellingTexts.{same_outcome}
+use Rattle.certify.proofs.lemmas.laws.DistinctTexts.{same_outcome}
 
 pub ask_alone_text : AskAloneText
 ask_alone_text = refl
@@ -195,7 +195,7 @@ malformed_text = refl
 pub name_on_old_variable : NameOnOldVariable
 name_on_old_variable accepts unsat [] m = m.one_each
 name_on_old_variable accepts unsat (o ∷ os) m =
-    let k : Checking = record { Accepts = λ earlier step. accepts earlier step ≡ true; unsat = unsat; knows = λ earlier v. is_known v (ready_after earlier) } in
+    let k : CheckerRules = record { Accepts = λ earlier step. accepts earlier step ≡ true; unsat = unsat; knows = λ earlier v. is_known v (ready_after earlier) } in
     let one = taken k refl m.meets in
     let two = taken k refl one.2 in
     let three = taken k refl two.2 in
@@ -203,11 +203,11 @@ name_on_old_variable accepts unsat (o ∷ os) m =
     let five = taken k refl four.1 in
     true≢false (fits_new k _ five.0).1
 
-pub end_alone : EndAlone
+pub end_alone : EndAloneMatches
 end_alone [] m = m.one_each
-end_alone (o ∷ os) m = no (taken the_checking refl m.meets).0
+end_alone (o ∷ os) m = no (taken checker_rules refl m.meets).0
   where
-    no : Fits (the_checking.knows []) [] (NewName 1) End → ⊥
+    no : Fits (checker_rules.knows []) [] (NewName 1) End → ⊥
     no f = elim f [ ]
 
 no_text : (o : Outcome) → [] ≡ outcome_text o ++ [] → ⊥
@@ -227,9 +227,9 @@ outcome_says : outcome_text (Sat (neg 1 ∷ pos 2 ∷ [])) ≡ clause_and_ask_te
 unfolding digits
 outcome_says = refl
 
-not_twice : (o : Outcome) (steps : List Step) → StepsMatch the_checking clause_and_ask (o ∷ []) steps → clause_and_ask_text ++ clause_and_ask_text ≡ outcome_text o ++ [] → ⊥
+not_twice : (o : Outcome) (steps : List Step) → StepsMatch checker_rules clause_and_ask (o ∷ []) steps → clause_and_ask_text ++ clause_and_ask_text ≡ outcome_text o ++ [] → ⊥
 not_twice (Sat line) steps m e =
-    let r = (matching_right the_checking the_checking_sound clause_and_ask (Sat line ∷ []) steps m).0 in
+    let r = (matching_right checker_rules the_checking_sound clause_and_ask (Sat line ∷ []) steps m).0 in
     let told : outcome_text (Sat (neg 1 ∷ pos 2 ∷ [])) ++ clause_and_ask_text ≡ outcome_text (Sat line) ++ [] = ap (λ x. x ++ clause_and_ask_text) outcome_says ∙ e in
     let p = same_outcome (Sat (neg 1 ∷ pos 2 ∷ [])) (Sat line) clause_and_ask_text [] (omega arith, (omega arith, tt)) (prints line r.names) told in
     absurd (let q = p.1 in cc)
@@ -245,7 +245,7 @@ not_twice Unknown steps m e = let r : ◌≡◌ {A = ℕ} 83 85 = cc in omega ar
 pub answers_twice : AnswersTwice
 answers_twice certificate m = go m.outcomes m.match m.answered
   where
-    go : (os : List Outcome) → StepsMatch the_checking clause_and_ask os m.steps → clause_and_ask_text ++ clause_and_ask_text ≡ answers_text clause_and_ask Clean os → ⊥
+    go : (os : List Outcome) → StepsMatch checker_rules clause_and_ask os m.steps → clause_and_ask_text ++ clause_and_ask_text ≡ answers_text clause_and_ask Clean os → ⊥
     go [] s e = s.one_each
     go (o ∷ []) s e = not_twice o m.steps s e
     go (o ∷ p ∷ os) s e = s.one_each

@@ -8,8 +8,8 @@ use Rattle.std.specs.Str.{all_ascii_digits}
 use Rattle.std.specs.Str.Parse.{ParsesUnsigned, digits_value}
 use Rattle.std.proofs.lemmas.List.{at_drop_more, drop_all, drop_more}
 use Rattle.std.proofs.lemmas.Str.Parse.{IsNumeralModel, numerals_by_value, parse_digits, tells_all_ascii_digits}
-use Rattle.certify.specs.run.StepsLeft.{largest_count}
-use Rattle.certify.specs.program.Calls.{IsSteps}
+use Rattle.certify.specs.run.RoundsLeft.{most_rounds}
+use Rattle.certify.specs.program.Calls.{IsRoundCount}
 
 -- THE WORDS OF A LIST
 
@@ -37,7 +37,7 @@ one_more_digit word i l d e = sym (digits_from word i true l d) ∙ e
 
 -- and a word with another byte says no number
 pub no_digit : (word : List ℕ) (i : ℕ) → i < length word → is_ascii_digit (get_or word i 0) ≡ false → all_ascii_digits (drop i word) ≡ all_ascii_digits word
-    → (n : ℕ) → IsSteps word n → ⊥
+    → (n : ℕ) → IsRoundCount word n → ⊥
 no_digit word i l d e n s = let no : true ≡ false = sym s.digits ∙ sym e ∙ digits_from word i false l d in absurd (cc)
 
 -- behind the last byte all are
@@ -45,11 +45,11 @@ pub all_digits : (word : List ℕ) (i : ℕ) → length word ≤ i → all_ascii
 all_digits word i l e = sym e ∙ ap all_ascii_digits (drop_all i word l)
 
 steps_or_none : {E : Type 0} (word : List ℕ) (r : Result ℕ E) → OkIff r ((0 < length word) × (digits_value 10 word < 2 ^ 64)) (digits_value 10 word) → all_ascii_digits word ≡ true
-    → MatchOption (result_ok r) ((n : ℕ) → IsSteps word n → ⊥) (IsSteps word)
+    → MatchOption (result_ok r) ((n : ℕ) → IsRoundCount word n → ⊥) (IsRoundCount word)
 steps_or_none word (Ok n) ((some, fits), value) digits = record { digits = digits; some = some; value = value; fits = let g : n < 2 ^ 64 = rw value fits in omega arith }
-steps_or_none word (Err e) none digits = λ n s. none (s.some, let g : digits_value 10 word ≤ largest_count = subst (λ (k : ℕ). k ≤ largest_count) s.value s.fits in omega arith)
+steps_or_none word (Err e) none digits = λ n s. none (s.some, let g : digits_value 10 word ≤ most_rounds = subst (λ (k : ℕ). k ≤ most_rounds) s.value s.fits in omega arith)
 
 -- what `parse` says of digits
 pub steps_parsed : {E : Type 0} (word : List ℕ) (r : Result ℕ E) → ParsesUnsigned 64 10 word r → all_ascii_digits word ≡ true
-    → MatchOption (result_ok r) ((n : ℕ) → IsSteps word n → ⊥) (IsSteps word)
+    → MatchOption (result_ok r) ((n : ℕ) → IsRoundCount word n → ⊥) (IsRoundCount word)
 steps_parsed word r h p = steps_or_none word r (parse_digits numerals 64 word r h p) p

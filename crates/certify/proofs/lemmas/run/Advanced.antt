@@ -23,7 +23,7 @@ use Rattle.sat_checker.proofs.lemmas.sets.Marks.{once}
 use Rattle.sat_checker.proofs.lemmas.sets.Members.{canonical_each}
 use Rattle.sat_checker.proofs.lemmas.sets.Order.{among-append}
 use Rattle.sat_checker.proofs.lemmas.sets.Rising.{canonical_stays}
-use Rattle.sat_solver.specs.session.Session.{Session, changed, after, last_after, session_after, with_live_clause, with_sorted, with_fact, with_facts, with_live, IsLive, denied}
+use Rattle.sat_solver.specs.session.Session.{Session, changed, after, last_after, session_after, with_live_clause, with_sorted, with_fact, with_facts, with_live, IsLive, denied_in}
 use Rattle.sat_solver.specs.proof.Widths.{narrowed, KeepsWidth, kept_bits}
 use Rattle.sat_solver.specs.proof.Counting.{TruncatesHashes, none_made, ask_begun, one_made, counted}
 use Rattle.sat_solver.specs.session.Advancing as made
@@ -31,7 +31,7 @@ use Rattle.sat_solver.specs.session.Quiet.{NeverAdvances, others_of}
 use Rattle.sat_solver.specs.schedule.Solving as made_steps
 use Rattle.sat_solver.specs.declared.proof.hash_bits.Counting.{Counting}
 use Rattle.sat_solver.proofs.lemmas.session.Mapped.{among_mapped}
-use Rattle.certify.specs.run.Advancing.{PropagatesTo, leads_none, leads_one, supposed, IsOpenStill, LeavesOpen, AdvancesStored, IsAdvancing}
+use Rattle.certify.specs.run.Advancing.{PropagatesTo, leads_none, leads_one, supposed, IsOpenStill, LeavesOpen, AdvancesStored, DerivesAdvancing}
 
 -- A SESSION IS WHAT STEPS MAKE OF THE CONTENTS
 abbrev session_of : Contents → Option (List ℕ) → Session
@@ -126,10 +126,10 @@ after_wide w (ChangeHashBits bits) x c k = absurd k
 after_wide w step x c k = refl
 
 -- behind a width that is told
-pub told_wide : (same : Bool) (now : ℕ) (written : List Step) (c : Contents) (x : ℕ) → contents_of written ≡ wide x c
+pub reported_wide : (same : Bool) (now : ℕ) (written : List Step) (c : Contents) (x : ℕ) → contents_of written ≡ wide x c
     → (y : ℕ) × (contents_of ((if same then [] else ChangeHashBits now ∷ []) ++ written) ≡ wide y c)
-told_wide true now written c x e = (x, e)
-told_wide false now written c x e = (now, ap (wide now) e)
+reported_wide true now written c x e = (x, e)
+reported_wide false now written c x e = (now, ap (wide now) e)
 
 -- what was written has the contents of what was made, but for the width
 pub cuts_contents : {c d : Counting} {m w : List Step} → TruncatesHashes c m w d → (x : ℕ) × (contents_of w ≡ wide x (contents_of m))
@@ -138,7 +138,7 @@ cuts_contents (ask_begun p) = cuts_contents p
 cuts_contents (one_made {d = d} {made = made} {written = written} step k p) =
     let h = cuts_contents p in
     let now = (counted step d).bits in
-    let t = told_wide (nat_eq d.bits now) now written (contents_of made) h.0 h.1 in
+    let t = reported_wide (nat_eq d.bits now) now written (contents_of made) h.0 h.1 in
     (t.0, ap (contents_after (narrowed now step)) t.1 ∙ after_wide now step t.0 (contents_of made) k)
 
 -- WHAT THE CHECKER HAS STORED
@@ -207,7 +207,7 @@ leads_on steps s same {start} {reached} (leads_one clause o a u rest) holds h =
     let more = leads_on steps s same rest (λ l. (o == l) || holds l) (λ m. ap (λ (b : Bool). (o == m) || b) (h m)) in
     (clause ∷ more.0, (is_live steps s same clause a, (o, each_so _ _ (false_by o start holds h) clause u.others, u.within, more.1)))
 
-denied_is : (f : Stored) (s : Session) → IsSame f s → (ls : List ℕ) (m : ℕ) → is_among (supposed f ls) m ≡ denied s ls m
+denied_is : (f : Stored) (s : Session) → IsSame f s → (ls : List ℕ) (m : ℕ) → is_among (supposed f ls) m ≡ denied_in s ls m
 denied_is f s same ls m = among-append (map negated ls) (unit_literals f) m ∙ ap (λ (b : Bool). is_among (map negated ls) m || b) (same.units m)
 
 either_way : (b : Bool) → (b ≡ true) ⊎ (b ≡ false)
@@ -218,7 +218,7 @@ either_way false = inr refl
 not_repeated : (s : Session) (l : ℕ) (ls : List ℕ) → made.Advances s (l ∷ ls) → is_among ls l ≡ false
 not_repeated s l ls a = elim (either_way (is_among ls l)) [
   | inl t ↦
-      let new = a.stays [] (denied s ls) (λ m e. e) in
+      let new = a.stays [] (denied_in s ls) (λ m e. e) in
       absurd (true≢false (sym (or_left (is_among (map negated ls) (negated l)) (s.units (negated l)) (among_mapped negated ls l t)) ∙ new.not_false))
   | inr f ↦ f
 ]
@@ -246,13 +246,13 @@ advances_as steps s same (l ∷ ls) a =
     let leaves : LeavesOpen f ls l = record {
       agree = λ m e. d (negated m) ∙ a.agree m (sym (d m) ∙ e);
       open_still = λ reached leads.
-          let on = leads_on steps s same leads (denied s ls) d in
+          let on = leads_on steps s same leads (denied_in s ls) d in
           let new = a.stays on.0 (is_among reached) on.1 in
           record { not_true = new.not_true; not_false = new.not_false; no_conflict = λ c k falsified. new.no_conflict c (is_live steps s same c k) falsified };
     } in
     (l, or_left (eqb l l) (is_among ls l) (eq-eqb l l refl), subst (λ (ks : List ℕ). LeavesOpen f ks l) (sym (others_first l ls (not_repeated s l ls a))) leaves)
 
-pub advancing_as : (steps : List Step) (s : Session) → IsSame (ready_after steps) s → (w : ℕ) (step : Step) → made_steps.IsAdvancing s step → IsAdvancing (ready_after steps) (narrowed w step)
+pub advancing_as : (steps : List Step) (s : Session) → IsSame (ready_after steps) s → (w : ℕ) (step : Step) → made_steps.IsAdvancing s step → DerivesAdvancing (ready_after steps) (narrowed w step)
 advancing_as steps s same w (AtClause r clause hashes) a = advances_as steps s same clause a
 advancing_as steps s same w step a = absurd a
 
@@ -332,13 +332,13 @@ module _ (steps : List Step) (s : Session) (same : IsSame (ready_after steps) s)
   ]
 
 -- so what never advances in the session doesn't where the checker stands
-pub never_as : (steps : List Step) (s : Session) → IsSame (ready_after steps) s → (w : ℕ) (step : Step) → NeverAdvances s step → IsAdvancing (ready_after steps) (narrowed w step) → ⊥
+pub never_as : (steps : List Step) (s : Session) → IsSame (ready_after steps) s → (w : ℕ) (step : Step) → NeverAdvances s step → DerivesAdvancing (ready_after steps) (narrowed w step) → ⊥
 never_as steps s same w (AtClause r clause hashes) never (l, among, leaves) =
     let others = others_of l clause in
     let d = denied_is (ready_after steps) s same others in
     never l (record {
       among = among;
       agree = λ m e. sym (d (negated m)) ∙ leaves.agree m (d m ∙ e);
-      stays = stays steps s same l (supposed (ready_after steps) others) (denied s others) d leaves.open_still;
+      stays = stays steps s same l (supposed (ready_after steps) others) (denied_in s others) d leaves.open_still;
     })
 never_as steps s same w step never a = a

@@ -3,12 +3,12 @@ use Rattle.std.proofs.Common.{ℕ, ◌+◌, ◌*◌, ◌^◌, ◌-◌, ◌<◌, 
 use Rattle.std.proofs.lemmas.Bool.{both_ways}
 use Rattle.sat_base.specs.device.Device.{Writer}
 use Rattle.sat_base.specs.script.Script.{Literal, Ask, names_of}
-use Rattle.sat_base.specs.script.Judge.{Judge, accepted, bring_all, refusal_of}
+use Rattle.sat_base.specs.script.ScriptState.{ScriptState, accepted, bring_all, refusal_of}
 use Rattle.sat_base.specs.steps.Steps.{Step}
 use Rattle.sat_checker.specs.LiteralSets.{canonical}
 use Rattle.sat_checker.specs.matching.Checking.{variable_of}
 use Rattle.sat_checker.specs.matching.Expected.{Outcome, Unsat, Unknown, Expected, Opens, Shows, Fails, Closes, Fits, bringing, showing, fails}
-use Rattle.sat_checker.specs.matching.ProofChecking.{the_checking}
+use Rattle.sat_checker.specs.matching.ProofChecking.{checker_rules}
 use Rattle.sat_solver.specs.declared.state.State.{State}
 use Rattle.sat_solver.specs.declared.state.State.TheVariants as states
 use Rattle.sat_solver.specs.variables.Calls as solver
@@ -30,43 +30,43 @@ use Rattle.certify.specs.declared.summary.AskReport.{AskReport}
 use Rattle.certify.specs.run.FinishedRun.{IsBounded, SpendsWithinBudget, answer_kind}
 use Rattle.certify.specs.run.SolverCalls.{AnswerIs, Searched}
 use Rattle.certify.specs.run.Certifies.{IsKnown}
-use Rattle.certify.specs.run.Standing.{AgreesWithJudge}
+use Rattle.certify.specs.run.Standing.{AgreesWithState}
 use Rattle.sat_checker.proofs.lemmas.matching.Traces.{closed_by_none}
 use Rattle.sat_checker.specs.matching.Traces.{HasTrace, no_step, silent, visible}
 use Rattle.certify.specs.run.Stretches.{AskStretches, LearnsBetween, LearnsEachRound, showing_if}
-use Rattle.certify.specs.run.Telling.{outcome_for, IsToldRight}
+use Rattle.certify.specs.run.Reporting.{outcome_for, IsReportedRight}
 use Rattle.certify.proofs.lemmas.run.NamesIn.{names_same}
 use Rattle.certify.proofs.lemmas.run.Cores.{right_in_order, spelt_in_order}
 use Rattle.certify.proofs.lemmas.run.Recorded.{going_on, known_unsat, unsat_known}
 use Rattle.certify.specs.run.Quiet.{Solver}
 
 -- a core's step is that of its literals in order
-fails_sorted : (s : List Step) (ask : List Literal) (core : List ℕ) (step : Step) → Fits (the_checking.knows s) s (Fails ask (named_literals core)) step → Fits (the_checking.knows s) s (Fails ask (named_literals (canonical core))) step
+fails_sorted : (s : List Step) (ask : List Literal) (core : List ℕ) (step : Step) → Fits (checker_rules.knows s) s (Fails ask (named_literals core)) step → Fits (checker_rules.knows s) s (Fails ask (named_literals (canonical core))) step
 fails_sorted s ask core step (fails {c = c} h) = fails (spelt_in_order (variable_of s) core c h)
 
-sorted_core : (es : List Expected) (ask : List Literal) (core : List ℕ) {s t : List Step} {xs : List Expected} → HasTrace the_checking s t xs → xs ≡ Fails ask (named_literals core) ∷ es → HasTrace the_checking s t (Fails ask (named_literals (canonical core)) ∷ es)
+sorted_core : (es : List Expected) (ask : List Literal) (core : List ℕ) {s t : List Step} {xs : List Expected} → HasTrace checker_rules s t xs → xs ≡ Fails ask (named_literals core) ∷ es → HasTrace checker_rules s t (Fails ask (named_literals (canonical core)) ∷ es)
 sorted_core es ask core no_step e = absurd (cc)
 sorted_core es ask core (silent q m) e = silent q (sorted_core es ask core m e)
 sorted_core es ask core {t = t} (visible {s = s} {step = step} {e = x} {es = ys} f m) e =
     let hd : x ≡ Fails ask (named_literals core) = cc in
     let tl : ys ≡ es = cc in
-    visible (fails_sorted s ask core step (subst (λ y. Fits (the_checking.knows s) s y step) hd f)) (subst (HasTrace the_checking (step ∷ s) t) tl m)
+    visible (fails_sorted s ask core step (subst (λ y. Fits (checker_rules.knows s) s y step) hd f)) (subst (HasTrace checker_rules (step ∷ s) t) tl m)
 
 -- what an ask was answered, by what is known behind it
-module _ {C : Type 0} (now : Solver C) (ask : List Literal) (asked : named_literals now.assumed.items ≡ ask) (j : Judge) (live : Live) (agree : solver.Agree now.names (steps_in now) j live) where
-  line_listed : IsToldRight kind.Sat now → names_of (named_literals (line_in now)) ≡ map (λ n. n.name) j.in_use
+module _ {C : Type 0} (now : Solver C) (ask : List Literal) (asked : named_literals now.assumed.items ≡ ask) (j : ScriptState) (live : Live) (agree : solver.NamesAgree now.names (steps_in now) j live) where
+  line_listed : IsReportedRight kind.Sat now → names_of (named_literals (line_in now)) ≡ map (λ n. n.name) j.in_use
   line_listed right = (right j live agree).names
 
-  told_right : (a : Answer) → IsToldRight a now → IsRight j ask (outcome_for a now)
-  told_right kind.Sat right = subst (λ q. IsRight j q (outcome_for kind.Sat now)) asked (right j live agree)
-  told_right kind.Unsat right =
+  reported_right : (a : Answer) → IsReportedRight a now → IsRight j ask (outcome_for a now)
+  reported_right kind.Sat right = subst (λ q. IsRight j q (outcome_for kind.Sat now)) asked (right j live agree)
+  reported_right kind.Unsat right =
       subst (λ q. IsRight j q (outcome_for kind.Unsat now)) asked (right_in_order j (named_literals now.assumed.items) (core_for now.state now) (right j live agree).among (right j live agree).none)
-  told_right kind.Unknown right = tt
+  reported_right kind.Unknown right = tt
 
-pub kind_told : {C : Type 0} (a : Answer) (now : Solver C) → a ≡ answer_kind (outcome_for a now)
-kind_told kind.Sat now = refl
-kind_told kind.Unsat now = refl
-kind_told kind.Unknown now = refl
+pub kind_reported : {C : Type 0} (a : Answer) (now : Solver C) → a ≡ answer_kind (outcome_for a now)
+kind_reported kind.Sat now = refl
+kind_reported kind.Unsat now = refl
+kind_reported kind.Unknown now = refl
 
 -- which states answers come from
 sat_state : (st : State) → AnswerIs st kind.Sat → st ≡ states.Sat
@@ -102,45 +102,45 @@ unsat_outcome now kind.Unsat e h = ap (λ st. Unsat (named_literals (canonical (
 unsat_outcome now kind.Unknown e h = absurd (unknown_apart now.state (unknown_state now.state h) e)
 
 -- what shows an answer
-module _ {C : Type 0} (now : Solver C) (whole : SolverInvariant now) (ask : List Literal) (asked : named_literals now.assumed.items ≡ ask) (j : Judge) (before : State) (s : List Step) where
+module _ {C : Type 0} (now : Solver C) (whole : SolverInvariant now) (ask : List Literal) (asked : named_literals now.assumed.items ≡ ask) (j : ScriptState) (before : State) (s : List Step) where
   abbrev Told : State → State → Type 0
-  Told b st = HasTrace the_checking s (steps_in now) (due_between_states b st (line_in now) now.assumed.items now.told.failed_core.items)
+  Told b st = HasTrace checker_rules s (steps_in now) (due_between_states b st (line_in now) now.assumed.items now.told.failed_core.items)
 
   abbrev Shown : Bool → Outcome → Type 0
-  Shown unsat o = HasTrace the_checking s (steps_in now) (showing_if unsat j ask o)
+  Shown unsat o = HasTrace checker_rules s (steps_in now) (showing_if unsat j ask o)
 
   -- behind a search that goes on
-  shown_going : (o : Outcome) → (now.state ≡ states.Unsat → ⊥) → HasTrace the_checking s (steps_in now) (showing j ask o) → Shown (the_checking.unsat (steps_in now)) o
+  shown_going : (o : Outcome) → (now.state ≡ states.Unsat → ⊥) → HasTrace checker_rules s (steps_in now) (showing j ask o) → Shown (checker_rules.unsat (steps_in now)) o
   shown_going o n m = subst (λ b. Shown b o) (sym (going_on now whole n)) m
 
-  sat_shown : now.state ≡ states.Sat → before ≡ states.Unknown → names_of (named_literals (line_in now)) ≡ map (λ n. n.name) j.in_use → Told before now.state → Shown (the_checking.unsat (steps_in now)) (outcome_for kind.Sat now)
+  sat_shown : now.state ≡ states.Sat → before ≡ states.Unknown → names_of (named_literals (line_in now)) ≡ map (λ n. n.name) j.in_use → Told before now.state → Shown (checker_rules.unsat (steps_in now)) (outcome_for kind.Sat now)
   sat_shown e b names w =
       let v : Told states.Unknown states.Sat = subst (λ st. Told states.Unknown st) e (subst (λ st. Told st now.state) b w) in
-      let m = subst (HasTrace the_checking s (steps_in now))
+      let m = subst (HasTrace checker_rules s (steps_in now))
       (ap (λ ns. Shows ns (named_literals now.assumed.items) (named_literals (line_in now)) ∷ []) names ∙ ap (λ q. Shows (map (λ n. n.name) j.in_use) q (named_literals (line_in now)) ∷ []) asked) v in
       shown_going (outcome_for kind.Sat now) (sat_apart now.state e) m
 
-  core_shown : now.state ≡ states.UnsatUnderAssumptions → before ≡ states.Unknown → Told before now.state → Shown (the_checking.unsat (steps_in now)) (outcome_for kind.Unsat now)
+  core_shown : now.state ≡ states.UnsatUnderAssumptions → before ≡ states.Unknown → Told before now.state → Shown (checker_rules.unsat (steps_in now)) (outcome_for kind.Unsat now)
   core_shown e b w =
       let v : Told states.Unknown states.UnsatUnderAssumptions = subst (λ st. Told states.Unknown st) e (subst (λ st. Told st now.state) b w) in
       let core = now.told.failed_core.items in
-      let m = subst (HasTrace the_checking s (steps_in now)) (ap (λ q. Fails q (named_literals core) ∷ []) asked) v in
+      let m = subst (HasTrace checker_rules s (steps_in now)) (ap (λ q. Fails q (named_literals core) ∷ []) asked) v in
       let sorted = sorted_core [] ask core m refl in
       shown_going (outcome_for kind.Unsat now) (core_apart now.state e)
-      (subst (λ st. HasTrace the_checking s (steps_in now) (Fails ask (named_literals (canonical (core_for st now))) ∷ [])) (sym e) sorted)
+      (subst (λ st. HasTrace checker_rules s (steps_in now) (Fails ask (named_literals (canonical (core_for st now))) ∷ [])) (sym e) sorted)
 
-  none_told : (b : State) → Told b states.Unsat → HasTrace the_checking s (steps_in now) []
-  none_told states.Unknown w = w
-  none_told e w = w
+  none_reported : (b : State) → Told b states.Unsat → HasTrace checker_rules s (steps_in now) []
+  none_reported states.Unknown w = w
+  none_reported e w = w
 
-  unsat_shown : now.state ≡ states.Unsat → Told before now.state → (o : Outcome) → Shown (the_checking.unsat (steps_in now)) o
-  unsat_shown e w o = subst (λ b. Shown b o) (sym (known_unsat now whole e)) (none_told before (subst (λ st. Told before st) e w))
+  unsat_shown : now.state ≡ states.Unsat → Told before now.state → (o : Outcome) → Shown (checker_rules.unsat (steps_in now)) o
+  unsat_shown e w o = subst (λ b. Shown b o) (sym (known_unsat now whole e)) (none_reported before (subst (λ st. Told before st) e w))
 
-  unknown_shown : now.state ≡ states.Unknown → before ≡ states.Unknown → Told before now.state → Shown (the_checking.unsat (steps_in now)) (outcome_for kind.Unknown now)
+  unknown_shown : now.state ≡ states.Unknown → before ≡ states.Unknown → Told before now.state → Shown (checker_rules.unsat (steps_in now)) (outcome_for kind.Unknown now)
   unknown_shown e b w = shown_going (outcome_for kind.Unknown now) (unknown_apart now.state e) (subst (λ st. Told states.Unknown st) e (subst (λ st. Told st now.state) b w))
 
   pub answer_shown : (a : Answer) → AnswerIs now.state a → ((now.state ≡ states.Unsat → ⊥) → before ≡ states.Unknown) → (a ≡ kind.Sat → names_of (named_literals (line_in now)) ≡ map (λ n. n.name) j.in_use) → Told before now.state
-      → Shown (the_checking.unsat (steps_in now)) (outcome_for a now)
+      → Shown (checker_rules.unsat (steps_in now)) (outcome_for a now)
   answer_shown kind.Sat h b names w = let e = sat_state now.state h in sat_shown e (b (sat_apart now.state e)) (names refl) w
   answer_shown kind.Unsat h b names w = elim (unsat_state now.state h) [ inl e ↦ core_shown e (b (core_apart now.state e)) w | inr e ↦ unsat_shown e w (outcome_for kind.Unsat now) ]
   answer_shown kind.Unknown h b names w = let e = unknown_state now.state h in unknown_shown e (b (unknown_apart now.state e)) w
@@ -179,7 +179,7 @@ answer_learns now states.Unsat kind.Unknown n h f = absurd (cc)
 answer_learns now x kind.Sat n h f = absurd (cc)
 
 -- an ask: its literals were assumed, and the solver searched; nothing is assumed from there on
-module _ {C : Type 0} (seen : C → Writer) (old mid now : Solver C) (user : List ℕ) (budget : ℕ) (report : AskReport) (opened : ReplacesAssumptions seen old mid user) (searched : Searched seen budget report mid now) (right : IsToldRight report.answer now) where
+module _ {C : Type 0} (seen : C → Writer) (old mid now : Solver C) (user : List ℕ) (budget : ℕ) (report : AskReport) (opened : ReplacesAssumptions seen old mid user) (searched : Searched seen budget report mid now) (right : IsReportedRight report.answer now) where
   o : Outcome
   o = outcome_for report.answer now
 
@@ -195,7 +195,7 @@ module _ {C : Type 0} (seen : C → Writer) (old mid now : Solver C) (user : Lis
   was_unknown : (now.state ≡ states.Unsat → ⊥) → searched.mid.state ≡ states.Unknown
   was_unknown n = elim (forgets_either old.state mid.state opened.state) [ inl e ↦ searched.limited.state ∙ e | inr e ↦ absurd (n (unsat_stays (searched.limited.state ∙ e))) ]
 
-  known : the_checking.unsat (steps_in mid) ≡ true → IsKnown (outcome_for report.answer now) report.steps
+  known : checker_rules.unsat (steps_in mid) ≡ true → IsKnown (outcome_for report.answer now) report.steps
   known u =
       let at = searched.limited.state ∙ unsat_known mid (opened.did Unknown).whole u in
       let k = searched.solved.answered.known (unsat_apart searched.mid.state at) in
@@ -208,58 +208,58 @@ module _ {C : Type 0} (seen : C → Writer) (old mid now : Solver C) (user : Lis
   count = let r = searched.rounds in let l = searched.limited.rounds in omega arith
 
   -- an answer that wasn't known took a round
-  sought : the_checking.unsat (steps_in mid) ≡ false → (now.state ≡ states.Unknown → ⊥) → 0 < report.steps
+  sought : checker_rules.unsat (steps_in mid) ≡ false → (now.state ≡ states.Unknown → ⊥) → 0 < report.steps
   sought g known_now =
       let before : searched.mid.state ≡ states.Unknown = elim (forgets_either old.state mid.state opened.state) [
         | inl e ↦ searched.limited.state ∙ e
-        | inr e ↦ absurd (both_ways (the_checking.unsat (steps_in mid)) g (known_unsat mid (opened.did Unknown).whole e))
+        | inr e ↦ absurd (both_ways (checker_rules.unsat (steps_in mid)) g (known_unsat mid (opened.did Unknown).whole e))
       ] in
       let c = searched.solved.answered.counts.round before known_now in
       let r = searched.rounds in let l = searched.limited.rounds in
       omega arith
 
   -- each round derived a clause that advances, but for the one that answered
-  learns : LearnsBetween (the_checking.unsat (steps_in mid)) (outcome_for report.answer now) report.steps (steps_in mid) (steps_in now)
+  learns : LearnsBetween (checker_rules.unsat (steps_in mid)) (outcome_for report.answer now) report.steps (steps_in mid) (steps_in now)
   learns = record {
     learned = learned_of now.state report.steps;
     times =
         subst (λ n. AdvancesIn (steps_in mid) (steps_in now) (learned_of now.state n)) count
         (subst (λ ss. AdvancesIn ss (steps_in now) (learned_of now.state (now.clock.steps - searched.mid.clock.steps))) same_steps searched.solved.answered.times);
-    counts = counted (the_checking.unsat (steps_in mid)) refl;
+    counts = counted (checker_rules.unsat (steps_in mid)) refl;
   }
     where
-      counted : (b : Bool) → the_checking.unsat (steps_in mid) ≡ b → LearnsEachRound b (outcome_for report.answer now) report.steps (learned_of now.state report.steps)
+      counted : (b : Bool) → checker_rules.unsat (steps_in mid) ≡ b → LearnsEachRound b (outcome_for report.answer now) report.steps (learned_of now.state report.steps)
       counted true u = let k = (known u).rounds in (k, ap (learned_of now.state) k ∙ none_learned now.state)
       counted false g = answer_learns now now.state report.answer report.steps searched.solved.answer_is (sought g)
 
   pub ask_spent : SpendsWithinBudget budget old.clock.steps report
   ask_spent = subst (λ (n : ℕ). SpendsWithinBudget budget n report) (ap (λ (x : _). x.steps) opened.clock) searched.spent
 
-  module _ (j : Judge) (live : Live) (means : AgreesWithJudge old j live) (free : refusal_of j (Ask (named_literals user)) ≡ None) where
-    first : solver.ReachesJudge mid.names (steps_in old) (steps_in mid) (bring_all (names_in user) j) (bringing (names_in user) j ++ (Opens (named_literals user) (outcome_for report.answer now) ∷ []))
+  module _ (j : ScriptState) (live : Live) (means : AgreesWithState old j live) (free : refusal_of j (Ask (named_literals user)) ≡ None) where
+    first : solver.ReachesScriptState mid.names (steps_in old) (steps_in mid) (bring_all (names_in user) j) (bringing (names_in user) j ++ (Opens (named_literals user) (outcome_for report.answer now) ∷ []))
     first = (opened.did (outcome_for report.answer now)).does.kept j live means.agree
 
-    agree_mid : solver.Agree mid.names (steps_in mid) (accepted (Ask (named_literals user)) j) first.live
-    agree_mid = subst (λ ns. solver.Agree mid.names (steps_in mid) (bring_all ns j) first.live) (sym (names_same user)) first.agree
+    agree_mid : solver.NamesAgree mid.names (steps_in mid) (accepted (Ask (named_literals user)) j) first.live
+    agree_mid = subst (λ ns. solver.NamesAgree mid.names (steps_in mid) (bring_all ns j) first.live) (sym (names_same user)) first.agree
 
-    agree_at : solver.Agree searched.mid.names (steps_in searched.mid) (accepted (Ask (named_literals user)) j) first.live
-    agree_at = subst (λ ns. solver.Agree ns (steps_in searched.mid) (accepted (Ask (named_literals user)) j) first.live) (sym searched.limited.names) (subst (λ ss. solver.Agree mid.names ss (accepted (Ask (named_literals user)) j) first.live) (sym same_steps) agree_mid)
+    agree_at : solver.NamesAgree searched.mid.names (steps_in searched.mid) (accepted (Ask (named_literals user)) j) first.live
+    agree_at = subst (λ ns. solver.NamesAgree ns (steps_in searched.mid) (accepted (Ask (named_literals user)) j) first.live) (sym searched.limited.names) (subst (λ ss. solver.NamesAgree mid.names ss (accepted (Ask (named_literals user)) j) first.live) (sym same_steps) agree_mid)
 
-    second : solver.ReachesJudge now.names (steps_in searched.mid) (steps_in now) (accepted (Ask (named_literals user)) j) (due_between_states searched.mid.state now.state (line_in now) now.assumed.items now.told.failed_core.items)
+    second : solver.ReachesScriptState now.names (steps_in searched.mid) (steps_in now) (accepted (Ask (named_literals user)) j) (due_between_states searched.mid.state now.state (line_in now) now.assumed.items now.told.failed_core.items)
     second = searched.solved.answered.did.does.kept (accepted (Ask (named_literals user)) j) first.live agree_at
 
-    named : HasTrace the_checking (steps_in old) (steps_in mid) (bringing (names_of (named_literals user)) j ++ (Opens (named_literals user) (outcome_for report.answer now) ∷ []))
-    named = subst (λ ns. HasTrace the_checking (steps_in old) (steps_in mid) (bringing ns j ++ (Opens (named_literals user) (outcome_for report.answer now) ∷ []))) (sym (names_same user)) first.trace
+    named : HasTrace checker_rules (steps_in old) (steps_in mid) (bringing (names_of (named_literals user)) j ++ (Opens (named_literals user) (outcome_for report.answer now) ∷ []))
+    named = subst (λ ns. HasTrace checker_rules (steps_in old) (steps_in mid) (bringing ns j ++ (Opens (named_literals user) (outcome_for report.answer now) ∷ []))) (sym (names_same user)) first.trace
 
     listed : report.answer ≡ kind.Sat → names_of (named_literals (line_in now)) ≡ map (λ n. n.name) (accepted (Ask (named_literals user)) j).in_use
-    listed e = line_listed now (named_literals user) assumed_is (accepted (Ask (named_literals user)) j) second.live second.agree (subst (λ a. IsToldRight a now) e right)
+    listed e = line_listed now (named_literals user) assumed_is (accepted (Ask (named_literals user)) j) second.live second.agree (subst (λ a. IsReportedRight a now) e right)
 
-    shown : HasTrace the_checking (steps_in mid) (steps_in now) (showing_if (the_checking.unsat (steps_in now)) (accepted (Ask (named_literals user)) j) (named_literals user) (outcome_for report.answer now))
+    shown : HasTrace checker_rules (steps_in mid) (steps_in now) (showing_if (checker_rules.unsat (steps_in now)) (accepted (Ask (named_literals user)) j) (named_literals user) (outcome_for report.answer now))
     shown = answer_shown now searched.solved.answered.did.whole (named_literals user) assumed_is (accepted (Ask (named_literals user)) j) searched.mid.state (steps_in mid) report.answer searched.solved.answer_is was_unknown listed
-        (subst (λ ss. HasTrace the_checking ss (steps_in now) (due_between_states searched.mid.state now.state (line_in now) now.assumed.items now.told.failed_core.items)) same_steps second.trace)
+        (subst (λ ss. HasTrace checker_rules ss (steps_in now) (due_between_states searched.mid.state now.state (line_in now) now.assumed.items now.told.failed_core.items)) same_steps second.trace)
 
     pub ask_right : IsRight (accepted (Ask (named_literals user)) j) (named_literals user) (outcome_for report.answer now)
-    ask_right = told_right now (named_literals user) assumed_is (accepted (Ask (named_literals user)) j) second.live second.agree report.answer right
+    ask_right = reported_right now (named_literals user) assumed_is (accepted (Ask (named_literals user)) j) second.live second.agree report.answer right
 
     -- n is the judge's next identity
     pub ask_bounded : IsBounded (accepted (Ask (named_literals user)) j).identity_count budget old.clock.steps report
@@ -271,10 +271,10 @@ module _ {C : Type 0} (seen : C → Writer) (old mid now : Solver C) (user : Lis
         record { few = few; answered = λ left unknown. let all = ask_spent.unknown unknown in omega arith }
 
     module _ (new : Solver C) (closed : ReplacesAssumptions seen now new []) where
-      third : solver.ReachesJudge new.names (steps_in now) (steps_in new) (accepted (Ask (named_literals user)) j) (Opens [] Unknown ∷ [])
+      third : solver.ReachesScriptState new.names (steps_in now) (steps_in new) (accepted (Ask (named_literals user)) j) (Opens [] Unknown ∷ [])
       third = (closed.did Unknown).does.kept (accepted (Ask (named_literals user)) j) second.live second.agree
 
-      shut : HasTrace the_checking (steps_in now) (steps_in new) (Closes ∷ [])
+      shut : HasTrace checker_rules (steps_in now) (steps_in new) (Closes ∷ [])
       shut = closed_by_none Unknown third.trace
 
       pub ask_steps : AskStretches j (named_literals user) (outcome_for report.answer now) report.steps (steps_in old) (steps_in new)
@@ -289,7 +289,7 @@ module _ {C : Type 0} (seen : C → Writer) (old mid now : Solver C) (user : Lis
         learns = learns;
       }
 
-      pub ask_then : (then : Live) × solver.Agree new.names (steps_in new) (accepted (Ask (named_literals user)) j) then
+      pub ask_then : (then : Live) × solver.NamesAgree new.names (steps_in new) (accepted (Ask (named_literals user)) j) then
       ask_then = (third.live, third.agree)
 
   pub ask_rounds : (new : Solver C) → ReplacesAssumptions seen now new [] → old.clock.steps + report.steps ≡ new.clock.steps

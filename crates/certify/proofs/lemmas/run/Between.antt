@@ -7,16 +7,16 @@ use Rattle.sat_checker.specs.Accepts.{ready_after}
 use Rattle.sat_checker.specs.Contents.{Contents, contents_after, contents_of}
 use Rattle.sat_checker.specs.Stored.{Stored}
 use Rattle.sat_checker.specs.matching.Checking.{is_ordered}
-use Rattle.sat_checker.specs.matching.ProofChecking.{the_checking}
+use Rattle.sat_checker.specs.matching.ProofChecking.{checker_rules}
 use Rattle.sat_checker.proofs.lemmas.contents.Steps.{contents_of_steps}
 use Rattle.sat_solver.specs.declared.proof.hash_bits.Counting.{Counting}
 use Rattle.sat_solver.specs.session.Quiet.{NeverAdvances}
 use Rattle.sat_solver.specs.schedule.Solving as made
-use Rattle.sat_solver.specs.proof.Counting.{TruncatesHashes, none_made, ask_begun, one_made, width_told, written_for, counted}
+use Rattle.sat_solver.specs.proof.Counting.{TruncatesHashes, none_made, ask_begun, one_made, width_change, written_for, counted}
 use Rattle.sat_solver.specs.session.Session.{Session, session_after}
 use Rattle.sat_solver.specs.proof.Widths.{narrowed}
-use Rattle.certify.specs.run.Advancing.{IsAdvancing, AdvanceTimes, AreUnordered}
-use Rattle.certify.proofs.lemmas.run.Advanced.{IsSame, advancing_as, cuts_contents, is_same, never_as, told_wide}
+use Rattle.certify.specs.run.Advancing.{DerivesAdvancing, AdvanceTimesStored, AreUnordered}
+use Rattle.certify.proofs.lemmas.run.Advanced.{IsSame, advancing_as, cuts_contents, is_same, never_as, reported_wide}
 
 -- STEPS BY WHICH NOTHING IS LEARNED, AND NOTHING RECORDED
 
@@ -40,8 +40,8 @@ pub append_unordered : (xs ys : List Step) → AreUnordered xs → AreUnordered 
 append_unordered [] ys h k = k
 append_unordered (x ∷ xs) ys h k = (h.0, append_unordered xs ys h.1 k)
 
-pub told_aside : (before now : ℕ) → AreAside (width_told before now)
-told_aside before now = go (nat_eq before now)
+pub reported_aside : (before now : ℕ) → AreAside (width_change before now)
+reported_aside before now = go (nat_eq before now)
   where
     go : (same : Bool) → AreAside (if same then [] else ChangeHashBits now ∷ [])
     go true = tt
@@ -66,16 +66,16 @@ behind_asides earlier mid (x ∷ xs) k h (inr (j, e, a, t)) =
     inr (j, e, subst (λ (v : List Step). made.IsAdvancing (session_after v) x) (sym (append_assoc xs mid earlier)) a, behind_asides earlier mid xs j h t)
 
 -- in what is written
-aside_never : {step : Step} (f : Stored) → IsAside step → IsAdvancing f step → ⊥
+aside_never : {step : Step} (f : Stored) → IsAside step → DerivesAdvancing f step → ⊥
 aside_never f index_aside a = a
 aside_never f width_aside a = a
 
-pub asides_never : (earlier front xs : List Step) (k : ℕ) → AreAside front → AdvanceTimes earlier xs k → AdvanceTimes earlier (front ++ xs) k
+pub asides_never : (earlier front xs : List Step) (k : ℕ) → AreAside front → AdvanceTimesStored earlier xs k → AdvanceTimesStored earlier (front ++ xs) k
 asides_never earlier [] xs k h t = t
 asides_never earlier (s ∷ front) xs k h t = inl (asides_never earlier front xs k h.1 t, aside_never (ready_after ((front ++ xs) ++ earlier)) h.0)
 
 -- whether unsat is recorded
-unsat_is : (steps : List Step) → the_checking.unsat steps ≡ (contents_of steps).unsat
+unsat_is : (steps : List Step) → checker_rules.unsat steps ≡ (contents_of steps).unsat
 unsat_is steps = ap (λ (c : Contents). c.unsat) (contents_of_steps steps)
 
 aside_unsat : {step : Step} (c : Contents) → IsAside step → (contents_after step c).unsat ≡ c.unsat
@@ -87,10 +87,10 @@ asides_contents : (front earlier : List Step) → AreAside front → (contents_o
 asides_contents [] earlier h = refl
 asides_contents (s ∷ front) earlier h = aside_unsat (contents_of (front ++ earlier)) h.0 ∙ asides_contents front earlier h.1
 
-pub asides_unsat : (front earlier : List Step) → AreAside front → the_checking.unsat (front ++ earlier) ≡ the_checking.unsat earlier
+pub asides_unsat : (front earlier : List Step) → AreAside front → checker_rules.unsat (front ++ earlier) ≡ checker_rules.unsat earlier
 asides_unsat front earlier h = unsat_is (front ++ earlier) ∙ asides_contents front earlier h ∙ sym (unsat_is earlier)
 
-pub cut_unsat : {c d : Counting} {m w : List Step} → TruncatesHashes c m w d → the_checking.unsat w ≡ the_checking.unsat m
+pub cut_unsat : {c d : Counting} {m w : List Step} → TruncatesHashes c m w d → checker_rules.unsat w ≡ checker_rules.unsat m
 cut_unsat {m = m} {w = w} p = unsat_is w ∙ ap (λ (x : Contents). x.unsat) (cuts_contents p).1 ∙ sym (unsat_is m)
 
 -- BETWEEN TWO PLACES
@@ -131,7 +131,7 @@ narrowed_order w (SolverVarName v name) = refl
 narrowed_order w step = refl
 
 unordered_more : (now before : ℕ) (step s : Step) → step ≡ s → (middle : List Step) → is_ordered s ≡ false → AreUnordered middle → AreUnordered (written_for before now step ++ middle)
-unordered_more now before step s e middle u h = (narrowed_order now step ∙ ap is_ordered e ∙ u, append_unordered (width_told before now) middle (asides_unordered (width_told before now) (told_aside before now)) h)
+unordered_more now before step s e middle u h = (narrowed_order now step ∙ ap is_ordered e ∙ u, append_unordered (width_change before now) middle (asides_unordered (width_change before now) (reported_aside before now)) h)
 
 pub record Timed (c : Counting) (opened written steps : List Step) (k : ℕ) : Type 0 where
   pub middle : List Step
@@ -139,7 +139,7 @@ pub record Timed (c : Counting) (opened written steps : List Step) (k : ℕ) : T
   pub mid : Counting
   pub whole : written ≡ middle ++ before
   pub cuts : TruncatesHashes c opened before mid
-  pub times : AdvanceTimes before middle k
+  pub times : AdvanceTimesStored before middle k
   pub unordered : AreUnordered steps → AreUnordered middle
 
 -- the last step that was made, and what stands before it
@@ -159,24 +159,24 @@ head_cut {c} (one_made {d = d} {made = m} {written = w} s k p) step made e =
     let now = (counted s d).bits in
     record {
       bits = now;
-      told = width_told d.bits now;
+      told = width_change d.bits now;
       back = w;
       mid = d;
-      whole = ap (λ (x : Step). narrowed now x ∷ (width_told d.bits now ++ w)) (same_first s step m made e);
-      aside = told_aside d.bits now;
+      whole = ap (λ (x : Step). narrowed now x ∷ (width_change d.bits now ++ w)) (same_first s step m made e);
+      aside = reported_aside d.bits now;
       cuts = subst (λ (ms : List Step). TruncatesHashes c ms w d) (same_later s step m made e) p;
     }
 
 -- what is written at a step
 record Here (d : Counting) (step : Step) (m w : List Step) : Type 0 where
-  same : IsSame (ready_after (width_told d.bits (counted step d).bits ++ w)) (session_after m)
+  same : IsSame (ready_after (width_change d.bits (counted step d).bits ++ w)) (session_after m)
 
 here : {c d : Counting} {m w : List Step} (step : Step) → TruncatesHashes c m w d → Here d step m w
 here {d = d} {m = m} {w = w} step p =
     let now = (counted step d).bits in
     let h = cuts_contents p in
-    let wider = told_wide (nat_eq d.bits now) now w (contents_of m) h.0 h.1 in
-    record { same = is_same (width_told d.bits now ++ w) m wider.0 wider.1 }
+    let wider = reported_wide (nat_eq d.bits now) now w (contents_of m) h.0 h.1 in
+    record { same = is_same (width_change d.bits now ++ w) m wider.0 wider.1 }
 
 pub timed : {c d : Counting} {m w : List Step} → TruncatesHashes c m w d → (steps opened : List Step) (k : ℕ) → m ≡ steps ++ opened → made.AdvanceTimes opened steps k → Timed c opened w steps k
 timed {c} {d} {m} {w} p [] opened k e t = record { middle = []; before = w; mid = d; whole = refl; cuts = subst (λ (n : List Step). TruncatesHashes c n w d) e p; times = t; unordered = λ u. tt }
@@ -187,7 +187,7 @@ timed (one_made {d = d} {made = m} {written = w} step kw p) (s ∷ steps) opened
     let first = same_first step s m (steps ++ opened) e in
     let q = timed p steps opened k rest t in
     let now = (counted step d).bits in
-    let f = width_told d.bits now in
+    let f = width_change d.bits now in
     let place : f ++ w ≡ (f ++ q.middle) ++ q.before = ap (λ (v : List Step). f ++ v) q.whole ∙ sym (append_assoc f q.middle q.before) in
     let never : NeverAdvances (session_after m) step = subst (λ (x : Step). NeverAdvances (session_after m) x) (sym first) (subst (λ (v : List Step). NeverAdvances (session_after v) s) (sym rest) still.never) in
     record {
@@ -197,8 +197,8 @@ timed (one_made {d = d} {made = m} {written = w} step kw p) (s ∷ steps) opened
       whole = ap (λ (v : List Step). narrowed now step ∷ v) place;
       cuts = q.cuts;
       times = inl (
-        asides_never q.before f q.middle k (told_aside d.bits now) q.times,
-        subst (λ (v : List Step). IsAdvancing (ready_after v) (narrowed now step) → ⊥) place (never_as (f ++ w) (session_after m) (here step p).same now step never),
+        asides_never q.before f q.middle k (reported_aside d.bits now) q.times,
+        subst (λ (v : List Step). DerivesAdvancing (ready_after v) (narrowed now step) → ⊥) place (never_as (f ++ w) (session_after m) (here step p).same now step never),
       );
       unordered = λ u. unordered_more now d.bits step s first q.middle u.0 (q.unordered u.1);
     }
@@ -207,7 +207,7 @@ timed (one_made {d = d} {made = m} {written = w} step kw p) (s ∷ steps) opened
     let first = same_first step s m (steps ++ opened) e in
     let q = timed p steps opened j rest t in
     let now = (counted step d).bits in
-    let f = width_told d.bits now in
+    let f = width_change d.bits now in
     let place : f ++ w ≡ (f ++ q.middle) ++ q.before = ap (λ (v : List Step). f ++ v) q.whole ∙ sym (append_assoc f q.middle q.before) in
     let there : made.IsAdvancing (session_after m) step = subst (λ (x : Step). made.IsAdvancing (session_after m) x) (sym first) (subst (λ (v : List Step). made.IsAdvancing (session_after v) s) (sym rest) a) in
     record {
@@ -219,8 +219,8 @@ timed (one_made {d = d} {made = m} {written = w} step kw p) (s ∷ steps) opened
       times = inr (
         j,
         n,
-        subst (λ (v : List Step). IsAdvancing (ready_after v) (narrowed now step)) place (advancing_as (f ++ w) (session_after m) (here step p).same now step there),
-        asides_never q.before f q.middle j (told_aside d.bits now) q.times,
+        subst (λ (v : List Step). DerivesAdvancing (ready_after v) (narrowed now step)) place (advancing_as (f ++ w) (session_after m) (here step p).same now step there),
+        asides_never q.before f q.middle j (reported_aside d.bits now) q.times,
       );
       unordered = λ u. unordered_more now d.bits step s first q.middle u.0 (q.unordered u.1);
     }

@@ -3,7 +3,7 @@ use Rattle.std.proofs.Common.{◌≡◌, ◌∙◌, inl, inr, true, false, is_so
 use Rattle.std.specs.Prelude.{ℕ}
 use Rattle.sat_base.specs.device.Device.{Writer}
 use Rattle.sat_base.specs.script.Script.{Among}
-use Rattle.sat_base.specs.script.Judge.{Judge, Refusal}
+use Rattle.sat_base.specs.script.ScriptState.{ScriptState, Refusal}
 use Rattle.sat_base.specs.steps.Steps.{Step}
 use Rattle.sat_solver.specs.declared.error.SolverError.{SolverError}
 use Rattle.sat_solver.specs.declared.error.SolverError.TheVariants as errors
@@ -16,15 +16,15 @@ use Rattle.sat_checker.specs.declared.processing.Nobody.{Nobody}
 use Rattle.sat_solver.specs.declared.proof.checker.Checked.{Checked}
 use Rattle.sat_solver.specs.declared.proof.made.CheckFault.{CheckFault}
 use Rattle.sat_solver.specs.declared.proof.made.CheckFault.TheVariants as checks
-use Rattle.sat_solver.specs.variables.Room.{users_in}
+use Rattle.sat_solver.specs.variables.VariableRoom.{users_in}
 use Rattle.sat_solver.specs.cdcl.Going.{IsFaultOr, EmitsUpToFault}
 use Rattle.sat_solver.specs.proof.MadeView.{ComplainsIn, listed_in}
 use Rattle.sat_solver.specs.proof.ProofView.{FailsCheck, is_checked}
 use Rattle.sat_solver.specs.solver.Whole.{HasFullStore}
 use Rattle.certify.specs.declared.fault.RunFault.{RunFault}
 use Rattle.certify.specs.declared.fault.RunFault.TheVariants as fault
-use Rattle.certify.specs.run.SolverCalls.{FailsSolver, IsAllowed, IsCaused, IsReady, IsSolverFault, RefusedForRoom, fault_for, proof_in}
-use Rattle.certify.proofs.lemmas.run.SessionCalls.{took_none}
+use Rattle.certify.specs.run.SolverCalls.{FailsSolver, IsAllowed, IsCaused, IsReadySolver, IsSolverFault, RefusedForRoom, fault_for, proof_in}
+use Rattle.certify.proofs.lemmas.run.RunStateCalls.{took_none}
 use Rattle.certify.specs.run.Quiet.{Solver}
 
 apart : true ≡ false → ⊥
@@ -61,13 +61,13 @@ module _ {C : Type 0} (seen : C → Writer) (a b : Solver C) where
   caused full errors.CounterEnd alone f steps w = complains_never checks.CounterEnd alone steps w
   caused full e alone f steps w = absurd f
 
-  ends_caused : (full lacks : Type 0) (e : SolverError) → IsReady a → EndsNamesOr full seen e a b → IsCaused (fault_for e) full lacks
+  ends_caused : (full lacks : Type 0) (e : SolverError) → IsReadySolver a → EndsNamesOr full seen e a b → IsCaused (fault_for e) full lacks
   ends_caused full lacks e ready h = caused_map (fault_for e) full ⊥ full lacks (λ x. x) (λ x. absurd x) (caused full e ready.unchecked h.fault h.breaks.steps h.breaks.went)
 
   stays : b ≡ a → ComesBySteps seen (proof_in a) (proof_in b)
   stays e = subst (λ (s : Solver C). ComesBySteps seen (proof_in a) (proof_in s)) (sym e) (took_none seen (proof_in a))
 
-  module _ (user : List ℕ) (ready : IsReady a) (allowed : IsAllowed a user) where
+  module _ (user : List ℕ) (ready : IsReadySolver a) (allowed : IsAllowed a user) where
     named : HasWitness a user → ⊥
     named h = (let w = h allowed.0 allowed.1 allowed.2 in none_some _ (sym allowed.3 ∙ w.1))
 
@@ -119,7 +119,7 @@ module _ {C : Type 0} (seen : C → Writer) (a b : Solver C) where
   none_asked : (user : ℕ) → a.assumed.items ≡ [] → IsAsked a user → ⊥
   none_asked user free h = subst (Among h.0) free h.1
 
-  module _ (user : ℕ) (judge : Judge → Judge) (due : Judge → List Expected) (May : List Step → Step → Type 0) (ready : IsReady a) (free : a.assumed.items ≡ []) where
+  module _ (user : ℕ) (judge : ScriptState → ScriptState) (due : ScriptState → List Expected) (May : List Step → Step → Type 0) (ready : IsReadySolver a) (free : a.assumed.items ≡ []) where
     pub name_fails : (e : SolverError) → ChangesMode seen (Err e) a b user judge due May → FailsSolver seen (fault_for e) a b
     name_fails errors.AssumedVariable h = absurd (none_asked user free h.cause.1)
     name_fails errors.HasFailed h = absurd (apart (sym h.cause ∙ ready.going))

@@ -3,10 +3,10 @@ use Rattle.std.proofs.Common.{ℕ, ◌+◌, ◌≡◌, ◌∙◌, [], ◌∷◌,
 use Rattle.std.proofs.lemmas.List.{append-nil}
 use Rattle.sat_base.specs.device.Device.{Writer}
 use Rattle.sat_base.specs.script.Script.{Command}
-use Rattle.sat_base.specs.script.Judge.{Judge, accepted}
+use Rattle.sat_base.specs.script.ScriptState.{ScriptState, accepted}
 use Rattle.sat_base.proofs.lemmas.device.Writes.{took_none}
 use Rattle.sat_solver.specs.solver.Whole.{steps_in}
-use Rattle.certify.specs.declared.run.session.Session.{Session}
+use Rattle.certify.specs.declared.run.session.RunState.{RunState}
 use Rattle.certify.specs.run.Obeying.{Obeyed}
 use Rattle.certify.specs.run.Serving.{RunPlace, Serves, place_after}
 use Rattle.certify.specs.run.Standing.{CarriedOut, last_place, place_in}
@@ -15,7 +15,7 @@ use Rattle.certify.proofs.lemmas.run.ServedOnce.{serves_plain}
 use Rattle.certify.specs.run.Quiet.{Solver}
 
 -- where a run stands behind the last command that came
-pub place_behind : {C : Type 0} (old new : Session C) (c : Command) (j : Judge) (rounds : ℕ) → new.commands ≡ old.commands → rounds ≡ new.solver.clock.steps
+pub place_behind : {C : Type 0} (old new : RunState C) (c : Command) (j : ScriptState) (rounds : ℕ) → new.commands ≡ old.commands → rounds ≡ new.solver.clock.steps
     → place_after (last_place old j) c (steps_in new.solver) rounds ≡ place_in new (accepted c j)
 place_behind old new c j rounds e f = ap (λ (k : ℕ). at (k + 1) rounds) (sym e) ∙ ap (at (new.commands + 1)) f
   where
@@ -23,7 +23,7 @@ place_behind old new c j rounds e f = ap (λ (k : ℕ). at (k + 1) rounds) (sym 
     at k n = record { judge = accepted c j; number = k; steps = steps_in new.solver; rounds = n }
 
 -- by the solver alone
-pub obeyed_carried : {C : Type 0} (seen : C → Writer) (old : Session C) (s : Solver C) (c : Command) (w : Writer) → IsNoAsk c → old.solver.assumed.items ≡ [] → Obeyed seen c old.solver s
+pub obeyed_carried : {C : Type 0} (seen : C → Writer) (old : RunState C) (s : Solver C) (c : Command) (w : Writer) → IsNoAsk c → old.solver.assumed.items ≡ [] → Obeyed seen c old.solver s
     → CarriedOut seen old (record old { solver = s }) c w w
 obeyed_carried seen old s c w quiet free o = record {
   ready = o.ready;

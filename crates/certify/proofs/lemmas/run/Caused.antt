@@ -4,10 +4,10 @@ use Rattle.std.proofs.lemmas.List.{map-append, take-append-drop}
 use Rattle.sat_base.specs.device.Device.{Writer}
 use Rattle.sat_base.specs.script.Script.{Command, Clause, Ask, Clean}
 use Rattle.sat_base.specs.script.Language.{Reading, onto_commands}
-use Rattle.sat_base.specs.script.Judge.{Judge, accepted, after_command, after_script, refusal_of}
+use Rattle.sat_base.specs.script.ScriptState.{ScriptState, accepted, after_command, after_script, refusal_of}
 use Rattle.sat_base.specs.values.Literals.{var_limit, variable}
 use Rattle.sat_solver.specs.variables.Refusing.{names_in}
-use Rattle.sat_solver.specs.variables.Room.{users_in}
+use Rattle.sat_solver.specs.variables.VariableRoom.{users_in}
 use Rattle.sat_base.specs.steps.Steps.{Step}
 use Rattle.sat_solver.specs.solver.Whole.{HasFullStore, steps_in}
 use Rattle.certify.specs.answers.AnswerForms.{named_literals}
@@ -16,15 +16,15 @@ use Rattle.certify.specs.declared.fault.RunFault.TheVariants as fault
 use Rattle.certify.specs.declared.judge.NameState.{NameState}
 use Rattle.certify.specs.declared.script.Command.{Command as Lent}
 use Rattle.certify.specs.declared.script.CommandKind.TheVariants as kind
-use Rattle.certify.specs.declared.run.session.Session.{Session}
-use Rattle.certify.specs.judge.Names.{TellsRefusal}
+use Rattle.certify.specs.declared.run.session.RunState.{RunState}
+use Rattle.certify.specs.judge.Names.{ReportsRefusal}
 use Rattle.certify.specs.script.Commands.{IsLent}
 use Rattle.certify.specs.run.Unfinished.{Exceeds}
 use Rattle.certify.specs.run.Lacking.{CommandLacks}
 use Rattle.certify.specs.run.SolverCalls.{IsCaused, LacksFor, RefusedForRoom}
 use Rattle.certify.specs.run.Obeying.{Obeyed, command_to}
 use Rattle.certify.specs.run.Quiet.{Solver}
-use Rattle.certify.specs.run.Standing.{CausedBy, CausedOver, JudgeIsAt, ServedNext, spelled_by}
+use Rattle.certify.specs.run.Standing.{CausedBy, CausedOver, HasStateBetweenCommands, ServedNext, spelled_by}
 use Rattle.certify.proofs.lemmas.run.CallFaults.{caused_map}
 use Rattle.certify.proofs.lemmas.run.Lent.{lent_is, spelled_as}
 use Rattle.certify.proofs.lemmas.run.Needing.{clause_needs, names_need_more, script_grows}
@@ -69,7 +69,7 @@ names_caused seen st codes k code user a b c e lt is at done h =
 
 -- COMMANDS
 
-module _ {C : Type 0} (lent : Lent) (old : Session C) (r : Result (Unit {0}) RunFault) (new : Solver C) where
+module _ {C : Type 0} (lent : Lent) (old : RunState C) (r : Result (Unit {0}) RunFault) (new : Solver C) where
   pub clause_caused_by : lent.kind ≡ kind.Clause → IfErr r (λ e. IsCaused e (HasFullStore new) (RefusedForRoom old.solver new (users_in lent.literals.now))) → CausedBy r old (record old { solver = new }) (spelled_by lent)
   clause_caused_by e h = subst (λ c. CausedBy r old (record old { solver = new }) c) (sym (spelled_as lent kind.Clause e))
       (caused_if r (HasFullStore new) (RefusedForRoom old.solver new (users_in lent.literals.now)) (HasFullStore new) (LacksFor old.solver new (Clause (named_literals lent.literals.now))) (λ x. x) (clause_needs old.solver new lent.literals.now) h)
@@ -78,13 +78,13 @@ module _ {C : Type 0} (lent : Lent) (old : Session C) (r : Result (Unit {0}) Run
   names_caused_by c e h = subst (λ d. CausedBy r old (record old { solver = new }) d) (sym e)
       (caused_if r ⊥ (LacksFor old.solver new c) (HasFullStore new) (LacksFor old.solver new c) (λ x. absurd x) (λ x. x) h)
 
-pub ask_caused_by : {C : Type 0} (lent : Lent) (old new : Session C) (r : Result (Unit {0}) RunFault) → lent.kind ≡ kind.Ask → CausedBy r old new (Ask (named_literals lent.literals.now)) → CausedBy r old new (spelled_by lent)
+pub ask_caused_by : {C : Type 0} (lent : Lent) (old new : RunState C) (r : Result (Unit {0}) RunFault) → lent.kind ≡ kind.Ask → CausedBy r old new (Ask (named_literals lent.literals.now)) → CausedBy r old new (spelled_by lent)
 ask_caused_by lent old new r e h = subst (λ c. CausedBy r old new c) (sym (spelled_as lent kind.Ask e)) h
 
 -- WHAT IS LEFT OF A SCRIPT
 
 -- what comes behind takes no identity back
-pub needs_exceed : {C : Type 0} (old : Session C) (new : Solver C) (c : Command) (left : Reading) (j : Judge) → JudgeIsAt old j → refusal_of j c ≡ None → LacksFor old.solver new c
+pub needs_exceed : {C : Type 0} (old : RunState C) (new : Solver C) (c : Command) (left : Reading) (j : ScriptState) → HasStateBetweenCommands old j → refusal_of j c ≡ None → LacksFor old.solver new c
     → Exceeds old.commands j (onto_commands (c ∷ []) left) (steps_in new)
 needs_exceed old new c left j at free needs =
     let both = needs j at.live at.means.agree in
@@ -95,22 +95,22 @@ needs_exceed old new c left j at free needs =
       record { before = []; command = c; behind = left.0; whole = refl; accepted_one = free; lacks = both.1 },
     )
 
-module _ {C : Type 0} (old mid new : Session C) (lent : Lent) (r : Result (Unit {0}) RunFault) where
-  pub taken_caused : lent.past_limit ≡ false → TellsRefusal None old.names lent → mid.solver ≡ old.solver → CausedBy r mid new (spelled_by lent) → (c : Command) → IsLent lent c → (left : Reading) → CausedOver r old new (onto_commands (c ∷ []) left)
+module _ {C : Type 0} (old mid new : RunState C) (lent : Lent) (r : Result (Unit {0}) RunFault) where
+  pub taken_caused : lent.past_limit ≡ false → ReportsRefusal None old.names lent → mid.solver ≡ old.solver → CausedBy r mid new (spelled_by lent) → (c : Command) → IsLent lent c → (left : Reading) → CausedOver r old new (onto_commands (c ∷ []) left)
   taken_caused within judges same h c l left =
-      caused_if r (HasFullStore new.solver) (LacksFor mid.solver new.solver (spelled_by lent)) (HasFullStore new.solver) ((j : Judge) → JudgeIsAt old j → Exceeds old.commands j (onto_commands (c ∷ []) left) (steps_in new.solver)) (λ x. x)
+      caused_if r (HasFullStore new.solver) (LacksFor mid.solver new.solver (spelled_by lent)) (HasFullStore new.solver) ((j : ScriptState) → HasStateBetweenCommands old j → Exceeds old.commands j (onto_commands (c ∷ []) left) (steps_in new.solver)) (λ x. x)
       (λ needs j at. needs_exceed old new.solver c left j at (sym (judges j c at.names l)) (subst (λ s. LacksFor s new.solver c) same (subst (LacksFor mid.solver new.solver) (sym (lent_is lent c l within)) needs))) h
 
 -- nothing is to blame
-pub blameless : {T C : Type 0} (r : Result T RunFault) (old new : Session C) (script : Reading) → IfErr r (λ e. IsCaused e ⊥ ⊥) → CausedOver r old new script
-blameless r old new script h = caused_if r ⊥ ⊥ (HasFullStore new.solver) ((j : Judge) → JudgeIsAt old j → Exceeds old.commands j script (steps_in new.solver)) (λ x. absurd x) (λ x. absurd x) h
+pub blameless : {T C : Type 0} (r : Result T RunFault) (old new : RunState C) (script : Reading) → IfErr r (λ e. IsCaused e ⊥ ⊥) → CausedOver r old new script
+blameless r old new script h = caused_if r ⊥ ⊥ (HasFullStore new.solver) ((j : ScriptState) → HasStateBetweenCommands old j → Exceeds old.commands j script (steps_in new.solver)) (λ x. absurd x) (λ x. absurd x) h
 
-pub after_both : (xs ys : List Command) (i : Judge) → after_script (xs ++ ys) i ≡ after_script ys (after_script xs i)
+pub after_both : (xs ys : List Command) (i : ScriptState) → after_script (xs ++ ys) i ≡ after_script ys (after_script xs i)
 after_both [] ys i = refl
 after_both (x ∷ xs) ys i = after_both xs ys (after_command x i)
 
 -- commands that were served before
-pub exceeds_later : (n m : ℕ) (cs : List Command) (script : Reading) (j : Judge) (steps : List Step) → m ≡ n + length cs → Exceeds m (after_script cs j) script steps → Exceeds n j (onto_commands cs script) steps
+pub exceeds_later : (n m : ℕ) (cs : List Command) (script : Reading) (j : ScriptState) (steps : List Step) → m ≡ n + length cs → Exceeds m (after_script cs j) script steps → Exceeds n j (onto_commands cs script) steps
 exceeds_later n m cs script j steps e (inl few) = inl (let l = length-append cs script.0 in omega arith)
 exceeds_later n m cs script j steps e (inr (needs, one)) = inr (
   subst (λ i. var_limit < i.identity_count) (sym (after_both cs script.0 j)) needs,
@@ -125,13 +125,13 @@ exceeds_later n m cs script j steps e (inr (needs, one)) = inr (
 )
 
 -- one command, and what is left
-pub caused_behind : {T C : Type 0} (seen : C → Writer) (r : Result T RunFault) (c : Command) (script : Reading) (a b new : Session C) (u v : Writer) → ServedNext seen a b c u v → CausedOver r b new script → CausedOver r a new (onto_commands (c ∷ []) script)
+pub caused_behind : {T C : Type 0} (seen : C → Writer) (r : Result T RunFault) (c : Command) (script : Reading) (a b new : RunState C) (u v : Writer) → ServedNext seen a b c u v → CausedOver r b new script → CausedOver r a new (onto_commands (c ∷ []) script)
 caused_behind seen r c script a b new u v f h =
-    caused_if r (HasFullStore new.solver) ((j : Judge) → JudgeIsAt b j → Exceeds b.commands j script (steps_in new.solver)) (HasFullStore new.solver) ((j : Judge) → JudgeIsAt a j → Exceeds a.commands j (onto_commands (c ∷ []) script) (steps_in new.solver)) (λ x. x)
+    caused_if r (HasFullStore new.solver) ((j : ScriptState) → HasStateBetweenCommands b j → Exceeds b.commands j script (steps_in new.solver)) (HasFullStore new.solver) ((j : ScriptState) → HasStateBetweenCommands a j → Exceeds a.commands j (onto_commands (c ∷ []) script) (steps_in new.solver)) (λ x. x)
     (λ k j at. exceeds_later a.commands b.commands (c ∷ []) script j (steps_in new.solver) f.commands (k (after_command c j) (f.serves j at).0)) h
 
 -- the ask that a header brings
-pub asked_caused : {T C : Type 0} (a new : Session C) (r : Result T RunFault) → CausedBy r a new (Ask []) → CausedOver r a new (Ask [] ∷ [], Clean)
+pub asked_caused : {T C : Type 0} (a new : RunState C) (r : Result T RunFault) → CausedBy r a new (Ask []) → CausedOver r a new (Ask [] ∷ [], Clean)
 asked_caused a new r h =
-    caused_if r (HasFullStore new.solver) (LacksFor a.solver new.solver (Ask [])) (HasFullStore new.solver) ((j : Judge) → JudgeIsAt a j → Exceeds a.commands j (Ask [] ∷ [], Clean) (steps_in new.solver)) (λ x. x)
+    caused_if r (HasFullStore new.solver) (LacksFor a.solver new.solver (Ask [])) (HasFullStore new.solver) ((j : ScriptState) → HasStateBetweenCommands a j → Exceeds a.commands j (Ask [] ∷ [], Clean) (steps_in new.solver)) (λ x. x)
     (λ needs j at. needs_exceed a new.solver (Ask []) ([], Clean) j at refl needs) h

@@ -6,13 +6,13 @@ use Rattle.sat_base.specs.steps.Steps.{Step, SolverVarName, UserVarName, DeleteV
 use Rattle.sat_checker.specs.Accepts.{effect, ready_after}
 use Rattle.sat_checker.specs.matching.Checking.{is_ordered}
 use Rattle.sat_checker.specs.matching.Expected.{Expected, Closes, Fits, closes}
-use Rattle.sat_checker.specs.matching.ProofChecking.{the_checking}
+use Rattle.sat_checker.specs.matching.ProofChecking.{checker_rules}
 use Rattle.sat_solver.specs.variables.Coming.{MayTake}
 use Rattle.sat_solver.specs.session.Coming.{EachIsAllowed}
 use Rattle.sat_checker.specs.matching.Traces.{HasTrace, no_step, silent, visible}
 use Rattle.certify.proofs.lemmas.confirm.Settled.{settled_unsat}
 
-made_behind : {s t : List Step} {es : List Expected} → HasTrace the_checking s t es → (zs : List Step) × (t ≡ zs ++ s)
+made_behind : {s t : List Step} {es : List Expected} → HasTrace checker_rules s t es → (zs : List Step) × (t ≡ zs ++ s)
 made_behind no_step = ([], refl)
 made_behind (silent {s = s} {step = step} q m) = let r = made_behind m in (r.0 ++ (step ∷ []), r.1 ∙ sym (append_assoc r.0 (step ∷ []) s))
 made_behind (visible {s = s} {step = step} f m) = let r = made_behind m in (r.0 ++ (step ∷ []), r.1 ∙ sym (append_assoc r.0 (step ∷ []) s))
@@ -34,16 +34,16 @@ first_comes s t x ys zs b c d =
     record { may = h.0; steps = zs; behind = d; each = h.1 }
 
 -- a step that comes of itself records nothing
-keeps_going : (s : List Step) (step : Step) → is_ordered step ≡ false → MayTake [] s step → the_checking.unsat s ≡ false → the_checking.unsat (step ∷ s) ≡ false
+keeps_going : (s : List Step) (step : Step) → is_ordered step ≡ false → MayTake [] s step → checker_rules.unsat s ≡ false → checker_rules.unsat (step ∷ s) ≡ false
 keeps_going s (ChangeHashBits bits) q m g = settled_unsat (effect (ChangeHashBits bits) (ready_after s)) ∙ g
 keeps_going s (SolverVarName v n) q m g = absurd (m.2.1)
 keeps_going s step q m g = absurd (cc)
 
-close_keeps : (s : List Step) (x : Expected) (step : Step) → Fits (the_checking.knows s) s x step → x ≡ Closes → the_checking.unsat s ≡ false → the_checking.unsat (step ∷ s) ≡ false
+close_keeps : (s : List Step) (x : Expected) (step : Step) → Fits (checker_rules.knows s) s x step → x ≡ Closes → checker_rules.unsat s ≡ false → checker_rules.unsat (step ∷ s) ≡ false
 close_keeps s Closes step closes e g = settled_unsat (effect (Assumptions []) (ready_after s)) ∙ g
 close_keeps s x step f e g = absurd (cc)
 
-pub closing : {s t : List Step} {es : List Expected} → HasTrace the_checking s t es → AllByRecursion (λ e. e ≡ Closes) es → (ys : List Step) → t ≡ ys ++ s → EachIsAllowed (MayTake []) s ys → the_checking.unsat s ≡ false → the_checking.unsat t ≡ false
+pub closing : {s t : List Step} {es : List Expected} → HasTrace checker_rules s t es → AllByRecursion (λ e. e ≡ Closes) es → (ys : List Step) → t ≡ ys ++ s → EachIsAllowed (MayTake []) s ys → checker_rules.unsat s ≡ false → checker_rules.unsat t ≡ false
 closing no_step h ys b c g = g
 closing {t = t} (silent {s = s} {step = step} q m) h ys b c g =
     let z = made_behind m in

@@ -4,7 +4,7 @@ use Rattle.std.proofs.lemmas.Bool.Decides.{nat_tests}
 use Rattle.std.specs.List.{AllByRecursion}
 use Rattle.sat_base.specs.values.Clauses.{Valuation, EachTrue, EachHolds, literal_true}
 use Rattle.sat_base.specs.script.Script.{Literal, Among, InOrder, place}
-use Rattle.sat_base.specs.script.Judge.{Judge, IsRightCore, over}
+use Rattle.sat_base.specs.script.ScriptState.{ScriptState, IsRightCore, over}
 use Rattle.sat_checker.specs.LiteralSets.{canonical}
 use Rattle.sat_checker.specs.SortedSets.{IsIncreasing}
 use Rattle.sat_checker.specs.matching.Expected.{SameSet, Spells}
@@ -48,7 +48,7 @@ in_order (x ∷ []) h = tt
 in_order (x ∷ y ∷ ys) h = ((let a = place_of x in let b = place_of y in let lt = h.0 in omega arith), in_order (y ∷ ys) h.1)
 
 -- a right core, put in order
-pub right_in_order : (j : Judge) (ask : List Literal) (core : List ℕ) → AllByRecursion (λ l. Among l ask) (named_literals core)
+pub right_in_order : (j : ScriptState) (ask : List Literal) (core : List ℕ) → AllByRecursion (λ l. Among l ask) (named_literals core)
     → ((a : Valuation) → EachTrue a (map (over j) (named_literals core)) → EachHolds a j.clauses → ⊥) → IsRightCore j ask (named_literals (canonical core))
 right_in_order j ask core among none = record {
   order = in_order (canonical core) (canonical_increasing core);

@@ -9,7 +9,7 @@ use Rattle.sat_solver.specs.declared.proof.made.CheckFault.TheVariants as checks
 use Rattle.sat_solver.specs.session.Making.{ComesBySteps, BreaksEmitting}
 use Rattle.sat_solver.specs.proof.ProofView.{EmitsExactly, FailsCheck, GivesWriter, target_of}
 use Rattle.sat_solver.specs.solver.Proving.{ClosesProof}
-use Rattle.certify.specs.run.SolverCalls.{FaultSays, IsCaused, IsReady, fault_for, proof_in}
+use Rattle.certify.specs.run.SolverCalls.{FaultSays, IsCaused, IsReadySolver, fault_for, proof_in}
 use Rattle.certify.specs.declared.fault.RunFault.{RunFault}
 use Rattle.certify.specs.declared.fault.RunFault.TheVariants as fault
 use Rattle.certify.specs.run.Ending.{EndsCertificate, FinishesRun, GivenBack}
@@ -18,7 +18,7 @@ use Rattle.certify.proofs.lemmas.run.Stopping.{bytes_none}
 use Rattle.certify.specs.run.Quiet.{Solver}
 
 -- closing it failed, and its writer was given back
-pub closing_fails : {C : Type 0} (seen : C → Writer) (e : SolverError) (old new : Solver C) (given : C) → IsReady old → ClosesProof seen (Err e) old new → GivesWriter (target_of seen (proof_in new)) (Some (seen given))
+pub closing_fails : {C : Type 0} (seen : C → Writer) (e : SolverError) (old new : Solver C) (given : C) → IsReadySolver old → ClosesProof seen (Err e) old new → GivesWriter (target_of seen (proof_in new)) (Some (seen given))
     → FaultSays (fault_for e) ⊥ (GivenBack seen BreaksEmitting old given) (GivenBack seen ComesBySteps old given)
 closing_fails seen errors.HasFailed old new given ready h g = absurd (true≢false (sym h.cause ∙ ready.going))
 closing_fails seen (errors.ProofIoError cause) old new given ready h g = record { proof = proof_in new; goes = (End ∷ [], h.fails); gives = g }
@@ -41,7 +41,7 @@ closing_fails seen errors.Malformed old new given ready h g = absurd h
 closing_fails seen errors.OutOfRange old new given ready h g = absurd h
 
 -- for which no store is to blame and no counter, since nobody checks the steps
-pub closing_caused : {C : Type 0} (seen : C → Writer) (e : SolverError) (old new : Solver C) → IsReady old → ClosesProof seen (Err e) old new → IsCaused (fault_for e) ⊥ ⊥
+pub closing_caused : {C : Type 0} (seen : C → Writer) (e : SolverError) (old new : Solver C) → IsReadySolver old → ClosesProof seen (Err e) old new → IsCaused (fault_for e) ⊥ ⊥
 closing_caused seen errors.HasFailed old new ready h = absurd (true≢false (sym h.cause ∙ ready.going))
 closing_caused seen (errors.ProofIoError cause) old new ready h = tt
 closing_caused seen errors.OutOfMemory old new ready h = tt

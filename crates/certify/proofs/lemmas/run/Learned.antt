@@ -5,12 +5,12 @@ use Rattle.std.proofs.lemmas.List.{append_cancel_right}
 use Rattle.std.specs.List.{AllByRecursion}
 use Rattle.std.specs.Prelude.{nat_eq, if◌then◌else◌}
 use Rattle.sat_base.specs.script.Script.{Literal, Command, Clause, Ask, Hide, Witness, Sample, names_of}
-use Rattle.sat_base.specs.script.Judge.{Judge, Mode, Sampled, Witnessed, accepted, bring_in, new_names, with_mode, without_name}
+use Rattle.sat_base.specs.script.ScriptState.{ScriptState, NameMode, Sampled, Witnessed, accepted, bring_in, new_names, with_mode, without_name}
 use Rattle.sat_base.specs.steps.Steps.{Step, SolverVarName, UserVarName, DeleteVar, ChangeSamplingMode, AddClause, AtClause, UnitClauses, DeleteClause, ChangeHashBits, Model, Assumptions, FailedAssumptions, End}
-use Rattle.sat_checker.specs.matching.Checking.{Checking, is_ordered}
+use Rattle.sat_checker.specs.matching.Checking.{CheckerRules, is_ordered}
 use Rattle.sat_checker.specs.matching.Expected as expecting
 use Rattle.sat_checker.specs.matching.Expected.{Outcome, Sat, Unsat, Unknown, Expected, NewName, NoName, Adds, Opens, Shows, Fails, Closes, Finish, Fits, bringing, hiding, setting}
-use Rattle.sat_checker.specs.matching.ProofChecking.{the_checking}
+use Rattle.sat_checker.specs.matching.ProofChecking.{checker_rules}
 use Rattle.sat_checker.specs.matching.Traces.{HasTrace, no_step, silent, visible}
 use Rattle.sat_solver.specs.declared.proof.hash_bits.Counting.{Counting}
 use Rattle.sat_solver.specs.proof.Counting.{TruncatesHashes, none_made, ask_begun, one_made, counted}
@@ -18,7 +18,7 @@ use Rattle.sat_solver.specs.proof.Widths.{narrowed}
 use Rattle.sat_solver.specs.variables.Coming.{MayTake}
 use Rattle.sat_solver.specs.schedule.Solving as made
 use Rattle.sat_solver.specs.session.Coming.{EachIsAllowed}
-use Rattle.certify.specs.run.Advancing.{AdvanceTimes, AreUnordered}
+use Rattle.certify.specs.run.Advancing.{AdvanceTimesStored, AreUnordered}
 use Rattle.certify.specs.run.Learning.{assumed_times, LearnsIn, EachLearns}
 use Rattle.certify.specs.run.Stretches.{IsNoAsk, Stretch, AskStretches, LearnsEachRound, ServesCommands, due_for, made_none, made_one, made_ask, showing_if}
 use Rattle.certify.proofs.lemmas.run.Between.{IsAside, index_aside, width_aside, AreAside, Head, Split, Timed, append_unordered, asides_never, asides_still, asides_unordered, asides_unsat, behind_asides, cut_unsat, head_cut, split, timed}
@@ -33,7 +33,7 @@ onward {a} {b} {c} x y = (y.0 ++ x.0, y.1 ∙ ap (λ (s : List Step). y.0 ++ s) 
 ext_of : {May : List Step → Step → Type 0} {from to : List Step} {es : List Expected} → Stretch May from to es → Ext from to
 ext_of s = (s.comes.steps, s.comes.behind)
 
-extends : {j : Judge} {s t : List Step} {cs : List Command} {os : List Outcome} {ns : List ℕ} → ServesCommands j s t cs os ns → Ext s t
+extends : {j : ScriptState} {s t : List Step} {cs : List Command} {os : List Outcome} {ns : List ℕ} → ServesCommands j s t cs os ns → Ext s t
 extends made_none = ([], refl)
 extends (made_one mid i st rest) = onward (ext_of st) (extends rest)
 extends (made_ask mid a rest) = onward (onward (onward (ext_of a.opens) (ext_of a.searches)) (ext_of a.closes)) (extends rest)
@@ -53,7 +53,7 @@ rest_is a b xs ys h = cc
 not_none : (y : Expected) (ys : List Expected) → ◌≡◌ {A = List Expected} (y ∷ ys) [] → ⊥
 not_none y ys h = cc
 
-quiet_between : {k : Checking} {s t : List Step} {es : List Expected} → HasTrace k s t es → es ≡ [] → (steps : List Step) × (t ≡ steps ++ s) × AreUnordered steps
+quiet_between : {k : CheckerRules} {s t : List Step} {es : List Expected} → HasTrace k s t es → es ≡ [] → (steps : List Step) × (t ≡ steps ++ s) × AreUnordered steps
 quiet_between no_step e = ([], refl, tt)
 quiet_between (silent {s = s} {step = step} n m) e =
     let h = quiet_between m e in
@@ -61,7 +61,7 @@ quiet_between (silent {s = s} {step = step} n m) e =
 quiet_between (visible {e = x} {es = xs} f m) e = absurd (cc)
 
 -- where it stands, behind others that are due
-record LastDue (k : Checking) (s t : List Step) (fs : List Expected) (e : Expected) : Type 0 where
+record LastDue (k : CheckerRules) (s t : List Step) (fs : List Expected) (e : Expected) : Type 0 where
   front : List Step
   step : Step
   behind : List Step
@@ -70,7 +70,7 @@ record LastDue (k : Checking) (s t : List Step) (fs : List Expected) (e : Expect
   unordered : AreUnordered behind
   alone : fs ≡ [] → AreUnordered front
 
-last_due : {k : Checking} {s t : List Step} {es : List Expected} → HasTrace k s t es → (fs : List Expected) (e : Expected) → es ≡ fs ++ (e ∷ []) → LastDue k s t fs e
+last_due : {k : CheckerRules} {s t : List Step} {es : List Expected} → HasTrace k s t es → (fs : List Expected) (e : Expected) → es ≡ fs ++ (e ∷ []) → LastDue k s t fs e
 last_due no_step fs e h = none_more fs e h
 last_due {k} (silent {s = s} {step = step} n m) fs e h =
     let d = last_due m fs e h in
@@ -143,7 +143,7 @@ aside_each names [] h u = tt
 aside_each names (x ∷ xs) h u = (aside_one names h.0.0 x h.0.1 u.0, aside_each names xs h.1 u.1)
 
 -- the steps before and behind the last that is due
-module _ (names : List ℕ) (from to : List Step) (es : List Expected) (st : Stretch (MayTake names) from to es) (fs : List Expected) (e : Expected) (d : LastDue the_checking from to fs e) where
+module _ (names : List ℕ) (from to : List Step) (es : List Expected) (st : Stretch (MayTake names) from to es) (fs : List Expected) (e : Expected) (d : LastDue checker_rules from to fs e) where
   steps_are : st.comes.steps ≡ d.behind ++ (d.step ∷ d.front)
   steps_are = append_cancel_right st.comes.steps (d.behind ++ (d.step ∷ d.front)) from (sym st.comes.behind ∙ d.whole ∙ sym (append_assoc d.behind (d.step ∷ d.front) from))
 
@@ -159,7 +159,7 @@ module _ (names : List ℕ) (from to : List Step) (es : List Expected) (st : Str
   front_aside : fs ≡ [] → AreAside d.front
   front_aside z = aside_each names d.front (first_come (MayTake names) from d.front [] front_each) (d.alone z)
 
-shows_none : (b : Bool) (j : Judge) (ls : List Literal) → showing_if b j ls Unknown ≡ []
+shows_none : (b : Bool) (j : ScriptState) (ls : List Literal) → showing_if b j ls Unknown ≡ []
 shows_none true j ls = refl
 shows_none false j ls = refl
 
@@ -186,7 +186,7 @@ fits_times es (expecting.fails c) = refl
 fits_times es expecting.closes = omega arith
 fits_times es expecting.finish = refl
 
-makes_times : {k : Checking} {s t : List Step} {es : List Expected} → HasTrace k s t es → assumed_times t ≡ assumed_times s + due_times es
+makes_times : {k : CheckerRules} {s t : List Step} {es : List Expected} → HasTrace k s t es → assumed_times t ≡ assumed_times s + due_times es
 makes_times no_step = omega arith
 makes_times (silent {s = s} {step = step} {es = es} n m) = makes_times m ∙ ap (λ (k : ℕ). k + due_times es) (unordered_times step s n)
 makes_times (visible {es = es} f m) = makes_times m ∙ fits_times es f
@@ -210,22 +210,22 @@ new_times : (names : List ℕ) → due_times (map NewName names) ≡ 0
 new_times [] = refl
 new_times (name ∷ names) = new_times names
 
-bringing_times : (names : List ℕ) (j : Judge) → due_times (bringing names j) ≡ 0
+bringing_times : (names : List ℕ) (j : ScriptState) → due_times (bringing names j) ≡ 0
 bringing_times [] j = refl
 bringing_times (name ∷ names) j = behind_none (map NewName (new_names name j)) (bringing names (bring_in name j)) (new_times (new_names name j)) ∙ bringing_times names (bring_in name j)
 
-hiding_times : (names : List ℕ) (j : Judge) → due_times (hiding names j) ≡ 0
+hiding_times : (names : List ℕ) (j : ScriptState) → due_times (hiding names j) ≡ 0
 hiding_times [] j = refl
 hiding_times (name ∷ names) j =
     behind_none (map NewName (new_names name j)) (NoName name ∷ hiding names (without_name name (bring_in name j))) (new_times (new_names name j)) ∙ hiding_times names (without_name name (bring_in name j))
 
-setting_times : (mode : Mode) (names : List ℕ) (j : Judge) → due_times (setting mode names j) ≡ 0
+setting_times : (mode : NameMode) (names : List ℕ) (j : ScriptState) → due_times (setting mode names j) ≡ 0
 setting_times mode [] j = refl
 setting_times mode (name ∷ names) j =
     behind_none (map NewName (new_names name j)) (setting mode names (with_mode mode name (bring_in name j))) (new_times (new_names name j)) ∙ setting_times mode names (with_mode mode name (bring_in name j))
 
 -- a command that is no ask assumes nothing
-due_none : (unsat : Bool) (c : Command) (j : Judge) → IsNoAsk c → due_times (due_for unsat c j) ≡ 0
+due_none : (unsat : Bool) (c : Command) (j : ScriptState) → IsNoAsk c → due_times (due_for unsat c j) ≡ 0
 due_none true (Clause ls) j h = behind_none (bringing (names_of ls) j) [] (bringing_times (names_of ls) j)
 due_none false (Clause ls) j h = behind_none (bringing (names_of ls) j) (Adds ls ∷ []) (bringing_times (names_of ls) j)
 due_none unsat (Ask ls) j h = absurd h
@@ -233,16 +233,16 @@ due_none unsat (Hide names) j h = hiding_times names j
 due_none unsat (Witness names) j h = setting_times Witnessed names j
 due_none unsat (Sample names) j h = setting_times Sampled names j
 
-shown_none : (unsat : Bool) (j : Judge) (ls : List Literal) (o : Outcome) → due_times (showing_if unsat j ls o) ≡ 0
+shown_none : (unsat : Bool) (j : ScriptState) (ls : List Literal) (o : Outcome) → due_times (showing_if unsat j ls o) ≡ 0
 shown_none true j ls o = refl
 shown_none false j ls (Sat line) = refl
 shown_none false j ls (Unsat core) = refl
 shown_none false j ls Unknown = refl
 
 -- widths assume nothing
-told_times : (same : Bool) (now : ℕ) (w : List Step) → assumed_times ((if same then [] else ChangeHashBits now ∷ []) ++ w) ≡ assumed_times w
-told_times true now w = refl
-told_times false now w = refl
+reported_times : (same : Bool) (now : ℕ) (w : List Step) → assumed_times ((if same then [] else ChangeHashBits now ∷ []) ++ w) ≡ assumed_times w
+reported_times true now w = refl
+reported_times false now w = refl
 
 narrowed_times : (bits : ℕ) (step : Step) (made written : List Step) → assumed_times written ≡ assumed_times made → assumed_times (narrowed bits step ∷ written) ≡ assumed_times (step ∷ made)
 narrowed_times bits (Assumptions ls) m w e = ap (λ (k : ℕ). k + 1) e
@@ -254,7 +254,7 @@ cut_times none_made = refl
 cut_times (ask_begun p) = cut_times p
 cut_times (one_made {d = d} {made = m} {written = w} step k p) =
     let now = (counted step d).bits in
-    narrowed_times now step m ((if nat_eq d.bits now then [] else ChangeHashBits now ∷ []) ++ w) (told_times (nat_eq d.bits now) now w ∙ cut_times p)
+    narrowed_times now step m ((if nat_eq d.bits now then [] else ChangeHashBits now ∷ []) ++ w) (reported_times (nat_eq d.bits now) now w ∙ cut_times p)
 
 -- more of them
 both_assumed : (xs ys : List Step) → assumed_times (xs ++ ys) ≡ assumed_times xs + assumed_times ys
@@ -294,14 +294,14 @@ record MadeAsk (from to : List Step) (o : Outcome) (rounds : ℕ) : Type 0 where
   closed_at : assumed_times to ≡ assumed_times (middle ++ (Assumptions ask ∷ before)) + 1
   learned : ℕ
   times : made.AdvanceTimes (Assumptions ask ∷ before) middle learned
-  counts : LearnsEachRound (the_checking.unsat (Assumptions ask ∷ before)) o rounds learned
+  counts : LearnsEachRound (checker_rules.unsat (Assumptions ask ∷ before)) o rounds learned
   unordered : o ≡ Unknown → AreUnordered middle
 
-module _ (j : Judge) (ls : List Literal) (o : Outcome) (n : ℕ) (from to : List Step) (a : AskStretches j ls o n from to) where
-  first : LastDue the_checking from a.opened (bringing (names_of ls) j) (Opens ls o)
+module _ (j : ScriptState) (ls : List Literal) (o : Outcome) (n : ℕ) (from to : List Step) (a : AskStretches j ls o n from to) where
+  first : LastDue checker_rules from a.opened (bringing (names_of ls) j) (Opens ls o)
   first = last_due a.opens.due (bringing (names_of ls) j) (Opens ls o) refl
 
-  last : LastDue the_checking a.shown to [] Closes
+  last : LastDue checker_rules a.shown to [] Closes
   last = last_due a.closes.due [] Closes refl
 
   abbrev asked : List ℕ
@@ -345,8 +345,8 @@ module _ (j : Judge) (ls : List Literal) (o : Outcome) (n : ℕ) (from to : List
 
   found_unordered : o ≡ Unknown → AreUnordered found
   found_unordered e =
-      let none : showing_if (the_checking.unsat a.shown) (accepted (Ask ls) j) ls o ≡ [] =
-      ap (showing_if (the_checking.unsat a.shown) (accepted (Ask ls) j) ls) e ∙ shows_none (the_checking.unsat a.shown) (accepted (Ask ls) j) ls in
+      let none : showing_if (checker_rules.unsat a.shown) (accepted (Ask ls) j) ls o ≡ [] =
+      ap (showing_if (checker_rules.unsat a.shown) (accepted (Ask ls) j) ls) e ∙ shows_none (checker_rules.unsat a.shown) (accepted (Ask ls) j) ls in
       let q = quiet_between a.searches.due none in
       subst AreUnordered (append_cancel_right q.0 found a.opened (sym q.1 ∙ a.learns.times.behind)) q.2
 
@@ -362,7 +362,7 @@ module _ (j : Judge) (ls : List Literal) (o : Outcome) (n : ℕ) (from to : List
     learned = a.learns.learned;
     times = asides_still start last.front (found ++ first.behind) a.learns.learned last_front
         (behind_asides start first.behind found a.learns.learned first_aside (subst (λ (v : List Step). made.AdvanceTimes v found a.learns.learned) opened_is a.learns.times.times));
-    counts = subst (λ (b : Bool). LearnsEachRound b o n a.learns.learned) (ap (λ (v : List Step). the_checking.unsat v) opened_is ∙ asides_unsat first.behind start first_aside) a.learns.counts;
+    counts = subst (λ (b : Bool). LearnsEachRound b o n a.learns.learned) (ap (λ (v : List Step). checker_rules.unsat v) opened_is ∙ asides_unsat first.behind start first_aside) a.learns.counts;
     unordered = λ e. append_unordered last.front (found ++ first.behind) (asides_unordered last.front last_front)
         (append_unordered found first.behind (found_unordered e) (asides_unordered first.behind first_aside));
   }
@@ -371,7 +371,7 @@ module _ (j : Judge) (ls : List Literal) (o : Outcome) (n : ℕ) (from to : List
   ask_closed =
       let opened : assumed_times a.opened ≡ assumed_times from + 1 = makes_times a.opens.due ∙ ap (λ (k : ℕ). assumed_times from + k) (behind_none (bringing (names_of ls) j) (Opens ls o ∷ []) (bringing_times (names_of ls) j)) in
       let shown = makes_times a.searches.due in
-      let none = shown_none (the_checking.unsat a.shown) (accepted (Ask ls) j) ls o in
+      let none = shown_none (checker_rules.unsat a.shown) (accepted (Ask ls) j) ls o in
       let closed : assumed_times to ≡ assumed_times a.shown + 1 = makes_times a.closes.due in
       omega (arith, opened, shown, none, closed)
 
@@ -436,17 +436,17 @@ module _ {c d : Counting} {whole steps : List Step} (p : TruncatesHashes c whole
     only = only_is;
     learned = m.learned;
     times = asides_never (Assumptions m.ask ∷ before_is) closed_head.told between.middle m.learned closed_head.aside
-        (subst (λ (v : List Step). AdvanceTimes v between.middle m.learned) opened_head.whole between.times);
-    counts = subst (λ (b : Bool). LearnsEachRound b o n m.learned) (sym (ap (λ (v : List Step). the_checking.unsat v) (sym opened_head.whole) ∙ cut_unsat between.cuts)) m.counts;
+        (subst (λ (v : List Step). AdvanceTimesStored v between.middle m.learned) opened_head.whole between.times);
+    counts = subst (λ (b : Bool). LearnsEachRound b o n m.learned) (sym (ap (λ (v : List Step). checker_rules.unsat v) (sym opened_head.whole) ∙ cut_unsat between.cuts)) m.counts;
     unordered = λ e. append_unordered closed_head.told between.middle (asides_unordered closed_head.told closed_head.aside) (between.unordered (m.unordered e));
   }
 
-each_learns : (c d : Counting) {j : Judge} {s t : List Step} {cs : List Command} {os : List Outcome} {ns : List ℕ} (asks : ℕ) (whole steps : List Step)
+each_learns : (c d : Counting) {j : ScriptState} {s t : List Step} {cs : List Command} {os : List Outcome} {ns : List ℕ} (asks : ℕ) (whole steps : List Step)
     → ServesCommands j s t cs os ns → assumed_times s ≡ 2 * asks → Ext t whole → TruncatesHashes c whole steps d → EachLearns steps asks os ns
 each_learns c d asks whole steps made_none before ext p = tt
 each_learns c d {j = j} {s = s} asks whole steps (made_one {c = command} mid i st rest) before ext p =
     let here = makes_times st.due in
-    let none = due_none (the_checking.unsat s) command j i in
+    let none = due_none (checker_rules.unsat s) command j i in
     each_learns c d asks whole steps rest (omega (arith, here, none, before)) ext p
 each_learns c d {j = j} {s = s} asks whole steps (made_ask {ls = ls} {o = o} {n = n} mid a rest) before ext p =
     let closed = ask_closed j ls o n s mid a in (
@@ -455,6 +455,6 @@ each_learns c d {j = j} {s = s} asks whole steps (made_ask {ls = ls} {o = o} {n 
     )
 
 -- each ask of a run is such
-pub asks_learn : {j : Judge} {made steps : List Step} {commands : List Command} {outcomes : List Outcome} {counts : List ℕ} (c d : Counting)
+pub asks_learn : {j : ScriptState} {made steps : List Step} {commands : List Command} {outcomes : List Outcome} {counts : List ℕ} (c d : Counting)
     → ServesCommands j [] made commands outcomes counts → TruncatesHashes c (End ∷ made) steps d → EachLearns steps 0 outcomes counts
 asks_learn {made = made} {steps = steps} c d m p = each_learns c d 0 (End ∷ made) steps m refl (End ∷ [], refl) p

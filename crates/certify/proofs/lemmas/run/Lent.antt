@@ -3,7 +3,7 @@ use Rattle.std.proofs.Common.{ℕ, ◌≡◌, ◌∙◌, false, None, List, [], 
 use Rattle.std.proofs.lemmas.List.{append-nil}
 use Rattle.sat_base.specs.device.Device.{Writer}
 use Rattle.sat_base.specs.script.Script.{Command, Clause, Ask, Hide, Witness, Sample}
-use Rattle.sat_base.specs.script.Judge.{refusal_of, refused_literal}
+use Rattle.sat_base.specs.script.ScriptState.{refusal_of, refused_literal}
 use Rattle.sat_solver.specs.variables.Refusing.{names_in}
 use Rattle.sat_solver.specs.solver.Adding.{Added}
 use Rattle.certify.specs.answers.AnswerForms.{named_literals}
@@ -14,8 +14,8 @@ use Rattle.certify.specs.declared.judge.names.Names.{Names}
 use Rattle.certify.specs.declared.script.Command.{Command as Lent}
 use Rattle.certify.specs.declared.script.CommandKind.{CommandKind}
 use Rattle.certify.specs.declared.script.CommandKind.TheVariants as kind
-use Rattle.certify.specs.declared.run.session.Session.{Session}
-use Rattle.certify.specs.judge.Names.{TellsRefusal}
+use Rattle.certify.specs.declared.run.session.RunState.{RunState}
+use Rattle.certify.specs.judge.Names.{ReportsRefusal}
 use Rattle.certify.specs.script.Commands.{BeginsPast, IsLent, kind_of}
 use Rattle.sat_base.specs.script.Language.{Reading, command_of}
 use Rattle.certify.specs.run.SolverCalls.{FailsSolver, IsAllowed}
@@ -24,7 +24,7 @@ use Rattle.certify.specs.run.Standing.{NamesAllow, CarriedOut, RunGoesOn, StopsC
 use Rattle.certify.proofs.lemmas.run.Carried.{obeyed_carried}
 use Rattle.certify.proofs.lemmas.run.NamesIn.{names_same}
 use Rattle.certify.proofs.lemmas.run.Obeys.{clause_obeyed, names_ask_nothing}
-use Rattle.certify.proofs.lemmas.run.SessionCalls.{did_ready, solver_writes}
+use Rattle.certify.proofs.lemmas.run.RunStateCalls.{did_ready, solver_writes}
 use Rattle.certify.specs.run.Quiet.{Solver}
 
 on_ok : {T E A B : Type 0} (r : Result T E) → (A → B) → OnOk r A → OnOk r B
@@ -39,7 +39,7 @@ lent_is lent c (ls, f, e) within =
     e ∙ ap (command_of (kind_of lent.kind)) whole
 
 -- names that refuse nothing of what is lent
-pub lent_allowed : (names : Names) (lent : Lent) → (c : Command) × IsLent lent c → lent.past_limit ≡ false → TellsRefusal None names lent → NamesAllow names (spelled_by lent)
+pub lent_allowed : (names : Names) (lent : Lent) → (c : Command) × IsLent lent c → lent.past_limit ≡ false → ReportsRefusal None names lent → NamesAllow names (spelled_by lent)
 lent_allowed names lent h within judges j stands =
     sym (judges j (spelled_by lent) stands (subst (IsLent lent) (lent_is lent h.0 h.1 within) h.1))
 
@@ -56,7 +56,7 @@ module _ (lent : Lent) where
   pub lent_samples : lent.kind ≡ kind.Sample → spelled_by lent ≡ command_to state.Sampled (names_in lent.literals.now)
   lent_samples e = spelled_as kind.Sample e ∙ ap Sample (names_same lent.literals.now)
 
-  module _ {C : Type 0} (old : Session C) (on : RunGoesOn old) (allowed : NamesAllow old.names (spelled_by lent)) where
+  module _ {C : Type 0} (old : RunState C) (on : RunGoesOn old) (allowed : NamesAllow old.names (spelled_by lent)) where
     pub clause_allowed : lent.kind ≡ kind.Clause → IsAllowed old.solver lent.literals.now
     clause_allowed e = (
       on.judge,
@@ -73,8 +73,8 @@ module _ (lent : Lent) where
       subst (λ ns. refused_literal on.judge ns ≡ None) (names_same lent.literals.now) (subst (λ c. refusal_of on.judge c ≡ None) (spelled_as kind.Ask e) (allowed on.judge on.at.names)),
     )
 
-  module _ {C : Type 0} (seen : C → Writer) (old : Session C) (on : RunGoesOn old) where
-    pub ask_carried : (r : Result (Unit {0}) RunFault) (new : Session C) (a b : Writer) → lent.kind ≡ kind.Ask → OnOk r (CarriedOut seen old new (Ask (named_literals lent.literals.now)) a b) → OnOk r (CarriedOut seen old new (spelled_by lent) a b)
+  module _ {C : Type 0} (seen : C → Writer) (old : RunState C) (on : RunGoesOn old) where
+    pub ask_carried : (r : Result (Unit {0}) RunFault) (new : RunState C) (a b : Writer) → lent.kind ≡ kind.Ask → OnOk r (CarriedOut seen old new (Ask (named_literals lent.literals.now)) a b) → OnOk r (CarriedOut seen old new (spelled_by lent) a b)
     ask_carried r new a b e h = subst (λ c. OnOk r (CarriedOut seen old new c a b)) (sym (spelled_as kind.Ask e)) h
 
     pub ask_stops : (r : Result (Unit {0}) RunFault) (left : Reading) (a b : Writer) → lent.kind ≡ kind.Ask → StopsCarrying r old (Ask (named_literals lent.literals.now)) left a b → StopsCarrying r old (spelled_by lent) left a b

@@ -3,10 +3,10 @@ use Rattle.std.proofs.Common.{ℕ, ◌≡◌, ◌∙◌, Bool, true, false, None
 use Rattle.std.proofs.lemmas.Bool.{both_ways}
 use Rattle.std.specs.List.{AllByRecursion}
 use Rattle.sat_base.specs.script.Script.{Literal, Command, Clause, Ask, Hide, Witness, Sample, names_of}
-use Rattle.sat_base.specs.script.Judge.{Judge, Sampled, Witnessed, accepted}
+use Rattle.sat_base.specs.script.ScriptState.{ScriptState, Sampled, Witnessed, accepted}
 use Rattle.sat_base.specs.steps.Steps.{Step}
 use Rattle.sat_checker.specs.matching.Expected.{Outcome, Sat, Unsat, Unknown, Expected, Adds, Opens, Fails, Closes, Finish, bringing, hiding, setting, showing, expected}
-use Rattle.sat_checker.specs.matching.ProofChecking.{the_checking}
+use Rattle.sat_checker.specs.matching.ProofChecking.{checker_rules}
 use Rattle.sat_solver.specs.session.Session.{MayAll}
 use Rattle.certify.specs.run.Certifies.{Certifies}
 use Rattle.sat_checker.specs.matching.Traces.{HasTrace}
@@ -29,7 +29,7 @@ may_at from to later e m = may_before later from (subst MayAll e m)
 behind_both : (from mid to xs ys : List Step) → mid ≡ xs ++ from → to ≡ ys ++ mid → to ≡ (ys ++ xs) ++ from
 behind_both from mid to xs ys a b = b ∙ ap (λ s. ys ++ s) a ∙ sym (append_assoc ys xs from)
 
-made_behind : {j : Judge} {from to : List Step} {cs : List Command} {os : List Outcome} {counts : List ℕ} → ServesCommands j from to cs os counts → (later : List Step) × (to ≡ later ++ from)
+made_behind : {j : ScriptState} {from to : List Step} {cs : List Command} {os : List Outcome} {counts : List ℕ} → ServesCommands j from to cs os counts → (later : List Step) × (to ≡ later ++ from)
 made_behind made_none = ([], refl)
 made_behind (made_one {from = from} {to = to} mid h s m) = let r = made_behind m in (r.0 ++ s.comes.steps, behind_both from mid to s.comes.steps r.0 s.comes.behind r.1)
 made_behind (made_ask {from = from} {to = to} mid a m) =
@@ -41,7 +41,7 @@ made_behind (made_ask {from = from} {to = to} mid a m) =
 
 -- SOMETHING IS EXPECTED TO THE END
 
-expects_more : (j : Judge) (cs : List Command) (os : List Outcome) → (e : Expected) × (es : List Expected) × (expected j cs os ≡ e ∷ es)
+expects_more : (j : ScriptState) (cs : List Command) (os : List Outcome) → (e : Expected) × (es : List Expected) × (expected j cs os ≡ e ∷ es)
 expects_more j [] os = (Finish, [], refl)
 expects_more j (Clause ls ∷ cs) os = some (bringing (names_of ls) j) (Adds ls) (expected (accepted (Clause ls) j) cs os)
   where
@@ -72,92 +72,92 @@ expects_more j (Sample names ∷ cs) os = either (setting Sampled names j) (expe
 
 -- ONE THAT IS NO ASK
 
-expects_next : (j : Judge) (c : Command) (cs : List Command) (os : List Outcome) → IsNoAsk c → expected j (c ∷ cs) os ≡ due_for false c j ++ expected (accepted c j) cs os
+expects_next : (j : ScriptState) (c : Command) (cs : List Command) (os : List Outcome) → IsNoAsk c → expected j (c ∷ cs) os ≡ due_for false c j ++ expected (accepted c j) cs os
 expects_next j (Clause ls) cs os h = sym (append_assoc (bringing (names_of ls) j) (Adds ls ∷ []) (expected (accepted (Clause ls) j) cs os))
 expects_next j (Ask ls) cs os h = absurd h
 expects_next j e cs os h = refl
 
 -- what leads to something that is expected leads to all of it
-leads_expected : {s t : List Step} (es : List Expected) → Leads s t es → (all : List Step) (j : Judge) (cs : List Command) (os : List Outcome) (counts : List ℕ)
-    → Certifies the_checking all None t (expected j cs os) counts → Certifies the_checking all None s (es ++ expected j cs os) counts
+leads_expected : {s t : List Step} (es : List Expected) → Leads s t es → (all : List Step) (j : ScriptState) (cs : List Command) (os : List Outcome) (counts : List ℕ)
+    → Certifies checker_rules all None t (expected j cs os) counts → Certifies checker_rules all None s (es ++ expected j cs os) counts
 leads_expected {s} {t} es leads all j cs os counts c =
     let m = expects_more j cs os in
-    subst (λ fs. Certifies the_checking all None s (es ++ fs) counts) (sym m.2)
-    (leads all None m.0 m.1 counts (subst (λ fs. Certifies the_checking all None t fs counts) m.2 c))
+    subst (λ fs. Certifies checker_rules all None s (es ++ fs) counts) (sym m.2)
+    (leads all None m.0 m.1 counts (subst (λ fs. Certifies checker_rules all None t fs counts) m.2 c))
 
 -- what was made for it leads on, with the clause that is left out once unsat is recorded
-plain_leads : (from mid : List Step) (j : Judge) (c : Command) → HasTrace the_checking from mid (due_for (the_checking.unsat from) c j) → MayAll mid → Leads from mid (due_for false c j)
-plain_leads from mid j c m may = at (the_checking.unsat from) refl
+plain_leads : (from mid : List Step) (j : ScriptState) (c : Command) → HasTrace checker_rules from mid (due_for (checker_rules.unsat from) c j) → MayAll mid → Leads from mid (due_for false c j)
+plain_leads from mid j c m may = at (checker_rules.unsat from) refl
   where
-    left_out : (c : Command) → the_checking.unsat from ≡ true → HasTrace the_checking from mid (due_for true c j) → Leads from mid (due_for false c j)
+    left_out : (c : Command) → checker_rules.unsat from ≡ true → HasTrace checker_rules from mid (due_for true c j) → Leads from mid (due_for false c j)
     left_out (Clause ls) u m =
-        let names : HasTrace the_checking from mid (bringing (names_of ls) j) = subst (λ es. HasTrace the_checking from mid es) (append-nil (bringing (names_of ls) j)) m in
+        let names : HasTrace checker_rules from mid (bringing (names_of ls) j) = subst (λ es. HasTrace checker_rules from mid es) (append-nil (bringing (names_of ls) j)) m in
         leads_both (bringing (names_of ls) j) (Adds ls ∷ []) (leads_free names (bringing_free (names_of ls) j)) (leads_lacking mid (Adds ls) tt (recorded_at mid may (unsat_made m u)))
     left_out (Ask ls) u m = leads_free m (due_free true (Ask ls) j)
     left_out (Hide names) u m = leads_free m (due_free true (Hide names) j)
     left_out (Witness names) u m = leads_free m (due_free true (Witness names) j)
     left_out (Sample names) u m = leads_free m (due_free true (Sample names) j)
 
-    at : (b : Bool) → the_checking.unsat from ≡ b → Leads from mid (due_for false c j)
-    at true e = left_out c e (subst (λ b. HasTrace the_checking from mid (due_for b c j)) e m)
-    at false e = leads_free (subst (λ b. HasTrace the_checking from mid (due_for b c j)) e m) (due_free false c j)
+    at : (b : Bool) → checker_rules.unsat from ≡ b → Leads from mid (due_for false c j)
+    at true e = left_out c e (subst (λ b. HasTrace checker_rules from mid (due_for b c j)) e m)
+    at false e = leads_free (subst (λ b. HasTrace checker_rules from mid (due_for b c j)) e m) (due_free false c j)
 
 -- AN ASK
 
-showing_going : (j : Judge) (ls : List Literal) (o : Outcome) → AllByRecursion IsGoing (showing j ls o)
+showing_going : (j : ScriptState) (ls : List Literal) (o : Outcome) → AllByRecursion IsGoing (showing j ls o)
 showing_going j ls (Sat line) = (refl, tt)
 showing_going j ls (Unsat core) = (refl, tt)
 showing_going j ls Unknown = tt
 
 -- what was shown, or is left out once unsat is recorded
-shown_leads : {opened shown : List Step} (j : Judge) (ls : List Literal) (o : Outcome) → HasTrace the_checking opened shown (showing_if (the_checking.unsat shown) j ls o)
-    → (the_checking.unsat shown ≡ true → o ≡ Unsat []) → MayAll shown → Leads opened shown (showing j ls o)
-shown_leads {opened} {shown} j ls o m recorded may = at (the_checking.unsat shown) refl
+shown_leads : {opened shown : List Step} (j : ScriptState) (ls : List Literal) (o : Outcome) → HasTrace checker_rules opened shown (showing_if (checker_rules.unsat shown) j ls o)
+    → (checker_rules.unsat shown ≡ true → o ≡ Unsat []) → MayAll shown → Leads opened shown (showing j ls o)
+shown_leads {opened} {shown} j ls o m recorded may = at (checker_rules.unsat shown) refl
   where
-    at : (b : Bool) → the_checking.unsat shown ≡ b → Leads opened shown (showing j ls o)
+    at : (b : Bool) → checker_rules.unsat shown ≡ b → Leads opened shown (showing j ls o)
     at true e =
-        let none : HasTrace the_checking opened shown [] = subst (λ b. HasTrace the_checking opened shown (showing_if b j ls o)) e m in
+        let none : HasTrace checker_rules opened shown [] = subst (λ b. HasTrace checker_rules opened shown (showing_if b j ls o)) e m in
         let all : Leads opened shown (Fails ls [] ∷ []) = leads_both [] (Fails ls [] ∷ []) (leads_free none tt) (leads_lacking shown (Fails ls []) refl (recorded_at shown may e)) in
         subst (λ o. Leads opened shown (showing j ls o)) (sym (recorded e)) all
-    at false e = leads_going (subst (λ b. HasTrace the_checking opened shown (showing_if b j ls o)) e m) e (showing_going j ls o)
+    at false e = leads_going (subst (λ b. HasTrace checker_rules opened shown (showing_if b j ls o)) e m) e (showing_going j ls o)
 
-module _ {from to : List Step} {j : Judge} {ls : List Literal} {o : Outcome} {rounds : ℕ} (a : AskStretches j ls o rounds from to) (may : MayAll to) where
+module _ {from to : List Step} {j : ScriptState} {ls : List Literal} {o : Outcome} {rounds : ℕ} (a : AskStretches j ls o rounds from to) (may : MayAll to) where
   may_shown : MayAll a.shown
   may_shown = may_at a.shown to a.closes.comes.steps a.closes.comes.behind may
 
   -- it is closed by steps that record nothing
-  knows : the_checking.unsat to ≡ true → o ≡ Unsat []
-  knows u = at (the_checking.unsat a.shown) refl
+  knows : checker_rules.unsat to ≡ true → o ≡ Unsat []
+  knows u = at (checker_rules.unsat a.shown) refl
     where
-      at : (b : Bool) → the_checking.unsat a.shown ≡ b → o ≡ Unsat []
+      at : (b : Bool) → checker_rules.unsat a.shown ≡ b → o ≡ Unsat []
       at true e = a.recorded e
-      at false e = absurd (both_ways (the_checking.unsat to) (closing a.closes.due (refl, tt) a.closes.comes.steps a.closes.comes.behind a.closes.comes.each e) u)
+      at false e = absurd (both_ways (checker_rules.unsat to) (closing a.closes.due (refl, tt) a.closes.comes.steps a.closes.comes.behind a.closes.comes.each e) u)
 
-  opening : (all : List Step) (counts : List ℕ) (s : List Step) → HasTrace the_checking s a.opened (Opens ls o ∷ []) → (es : List Expected) (e : Expected) (fs : List Expected)
-      → Certifies the_checking all (Some o) a.opened (es ++ (e ∷ fs)) counts → Certifies the_checking all None s (Opens ls o ∷ (es ++ (e ∷ fs))) (rounds ∷ counts)
+  opening : (all : List Step) (counts : List ℕ) (s : List Step) → HasTrace checker_rules s a.opened (Opens ls o ∷ []) → (es : List Expected) (e : Expected) (fs : List Expected)
+      → Certifies checker_rules all (Some o) a.opened (es ++ (e ∷ fs)) counts → Certifies checker_rules all None s (Opens ls o ∷ (es ++ (e ∷ fs))) (rounds ∷ counts)
   opening all counts s m [] e fs x = opens_ask rounds m a.known all e fs counts x
   opening all counts s m (y ∷ es) e fs x = opens_ask rounds m a.known all y (es ++ (e ∷ fs)) counts x
 
-  ask_leads : (all : List Step) (cs : List Command) (os : List Outcome) (counts : List ℕ) → Certifies the_checking all None to (expected (accepted (Ask ls) j) cs os) counts
-      → Certifies the_checking all None from (expected j (Ask ls ∷ cs) (o ∷ os)) (rounds ∷ counts)
+  ask_leads : (all : List Step) (cs : List Command) (os : List Outcome) (counts : List ℕ) → Certifies checker_rules all None to (expected (accepted (Ask ls) j) cs os) counts
+      → Certifies checker_rules all None from (expected j (Ask ls ∷ cs) (o ∷ os)) (rounds ∷ counts)
   ask_leads all cs os counts c =
       let next = accepted (Ask ls) j in
       let m = expects_more next cs os in
       let split = trace_apart (bringing (names_of ls) j) (Opens ls o ∷ []) a.opens.due in
-      let closed : Certifies the_checking all (Some o) a.shown (Closes ∷ m.0 ∷ m.1) counts = closes_ask a.closes.due knows all m.0 m.1 counts (subst (λ fs. Certifies the_checking all None to fs counts) m.2 c) in
-      let shown : Certifies the_checking all (Some o) a.opened (showing next ls o ++ (Closes ∷ m.0 ∷ m.1)) counts = shown_leads next ls o a.searches.due a.recorded may_shown all (Some o) Closes (m.0 ∷ m.1) counts closed in
-      let opened : Certifies the_checking all None split.0 (Opens ls o ∷ (showing next ls o ++ (Closes ∷ m.0 ∷ m.1))) (rounds ∷ counts) = opening all counts split.0 split.2 (showing next ls o) Closes (m.0 ∷ m.1) shown in
-      subst (λ fs. Certifies the_checking all None from (bringing (names_of ls) j ++ (Opens ls o ∷ (showing next ls o ++ (Closes ∷ fs)))) (rounds ∷ counts)) (sym m.2)
+      let closed : Certifies checker_rules all (Some o) a.shown (Closes ∷ m.0 ∷ m.1) counts = closes_ask a.closes.due knows all m.0 m.1 counts (subst (λ fs. Certifies checker_rules all None to fs counts) m.2 c) in
+      let shown : Certifies checker_rules all (Some o) a.opened (showing next ls o ++ (Closes ∷ m.0 ∷ m.1)) counts = shown_leads next ls o a.searches.due a.recorded may_shown all (Some o) Closes (m.0 ∷ m.1) counts closed in
+      let opened : Certifies checker_rules all None split.0 (Opens ls o ∷ (showing next ls o ++ (Closes ∷ m.0 ∷ m.1))) (rounds ∷ counts) = opening all counts split.0 split.2 (showing next ls o) Closes (m.0 ∷ m.1) shown in
+      subst (λ fs. Certifies checker_rules all None from (bringing (names_of ls) j ++ (Opens ls o ∷ (showing next ls o ++ (Closes ∷ fs)))) (rounds ∷ counts)) (sym m.2)
       (leads_free split.1 (bringing_free (names_of ls) j) all None (Opens ls o) (showing next ls o ++ (Closes ∷ m.0 ∷ m.1)) (rounds ∷ counts) opened)
 
 -- ALL COMMANDS
 
-pub made_certifies : {j : Judge} {from to : List Step} {cs : List Command} {os : List Outcome} {counts : List ℕ} (all : List Step) → ServesCommands j from to cs os counts → MayAll to
-    → Certifies the_checking all None to (Finish ∷ []) [] → Certifies the_checking all None from (expected j cs os) counts
+pub made_certifies : {j : ScriptState} {from to : List Step} {cs : List Command} {os : List Outcome} {counts : List ℕ} (all : List Step) → ServesCommands j from to cs os counts → MayAll to
+    → Certifies checker_rules all None to (Finish ∷ []) [] → Certifies checker_rules all None from (expected j cs os) counts
 made_certifies all made_none may last = last
 made_certifies {j} {from} {to} all (made_one {c = c} {cs = cs} {os = os} {counts = counts} mid h s m) may last =
     let r = made_behind m in
-    subst (λ es. Certifies the_checking all None from es counts) (sym (expects_next j c cs os h))
+    subst (λ es. Certifies checker_rules all None from es counts) (sym (expects_next j c cs os h))
     (leads_expected (due_for false c j) (plain_leads from mid j c s.due (may_at mid to r.0 r.1 may)) all (accepted c j) cs os counts (made_certifies all m may last))
 made_certifies {to = to} all (made_ask {cs = cs} {os = os} {counts = counts} mid a m) may last =
     let r = made_behind m in

@@ -3,13 +3,13 @@ use Rattle.std.proofs.Common.{ℕ, ◌≡◌, ◌∙◌, Bool, true, false, Opti
 use Rattle.std.proofs.lemmas.Bool.{both_ways}
 use Rattle.std.specs.List.{AllByRecursion}
 use Rattle.sat_base.specs.script.Script.{Literal, Command, Clause, Ask, Hide, Witness, Sample, names_of}
-use Rattle.sat_base.specs.script.Judge.{Judge, Mode, Sampled, Witnessed, bring_in, new_names, with_mode, without_name}
+use Rattle.sat_base.specs.script.ScriptState.{ScriptState, NameMode, Sampled, Witnessed, bring_in, new_names, with_mode, without_name}
 use Rattle.sat_base.specs.steps.Steps.{Step}
 use Rattle.sat_checker.specs.Accepts.{effect, ready_after}
 use Rattle.sat_checker.proofs.lemmas.invariants.Stored.{unsat_stays}
 use Rattle.sat_checker.specs.matching.Checking.{is_ordered}
 use Rattle.sat_checker.specs.matching.Expected.{Outcome, Unsat, Expected, NewName, NoName, Adds, Opens, Closes, bringing, hiding, setting}
-use Rattle.sat_checker.specs.matching.ProofChecking.{the_checking}
+use Rattle.sat_checker.specs.matching.ProofChecking.{checker_rules}
 use Rattle.certify.specs.run.Certifies.{Certifies, IsKnown, IsRecorded, MayStand, MayLack, left_out, other, ordered, asked, answered}
 use Rattle.sat_checker.specs.matching.Traces.{HasTrace, no_step, silent, visible}
 use Rattle.certify.specs.run.Stretches.{due_for}
@@ -18,7 +18,7 @@ use Rattle.certify.proofs.lemmas.confirm.Settled.{settled_unsat}
 -- whatever is expected next, it is certified from here where it is from there
 abbrev pub Leads : List Step → List Step → List Expected → Type 0
 Leads from to es = (all : List Step) (current : Option Outcome) (e : Expected) (fs : List Expected) (counts : List ℕ)
-    → Certifies the_checking all current to (e ∷ fs) counts → Certifies the_checking all current from (es ++ (e ∷ fs)) counts
+    → Certifies checker_rules all current to (e ∷ fs) counts → Certifies checker_rules all current from (es ++ (e ∷ fs)) counts
 
 -- it may stand wherever it is expected
 abbrev pub IsFree : Expected → Type 0
@@ -26,56 +26,56 @@ IsFree e = (unsat : Bool) → MayStand unsat e
 
 -- something is expected, so another step may come
 other_before : (es : List Expected) {all : List Step} {current : Option Outcome} {earlier : List Step} {step : Step} (e : Expected) (fs : List Expected) {counts : List ℕ}
-    → is_ordered step ≡ false → Certifies the_checking all current (step ∷ earlier) (es ++ (e ∷ fs)) counts → Certifies the_checking all current earlier (es ++ (e ∷ fs)) counts
+    → is_ordered step ≡ false → Certifies checker_rules all current (step ∷ earlier) (es ++ (e ∷ fs)) counts → Certifies checker_rules all current earlier (es ++ (e ∷ fs)) counts
 other_before [] e fs q c = other q c
 other_before (x ∷ es) e fs q c = other q c
 
-pub leads_free : {s t : List Step} {es : List Expected} → HasTrace the_checking s t es → AllByRecursion IsFree es → Leads s t es
+pub leads_free : {s t : List Step} {es : List Expected} → HasTrace checker_rules s t es → AllByRecursion IsFree es → Leads s t es
 leads_free no_step h = λ all current e fs counts c. c
 leads_free (silent {es = es} q m) h = λ all current e fs counts c. other_before es e fs q (leads_free m h all current e fs counts c)
-leads_free (visible {s = s} f m) h = λ all current e fs counts c. ordered (h.0 (the_checking.unsat s)) f (leads_free m h.1 all current e fs counts c)
+leads_free (visible {s = s} f m) h = λ all current e fs counts c. ordered (h.0 (checker_rules.unsat s)) f (leads_free m h.1 all current e fs counts c)
 
 pub leads_both : {s t u : List Step} (es gs : List Expected) → Leads s t es → Leads t u gs → Leads s u (es ++ gs)
 leads_both {s} {t} {u} es gs f g = λ all current e fs counts c.
-    subst (λ xs. Certifies the_checking all current s xs counts) (sym (append_assoc es gs (e ∷ fs))) (behind all current e fs counts (g all current e fs counts c))
+    subst (λ xs. Certifies checker_rules all current s xs counts) (sym (append_assoc es gs (e ∷ fs))) (behind all current e fs counts (g all current e fs counts c))
   where
-    behind : (all : List Step) (current : Option Outcome) (e : Expected) (fs : List Expected) (counts : List ℕ) → Certifies the_checking all current t (gs ++ (e ∷ fs)) counts → Certifies the_checking all current s (es ++ (gs ++ (e ∷ fs))) counts
+    behind : (all : List Step) (current : Option Outcome) (e : Expected) (fs : List Expected) (counts : List ℕ) → Certifies checker_rules all current t (gs ++ (e ∷ fs)) counts → Certifies checker_rules all current s (es ++ (gs ++ (e ∷ fs))) counts
     behind all current e fs counts = at gs
       where
-        at : (gs : List Expected) → Certifies the_checking all current t (gs ++ (e ∷ fs)) counts → Certifies the_checking all current s (es ++ (gs ++ (e ∷ fs))) counts
+        at : (gs : List Expected) → Certifies checker_rules all current t (gs ++ (e ∷ fs)) counts → Certifies checker_rules all current s (es ++ (gs ++ (e ∷ fs))) counts
         at [] c = f all current e fs counts c
         at (x ∷ xs) c = f all current x (xs ++ (e ∷ fs)) counts c
 
 -- what is left out leads on
-pub leads_lacking : (s : List Step) (e : Expected) → MayLack e → IsRecorded the_checking s → Leads s s (e ∷ [])
+pub leads_lacking : (s : List Step) (e : Expected) → MayLack e → IsRecorded checker_rules s → Leads s s (e ∷ [])
 leads_lacking s x h r = λ all current e fs counts c. left_out h r c
 
 -- recorded unsat stays
-stays_once : (s : List Step) (step : Step) → the_checking.unsat s ≡ true → the_checking.unsat (step ∷ s) ≡ true
+stays_once : (s : List Step) (step : Step) → checker_rules.unsat s ≡ true → checker_rules.unsat (step ∷ s) ≡ true
 stays_once s step u = settled_unsat (effect step (ready_after s)) ∙ unsat_stays (ready_after s) step u
 
-pub unsat_made : {s t : List Step} {es : List Expected} → HasTrace the_checking s t es → the_checking.unsat s ≡ true → the_checking.unsat t ≡ true
+pub unsat_made : {s t : List Step} {es : List Expected} → HasTrace checker_rules s t es → checker_rules.unsat s ≡ true → checker_rules.unsat t ≡ true
 unsat_made no_step u = u
 unsat_made (silent {s = s} {step = step} q m) u = unsat_made m (stays_once s step u)
 unsat_made (visible {s = s} {step = step} f m) u = unsat_made m (stays_once s step u)
 
-going_by : {s t : List Step} {es : List Expected} → HasTrace the_checking s t es → the_checking.unsat t ≡ false → the_checking.unsat s ≡ false
-going_by {s} {t} m g = at (the_checking.unsat s) refl
+going_by : {s t : List Step} {es : List Expected} → HasTrace checker_rules s t es → checker_rules.unsat t ≡ false → checker_rules.unsat s ≡ false
+going_by {s} {t} m g = at (checker_rules.unsat s) refl
   where
-    at : (b : Bool) → the_checking.unsat s ≡ b → the_checking.unsat s ≡ false
+    at : (b : Bool) → checker_rules.unsat s ≡ b → checker_rules.unsat s ≡ false
     at false e = e
-    at true e = absurd (both_ways (the_checking.unsat t) g (unsat_made m e))
+    at true e = absurd (both_ways (checker_rules.unsat t) g (unsat_made m e))
 
 -- an ask is opened
-pub opens_ask : {s t : List Step} {ls : List Literal} {o : Outcome} (n : ℕ) → HasTrace the_checking s t (Opens ls o ∷ []) → (the_checking.unsat t ≡ true → IsKnown o n)
-    → (all : List Step) (e : Expected) (fs : List Expected) (counts : List ℕ) → Certifies the_checking all (Some o) t (e ∷ fs) counts → Certifies the_checking all None s (Opens ls o ∷ e ∷ fs) (n ∷ counts)
+pub opens_ask : {s t : List Step} {ls : List Literal} {o : Outcome} (n : ℕ) → HasTrace checker_rules s t (Opens ls o ∷ []) → (checker_rules.unsat t ≡ true → IsKnown o n)
+    → (all : List Step) (e : Expected) (fs : List Expected) (counts : List ℕ) → Certifies checker_rules all (Some o) t (e ∷ fs) counts → Certifies checker_rules all None s (Opens ls o ∷ e ∷ fs) (n ∷ counts)
 opens_ask n (silent q m) known all e fs counts c = other q (opens_ask n m known all e fs counts c)
 opens_ask n (visible {s = s} {step = step} f m) known all e fs counts c =
     asked (λ u. known (unsat_made m (stays_once s step u))) f (leads_free m tt all (Some _) e fs counts c)
 
 -- and closed
-pub closes_ask : {s t : List Step} {o : Outcome} → HasTrace the_checking s t (Closes ∷ []) → (the_checking.unsat t ≡ true → o ≡ Unsat [])
-    → (all : List Step) (e : Expected) (fs : List Expected) (counts : List ℕ) → Certifies the_checking all None t (e ∷ fs) counts → Certifies the_checking all (Some o) s (Closes ∷ e ∷ fs) counts
+pub closes_ask : {s t : List Step} {o : Outcome} → HasTrace checker_rules s t (Closes ∷ []) → (checker_rules.unsat t ≡ true → o ≡ Unsat [])
+    → (all : List Step) (e : Expected) (fs : List Expected) (counts : List ℕ) → Certifies checker_rules all None t (e ∷ fs) counts → Certifies checker_rules all (Some o) s (Closes ∷ e ∷ fs) counts
 closes_ask (silent q m) known all e fs counts c = other q (closes_ask m known all e fs counts c)
 closes_ask (visible {s = s} {step = step} f m) known all e fs counts c =
     answered (λ u. known (unsat_made m (stays_once s step u))) f (leads_free m tt all None e fs counts c)
@@ -85,7 +85,7 @@ abbrev pub IsGoing : Expected → Type 0
 IsGoing e = MayStand false e
 
 -- what a search that goes on shows
-pub leads_going : {s t : List Step} {es : List Expected} → HasTrace the_checking s t es → the_checking.unsat t ≡ false → AllByRecursion IsGoing es → Leads s t es
+pub leads_going : {s t : List Step} {es : List Expected} → HasTrace checker_rules s t es → checker_rules.unsat t ≡ false → AllByRecursion IsGoing es → Leads s t es
 leads_going no_step g h = λ all current e fs counts c. c
 leads_going (silent {es = es} q m) g h = λ all current e fs counts c. other_before es e fs q (leads_going m g h all current e fs counts c)
 leads_going {t = t} (visible {s = s} {step = step} {e = x} f m) g h = λ all current e fs counts c.
@@ -100,24 +100,24 @@ names_free : (names : List ℕ) → AllByRecursion IsFree (map NewName names)
 names_free [] = tt
 names_free (n ∷ ns) = ((λ b. tt), names_free ns)
 
-pub bringing_free : (names : List ℕ) (j : Judge) → AllByRecursion IsFree (bringing names j)
+pub bringing_free : (names : List ℕ) (j : ScriptState) → AllByRecursion IsFree (bringing names j)
 bringing_free [] j = tt
 bringing_free (name ∷ names) j = free_both (map NewName (new_names name j)) (bringing names (bring_in name j)) (names_free (new_names name j)) (bringing_free names (bring_in name j))
 
-hiding_free : (names : List ℕ) (j : Judge) → AllByRecursion IsFree (hiding names j)
+hiding_free : (names : List ℕ) (j : ScriptState) → AllByRecursion IsFree (hiding names j)
 hiding_free [] j = tt
 hiding_free (name ∷ names) j =
     let next = without_name name (bring_in name j) in
     free_both (map NewName (new_names name j)) (NoName name ∷ hiding names next) (names_free (new_names name j)) ((λ b. tt), hiding_free names next)
 
-setting_free : (mode : Mode) (names : List ℕ) (j : Judge) → AllByRecursion IsFree (setting mode names j)
+setting_free : (mode : NameMode) (names : List ℕ) (j : ScriptState) → AllByRecursion IsFree (setting mode names j)
 setting_free mode [] j = tt
 setting_free mode (name ∷ names) j =
     let next = with_mode mode name (bring_in name j) in
     free_both (map NewName (new_names name j)) (setting mode names next) (names_free (new_names name j)) (setting_free mode names next)
 
 -- and a clause
-pub due_free : (unsat : Bool) (c : Command) (j : Judge) → AllByRecursion IsFree (due_for unsat c j)
+pub due_free : (unsat : Bool) (c : Command) (j : ScriptState) → AllByRecursion IsFree (due_for unsat c j)
 due_free true (Clause ls) j = free_both (bringing (names_of ls) j) [] (bringing_free (names_of ls) j) tt
 due_free false (Clause ls) j = free_both (bringing (names_of ls) j) (Adds ls ∷ []) (bringing_free (names_of ls) j) ((λ b. tt), tt)
 due_free unsat (Ask ls) j = tt

@@ -6,19 +6,19 @@ use Rattle.std.proofs.lemmas.Bool.{eq-eqb, ne_eqb, cases_eq, cases_lt, ltb-true,
 use Rattle.sat_base.specs.device.Device.{Writer}
 use Rattle.sat_base.specs.values.Literals.{var_limit, variable}
 use Rattle.sat_base.specs.script.Script.{Command, Clause, Ask, Hide, Witness, Sample, names_of}
-use Rattle.sat_base.specs.script.Judge.{Judge, Mode, Sampled, Witnessed, accepted, after_command, after_script, bring_all, bring_in, hide_all, identity_of, names_from, new_names, refusal_of, set_all, with_mode, with_name, with_names, without_name}
+use Rattle.sat_base.specs.script.ScriptState.{ScriptState, NameMode, Sampled, Witnessed, accepted, after_command, after_script, bring_all, bring_in, hide_all, identity_of, names_from, new_names, refusal_of, set_all, with_mode, with_name, with_names, without_name}
 use Rattle.sat_base.proofs.lemmas.script.LiteralValues.{placed_found}
 use Rattle.sat_base.specs.steps.Steps.{Step}
 use Rattle.sat_checker.specs.LiteralSets.{is_among}
 use Rattle.sat_checker.specs.SortedSets.{NoRepeats}
-use Rattle.sat_checker.specs.matching.Bridge.{Apart, Live}
-use Rattle.sat_checker.specs.matching.ProofChecking.{the_checking}
+use Rattle.sat_checker.specs.matching.Bridge.{AreDistinctVariables, Live}
+use Rattle.sat_checker.specs.matching.ProofChecking.{checker_rules}
 use Rattle.sat_solver.specs.declared.variables.Variables.{Variables}
-use Rattle.sat_solver.specs.variables.Calls.{Agree}
+use Rattle.sat_solver.specs.variables.Calls.{NamesAgree}
 use Rattle.sat_solver.specs.variables.Counting.{count_to}
 use Rattle.sat_solver.specs.variables.Live.{given, given_of}
 use Rattle.sat_solver.specs.variables.Refusing.{names_in}
-use Rattle.sat_solver.specs.variables.Room.{HasRoom, coming, is_hidden_name, is_listed, live_count, reach, users_in}
+use Rattle.sat_solver.specs.variables.VariableRoom.{HasVariablesFor, coming, is_hidden_name, is_listed, live_count, reach, users_in}
 use Rattle.sat_solver.specs.variables.Variables.{global_of, names_used, variables_used}
 use Rattle.sat_solver.specs.solver.Adding.{ReplacesAssumptions}
 use Rattle.sat_solver.specs.solver.Whole.{steps_in}
@@ -34,29 +34,29 @@ use Rattle.certify.specs.run.Obeying.{Obeyed, command_to}
 use Rattle.certify.specs.run.Quiet.{Solver}
 use Rattle.certify.proofs.lemmas.run.NamesIn.{names_same}
 use Rattle.certify.proofs.lemmas.run.Obeys.{accepted_both}
-use Rattle.certify.proofs.lemmas.run.SessionCalls.{agree_still}
+use Rattle.certify.proofs.lemmas.run.RunStateCalls.{agree_still}
 
 -- NAMES THAT COME IN
 
 -- is it one of these names, and not in use?
-abbrev is_asked : Judge → List ℕ → ℕ → Bool
+abbrev is_asked : ScriptState → List ℕ → ℕ → Bool
 is_asked j users u = not (is_some (identity_of j (u + 1))) && is_listed users u
 
-from_next : (count first : ℕ) (j : Judge) → (with_names (names_from count first) j).identity_count ≡ j.identity_count + count
+from_next : (count first : ℕ) (j : ScriptState) → (with_names (names_from count first) j).identity_count ≡ j.identity_count + count
 from_next zero first j = omega arith
 from_next (suc k) first j = let r = from_next k (first + 1) (with_name first j) in omega arith
 
-from_first : (count first : ℕ) (j : Judge) → j.first_unused ≡ first → (with_names (names_from count first) j).first_unused ≡ first + count
+from_first : (count first : ℕ) (j : ScriptState) → j.first_unused ≡ first → (with_names (names_from count first) j).first_unused ≡ first + count
 from_first zero first j e = omega arith
 from_first (suc k) first j e = let r = from_first k (first + 1) (with_name first j) (omega arith) in omega arith
 
-other_name : (j : Judge) (name m : ℕ) → name ≢ m → identity_of (with_name name j) m ≡ identity_of j m
+other_name : (j : ScriptState) (name m : ℕ) → name ≢ m → identity_of (with_name name j) m ≡ identity_of j m
 other_name j name m ne = placed_found (record { name = name; identity = j.identity_count }) j.in_use m ∙ ap (λ b. cond b (Some j.identity_count) (identity_of j m)) (ne_eqb name m ne)
 
-same_name : (j : Judge) (name : ℕ) → identity_of (with_name name j) name ≡ Some j.identity_count
+same_name : (j : ScriptState) (name : ℕ) → identity_of (with_name name j) name ≡ Some j.identity_count
 same_name j name = placed_found (record { name = name; identity = j.identity_count }) j.in_use name ∙ ap (λ b. cond b (Some j.identity_count) (identity_of j name)) (eq-eqb name name refl)
 
-from_others : (count first m : ℕ) (j : Judge) → m < first → identity_of (with_names (names_from count first) j) m ≡ identity_of j m
+from_others : (count first m : ℕ) (j : ScriptState) → m < first → identity_of (with_names (names_from count first) j) m ≡ identity_of j m
 from_others zero first m j lt = refl
 from_others (suc k) first m j lt = from_others k (first + 1) m (with_name first j) (omega arith) ∙ other_name j first m (λ e. omega arith)
 
@@ -72,15 +72,15 @@ never : (b : Bool) → (b && false) ≡ false
 never true = refl
 never false = refl
 
-count_none : (n : ℕ) (j : Judge) → count_to n (is_asked j []) ≡ 0
+count_none : (n : ℕ) (j : ScriptState) → count_to n (is_asked j []) ≡ 0
 count_none n j = count_same n (is_asked j []) (λ k. false) (λ k lt. never (not (is_some (identity_of j (k + 1))))) ∙ no_one n
 
 -- this is of the names from one on, where it is of those behind
 abbrev Brings : List ℕ → Type 0
-Brings us = (used : ℕ) (j : Judge) → j.first_unused ≡ used + 1 → j.identity_count + (reach used us - used) + count_to used (is_asked j us) ≤ (bring_all (map (λ u. u + 1) us) j).identity_count
+Brings us = (used : ℕ) (j : ScriptState) → j.first_unused ≡ used + 1 → j.identity_count + (reach used us - used) + count_to used (is_asked j us) ≤ (bring_all (map (λ u. u + 1) us) j).identity_count
 
-module _ (u : ℕ) (us : List ℕ) (later : Brings us) (used : ℕ) (j : Judge) (e : j.first_unused ≡ used + 1) where
-  abbrev Goal : Judge → Type 0
+module _ (u : ℕ) (us : List ℕ) (later : Brings us) (used : ℕ) (j : ScriptState) (e : j.first_unused ≡ used + 1) where
+  abbrev Goal : ScriptState → Type 0
   Goal i = j.identity_count + (reach used (u ∷ us) - used) + count_to used (is_asked j (u ∷ us)) ≤ (bring_all (map (λ w. w + 1) us) i).identity_count
 
   one_kept : (i : ℕ) → u < used → identity_of j (u + 1) ≡ Some i → Goal j
@@ -123,7 +123,7 @@ module _ (u : ℕ) (us : List ℕ) (later : Brings us) (used : ℕ) (j : Judge) 
       let l = count_longer used (u + 1) (is_asked next us) (omega arith) in
       omega arith
     where
-      next : Judge
+      next : ScriptState
       next = with_names (names_from count (used + 1)) j
 
       each : (k : ℕ) → k < used → is_asked j (u ∷ us) k ≡ is_asked next us k
@@ -145,44 +145,44 @@ brings (u ∷ us) used j e = one_more u us (brings us) used j e (ltb (u + 1) j.f
 
 -- IDENTITIES ARE NEVER TAKEN BACK
 
-grows : (names : List ℕ) (j : Judge) → j.identity_count ≤ (with_names names j).identity_count
+grows : (names : List ℕ) (j : ScriptState) → j.identity_count ≤ (with_names names j).identity_count
 grows [] j = omega arith
 grows (n ∷ ns) j = let r = grows ns (with_name n j) in omega arith
 
-all_grow : (names : List ℕ) (j : Judge) → j.identity_count ≤ (bring_all names j).identity_count
+all_grow : (names : List ℕ) (j : ScriptState) → j.identity_count ≤ (bring_all names j).identity_count
 all_grow [] j = omega arith
 all_grow (n ∷ ns) j = let r = all_grow ns (bring_in n j) in let q = grows (new_names n j) j in omega arith
 
-hidden_grow : (names : List ℕ) (j : Judge) → j.identity_count ≤ (hide_all names j).identity_count
+hidden_grow : (names : List ℕ) (j : ScriptState) → j.identity_count ≤ (hide_all names j).identity_count
 hidden_grow [] j = omega arith
 hidden_grow (n ∷ ns) j = let r = hidden_grow ns (without_name n (bring_in n j)) in let q = grows (new_names n j) j in omega arith
 
-set_grow : (mode : Mode) (names : List ℕ) (j : Judge) → j.identity_count ≤ (set_all mode names j).identity_count
+set_grow : (mode : NameMode) (names : List ℕ) (j : ScriptState) → j.identity_count ≤ (set_all mode names j).identity_count
 set_grow mode [] j = omega arith
 set_grow mode (n ∷ ns) j = let r = set_grow mode ns (with_mode mode n (bring_in n j)) in let q = grows (new_names n j) j in omega arith
 
-pub command_grows : (c : Command) (j : Judge) → j.identity_count ≤ (accepted c j).identity_count
+pub command_grows : (c : Command) (j : ScriptState) → j.identity_count ≤ (accepted c j).identity_count
 command_grows (Clause ls) j = all_grow (names_of ls) j
 command_grows (Ask ls) j = all_grow (names_of ls) j
 command_grows (Hide names) j = hidden_grow names j
 command_grows (Witness names) j = set_grow Witnessed names j
 command_grows (Sample names) j = set_grow Sampled names j
 
-after_grows : (c : Command) (j : Judge) → j.identity_count ≤ (after_command c j).identity_count
+after_grows : (c : Command) (j : ScriptState) → j.identity_count ≤ (after_command c j).identity_count
 after_grows c j = go (is_some (refusal_of j c))
   where
     go : (b : Bool) → j.identity_count ≤ (cond b j (accepted c j)).identity_count
     go true = omega arith
     go false = command_grows c j
 
-pub script_grows : (cs : List Command) (j : Judge) → j.identity_count ≤ (after_script cs j).identity_count
+pub script_grows : (cs : List Command) (j : ScriptState) → j.identity_count ≤ (after_script cs j).identity_count
 script_grows [] j = omega arith
 script_grows (c ∷ cs) j = let r = script_grows cs (after_command c j) in let q = after_grows c j in omega arith
 
 -- NAMES THAT A SOLVER INTRODUCES
 
 -- as many as the judge's
-introduced : (n : Variables) (steps : List Step) (j : Judge) (live : Live) (users : List ℕ) → Agree n steps j live → j.identity_count + coming n users ≤ (bring_all (map (λ u. u + 1) users) j).identity_count
+introduced : (n : Variables) (steps : List Step) (j : ScriptState) (live : Live) (users : List ℕ) → NamesAgree n steps j live → j.identity_count + coming n users ≤ (bring_all (map (λ u. u + 1) users) j).identity_count
 introduced n steps j live users agree =
     let used = names_used n in
     let h = brings users used j agree.judged.first_unused in
@@ -199,7 +199,7 @@ introduced n steps j live users agree =
 -- VARIABLES THAT ARE LACKING
 
 -- there are as many variables in use as identities, at most, and as many names are introduced
-all_need : (n : Variables) (steps : List Step) (j : Judge) (live : Live) (users : List ℕ) → Agree n steps j live → (HasRoom n users → ⊥) → var_limit < (bring_all (map (λ u. u + 1) users) j).identity_count
+all_need : (n : Variables) (steps : List Step) (j : ScriptState) (live : Live) (users : List ℕ) → NamesAgree n steps j live → (HasVariablesFor n users → ⊥) → var_limit < (bring_all (map (λ u. u + 1) users) j).identity_count
 all_need n steps j live users agree lacks =
     let h = introduced n steps j live users agree in
     let l = count_le (variables_used n) (is_live n) in
@@ -215,11 +215,11 @@ other_in : (v : ℕ) (live : Live) → AllByRecursion (λ (q : ℕ × ℕ). q.0 
 other_in v [] h = refl
 other_in v (q ∷ qs) h = ap (λ b. b || is_among (vars qs) v) (ne_eqb q.0 v h.0) ∙ other_in v qs h.1
 
-apart_once : (live : Live) → Apart live → NoRepeats (vars live)
+apart_once : (live : Live) → AreDistinctVariables live → NoRepeats (vars live)
 apart_once [] h = tt
 apart_once (p ∷ ps) h = (other_in p.0 ps h.0, apart_once ps h.1)
 
-known_vars : (steps : List Step) (live : Live) → AllByRecursion (λ (p : ℕ × ℕ). the_checking.knows steps p.0 ≡ true) live → AllByRecursion (λ v. the_checking.knows steps v ≡ true) (vars live)
+known_vars : (steps : List Step) (live : Live) → AllByRecursion (λ (p : ℕ × ℕ). checker_rules.knows steps p.0 ≡ true) live → AllByRecursion (λ v. checker_rules.knows steps v ≡ true) (vars live)
 known_vars steps [] h = tt
 known_vars steps (p ∷ ps) h = (h.0, known_vars steps ps h.1)
 
@@ -252,7 +252,7 @@ given_few m [] = let e = no_one m in omega arith
 given_few m (p ∷ ps) = let d = differ_once m p.0 (λ v. is_some (given (p ∷ ps) v)) (λ v. is_some (given ps v)) (other_given p ps) in let r = given_few m ps in omega arith
 
 -- so many proof variables are in use, and so many names are introduced
-lacks_variables : (n : Variables) (steps : List Step) (j : Judge) (live : Live) (users : List ℕ) → Agree n steps j live → (HasRoom n users → ⊥) → LacksVariables steps (introduced_for (map (λ u. u + 1) users) j)
+lacks_variables : (n : Variables) (steps : List Step) (j : ScriptState) (live : Live) (users : List ℕ) → NamesAgree n steps j live → (HasVariablesFor n users → ⊥) → LacksVariables steps (introduced_for (map (λ u. u + 1) users) j)
 lacks_variables n steps j live users agree lacks = record {
   in_use = vars live;
   once = apart_once live agree.judged.once;
@@ -282,14 +282,14 @@ module _ {C : Type 0} (s t : Solver C) where
   steps_same : t ≡ s → steps_in s ≡ steps_in t
   steps_same e = ap (λ (x : Solver C). steps_in x) (sym e)
 
-  both_need : (users : List ℕ) → RefusedForRoom s t users → (j : Judge) (live : Live) → Agree s.names (steps_in s) j live
+  both_need : (users : List ℕ) → RefusedForRoom s t users → (j : ScriptState) (live : Live) → NamesAgree s.names (steps_in s) j live
       → (var_limit < (bring_all (map (λ u. u + 1) users) j).identity_count) × LacksVariables (steps_in t) (introduced_for (map (λ u. u + 1) users) j)
   both_need users h j live agree = (
     all_need s.names (steps_in s) j live users agree h.0,
     subst (λ steps. LacksVariables steps (introduced_for (map (λ u. u + 1) users) j)) (steps_same h.1) (lacks_variables s.names (steps_in s) j live users agree h.0),
   )
 
-  literals_need : (ls : List ℕ) → RefusedForRoom s t (users_in ls) → (j : Judge) (live : Live) → Agree s.names (steps_in s) j live
+  literals_need : (ls : List ℕ) → RefusedForRoom s t (users_in ls) → (j : ScriptState) (live : Live) → NamesAgree s.names (steps_in s) j live
       → (var_limit < (bring_all (names_of (named_literals ls)) j).identity_count) × LacksVariables (steps_in t) (introduced_for (names_of (named_literals ls)) j)
   literals_need ls h j live agree = subst (λ names. (var_limit < (bring_all names j).identity_count) × LacksVariables (steps_in t) (introduced_for names j)) (names_of_users ls) (both_need (users_in ls) h j live agree)
 
@@ -300,12 +300,12 @@ module _ {C : Type 0} (s t : Solver C) where
   ask_needs ls h j live agree = literals_need ls h j live agree
 
 -- the identities that one name of a command needs
-one_needs : (st : NameState) (name : ℕ) (j : Judge) → var_limit < (bring_all (name ∷ []) j).identity_count → var_limit < (accepted (command_to st (name ∷ [])) j).identity_count
+one_needs : (st : NameState) (name : ℕ) (j : ScriptState) → var_limit < (bring_all (name ∷ []) j).identity_count → var_limit < (accepted (command_to st (name ∷ [])) j).identity_count
 one_needs state.Hidden name j h = h
 one_needs state.Sampled name j h = h
 one_needs state.Witnessed name j h = h
 
-next_lacks : (st : NameState) (names : List ℕ) (j : Judge) (steps : List Step) (first : List ℕ) (name : ℕ) (behind : List ℕ) → names ≡ first ++ (name ∷ behind)
+next_lacks : (st : NameState) (names : List ℕ) (j : ScriptState) (steps : List Step) (first : List ℕ) (name : ℕ) (behind : List ℕ) → names ≡ first ++ (name ∷ behind)
     → LacksVariables steps (introduced_for (name ∷ []) (accepted (command_to st first) j)) → CommandLacks j (command_to st names) steps
 next_lacks state.Hidden names j steps first name behind e h = record { first = first; name = name; behind = behind; whole = e; lacks = h }
 next_lacks state.Sampled names j steps first name behind e h = record { first = first; name = name; behind = behind; whole = e; lacks = h }

@@ -3,39 +3,39 @@ use Rattle.std.proofs.Common.{ℕ, ◌+◌, ◌≡◌, ◌∙◌, Some, None, []
 use Rattle.std.proofs.lemmas.List.{append-nil}
 use Rattle.sat_base.specs.device.Device.{Writer}
 use Rattle.sat_base.specs.script.Script.{Command}
-use Rattle.sat_base.specs.script.Judge.{Judge, Refusal, accepted, after_command, refusal_of, start}
-use Rattle.sat_solver.specs.variables.Calls.{Agree}
+use Rattle.sat_base.specs.script.ScriptState.{ScriptState, Refusal, accepted, after_command, refusal_of, start}
+use Rattle.sat_solver.specs.variables.Calls.{NamesAgree}
 use Rattle.sat_solver.specs.session.Making.{ComesBySteps}
 use Rattle.sat_solver.specs.solver.Whole.{steps_in}
-use Rattle.certify.specs.declared.run.session.Session.{Session}
+use Rattle.certify.specs.declared.run.session.RunState.{RunState}
 use Rattle.certify.specs.answers.Answers.{refused_line}
-use Rattle.certify.specs.judge.Names.{NamesStand}
-use Rattle.certify.specs.run.SolverCalls.{IsReady, proof_in}
+use Rattle.certify.specs.judge.Names.{NamesHaveState}
+use Rattle.certify.specs.run.SolverCalls.{IsReadySolver, proof_in}
 use Rattle.certify.specs.run.Serving.{RunPlace, Serves}
-use Rattle.certify.specs.run.Standing.{NamesAllow, CarriedOut, RunGoesOn, JudgeIsAt, AgreesWithJudge, Refused, ServedNext, place_in}
-use Rattle.sat_base.proofs.lemmas.script.JudgeStates.{accepted_kept, start_kept}
+use Rattle.certify.specs.run.Standing.{NamesAllow, CarriedOut, RunGoesOn, HasStateBetweenCommands, AgreesWithState, Refused, ServedNext, place_in}
+use Rattle.sat_base.proofs.lemmas.script.ScriptStates.{accepted_kept, start_kept}
 use Rattle.certify.proofs.lemmas.run.ServedOnce.{serves_refused}
-use Rattle.certify.proofs.lemmas.run.SessionCalls.{took_none}
+use Rattle.certify.proofs.lemmas.run.RunStateCalls.{took_none}
 use Rattle.certify.specs.run.Quiet.{Solver}
 
 -- a run that has counted one more command
-abbrev pub counted : {C : Type 0} → Session C → Session C
+abbrev pub counted : {C : Type 0} → RunState C → RunState C
 counted s = record s { commands = s.commands + 1 }
 
 -- before the first command
-pub starts_at : {C : Type 0} (s : Session C) → Agree s.solver.names [] start [] → steps_in s.solver ≡ [] → NamesStand s.names start → JudgeIsAt s start
-starts_at s agree none names = record { live = []; means = record { agree = subst (λ steps. Agree s.solver.names steps start []) (sym none) agree; kept = start_kept }; names = names }
+pub starts_at : {C : Type 0} (s : RunState C) → NamesAgree s.solver.names [] start [] → steps_in s.solver ≡ [] → NamesHaveState s.names start → HasStateBetweenCommands s start
+starts_at s agree none names = record { live = []; means = record { agree = subst (λ steps. NamesAgree s.solver.names steps start []) (sym none) agree; kept = start_kept }; names = names }
 
-pub after_accepted : (j : Judge) (c : Command) → refusal_of j c ≡ None → after_command c j ≡ accepted c j
+pub after_accepted : (j : ScriptState) (c : Command) → refusal_of j c ≡ None → after_command c j ≡ accepted c j
 after_accepted j c e = rw e refl
 
-after_refused : (j : Judge) (c : Command) (r : Refusal) → refusal_of j c ≡ Some r → after_command c j ≡ j
+after_refused : (j : ScriptState) (c : Command) (r : Refusal) → refusal_of j c ≡ Some r → after_command c j ≡ j
 after_refused j c r e = rw e refl
 
-module _ {C : Type 0} (seen : C → Writer) (old new : Session C) (c : Command) (before after : Writer) (on : RunGoesOn old) where
+module _ {C : Type 0} (seen : C → Writer) (old new : RunState C) (c : Command) (before after : Writer) (on : RunGoesOn old) where
   -- it was taken
-  module _ (carried : CarriedOut seen (counted old) new c before after) (allowed : NamesAllow old.names c) (stands : (j : Judge) → NamesStand old.names j → NamesStand new.names (accepted c j)) where
-    taken_at : (j : Judge) → JudgeIsAt old j → JudgeIsAt new (accepted c j) × Serves old.budget (place_in old j) (place_in new (accepted c j)) (c ∷ []) carried.text carried.reports 0
+  module _ (carried : CarriedOut seen (counted old) new c before after) (allowed : NamesAllow old.names c) (stands : (j : ScriptState) → NamesHaveState old.names j → NamesHaveState new.names (accepted c j)) where
+    taken_at : (j : ScriptState) → HasStateBetweenCommands old j → HasStateBetweenCommands new (accepted c j) × Serves old.budget (place_in old j) (place_in new (accepted c j)) (c ∷ []) carried.text carried.reports 0
     taken_at j at =
         let s = carried.serves j at.live at.means (allowed j at.names) in
         (record { live = s.0; means = record { agree = s.1; kept = accepted_kept c j (allowed j at.names) at.means.kept }; names = stands j at.names }, s.2)
@@ -59,23 +59,23 @@ module _ {C : Type 0} (seen : C → Writer) (old new : Session C) (c : Command) 
       refused = 0;
       refusals = let a = carried.refused in omega arith;
       serves = λ j at.
-          subst (λ k. JudgeIsAt new k × Serves old.budget (place_in old j) (place_in new k) (c ∷ []) carried.text carried.reports 0) (sym (after_accepted j c (allowed j at.names))) (taken_at j at);
+          subst (λ k. HasStateBetweenCommands new k × Serves old.budget (place_in old j) (place_in new k) (c ∷ []) carried.text carried.reports 0) (sym (after_accepted j c (allowed j at.names))) (taken_at j at);
     }
 
   -- it was refused
-  module _ (why : Refusal) (refused : Refused (counted old) new why before after) (denied : (j : Judge) → NamesStand old.names j → refusal_of j c ≡ Some why) where
-    place_same : (j : Judge) → record (place_in old j) { number = old.commands + 1 + 1 } ≡ place_in new j
+  module _ (why : Refusal) (refused : Refused (counted old) new why before after) (denied : (j : ScriptState) → NamesHaveState old.names j → refusal_of j c ≡ Some why) where
+    place_same : (j : ScriptState) → record (place_in old j) { number = old.commands + 1 + 1 } ≡ place_in new j
     place_same j = ap (λ (k : ℕ). at k old.solver) (sym (ap (λ (k : ℕ). k + 1) refused.commands)) ∙ ap (at (new.commands + 1)) (sym refused.solver)
       where
         at : ℕ → Solver C → RunPlace
         at k s = record { judge = j; number = k; steps = steps_in s; rounds = s.clock.steps }
 
-    refused_at : (j : Judge) → JudgeIsAt old j → JudgeIsAt new j × Serves old.budget (place_in old j) (place_in new j) (c ∷ []) (refused_line (old.commands + 1) why) [] 1
+    refused_at : (j : ScriptState) → HasStateBetweenCommands old j → HasStateBetweenCommands new j × Serves old.budget (place_in old j) (place_in new j) (c ∷ []) (refused_line (old.commands + 1) why) [] 1
     refused_at j at = (
       record {
         live = at.live;
-        means = subst (λ s. AgreesWithJudge s j at.live) (sym refused.solver) at.means;
-        names = subst (λ n. NamesStand n j) (sym refused.names) at.names;
+        means = subst (λ s. AgreesWithState s j at.live) (sym refused.solver) at.means;
+        names = subst (λ n. NamesHaveState n j) (sym refused.names) at.names;
       },
       subst (λ p. Serves old.budget (place_in old j) p (c ∷ []) (refused_line (old.commands + 1) why) [] 1) (place_same j) (serves_refused old.budget (place_in old j) c why (denied j at.names)),
     )
@@ -83,7 +83,7 @@ module _ {C : Type 0} (seen : C → Writer) (old new : Session C) (c : Command) 
     pub refused_next : ServedNext seen old new c before after
     refused_next = record {
       goes_on = record {
-        ready = subst IsReady (sym refused.solver) on.ready;
+        ready = subst IsReadySolver (sym refused.solver) on.ready;
         free = ap (λ (s : Solver C). s.assumed.items) refused.solver ∙ on.free;
         counted = let a = refused.refused in let b = refused.commands in let n = on.counted in omega arith;
         judge = on.judge;
@@ -99,5 +99,5 @@ module _ {C : Type 0} (seen : C → Writer) (old new : Session C) (c : Command) 
       refused = 1;
       refusals = refused.refused;
       serves = λ j at.
-          subst (λ k. JudgeIsAt new k × Serves old.budget (place_in old j) (place_in new k) (c ∷ []) (refused_line (old.commands + 1) why) [] 1) (sym (after_refused j c why (denied j at.names))) (refused_at j at);
+          subst (λ k. HasStateBetweenCommands new k × Serves old.budget (place_in old j) (place_in new k) (c ∷ []) (refused_line (old.commands + 1) why) [] 1) (sym (after_refused j c why (denied j at.names))) (refused_at j at);
     }

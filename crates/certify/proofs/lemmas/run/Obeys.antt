@@ -4,11 +4,11 @@ use Rattle.std.proofs.lemmas.List.{map-append, take_more}
 use Rattle.sat_base.specs.device.Device.{Writer}
 use Rattle.sat_base.specs.values.Literals.{variable}
 use Rattle.sat_base.specs.script.Script.{Clause, Among}
-use Rattle.sat_base.specs.script.Judge.{Judge, Mode, Sampled, Witnessed, accepted, bring_in, hide_all, new_names, set_all, with_mode, without_name}
+use Rattle.sat_base.specs.script.ScriptState.{ScriptState, NameMode, Sampled, Witnessed, accepted, bring_in, hide_all, new_names, set_all, with_mode, without_name}
 use Rattle.sat_base.specs.steps.Steps.{Step}
 use Rattle.sat_checker.specs.matching.Expected.{NewName, NoName, hiding, setting}
-use Rattle.sat_checker.specs.matching.ProofChecking.{the_checking}
-use Rattle.sat_solver.specs.variables.Calls.{Agree}
+use Rattle.sat_checker.specs.matching.ProofChecking.{checker_rules}
+use Rattle.sat_solver.specs.variables.Calls.{NamesAgree}
 use Rattle.sat_solver.specs.variables.Refusing.{names_in}
 use Rattle.sat_solver.specs.solver.Adding.{Added}
 use Rattle.sat_solver.specs.solver.Naming.{Renamed}
@@ -17,49 +17,49 @@ use Rattle.sat_solver.proofs.lemmas.session.ComingLemmas.{comes_both, comes_map,
 use Rattle.certify.specs.answers.AnswerForms.{named_literals}
 use Rattle.certify.specs.declared.judge.NameState.{NameState}
 use Rattle.certify.specs.declared.judge.NameState.TheVariants as state
-use Rattle.certify.specs.run.SolverCalls.{IsReady, proof_in}
+use Rattle.certify.specs.run.SolverCalls.{IsReadySolver, proof_in}
 use Rattle.certify.specs.run.Obeying.{Obeyed, command_to, due_to, may_to}
 use Rattle.sat_checker.specs.matching.Traces.{HasTrace, no_step}
 use Rattle.certify.specs.run.Stretches.{IsNoAsk, MayFor, due_for}
 use Rattle.certify.proofs.lemmas.run.ClauseServed.{clause_agrees, clause_stretch}
 use Rattle.sat_checker.proofs.lemmas.matching.Traces.{traces_both}
-use Rattle.certify.proofs.lemmas.run.SessionCalls.{took_both, took_none}
+use Rattle.certify.proofs.lemmas.run.RunStateCalls.{took_both, took_none}
 use Rattle.certify.specs.run.Quiet.{Solver}
 
 -- SEVERAL NAMES, AND THEN OTHERS
 
-hidden_both : (xs ys : List ℕ) (j : Judge) → hide_all (xs ++ ys) j ≡ hide_all ys (hide_all xs j)
+hidden_both : (xs ys : List ℕ) (j : ScriptState) → hide_all (xs ++ ys) j ≡ hide_all ys (hide_all xs j)
 hidden_both [] ys j = refl
 hidden_both (x ∷ xs) ys j = hidden_both xs ys (without_name x (bring_in x j))
 
-set_both : (mode : Mode) (xs ys : List ℕ) (j : Judge) → set_all mode (xs ++ ys) j ≡ set_all mode ys (set_all mode xs j)
+set_both : (mode : NameMode) (xs ys : List ℕ) (j : ScriptState) → set_all mode (xs ++ ys) j ≡ set_all mode ys (set_all mode xs j)
 set_both mode [] ys j = refl
 set_both mode (x ∷ xs) ys j = set_both mode xs ys (with_mode mode x (bring_in x j))
 
-hiding_both : (xs ys : List ℕ) (j : Judge) → hiding (xs ++ ys) j ≡ hiding xs j ++ hiding ys (hide_all xs j)
+hiding_both : (xs ys : List ℕ) (j : ScriptState) → hiding (xs ++ ys) j ≡ hiding xs j ++ hiding ys (hide_all xs j)
 hiding_both [] ys j = refl
 hiding_both (x ∷ xs) ys j =
     let next = without_name x (bring_in x j) in
     ap (λ es. map NewName (new_names x j) ++ (NoName x ∷ es)) (hiding_both xs ys next) ∙ sym (append_assoc (map NewName (new_names x j)) (NoName x ∷ hiding xs next) (hiding ys (hide_all xs next)))
 
-setting_both : (mode : Mode) (xs ys : List ℕ) (j : Judge) → setting mode (xs ++ ys) j ≡ setting mode xs j ++ setting mode ys (set_all mode xs j)
+setting_both : (mode : NameMode) (xs ys : List ℕ) (j : ScriptState) → setting mode (xs ++ ys) j ≡ setting mode xs j ++ setting mode ys (set_all mode xs j)
 setting_both mode [] ys j = refl
 setting_both mode (x ∷ xs) ys j =
     let next = with_mode mode x (bring_in x j) in
     ap (λ es. map NewName (new_names x j) ++ es) (setting_both mode xs ys next) ∙ sym (append_assoc (map NewName (new_names x j)) (setting mode xs next) (setting mode ys (set_all mode xs next)))
 
-pub accepted_both : (st : NameState) (xs ys : List ℕ) (j : Judge) → accepted (command_to st (xs ++ ys)) j ≡ accepted (command_to st ys) (accepted (command_to st xs) j)
+pub accepted_both : (st : NameState) (xs ys : List ℕ) (j : ScriptState) → accepted (command_to st (xs ++ ys)) j ≡ accepted (command_to st ys) (accepted (command_to st xs) j)
 accepted_both state.Hidden xs ys j = hidden_both xs ys j
 accepted_both state.Sampled xs ys j = set_both Sampled xs ys j
 accepted_both state.Witnessed xs ys j = set_both Witnessed xs ys j
 
 -- recorded unsat is of no matter to names
-due_both : (st : NameState) (u v : Bool) (xs ys : List ℕ) (j : Judge) → due_for u (command_to st (xs ++ ys)) j ≡ due_for u (command_to st xs) j ++ due_for v (command_to st ys) (accepted (command_to st xs) j)
+due_both : (st : NameState) (u v : Bool) (xs ys : List ℕ) (j : ScriptState) → due_for u (command_to st (xs ++ ys)) j ≡ due_for u (command_to st xs) j ++ due_for v (command_to st ys) (accepted (command_to st xs) j)
 due_both state.Hidden u v xs ys j = hiding_both xs ys j
 due_both state.Sampled u v xs ys j = setting_both Sampled xs ys j
 due_both state.Witnessed u v xs ys j = setting_both Witnessed xs ys j
 
-due_same : (st : NameState) (u : Bool) (names : List ℕ) (j : Judge) → due_to st names j ≡ due_for u (command_to st names) j
+due_same : (st : NameState) (u : Bool) (names : List ℕ) (j : ScriptState) → due_to st names j ≡ due_for u (command_to st names) j
 due_same state.Hidden u names j = refl
 due_same state.Sampled u names j = refl
 due_same state.Witnessed u names j = refl
@@ -93,12 +93,12 @@ names_ask_nothing state.Hidden names = tt
 names_ask_nothing state.Sampled names = tt
 names_ask_nothing state.Witnessed names = tt
 
-none_accepted : (st : NameState) (j : Judge) → accepted (command_to st []) j ≡ j
+none_accepted : (st : NameState) (j : ScriptState) → accepted (command_to st []) j ≡ j
 none_accepted state.Hidden j = refl
 none_accepted state.Sampled j = refl
 none_accepted state.Witnessed j = refl
 
-none_due : (st : NameState) (u : Bool) (j : Judge) → due_for u (command_to st []) j ≡ []
+none_due : (st : NameState) (u : Bool) (j : ScriptState) → due_for u (command_to st []) j ≡ []
 none_due state.Hidden u j = refl
 none_due state.Sampled u j = refl
 none_due state.Witnessed u j = refl
@@ -111,7 +111,7 @@ name_more codes k code v within at e =
 
 module _ {C : Type 0} (seen : C → Writer) where
   -- a name was hidden, or its mode was set
-  pub name_obeyed : (st : NameState) (name : ℕ) (a b : Solver C) → IsReady b → Renamed seen a b (accepted (command_to st (name ∷ []))) (due_to st (name ∷ [])) (may_to st name) → Obeyed seen (command_to st (name ∷ [])) a b
+  pub name_obeyed : (st : NameState) (name : ℕ) (a b : Solver C) → IsReadySolver b → Renamed seen a b (accepted (command_to st (name ∷ []))) (due_to st (name ∷ [])) (may_to st name) → Obeyed seen (command_to st (name ∷ [])) a b
   name_obeyed st name a b ready r = record {
     ready = ready;
     took = r.did.took;
@@ -119,18 +119,18 @@ module _ {C : Type 0} (seen : C → Writer) where
     clock = r.clock;
     keeps = λ j live agree.
         let k = r.did.does.kept j live agree in
-        let u = the_checking.unsat (steps_in a) in
+        let u = checker_rules.unsat (steps_in a) in
         let c = command_to st (name ∷ []) in (
           k.live,
           k.agree,
           record {
-            due = subst (HasTrace the_checking (steps_in a) (steps_in b)) (due_same st u (name ∷ []) j) k.trace;
+            due = subst (HasTrace checker_rules (steps_in a) (steps_in b)) (due_same st u (name ∷ []) j) k.trace;
             comes = comes_map (may_to st name) (MayFor c) (may_one st name) (steps_in a) (steps_in b) r.comes;
           },
         );
   }
 
-  pub none_obeyed : (st : NameState) (a : Solver C) → IsReady a → Obeyed seen (command_to st []) a a
+  pub none_obeyed : (st : NameState) (a : Solver C) → IsReadySolver a → Obeyed seen (command_to st []) a a
   none_obeyed st a ready = record {
     ready = ready;
     took = took_none seen (proof_in a);
@@ -138,9 +138,9 @@ module _ {C : Type 0} (seen : C → Writer) where
     clock = refl;
     keeps = λ j live agree. (
       live,
-      subst (λ k. Agree a.names (steps_in a) k live) (sym (none_accepted st j)) agree,
+      subst (λ k. NamesAgree a.names (steps_in a) k live) (sym (none_accepted st j)) agree,
       record {
-        due = subst (HasTrace the_checking (steps_in a) (steps_in a)) (sym (none_due st (the_checking.unsat (steps_in a)) j)) no_step;
+        due = subst (HasTrace checker_rules (steps_in a) (steps_in a)) (sym (none_due st (checker_rules.unsat (steps_in a)) j)) no_step;
         comes = comes_none (MayFor (command_to st [])) (steps_in a);
       },
     );
@@ -156,9 +156,9 @@ module _ {C : Type 0} (seen : C → Writer) where
         let x = f.keeps j live agree in
         let y = g.keeps (accepted (command_to st xs) j) x.0 x.1 in (
           y.0,
-          subst (λ k. Agree c.names (steps_in c) k y.0) (sym (accepted_both st xs ys j)) y.1,
+          subst (λ k. NamesAgree c.names (steps_in c) k y.0) (sym (accepted_both st xs ys j)) y.1,
           record {
-            due = subst (HasTrace the_checking (steps_in a) (steps_in c)) (sym (due_both st (the_checking.unsat (steps_in a)) (the_checking.unsat (steps_in b)) xs ys j)) (traces_both x.2.due y.2.due);
+            due = subst (HasTrace checker_rules (steps_in a) (steps_in c)) (sym (due_both st (checker_rules.unsat (steps_in a)) (checker_rules.unsat (steps_in b)) xs ys j)) (traces_both x.2.due y.2.due);
             comes = comes_both (MayFor (command_to st (xs ++ ys))) (steps_in a) (steps_in b) (steps_in c)
                 (comes_map (MayFor (command_to st xs)) (MayFor (command_to st (xs ++ ys))) (may_front st xs ys) (steps_in a) (steps_in b) x.2.comes)
                 (comes_map (MayFor (command_to st ys)) (MayFor (command_to st (xs ++ ys))) (may_back st xs ys) (steps_in b) (steps_in c) y.2.comes);
@@ -167,7 +167,7 @@ module _ {C : Type 0} (seen : C → Writer) where
   }
 
   -- a clause came in
-  pub clause_obeyed : (user : List ℕ) (a b : Solver C) → IsReady a → IsReady b → Added seen a b user → Obeyed seen (Clause (named_literals user)) a b
+  pub clause_obeyed : (user : List ℕ) (a b : Solver C) → IsReadySolver a → IsReadySolver b → Added seen a b user → Obeyed seen (Clause (named_literals user)) a b
   clause_obeyed user a b before ready added = record {
     ready = ready;
     took = added.did.took;

@@ -13,7 +13,7 @@ use Rattle.sat_solver.specs.session.Making.{ComesBySteps, BreaksEmitting}
 use Rattle.sat_solver.specs.proof.OutputView.{text_in}
 use Rattle.sat_solver.specs.proof.ProofTexts.{TookAcceptedSteps}
 use Rattle.sat_solver.specs.proof.ProofView.{Open, Target, TargetTakes, TakesAll, GivesWriter, target_of}
-use Rattle.sat_solver.specs.proof.Counting.{start as uncounted}
+use Rattle.sat_solver.specs.proof.Counting.{nothing_counted as uncounted}
 use Rattle.sat_solver.specs.session.Session.{MayAll}
 use Rattle.sat_solver.specs.solver.Fronts.{ReachesBySteps, HandsFront}
 use Rattle.sat_solver.specs.solver.Proving.{ClosesProof}

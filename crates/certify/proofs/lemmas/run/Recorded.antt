@@ -2,7 +2,7 @@
 use Rattle.std.proofs.Common.{◌≡◌, ◌∙◌, true, false, List, refl, sym, subst}
 use Rattle.std.proofs.lemmas.Bool.{both_ways}
 use Rattle.sat_base.specs.steps.Steps.{Step}
-use Rattle.sat_checker.specs.matching.ProofChecking.{the_checking}
+use Rattle.sat_checker.specs.matching.ProofChecking.{checker_rules}
 use Rattle.sat_checker.proofs.lemmas.meaning.Answers.{unsat_means_none}
 use Rattle.sat_solver.specs.session.Session.{MayAll, session_after}
 use Rattle.sat_solver.specs.declared.state.State.{State}
@@ -12,15 +12,15 @@ use Rattle.sat_solver.proofs.lemmas.session.StepLemmas.{sessions_are_accepted}
 use Rattle.certify.specs.run.Certifies.{IsRecorded}
 use Rattle.certify.specs.run.Quiet.{Solver}
 
-unsat_as : (steps : List Step) → MayAll steps → the_checking.unsat steps ≡ (session_after steps).unsat
+unsat_as : (steps : List Step) → MayAll steps → checker_rules.unsat steps ≡ (session_after steps).unsat
 unsat_as steps may = (sessions_are_accepted steps may).1.unsat
 
-pub recorded_at : (steps : List Step) → MayAll steps → the_checking.unsat steps ≡ true → IsRecorded the_checking steps
+pub recorded_at : (steps : List Step) → MayAll steps → checker_rules.unsat steps ≡ true → IsRecorded checker_rules steps
 recorded_at steps may u = record { recorded = u; none = λ a h. unsat_means_none steps a (sessions_are_accepted steps may).0 u h }
 
 module _ {C : Type 0} (s : Solver C) (whole : SolverInvariant s) where
   -- it is where the clauses alone are known to be unsatisfiable
-  pub known_unsat : s.state ≡ states.Unsat → the_checking.unsat (steps_in s) ≡ true
+  pub known_unsat : s.state ≡ states.Unsat → checker_rules.unsat (steps_in s) ≡ true
   known_unsat e = unsat_as (steps_in s) whole.stands.may ∙ subst (λ st. StateSays st s.core s.names s.asked s.assumed.items s.told.failed_core.items) e whole.says
 
   going_by : (st : State) → (st ≡ states.Unsat → ⊥) → StateSays st s.core s.names s.asked s.assumed.items s.told.failed_core.items → (session_in s).unsat ≡ false
@@ -30,27 +30,27 @@ module _ {C : Type 0} (s : Solver C) (whole : SolverInvariant s) where
   going_by states.Unsat n h = absurd (n refl)
 
   -- and nowhere else
-  pub going_on : (s.state ≡ states.Unsat → ⊥) → the_checking.unsat (steps_in s) ≡ false
+  pub going_on : (s.state ≡ states.Unsat → ⊥) → checker_rules.unsat (steps_in s) ≡ false
   going_on n = unsat_as (steps_in s) whole.stands.may ∙ going_by s.state n whole.says
 
   -- so where it is recorded, they are known to be
-  pub unsat_known : the_checking.unsat (steps_in s) ≡ true → s.state ≡ states.Unsat
+  pub unsat_known : checker_rules.unsat (steps_in s) ≡ true → s.state ≡ states.Unsat
   unsat_known u = at s.state refl
     where
       at : (st : State) → s.state ≡ st → s.state ≡ states.Unsat
       at states.Unsat e = e
-      at states.Unknown e = absurd (both_ways (the_checking.unsat (steps_in s)) (going_on (λ f. apart (sym e ∙ f))) u)
+      at states.Unknown e = absurd (both_ways (checker_rules.unsat (steps_in s)) (going_on (λ f. apart (sym e ∙ f))) u)
         where
           apart : states.Unknown ≡ states.Unsat → ⊥
           apart x = cc
-      at states.Sat e = absurd (both_ways (the_checking.unsat (steps_in s)) (going_on (λ f. apart (sym e ∙ f))) u)
+      at states.Sat e = absurd (both_ways (checker_rules.unsat (steps_in s)) (going_on (λ f. apart (sym e ∙ f))) u)
         where
           apart : states.Sat ≡ states.Unsat → ⊥
           apart x = cc
-      at states.UnsatUnderAssumptions e = absurd (both_ways (the_checking.unsat (steps_in s)) (going_on (λ f. apart (sym e ∙ f))) u)
+      at states.UnsatUnderAssumptions e = absurd (both_ways (checker_rules.unsat (steps_in s)) (going_on (λ f. apart (sym e ∙ f))) u)
         where
           apart : states.UnsatUnderAssumptions ≡ states.Unsat → ⊥
           apart x = cc
 
-  pub recorded : s.state ≡ states.Unsat → IsRecorded the_checking (steps_in s)
+  pub recorded : s.state ≡ states.Unsat → IsRecorded checker_rules (steps_in s)
   recorded e = recorded_at (steps_in s) whole.stands.may (known_unsat e)

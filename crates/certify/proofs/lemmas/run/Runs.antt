@@ -5,13 +5,13 @@ use Rattle.std.proofs.Math.Logic.{∥∥₁_elim, ∥∥₁_prop}
 use Rattle.sat_base.specs.device.Device.{Reader, Writer, GaveEnough, WriterTakes, lent_writer, most_reads}
 use Rattle.sat_base.specs.device.Reading.{Source, unread}
 use Rattle.sat_base.specs.device.Sink.{empty_sink}
-use Rattle.sat_base.specs.script.Judge.{accepted_of, start}
+use Rattle.sat_base.specs.script.ScriptState.{accepted_of, start}
 use Rattle.sat_base.specs.steps.Steps.{Step, End}
 use Rattle.sat_base.proofs.lemmas.device.Writes as writes
 use Rattle.sat_checker.specs.matching.Expected.{Finish, expected, finish}
-use Rattle.sat_checker.specs.matching.ProofChecking.{the_checking}
+use Rattle.sat_checker.specs.matching.ProofChecking.{checker_rules}
 use Rattle.sat_solver.specs.declared.proof.format.ProofFormat.TheVariants.{Varisat}
-use Rattle.sat_solver.specs.proof.Counting.{start as uncounted}
+use Rattle.sat_solver.specs.proof.Counting.{nothing_counted as uncounted}
 use Rattle.sat_solver.specs.session.Making.{ComesBySteps, BreaksEmitting}
 use Rattle.sat_solver.specs.proof.OutputView.{text_in}
 use Rattle.sat_solver.specs.proof.ProofTexts.{TookText}
@@ -27,16 +27,16 @@ use Rattle.certify.specs.answers.Answers.{answers_from, answers_text}
 use Rattle.certify.specs.confirm.Streams.{Covers, rest_in}
 use Rattle.certify.specs.declared.fault.RunFault.{RunFault}
 use Rattle.certify.specs.declared.fault.RunFault.TheVariants as fault
-use Rattle.certify.specs.declared.run.session.Session.{Session}
+use Rattle.certify.specs.declared.run.session.RunState.{RunState}
 use Rattle.certify.specs.declared.summary.AskReport.{AskReport}
 use Rattle.certify.specs.declared.summary.Summary.{Summary}
-use Rattle.certify.specs.declared.script.ahead.Ahead.{Ahead}
-use Rattle.certify.specs.script.Ahead.{source_in, waiting}
+use Rattle.certify.specs.declared.script.ahead.LastPiece.{LastPiece}
+use Rattle.certify.specs.script.LastPiece.{source_in, waiting_bytes}
 use Rattle.sat_base.specs.script.Language.{Reading, reading, written}
-use Rattle.certify.specs.run.FinishedRun.{WritesAnswers, AnswersRightly, CertificateGuarantee, TookCertificate, asked_steps, identities_given, malformed_at, AreSpent}
+use Rattle.certify.specs.run.FinishedRun.{WritesAnswers, AnswersRightly, CertificateGuarantee, TookCertificate, rounds_of_asks, identities_given, malformed_at, AreWithinBudget}
 use Rattle.certify.specs.run.Running.{ReadsFew, FinishesOrFaults, WritesRun}
 use Rattle.certify.specs.run.Unfinished.{CounterEnds, Exceeds, ExceedsWritten, StepsFront, TookAnswersFront, TookSteps, Unfinished}
-use Rattle.certify.specs.run.SolverCalls.{IsCaused, FaultSays, IsReady, proof_in}
+use Rattle.certify.specs.run.SolverCalls.{IsCaused, FaultSays, IsReadySolver, proof_in}
 use Rattle.certify.specs.run.Lacking.{OneLacks}
 use Rattle.certify.specs.run.Certifies.{Certifies, complete, ordered}
 use Rattle.certify.specs.run.Ending.{ClosedBy, EndsRun, GivenBack, GivesFront, HasTarget, HasOpenTarget, SumsUp}
@@ -49,13 +49,13 @@ use Rattle.certify.proofs.lemmas.confirm.Streams.{faulted_front, gave_enough, pa
 use Rattle.certify.proofs.lemmas.confirm.Joining.{covers_given, took_kept}
 use Rattle.certify.proofs.lemmas.run.MadeCertifies.{made_certifies}
 use Rattle.certify.proofs.lemmas.run.ProofFronts.{carried_front, went_broke, went_took}
-use Rattle.certify.proofs.lemmas.run.SessionCalls.{broke_later, took_both}
+use Rattle.certify.proofs.lemmas.run.RunStateCalls.{broke_later, took_both}
 use Rattle.certify.proofs.lemmas.run.Stopping.{front_whole}
 use Rattle.certify.proofs.lemmas.run.Written.{written_certifies}
 use Rattle.certify.specs.run.Quiet.{Proof}
 
 -- a session before its first command, whose certificate is written to this writer
-pub record IsNew {C : Type 0} (seen : C → Writer) (budget : ℕ) (certificate : Writer) (s : Session C) : Type 0 where
+pub record IsNew {C : Type 0} (seen : C → Writer) (budget : ℕ) (certificate : Writer) (s : RunState C) : Type 0 where
   pub steps : steps_in s.solver ≡ []
   pub target : target_of seen (proof_in s.solver) ≡ Open Varisat uncounted (empty_sink certificate)
   pub rounds : s.solver.clock.steps ≡ 0
@@ -68,7 +68,7 @@ enough_so : (x y : Reader) (P Q : List ℕ → Type 0) → ((text : List ℕ) �
 enough_so x y P Q f h = record { text = h.text; front = h.front; over = h.over; few = h.few; holds = λ rest k. f (h.text ++ rest) (h.holds rest k) }
 
 -- a reader of which nothing was read ahead
-pub fresh_source : {R : Type 0} (seen : R → Reader) (r : R) (a : Ahead) → waiting a ≡ [] → a.reads ≡ 0 → source_in seen r a ≡ unread (seen r)
+pub fresh_source : {R : Type 0} (seen : R → Reader) (r : R) (a : LastPiece) → waiting_bytes a ≡ [] → a.reads ≡ 0 → source_in seen r a ≡ unread (seen r)
 fresh_source seen r a e f = rw (e, f) refl
 
 -- WHAT A TARGET TOOK
@@ -115,7 +115,7 @@ module _ {C : Type 0} (seen : C → Writer) (w : Writer) (p q : Proof C) (opened
 
 -- A RUN THAT WAS FINISHED
 
-module _ {C : Type 0} (seen : C → Writer) (budget : ℕ) (w : Writer) (s t : Session C) (fresh : IsNew seen budget w s) (text : List ℕ) (at : Option ℕ) (summary : Summary) (given : C) (u v z : Writer)
+module _ {C : Type 0} (seen : C → Writer) (budget : ℕ) (w : Writer) (s t : RunState C) (fresh : IsNew seen budget w s) (text : List ℕ) (at : Option ℕ) (summary : Summary) (given : C) (u v z : Writer)
     (serves : ServesWhole seen start (reading text) (length (written text).0) at s t u v) (closed : ClosedBy seen t.solver given) (took : WriterTakes v z []) (sums : SumsUp at t summary) where
   made_all : steps_in t.solver ≡ serves.took.0
   made_all = serves.took.1.history ∙ ap (λ xs. serves.took.0 ++ xs) fresh.steps ∙ append-nil serves.took.0
@@ -143,22 +143,22 @@ module _ {C : Type 0} (seen : C → Writer) (budget : ℕ) (w : Writer) (s t : S
     kinds = ap (λ rs. map (λ (r : AskReport). r.answer) rs) asks_are ∙ serves.serves.kinds;
     spent =
         let given = identities_given start (accepted_of start (reading text).0) in
-        subst (λ rs. AreSpent budget 0 given rs) (sym asks_are)
-        (subst (λ n. AreSpent n 0 given serves.reports) fresh.budget_is (subst (λ n. AreSpent s.budget n given serves.reports) fresh.rounds serves.serves.spent));
+        subst (λ rs. AreWithinBudget budget 0 given rs) (sym asks_are)
+        (subst (λ n. AreWithinBudget n 0 given serves.reports) fresh.budget_is (subst (λ n. AreWithinBudget s.budget n given serves.reports) fresh.rounds serves.serves.spent));
   }
 
-  followed : ServesCommands start [] (steps_in t.solver) (accepted_of start (reading text).0) serves.serves.outcomes (asked_steps serves.reports)
-  followed = subst (λ (xs : List Step). ServesCommands start xs (steps_in t.solver) (accepted_of start (reading text).0) serves.serves.outcomes (asked_steps serves.reports)) fresh.steps serves.serves.follows
+  followed : ServesCommands start [] (steps_in t.solver) (accepted_of start (reading text).0) serves.serves.outcomes (rounds_of_asks serves.reports)
+  followed = subst (λ (xs : List Step). ServesCommands start xs (steps_in t.solver) (accepted_of start (reading text).0) serves.serves.outcomes (rounds_of_asks serves.reports)) fresh.steps serves.serves.follows
 
-  certified_made : Certifies the_checking (End ∷ serves.took.0) None [] (expected start (accepted_of start (reading text).0) serves.serves.outcomes) (asked_steps serves.reports)
+  certified_made : Certifies checker_rules (End ∷ serves.took.0) None [] (expected start (accepted_of start (reading text).0) serves.serves.outcomes) (rounds_of_asks serves.reports)
   certified_made =
       let all = End ∷ serves.took.0 in
-      let last : Certifies the_checking all None (steps_in t.solver) (Finish ∷ []) [] = subst (λ (xs : List Step). Certifies the_checking all None xs (Finish ∷ []) []) (sym made_all) (ordered tt finish complete) in
+      let last : Certifies checker_rules all None (steps_in t.solver) (Finish ∷ []) [] = subst (λ (xs : List Step). Certifies checker_rules all None xs (Finish ∷ []) []) (sym made_all) (ordered tt finish complete) in
       made_certifies all followed (subst MayAll (sym made_all) may.0) last
 
-  follows : ServesCommands start [] serves.took.0 (accepted_of start (reading text).0) serves.serves.outcomes (asked_steps summary.asks.items)
-  follows = subst (λ rs. ServesCommands start [] serves.took.0 (accepted_of start (reading text).0) serves.serves.outcomes (asked_steps rs)) (sym asks_are)
-      (subst (λ (xs : List Step). ServesCommands start [] xs (accepted_of start (reading text).0) serves.serves.outcomes (asked_steps serves.reports)) made_all followed)
+  follows : ServesCommands start [] serves.took.0 (accepted_of start (reading text).0) serves.serves.outcomes (rounds_of_asks summary.asks.items)
+  follows = subst (λ rs. ServesCommands start [] serves.took.0 (accepted_of start (reading text).0) serves.serves.outcomes (rounds_of_asks rs)) (sym asks_are)
+      (subst (λ (xs : List Step). ServesCommands start [] xs (accepted_of start (reading text).0) serves.serves.outcomes (rounds_of_asks serves.reports)) made_all followed)
 
   is_backed : CertificateGuarantee text budget summary serves.text (text_in Varisat text_of.written)
   is_backed = record {
@@ -166,8 +166,8 @@ module _ {C : Type 0} (seen : C → Writer) (budget : ℕ) (w : Writer) (s t : S
     steps = text_of.written;
     certificate = text_of.spells refl;
     accepted = (sessions_are_accepted text_of.written (cuts_are_free (End ∷ serves.took.0) text_of.written text_of.counting text_of.cuts may).may).0;
-    certifies = subst (λ rs. Certifies the_checking text_of.written None [] (expected start (accepted_of start (reading text).0) serves.serves.outcomes) (asked_steps rs)) (sym asks_are)
-        (written_certifies (End ∷ serves.took.0) text_of.written text_of.counting (expected start (accepted_of start (reading text).0) serves.serves.outcomes) (asked_steps serves.reports) text_of.cuts may certified_made);
+    certifies = subst (λ rs. Certifies checker_rules text_of.written None [] (expected start (accepted_of start (reading text).0) serves.serves.outcomes) (rounds_of_asks rs)) (sym asks_are)
+        (written_certifies (End ∷ serves.took.0) text_of.written text_of.counting (expected start (accepted_of start (reading text).0) serves.serves.outcomes) (rounds_of_asks serves.reports) text_of.cuts may certified_made);
     made = serves.took.0;
     follows = follows;
     counting = text_of.counting;
@@ -199,7 +199,7 @@ none_both u v w n m = (m.0 ∙ n.0, m.1 ∙ n.1)
 one_both : (u v w : Writer) → NoneFailed u v → OneFailed v w → OneFailed u w
 one_both u v w n m = (let a = n.0 in let b = m.0 in omega arith, m.1, m.2 ∙ n.1)
 
-module _ {C : Type 0} (seen : C → Writer) (budget : ℕ) (w : Writer) (s t : Session C) (fresh : IsNew seen budget w s) (x : Reader) (b : Source) (bounded : b.reads ≤ most_reads) (given : C) (u v z : Writer) where
+module _ {C : Type 0} (seen : C → Writer) (budget : ℕ) (w : Writer) (s t : RunState C) (fresh : IsNew seen budget w s) (x : Reader) (b : Source) (bounded : b.reads ≤ most_reads) (given : C) (u v z : Writer) where
   -- all was served, and the end isn't finished
   ended_fault : (e : RunFault) (at : Option ℕ) → ServesScript seen start reading written (Ok at) (unread x) b s t u v → FaultSays e (OneFailed v z × ClosedBy seen t.solver given) (NoneFailed v z × GivenBack seen BreaksEmitting t.solver given) (NoneFailed v z × GivenBack seen ComesBySteps t.solver given)
       → FinishesOrFaults (Err e) budget (x, b.reader) (u, z) (w, seen given)
@@ -326,7 +326,7 @@ module _ {C : Type 0} (seen : C → Writer) (budget : ℕ) (w : Writer) (s t : S
   is_open_yet (Ok at) h = took_open_target seen w (proof_in s.solver) (proof_in t.solver) fresh.target (h.2 b.reader.given (covers_given b)).took
   is_open_yet (Err e) h = tt
 
-  pub is_ready : (served : Result (Option ℕ) RunFault) → ServesScript seen start reading written served (unread x) b s t u v → OnOk served (IsReady t.solver)
+  pub is_ready : (served : Result (Option ℕ) RunFault) → ServesScript seen start reading written served (unread x) b s t u v → OnOk served (IsReadySolver t.solver)
   is_ready (Ok at) h = h.1
   is_ready (Err e) h = tt
 

@@ -1,20 +1,20 @@
 -- One command that is served.
 use Rattle.std.proofs.Common.{ℕ, ◌+◌, ◌≡◌, Some, None, List, [], ◌∷◌, refl, sym, ap, subst}
 use Rattle.sat_base.specs.script.Script.{Literal, Command, Clause, Ask, Hide, Witness, Sample, ScriptEnding}
-use Rattle.sat_base.specs.script.Judge.{Judge, Refusal, accepted, accepted_of, refusal_of}
+use Rattle.sat_base.specs.script.ScriptState.{ScriptState, Refusal, accepted, accepted_of, refusal_of}
 use Rattle.sat_base.specs.steps.Steps.{Step}
 use Rattle.sat_checker.specs.matching.Expected.{Outcome}
-use Rattle.sat_checker.specs.matching.ProofChecking.{the_checking}
+use Rattle.sat_checker.specs.matching.ProofChecking.{checker_rules}
 use Rattle.certify.specs.answers.Answers.{answers_from, refused_line, outcome_text}
 use Rattle.certify.specs.answers.RightAnswers.{IsRight, AreRight}
-use Rattle.certify.specs.run.FinishedRun.{answer_kind, AreSpent, IsBounded, SpendsWithinBudget, identities_given}
+use Rattle.certify.specs.run.FinishedRun.{answer_kind, AreWithinBudget, IsBounded, SpendsWithinBudget, identities_given}
 use Rattle.certify.specs.run.Serving.{RunPlace, Serves, place_after}
 use Rattle.certify.specs.run.Stretches.{AskStretches, IsNoAsk, ServesCommands, MayFor, Stretch, due_for, made_ask, made_one}
 use Rattle.certify.specs.declared.summary.AskReport.{AskReport}
 
 -- A COMMAND THAT IS REFUSED
 
-pub accepted_refused : (j : Judge) (c : Command) (r : Refusal) (cs : List Command) → refusal_of j c ≡ Some r → accepted_of j (c ∷ cs) ≡ accepted_of j cs
+pub accepted_refused : (j : ScriptState) (c : Command) (r : Refusal) (cs : List Command) → refusal_of j c ≡ Some r → accepted_of j (c ∷ cs) ≡ accepted_of j cs
 accepted_refused j c r cs e = rw e refl
 
 pub serves_refused : (budget : ℕ) (a : RunPlace) (c : Command) (r : Refusal) → refusal_of a.judge c ≡ Some r → Serves budget a (record a { number = a.number + 1 }) (c ∷ []) (refused_line a.number r) [] 1
@@ -24,28 +24,28 @@ serves_refused budget a c r e = record {
   says = λ left ending rest. rw e refl;
   refuses = λ left. rw e refl;
   kinds = refl;
-  spent = λ left rest x. subst (λ cs. AreSpent budget a.rounds (identities_given a.judge cs) rest) (sym (accepted_refused a.judge c r left e)) x;
+  spent = λ left rest x. subst (λ cs. AreWithinBudget budget a.rounds (identities_given a.judge cs) rest) (sym (accepted_refused a.judge c r left e)) x;
   follows = λ to left rest counts x. subst (λ cs. ServesCommands a.judge a.steps to cs rest counts) (sym (accepted_refused a.judge c r left e)) x;
 }
 
 -- ONE THAT IS NO ASK
 
-pub accepted_next : (j : Judge) (c : Command) (cs : List Command) → refusal_of j c ≡ None → accepted_of j (c ∷ cs) ≡ c ∷ accepted_of (accepted c j) cs
+pub accepted_next : (j : ScriptState) (c : Command) (cs : List Command) → refusal_of j c ≡ None → accepted_of j (c ∷ cs) ≡ c ∷ accepted_of (accepted c j) cs
 accepted_next j c cs e = rw e refl
 
-says_none : (k : ℕ) (j : Judge) (c : Command) (cs : List Command) (ending : ScriptEnding) (os : List Outcome) → IsNoAsk c → refusal_of j c ≡ None → answers_from k j (c ∷ cs) ending os ≡ answers_from (k + 1) (accepted c j) cs ending os
+says_none : (k : ℕ) (j : ScriptState) (c : Command) (cs : List Command) (ending : ScriptEnding) (os : List Outcome) → IsNoAsk c → refusal_of j c ≡ None → answers_from k j (c ∷ cs) ending os ≡ answers_from (k + 1) (accepted c j) cs ending os
 says_none k j (Ask ls) cs ending os h e = absurd h
 says_none k j x cs ending os h e = rw e refl
 
-right_next : (j : Judge) (c : Command) (cs : List Command) (os : List Outcome) → IsNoAsk c → AreRight (accepted c j) cs os → AreRight j (c ∷ cs) os
+right_next : (j : ScriptState) (c : Command) (cs : List Command) (os : List Outcome) → IsNoAsk c → AreRight (accepted c j) cs os → AreRight j (c ∷ cs) os
 right_next j (Ask ls) cs os h x = absurd h
 right_next j e cs os h x = x
 
-given_next : (j : Judge) (c : Command) (cs : List Command) → IsNoAsk c → identities_given j (c ∷ cs) ≡ identities_given (accepted c j) cs
+given_next : (j : ScriptState) (c : Command) (cs : List Command) → IsNoAsk c → identities_given j (c ∷ cs) ≡ identities_given (accepted c j) cs
 given_next j (Ask ls) cs h = absurd h
 given_next j e cs h = refl
 
-pub serves_plain : (budget : ℕ) (a : RunPlace) (c : Command) (steps : List Step) → IsNoAsk c → refusal_of a.judge c ≡ None → Stretch (MayFor c) a.steps steps (due_for (the_checking.unsat a.steps) c a.judge)
+pub serves_plain : (budget : ℕ) (a : RunPlace) (c : Command) (steps : List Step) → IsNoAsk c → refusal_of a.judge c ≡ None → Stretch (MayFor c) a.steps steps (due_for (checker_rules.unsat a.steps) c a.judge)
     → Serves budget a (place_after a c steps a.rounds) (c ∷ []) [] [] 0
 serves_plain budget a c steps h e stretch = record {
   outcomes = [];
@@ -54,8 +54,8 @@ serves_plain budget a c steps h e stretch = record {
   refuses = λ left. rw e refl;
   kinds = refl;
   spent = λ left rest x.
-      subst (λ cs. AreSpent budget a.rounds (identities_given a.judge cs) rest) (sym (accepted_next a.judge c left e))
-      (subst (λ ns. AreSpent budget a.rounds ns rest) (sym (given_next a.judge c (accepted_of (accepted c a.judge) left) h)) x);
+      subst (λ cs. AreWithinBudget budget a.rounds (identities_given a.judge cs) rest) (sym (accepted_next a.judge c left e))
+      (subst (λ ns. AreWithinBudget budget a.rounds ns rest) (sym (given_next a.judge c (accepted_of (accepted c a.judge) left) h)) x);
   follows = λ to left rest counts x.
       subst (λ cs. ServesCommands a.judge a.steps to cs rest counts) (sym (accepted_next a.judge c left e)) (made_one steps h stretch x);
 }
@@ -73,7 +73,7 @@ serves_ask budget a ls o report steps e right kind spent bounded made = record {
   refuses = λ left. rw e refl;
   kinds = ap (λ k. k ∷ []) kind;
   spent = λ left rest x.
-      subst (λ cs. AreSpent budget a.rounds (identities_given a.judge cs) (report ∷ rest)) (sym (accepted_next a.judge (Ask ls) left e)) (spent, bounded, x);
+      subst (λ cs. AreWithinBudget budget a.rounds (identities_given a.judge cs) (report ∷ rest)) (sym (accepted_next a.judge (Ask ls) left e)) (spent, bounded, x);
   follows = λ to left rest counts x.
       subst (λ cs. ServesCommands a.judge a.steps to cs (o ∷ rest) (report.steps ∷ counts)) (sym (accepted_next a.judge (Ask ls) left e)) (made_ask steps made x);
 }

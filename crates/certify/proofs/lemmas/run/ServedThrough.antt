@@ -7,7 +7,7 @@ use Rattle.sat_base.specs.device.Device.{Writer, WriterTakes}
 use Rattle.sat_base.specs.device.Reading.{Source, AtEnd}
 use Rattle.sat_base.specs.script.Script.{Command, Ask, ScriptEnding, Clean, Malformed}
 use Rattle.sat_base.specs.script.Language.{Reading, onto_commands}
-use Rattle.sat_base.specs.script.Judge.{Judge, accepted, accepted_of, after_command}
+use Rattle.sat_base.specs.script.ScriptState.{ScriptState, accepted, accepted_of, after_command}
 use Rattle.sat_base.specs.steps.Steps.{Step}
 use Rattle.sat_base.proofs.lemmas.device.Writes as writes
 use Rattle.sat_checker.specs.matching.Expected.{Outcome}
@@ -22,16 +22,16 @@ use Rattle.certify.specs.declared.script.ScriptEnd.{ScriptEnd}
 use Rattle.certify.specs.declared.script.ScriptEnd.TheVariants as ends
 use Rattle.certify.specs.declared.script.reader.ScriptReader.{ScriptReader}
 use Rattle.certify.specs.declared.script.stream.Next.TheVariants as next
-use Rattle.certify.specs.declared.run.session.Session.{Session}
+use Rattle.certify.specs.declared.run.session.RunState.{RunState}
 use Rattle.certify.specs.declared.summary.AskReport.{AskReport}
-use Rattle.certify.specs.script.Ahead.{TakesSomeOrEnds, TakesSome as TookOf}
+use Rattle.certify.specs.script.LastPiece.{TakesSomeOrEnds, TakesSome as TookOf}
 use Rattle.certify.specs.script.Commands.{HasWhole, ReaderMeans, MeansIf, ReachesCommand, end_reading, end_if}
 use Rattle.certify.specs.script.Streaming.{Arrives, NextComes}
-use Rattle.certify.specs.run.FinishedRun.{malformed_at, answer_kind, asked_steps}
+use Rattle.certify.specs.run.FinishedRun.{malformed_at, answer_kind, rounds_of_asks}
 use Rattle.certify.specs.run.Unfinished.{Exceeds, TookAnswersFront}
-use Rattle.certify.specs.run.SolverCalls.{FaultSays, IsCaused, IsReady, proof_in}
+use Rattle.certify.specs.run.SolverCalls.{FaultSays, IsCaused, IsReadySolver, proof_in}
 use Rattle.certify.specs.run.Serving.{RunPlace, Serves}
-use Rattle.certify.specs.run.Standing.{CarriedOut, CausedOver, RunGoesOn, JudgeIsAt, ServedNext, StopsCarrying, StopsOver, WritesBoth, last_place, place_in}
+use Rattle.certify.specs.run.Standing.{CarriedOut, CausedOver, RunGoesOn, HasStateBetweenCommands, ServedNext, StopsCarrying, StopsOver, WritesBoth, last_place, place_in}
 use Rattle.certify.specs.run.Stretches.{ServesCommands, made_none}
 use Rattle.certify.specs.run.ServedScript.{ServesScript, FailsWhole, ServesThrough, ServedAll, ServesTo, ServesWhole, run_fault}
 use Rattle.certify.proofs.lemmas.confirm.Streams.{all_over, covers_fault, nothing_behind, taken_front}
@@ -39,7 +39,7 @@ use Rattle.certify.proofs.lemmas.confirm.Joining.{covers_took, failed_then, took
 use Rattle.certify.proofs.lemmas.run.CallFaults.{caused_map}
 use Rattle.certify.proofs.lemmas.run.Caused.{after_both, caused_all, exceeds_later}
 use Rattle.certify.proofs.lemmas.run.Served.{serves_none, serves_then}
-use Rattle.certify.proofs.lemmas.run.SessionCalls.{took_none, took_both, broke_later}
+use Rattle.certify.proofs.lemmas.run.RunStateCalls.{took_none, took_both, broke_later}
 use Rattle.certify.proofs.lemmas.run.Stopping.{front_later, front_none}
 use Rattle.certify.specs.run.Quiet.{Solver}
 
@@ -67,13 +67,13 @@ to_then budget a b cs script to s t rs qs k l f g = record {
   spent = f.spent script.0 qs g.spent;
   follows =
       subst (λ ns. ServesCommands a.judge a.steps to (accepted_of a.judge (cs ++ script.0)) (f.outcomes ++ g.outcomes) ns) (sym (map-append (λ (r : AskReport). r.steps) rs qs))
-      (f.follows to script.0 g.outcomes (asked_steps qs) g.follows);
+      (f.follows to script.0 g.outcomes (rounds_of_asks qs) g.follows);
 }
 
 -- SESSIONS
 
 module _ {C : Type 0} (seen : C → Writer) where
-  pub served_none : (j : Judge) (s : Session C) (w : Writer) → JudgeIsAt s j → ServedAll seen j [] s s w w
+  pub served_none : (j : ScriptState) (s : RunState C) (w : Writer) → HasStateBetweenCommands s j → ServedAll seen j [] s s w w
   served_none j s w at = record {
     judge = j;
     at = at;
@@ -91,7 +91,7 @@ module _ {C : Type 0} (seen : C → Writer) where
   }
 
   -- one more
-  pub served_more : (j : Judge) (cs : List Command) (c : Command) (a b d : Session C) (u v w : Writer) → ServedAll seen j cs a b u v → ServedNext seen b d c v w → ServedAll seen j (cs ++ c ∷ []) a d u w
+  pub served_more : (j : ScriptState) (cs : List Command) (c : Command) (a b d : RunState C) (u v w : Writer) → ServedAll seen j cs a b u v → ServedNext seen b d c v w → ServedAll seen j (cs ++ c ∷ []) a d u w
   served_more j cs c a b d u v w f g =
       let h = g.serves f.judge f.at in
       let l = length-append cs (c ∷ []) in
@@ -115,7 +115,7 @@ module _ {C : Type 0} (seen : C → Writer) where
       }
 
   -- and the end
-  pub served_whole : (j : Judge) (cs : List Command) (script : Reading) (k : ℕ) (at : Option ℕ) (a b d : Session C) (u v w : Writer) → (f : ServedAll seen j cs a b u v) → ServesWhole seen f.judge script k at b d v w → ServesWhole seen j (onto_commands cs script) (length cs + k) at a d u w
+  pub served_whole : (j : ScriptState) (cs : List Command) (script : Reading) (k : ℕ) (at : Option ℕ) (a b d : RunState C) (u v w : Writer) → (f : ServedAll seen j cs a b u v) → ServesWhole seen f.judge script k at b d v w → ServesWhole seen j (onto_commands cs script) (length cs + k) at a d u w
   served_whole j cs script k at a b d u v w f g =
       let m = f.counted in let n = g.counted in
       let p = f.refusals in let q = g.refusals in
@@ -136,19 +136,19 @@ module _ {C : Type 0} (seen : C → Writer) where
       }
 
   -- one command is the last
-  pub served_last : (j : Judge) (c : Command) (script : Reading) (at : Option ℕ) (a b d : Session C) (u v w : Writer) → JudgeIsAt a j → ServedNext seen a b c u v → ((i : Judge) → JudgeIsAt b i → ServesWhole seen i script 0 at b d v w) → ServesWhole seen j (onto_commands (c ∷ []) script) 1 at a d u w
+  pub served_last : (j : ScriptState) (c : Command) (script : Reading) (at : Option ℕ) (a b d : RunState C) (u v w : Writer) → HasStateBetweenCommands a j → ServedNext seen a b c u v → ((i : ScriptState) → HasStateBetweenCommands b i → ServesWhole seen i script 0 at b d v w) → ServesWhole seen j (onto_commands (c ∷ []) script) 1 at a d u w
   served_last j c script at a b d u v w is f g =
       let h : ServedAll seen j (c ∷ []) a b u v = served_more j [] c a a b u u v (served_none j a u is) f in
       served_whole j (c ∷ []) script 0 at a b d u v w h (g h.judge h.at)
 
-  pub served_last_if : (j : Judge) (c : Command) (script : Reading) (r : Result (Option ℕ) RunFault) (a b d : Session C) (u v w : Writer) → JudgeIsAt a j → ServedNext seen a b c u v → ((i : Judge) → JudgeIsAt b i → IfOk r (λ at. ServesWhole seen i script 0 at b d v w)) → IfOk r (λ at. ServesWhole seen j (onto_commands (c ∷ []) script) 1 at a d u w)
+  pub served_last_if : (j : ScriptState) (c : Command) (script : Reading) (r : Result (Option ℕ) RunFault) (a b d : RunState C) (u v w : Writer) → HasStateBetweenCommands a j → ServedNext seen a b c u v → ((i : ScriptState) → HasStateBetweenCommands b i → IfOk r (λ at. ServesWhole seen i script 0 at b d v w)) → IfOk r (λ at. ServesWhole seen j (onto_commands (c ∷ []) script) 1 at a d u w)
   served_last_if j c script (Ok at) a b d u v w is f g = served_last j c script at a b d u v w is f g
   served_last_if j c script (Err e) a b d u v w is f g = tt
 
   -- THE END
 
   -- nothing more is told
-  pub ends_clean : (j : Judge) (s : Session C) (w : Writer) → ServesWhole seen j ([], Clean) 0 None s s w w
+  pub ends_clean : (j : ScriptState) (s : RunState C) (w : Writer) → ServesWhole seen j ([], Clean) 0 None s s w w
   ends_clean j s w = record {
     took = took_none seen (proof_in s.solver);
     counted = omega arith;
@@ -163,7 +163,7 @@ module _ {C : Type 0} (seen : C → Writer) where
   }
 
   -- its last line
-  pub ends_malformed : (j : Judge) (a b : Session C) (u v : Writer) (number : ℕ) → number ≡ a.commands + 1 → b.solver ≡ a.solver → b.commands ≡ a.commands → b.refused ≡ a.refused → b.asks ≡ a.asks → WriterTakes u v (malformed_line number) → ServesWhole seen j ([], Malformed) 0 (Some number) a b u v
+  pub ends_malformed : (j : ScriptState) (a b : RunState C) (u v : Writer) (number : ℕ) → number ≡ a.commands + 1 → b.solver ≡ a.solver → b.commands ≡ a.commands → b.refused ≡ a.refused → b.asks ≡ a.asks → WriterTakes u v (malformed_line number) → ServesWhole seen j ([], Malformed) 0 (Some number) a b u v
   ends_malformed j a b u v number e solver commands refused asks told = record {
     took = subst (λ x. ComesBySteps seen (proof_in a.solver) (proof_in x)) (sym solver) (took_none seen (proof_in a.solver));
     counted = omega (arith, commands);
@@ -178,11 +178,11 @@ module _ {C : Type 0} (seen : C → Writer) where
   }
 
   -- the ask behind a header, which has no number
-  unnumbered : (j : Judge) (k l : ℕ) (os : List Outcome) → answers_from k j (Ask [] ∷ []) Clean os ≡ answers_from l j (Ask [] ∷ []) Clean os
+  unnumbered : (j : ScriptState) (k l : ℕ) (os : List Outcome) → answers_from k j (Ask [] ∷ []) Clean os ≡ answers_from l j (Ask [] ∷ []) Clean os
   unnumbered j k l [] = refl
   unnumbered j k l (o ∷ os) = refl
 
-  pub asked_stops : {T : Type 0} (r : Result T RunFault) (a : Session C) (u v : Writer) → StopsCarrying r a (Ask []) ([], Clean) u v → StopsOver r a (Ask [] ∷ [], Clean) u v
+  pub asked_stops : {T : Type 0} (r : Result T RunFault) (a : RunState C) (u v : Writer) → StopsCarrying r a (Ask []) ([], Clean) u v → StopsOver r a (Ask [] ∷ [], Clean) u v
   asked_stops (Ok x) a u v h = tt
   asked_stops (Err e) a u v h = λ j at.
       let k = h j at.live at.means refl in
@@ -201,7 +201,7 @@ module _ {C : Type 0} (seen : C → Writer) where
         };
       }
 
-  pub ends_asked : (j : Judge) (a b : Session C) (u v : Writer) → JudgeIsAt a j → CarriedOut seen a b (Ask []) u v → ServesWhole seen j (Ask [] ∷ [], Clean) 0 None a b u v
+  pub ends_asked : (j : ScriptState) (a b : RunState C) (u v : Writer) → HasStateBetweenCommands a j → CarriedOut seen a b (Ask []) u v → ServesWhole seen j (Ask [] ∷ [], Clean) 0 None a b u v
   ends_asked j a b u v at h =
       let k = h.serves j at.live at.means refl in
       let place = place_in b (accepted (Ask []) j) in
@@ -234,7 +234,7 @@ module _ {C : Type 0} (seen : C → Writer) where
   -- FAULTS
 
   -- behind one command that was served
-  pub stops_behind : {T : Type 0} (r : Result T RunFault) (c : Command) (script : Reading) (a b : Session C) (u v w : Writer) → ServedNext seen a b c u v → StopsOver r b script v w → StopsOver r a (onto_commands (c ∷ []) script) u w
+  pub stops_behind : {T : Type 0} (r : Result T RunFault) (c : Command) (script : Reading) (a b : RunState C) (u v w : Writer) → ServedNext seen a b c u v → StopsOver r b script v w → StopsOver r a (onto_commands (c ∷ []) script) u w
   stops_behind (Ok x) c script a b u v w f g = tt
   stops_behind (Err e) c script a b u v w f g = λ j at.
       let h = f.serves j at in
@@ -261,7 +261,7 @@ module _ {C : Type 0} (seen : C → Writer) where
 
 -- READING ON
 
-pub through_none : {C : Type 0} (seen : C → Writer) (j : Judge) (text counted : List ℕ → Reading) (a : Source) (reader : ScriptReader) (s : Session C) (w : Writer) → ReaderMeans reader text → MeansIf false reader counted → RunGoesOn s → JudgeIsAt s j
+pub through_none : {C : Type 0} (seen : C → Writer) (j : ScriptState) (text counted : List ℕ → Reading) (a : Source) (reader : ScriptReader) (s : RunState C) (w : Writer) → ReaderMeans reader text → MeansIf false reader counted → RunGoesOn s → HasStateBetweenCommands s j
     → ServesThrough seen j text counted a a reader s s w w
 through_none seen j text counted a reader s w m n g at = record {
   commands = [];
@@ -276,7 +276,7 @@ through_none seen j text counted a reader s w m n g at = record {
   served = served_none seen j s w at;
 }
 
-module _ {C : Type 0} (seen : C → Writer) (j : Judge) (text counted : List ℕ → Reading) (a b : Source) (reader after_reader : ScriptReader) (old mid : Session C) (u v : Writer) (through : ServesThrough seen j text counted a b reader old mid u v) (script_open : AtEnd a → ⊥) where
+module _ {C : Type 0} (seen : C → Writer) (j : ScriptState) (text counted : List ℕ → Reading) (a b : Source) (reader after_reader : ScriptReader) (old mid : RunState C) (u v : Writer) (through : ServesThrough seen j text counted a b reader old mid u v) (script_open : AtEnd a → ⊥) where
   mid_open : AtEnd b → ⊥
   mid_open = took_open a b script_open through.took
 
@@ -297,11 +297,11 @@ module _ {C : Type 0} (seen : C → Writer) (j : Judge) (text counted : List ℕ
   served_so_far c back = behind c (λ total. through.left (rest_in total b)) v back (λ total k. refl) (λ total k. front_none mid.budget mid.solver.clock.steps (mid.commands + 1) through.served.judge (through.left (rest_in total b)) v)
 
   -- why no more was served, but for devices and memory
-  caused : (e : RunFault) (c : Source) (new : Session C) (script : List ℕ → Reading) → ((total : List ℕ) → Covers c total → Covers b total) → ((total : List ℕ) → Covers c total → through.left (rest_in total b) ≡ script total)
-      → IsCaused e (HasFullStore new.solver) ((total : List ℕ) (i : Judge) → JudgeIsAt mid i → Exceeds mid.commands i (script total) (steps_in new.solver)) → IsCaused e (HasFullStore new.solver) ((total : List ℕ) → Covers c total → Exceeds old.commands j (text (rest_in total a)) (steps_in new.solver))
+  caused : (e : RunFault) (c : Source) (new : RunState C) (script : List ℕ → Reading) → ((total : List ℕ) → Covers c total → Covers b total) → ((total : List ℕ) → Covers c total → through.left (rest_in total b) ≡ script total)
+      → IsCaused e (HasFullStore new.solver) ((total : List ℕ) (i : ScriptState) → HasStateBetweenCommands mid i → Exceeds mid.commands i (script total) (steps_in new.solver)) → IsCaused e (HasFullStore new.solver) ((total : List ℕ) → Covers c total → Exceeds old.commands j (text (rest_in total a)) (steps_in new.solver))
   caused e c new script back is h =
       let f = through.served in
-      caused_map e (HasFullStore new.solver) ((total : List ℕ) (i : Judge) → JudgeIsAt mid i → Exceeds mid.commands i (script total) (steps_in new.solver)) (HasFullStore new.solver) ((total : List ℕ) → Covers c total → Exceeds old.commands j (text (rest_in total a)) (steps_in new.solver)) (λ x. x)
+      caused_map e (HasFullStore new.solver) ((total : List ℕ) (i : ScriptState) → HasStateBetweenCommands mid i → Exceeds mid.commands i (script total) (steps_in new.solver)) (HasFullStore new.solver) ((total : List ℕ) → Covers c total → Exceeds old.commands j (text (rest_in total a)) (steps_in new.solver)) (λ x. x)
       (λ k total y. subst (λ s. Exceeds old.commands j s (steps_in new.solver)) (sym (through.reads total (back total y) ∙ ap (onto_commands through.commands) (is total y)))
       (exceeds_later old.commands mid.commands through.commands (script total) j (steps_in new.solver) f.counted (subst (λ i. Exceeds mid.commands i (script total) (steps_in new.solver)) f.judges (k total f.judge f.at)))) h
 
@@ -311,8 +311,8 @@ module _ {C : Type 0} (seen : C → Writer) (j : Judge) (text counted : List ℕ
   unread errors.OutOfMemory c f = ((took_passed true a c (took_then true a b c through.took f), none_failed, through.served.took), served_so_far c (λ total k. covers_took true b c total mid_open f k), tt)
 
   -- the end
-  module _ (c : Source) (new : Session C) (w : Writer) (took : TookOf false b c) (left plain : Reading) (is : (total : List ℕ) → Covers c total → through.left (rest_in total b) ≡ left) (is_plain : (total : List ℕ) → Covers c total → through.plain (rest_in total b) ≡ plain) where
-    whole : (r : Result (Option ℕ) RunFault) → OnOk r (IsReady new.solver) → IfOk r (λ at. ServesWhole seen through.served.judge left (length plain.0) at mid new v w) → WritesBoth r seen v w mid.solver new.solver → StopsOver r mid left v w → CausedOver r mid new left → ServesScript seen j text counted r a c old new u w
+  module _ (c : Source) (new : RunState C) (w : Writer) (took : TookOf false b c) (left plain : Reading) (is : (total : List ℕ) → Covers c total → through.left (rest_in total b) ≡ left) (is_plain : (total : List ℕ) → Covers c total → through.plain (rest_in total b) ≡ plain) where
+    whole : (r : Result (Option ℕ) RunFault) → OnOk r (IsReadySolver new.solver) → IfOk r (λ at. ServesWhole seen through.served.judge left (length plain.0) at mid new v w) → WritesBoth r seen v w mid.solver new.solver → StopsOver r mid left v w → CausedOver r mid new left → ServesScript seen j text counted r a c old new u w
     whole (Ok at) ready serves both front cause = (
       took_then false a b c through.took took,
       ready,
@@ -326,7 +326,7 @@ module _ {C : Type 0} (seen : C → Writer) (j : Judge) (text counted : List ℕ
     whole (Err e) ready serves both front cause = (
       fails_then seen e a c old.solver mid.solver new.solver u v w (took_passed false a c (took_then false a b c through.took took)) none_failed through.served.took both,
       behind c (λ total. left) w (λ total k. covers_took false b c total mid_open took k) is (λ total k. front through.served.judge through.served.at),
-      caused e c new (λ total. left) (λ total k. covers_took false b c total mid_open took k) is (caused_map e (HasFullStore new.solver) ((i : Judge) → JudgeIsAt mid i → Exceeds mid.commands i left (steps_in new.solver)) (HasFullStore new.solver) (List ℕ → (i : Judge) → JudgeIsAt mid i → Exceeds mid.commands i left (steps_in new.solver)) (λ x. x) (λ k total. k) cause),
+      caused e c new (λ total. left) (λ total k. covers_took false b c total mid_open took k) is (caused_map e (HasFullStore new.solver) ((i : ScriptState) → HasStateBetweenCommands mid i → Exceeds mid.commands i left (steps_in new.solver)) (HasFullStore new.solver) (List ℕ → (i : ScriptState) → HasStateBetweenCommands mid i → Exceeds mid.commands i left (steps_in new.solver)) (λ x. x) (λ k total. k) cause),
     )
 
   no_commands : (e : ScriptEnd) → length (end_if false e).0 ≡ 0
@@ -334,14 +334,14 @@ module _ {C : Type 0} (seen : C → Writer) (j : Judge) (text counted : List ℕ
   no_commands ends.Asked = refl
   no_commands ends.Malformed = refl
 
-  pub ends_so : (c : Source) (new : Session C) (w : Writer) (e : ScriptEnd) (r : Result (Option ℕ) RunFault) → Arrives (next.End e) b c reader after_reader → OnOk r (IsReady new.solver)
-      → ((i : Judge) → JudgeIsAt mid i → IfOk r (λ at. ServesWhole seen i (end_reading e) 0 at mid new v w)) → WritesBoth r seen v w mid.solver new.solver → StopsOver r mid (end_reading e) v w → CausedOver r mid new (end_reading e) → ServesScript seen j text counted r a c old new u w
+  pub ends_so : (c : Source) (new : RunState C) (w : Writer) (e : ScriptEnd) (r : Result (Option ℕ) RunFault) → Arrives (next.End e) b c reader after_reader → OnOk r (IsReadySolver new.solver)
+      → ((i : ScriptState) → HasStateBetweenCommands mid i → IfOk r (λ at. ServesWhole seen i (end_reading e) 0 at mid new v w)) → WritesBoth r seen v w mid.solver new.solver → StopsOver r mid (end_reading e) v w → CausedOver r mid new (end_reading e) → ServesScript seen j text counted r a c old new u w
   ends_so c new w e r came ready serves both front cause =
       whole c new w came.0 (end_reading e) (end_if false e) (came.1 true through.left through.means) (came.1 false through.plain through.counts) r ready
       (subst (λ (n : ℕ). IfOk r (λ at. ServesWhole seen through.served.judge (end_reading e) n at mid new v w)) (sym (no_commands e)) (serves through.served.judge through.served.at)) both front cause
 
-  pub ends_last : (c : Source) (new : Session C) (w : Writer) (e : ScriptEnd) (r : Result (Option ℕ) RunFault) → Arrives (next.Last e) b c reader after_reader → OnOk r (IsReady new.solver)
-      → ((x : Command) → HasWhole after_reader x → (i : Judge) → JudgeIsAt mid i → IfOk r (λ at. ServesWhole seen i (onto_commands (x ∷ []) (end_reading e)) 1 at mid new v w)) → WritesBoth r seen v w mid.solver new.solver
+  pub ends_last : (c : Source) (new : RunState C) (w : Writer) (e : ScriptEnd) (r : Result (Option ℕ) RunFault) → Arrives (next.Last e) b c reader after_reader → OnOk r (IsReadySolver new.solver)
+      → ((x : Command) → HasWhole after_reader x → (i : ScriptState) → HasStateBetweenCommands mid i → IfOk r (λ at. ServesWhole seen i (onto_commands (x ∷ []) (end_reading e)) 1 at mid new v w)) → WritesBoth r seen v w mid.solver new.solver
       → ((x : Command) → HasWhole after_reader x → StopsOver r mid (onto_commands (x ∷ []) (end_reading e)) v w)
       → ((x : Command) → HasWhole after_reader x → CausedOver r mid new (onto_commands (x ∷ []) (end_reading e))) → ServesScript seen j text counted r a c old new u w
   ends_last c new w e r came ready serves both front cause =
@@ -354,7 +354,7 @@ module _ {C : Type 0} (seen : C → Writer) (j : Judge) (text counted : List ℕ
       (subst (λ (i : ℕ). IfOk r (λ at. ServesWhole seen through.served.judge (onto_commands (k.0 ∷ []) (end_reading e)) i at mid new v w)) (sym one) (serves k.0 k.1 through.served.judge through.served.at)) both (front k.0 k.1) (cause k.0 k.1)
 
   -- a command
-  module _ (c : Source) (new : Session C) (w : Writer) (came : Arrives next.Command b c reader after_reader) where
+  module _ (c : Source) (new : RunState C) (w : Writer) (came : Arrives next.Command b c reader after_reader) where
     reaches : ReachesCommand true through.left came.0 after_reader
     reaches = came.3 true through.left through.means
 
@@ -403,7 +403,7 @@ module _ {C : Type 0} (seen : C → Writer) (j : Judge) (text counted : List ℕ
           (λ total k. front reaches.command reaches.whole (reaches.after (rest_in total c)) through.served.judge through.served.at),
       caused e c new (λ total. onto_commands (reaches.command ∷ []) (reaches.after (rest_in total c))) (λ total k. covers_took true b c total mid_open took k)
           (λ total k. ap through.left (taken_front 0 b c came.0 total came.1 k) ∙ reaches.reads (rest_in total c))
-          (caused_map e (HasFullStore new.solver) ((left : Reading) (i : Judge) → JudgeIsAt mid i → Exceeds mid.commands i (onto_commands (reaches.command ∷ []) left) (steps_in new.solver)) (HasFullStore new.solver)
-          ((total : List ℕ) (i : Judge) → JudgeIsAt mid i → Exceeds mid.commands i (onto_commands (reaches.command ∷ []) (reaches.after (rest_in total c))) (steps_in new.solver)) (λ x. x) (λ k total. k (reaches.after (rest_in total c)))
-          (caused_all e (HasFullStore new.solver) Reading (λ left. (i : Judge) → JudgeIsAt mid i → Exceeds mid.commands i (onto_commands (reaches.command ∷ []) left) (steps_in new.solver)) ([], Clean) (cause reaches.command reaches.whole))),
+          (caused_map e (HasFullStore new.solver) ((left : Reading) (i : ScriptState) → HasStateBetweenCommands mid i → Exceeds mid.commands i (onto_commands (reaches.command ∷ []) left) (steps_in new.solver)) (HasFullStore new.solver)
+          ((total : List ℕ) (i : ScriptState) → HasStateBetweenCommands mid i → Exceeds mid.commands i (onto_commands (reaches.command ∷ []) (reaches.after (rest_in total c))) (steps_in new.solver)) (λ x. x) (λ k total. k (reaches.after (rest_in total c)))
+          (caused_all e (HasFullStore new.solver) Reading (λ left. (i : ScriptState) → HasStateBetweenCommands mid i → Exceeds mid.commands i (onto_commands (reaches.command ∷ []) left) (steps_in new.solver)) ([], Clean) (cause reaches.command reaches.whole))),
     )

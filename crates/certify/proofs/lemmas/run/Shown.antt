@@ -6,8 +6,8 @@ use Rattle.std.proofs.lemmas.List.Sums.{sum_by-cons}
 use Rattle.sat_base.specs.steps.Steps.{Step, SolverVarName, UserVarName, DeleteVar, ChangeSamplingMode, AddClause, AtClause, UnitClauses, DeleteClause, ChangeHashBits, Model, Assumptions, FailedAssumptions, End}
 use Rattle.sat_base.specs.steps.StepText.{SpellsSteps}
 use Rattle.sat_checker.specs.matching.Expected.{Outcome, Sat, Unsat, Unknown}
-use Rattle.sat_checker.specs.matching.ProofChecking.{the_checking}
-use Rattle.certify.specs.run.Advancing.{AdvanceTimes}
+use Rattle.sat_checker.specs.matching.ProofChecking.{checker_rules}
+use Rattle.certify.specs.run.Advancing.{AdvanceTimesStored}
 use Rattle.certify.specs.run.Learning.{EachLearns, assumed_times}
 use Rattle.certify.specs.run.Stretches.{LearnsEachRound}
 
@@ -42,7 +42,7 @@ ends (s ∷ a) (t ∷ b) x y e h = let f : a ++ x ≡ b ++ y = cc in ends a b x 
 
 -- ROUND BY ROUND
 
-few_learned : (earlier steps : List Step) (k : ℕ) → AdvanceTimes earlier steps k → k ≤ length steps
+few_learned : (earlier steps : List Step) (k : ℕ) → AdvanceTimesStored earlier steps k → k ≤ length steps
 few_learned earlier [] k h = omega (arith, h)
 few_learned earlier (step ∷ steps) k (inl h) = let rest = few_learned earlier steps k h.0 in omega (arith, rest)
 few_learned earlier (step ∷ steps) k (inr h) = let rest = few_learned earlier steps h.0 h.3 in omega (arith, rest, h.1)
@@ -67,7 +67,7 @@ module _ (steps : List Step) where
       let again : (l.behind ++ (Assumptions [] ∷ l.middle)) ++ opened ≡ l.behind ++ closed = append_assoc l.behind (Assumptions [] ∷ l.middle) opened in
       let last : assumed_times closed ≡ 2 * (asks + 1) = (let c = assumed_append l.middle opened in omega (arith, c, l.place, l.only)) in
       let learned = few_learned opened l.middle l.learned l.times in
-      let took = few_rounds (the_checking.unsat opened) o n l.learned l.counts in
+      let took = few_rounds (checker_rules.unsat opened) o n l.learned l.counts in
       let whole = length-append l.middle opened in
       let rest = from_here (asks + 1) os ns h.1 l.behind closed l.whole (omega (arith, last)) in
       let longer : length here < length opened = lt_of_not-le (λ short.

@@ -6,7 +6,7 @@ use Rattle.std.specs.Io.KnownBytes.{Appends, Keeps}
 use Rattle.sat_base.specs.device.Device.{Writer, FlushesOnce, WriterTakes, WriterBreaks}
 use Rattle.sat_base.specs.script.Script.{Literal, Command, Clause, Ask, Hide, Witness, Sample, Malformed}
 use Rattle.sat_base.specs.script.Language.{Reading, onto_commands}
-use Rattle.sat_base.specs.script.Judge.{Judge, Refusal, accepted, accepted_of, refusal_of}
+use Rattle.sat_base.specs.script.ScriptState.{ScriptState, Refusal, accepted, accepted_of, refusal_of}
 use Rattle.sat_base.proofs.lemmas.device.Known.{appends_none, appends_more}
 use Rattle.sat_base.specs.steps.Steps.{Step}
 use Rattle.sat_checker.specs.matching.Expected.{Outcome, Unknown}
@@ -14,7 +14,7 @@ use Rattle.certify.specs.answers.Answers.{answers_from, malformed_line, outcome_
 use Rattle.certify.specs.answers.RightAnswers.{AreRight, IsRight}
 use Rattle.certify.specs.declared.summary.Answer.TheVariants as kind
 use Rattle.certify.specs.declared.summary.AskReport.{AskReport}
-use Rattle.certify.specs.run.FinishedRun.{AreSpent, IsBounded, SpendsWithinBudget, answer_kind, identities_given}
+use Rattle.certify.specs.run.FinishedRun.{AreWithinBudget, IsBounded, SpendsWithinBudget, answer_kind, identities_given}
 use Rattle.certify.specs.run.Unfinished.{AreSpentSoFar, BeginAnswers, TookBytes, TookAnswersFront}
 use Rattle.certify.specs.run.Serving.{RunPlace, Serves}
 use Rattle.certify.specs.run.ServedScript.{ServesTo}
@@ -30,7 +30,7 @@ unknowns (Hide names ∷ commands) = unknowns commands
 unknowns (Witness names ∷ commands) = unknowns commands
 unknowns (Sample names ∷ commands) = unknowns commands
 
-unknowns_right : (j : Judge) (commands : List Command) → AreRight j commands (unknowns commands)
+unknowns_right : (j : ScriptState) (commands : List Command) → AreRight j commands (unknowns commands)
 unknowns_right j [] = tt
 unknowns_right j (Ask ls ∷ commands) = (tt, unknowns_right (accepted (Ask ls) j) commands)
 unknowns_right j (Clause ls ∷ commands) = unknowns_right (accepted (Clause ls) j) commands
@@ -41,7 +41,7 @@ unknowns_right j (Sample names ∷ commands) = unknowns_right (accepted (Sample 
 -- ROUNDS OF THE FIRST ASKS
 
 -- of all asks, so of the first
-spent_first : (budget before : ℕ) (ns : List ℕ) (rs qs : List AskReport) → AreSpent budget before ns (rs ++ qs) → AreSpentSoFar budget before ns rs
+spent_first : (budget before : ℕ) (ns : List ℕ) (rs qs : List AskReport) → AreWithinBudget budget before ns (rs ++ qs) → AreSpentSoFar budget before ns rs
 spent_first budget before ns [] qs h = tt
 spent_first budget before [] (r ∷ rs) qs h = h
 spent_first budget before (n ∷ ns) (r ∷ rs) qs h = (h.0, h.1, spent_first budget (before + r.steps) ns rs qs h.2)
@@ -60,7 +60,7 @@ quick_bounded : (n budget before : ℕ) → IsBounded n budget before quick
 quick_bounded n budget before = record { few = pow_pos (2 * n + 3); answered = λ le. not_unknown }
 
 -- reports for the other asks
-padded : (budget before : ℕ) (ns : List ℕ) (rs : List AskReport) → AreSpentSoFar budget before ns rs → (qs : List AskReport) × AreSpent budget before ns (rs ++ qs)
+padded : (budget before : ℕ) (ns : List ℕ) (rs : List AskReport) → AreSpentSoFar budget before ns rs → (qs : List AskReport) × AreWithinBudget budget before ns (rs ++ qs)
 padded budget before [] [] h = ([], tt)
 padded budget before (n ∷ ns) [] h = let k = padded budget (before + 0) ns [] tt in (quick ∷ k.0, (quick_spent budget before, quick_bounded n budget before, k.1))
 padded budget before [] (r ∷ rs) h = absurd h
@@ -68,7 +68,7 @@ padded budget before (n ∷ ns) (r ∷ rs) h = let k = padded budget (before + r
 
 -- PREFIXES OF ANSWERS
 
-module _ (budget before n : ℕ) (j : Judge) where
+module _ (budget before n : ℕ) (j : ScriptState) where
   pub begins_none : (script : Reading) → BeginAnswers budget before n j script []
   begins_none script = record {
     told = [];
@@ -148,7 +148,7 @@ begins_later budget a b cs script text bytes rs k f g =
       kinds =
           map-append (λ (r : AskReport). r.answer) rs g.reports ∙ ap (λ ks. ks ++ map (λ (r : AskReport). r.answer) g.reports) f.kinds ∙ ap (λ ks. map answer_kind f.outcomes ++ ks) g.kinds
           ∙ sym (map-append answer_kind f.outcomes g.told);
-      spent = spent_first budget a.rounds given (rs ++ g.reports) whole.0 (subst (AreSpent budget a.rounds given) (sym (append_assoc rs g.reports whole.0)) spent);
+      spent = spent_first budget a.rounds given (rs ++ g.reports) whole.0 (subst (AreWithinBudget budget a.rounds given) (sym (append_assoc rs g.reports whole.0)) spent);
     }
 
 none_left : (others : List Outcome) → length others ≡ 0 → others ≡ []
@@ -174,7 +174,7 @@ bytes_later u v w text bytes t b = record {
 
 -- BOTH
 
-module _ (budget before n : ℕ) (j : Judge) where
+module _ (budget before n : ℕ) (j : ScriptState) where
   -- nothing was written
   pub front_none : (script : Reading) (w : Writer) → TookAnswersFront budget before n j script w w
   front_none script w = record { bytes = []; took = bytes_none w; front = begins_none budget before n j script }
@@ -231,7 +231,7 @@ front_whole budget a script to text rs k u v w f t b = record {
         ([], ap (answers_from a.number a.judge script.0 script.1) same ∙ f.says ∙ sym (append-nil text) ∙ sym (append-nil (text ++ [])));
     reports = rs;
     kinds = f.kinds;
-    spent = spent_first budget a.rounds (identities_given a.judge (accepted_of a.judge script.0)) rs [] (subst (AreSpent budget a.rounds (identities_given a.judge (accepted_of a.judge script.0))) (sym (append-nil rs)) f.spent);
+    spent = spent_first budget a.rounds (identities_given a.judge (accepted_of a.judge script.0)) rs [] (subst (AreWithinBudget budget a.rounds (identities_given a.judge (accepted_of a.judge script.0))) (sym (append-nil rs)) f.spent);
   };
 }
 

@@ -3,19 +3,19 @@ use Rattle.std.proofs.Common.{ℕ, ◌≡◌, ◌≢◌, Bool, true, false, ◌|
 use Rattle.std.specs.List.{AllByRecursion}
 use Rattle.sat_base.specs.values.Literals.{variable, negated}
 use Rattle.sat_base.specs.script.Script.{Literal, Command, Clause, Ask, Hide, Witness, Sample, names_of}
-use Rattle.sat_base.specs.script.Judge.{Judge, Mode, Sampled, Witnessed, new_names, bring_in, without_name, with_mode, accepted}
+use Rattle.sat_base.specs.script.ScriptState.{ScriptState, NameMode, Sampled, Witnessed, new_names, bring_in, without_name, with_mode, accepted}
 use Rattle.sat_base.specs.steps.Steps.{Redundant, Simplified, Satisfied, Step, SolverVarName, UserVarName, DeleteVar, ChangeSamplingMode, AddClause, AtClause, UnitClauses, DeleteClause, ChangeHashBits, Model, Assumptions, FailedAssumptions, End}
 use Rattle.sat_checker.specs.LiteralSets.{is_among, is_tautology, canonical}
 use Rattle.sat_checker.specs.Stored.{Variable}
 use Rattle.sat_checker.specs.Stored as stored
 use Rattle.sat_checker.specs.Laws.{has_delete_var}
-use Rattle.sat_checker.specs.matching.Checking.{Checking, is_ordered}
+use Rattle.sat_checker.specs.matching.Checking.{CheckerRules, is_ordered}
 use Rattle.sat_checker.specs.matching.Expected.{Outcome, Sat, Unsat, Unknown, Expected, NewName, NoName, Adds, Opens, Finish, Fits, new_name, no_name, adds, opens, shows, fails, closes, finish, bringing, hiding, setting}
-use Rattle.sat_checker.specs.matching.ProofChecking.{the_checking}
+use Rattle.sat_checker.specs.matching.ProofChecking.{checker_rules}
 use Rattle.sat_checker.specs.matching.Traces.{HasTrace, no_step, silent, visible}
 use Rattle.sat_solver.specs.session.Session.{Session, with_fact, with_facts, with_sorted, with_live_clause, knowing, changed, session_after, MayAll}
 use Rattle.sat_solver.specs.proof.Widths.{narrowed}
-use Rattle.sat_solver.specs.proof.Counting.{TruncatesHashes, none_made, ask_begun, one_made, width_told, counted}
+use Rattle.sat_solver.specs.proof.Counting.{TruncatesHashes, none_made, ask_begun, one_made, width_change, counted}
 use Rattle.sat_solver.specs.declared.proof.hash_bits.Counting.{Counting}
 use Rattle.certify.specs.run.Hiding.{HidesNothing}
 use Rattle.certify.specs.run.Stretches.{due_for, showing_if, ServesCommands, made_none, made_one, made_ask}
@@ -77,7 +77,7 @@ module _ (hides : Bool) where
   fits_plain closes s = tt
   fits_plain finish s = absurd s
 
-  makes_plain : {k : Checking} {s t : List Step} {es : List Expected} → HasTrace k s t es → AllSpare hides es → ArePlain hides s → ArePlain hides t
+  makes_plain : {k : CheckerRules} {s t : List Step} {es : List Expected} → HasTrace k s t es → AllSpare hides es → ArePlain hides s → ArePlain hides t
   makes_plain no_step a p = p
   makes_plain (silent {step = step} o m) a p = makes_plain m a (unordered_plain step o, p)
   makes_plain (visible f m) a p = makes_plain m a.1 (fits_plain f a.0, p)
@@ -90,20 +90,20 @@ module _ (hides : Bool) where
   new_spare [] = tt
   new_spare (name ∷ names) = (tt, new_spare names)
 
-  bringing_spares : (names : List ℕ) (j : Judge) → AllSpare hides (bringing names j)
+  bringing_spares : (names : List ℕ) (j : ScriptState) → AllSpare hides (bringing names j)
   bringing_spares [] j = tt
   bringing_spares (name ∷ names) j = both_spare (map NewName (new_names name j)) (bringing names (bring_in name j)) (new_spare (new_names name j)) (bringing_spares names (bring_in name j))
 
-  hiding_spares : hides ≡ true → (names : List ℕ) (j : Judge) → AllSpare hides (hiding names j)
+  hiding_spares : hides ≡ true → (names : List ℕ) (j : ScriptState) → AllSpare hides (hiding names j)
   hiding_spares h [] j = tt
   hiding_spares h (name ∷ names) j =
       both_spare (map NewName (new_names name j)) (NoName name ∷ hiding names (without_name name (bring_in name j))) (new_spare (new_names name j)) (h, hiding_spares h names (without_name name (bring_in name j)))
 
-  setting_spares : (mode : Mode) (names : List ℕ) (j : Judge) → AllSpare hides (setting mode names j)
+  setting_spares : (mode : NameMode) (names : List ℕ) (j : ScriptState) → AllSpare hides (setting mode names j)
   setting_spares mode [] j = tt
   setting_spares mode (name ∷ names) j = both_spare (map NewName (new_names name j)) (setting mode names (with_mode mode name (bring_in name j))) (new_spare (new_names name j)) (setting_spares mode names (with_mode mode name (bring_in name j)))
 
-  due_spares : (unsat : Bool) (c : Command) (j : Judge) → Allows hides c → AllSpare hides (due_for unsat c j)
+  due_spares : (unsat : Bool) (c : Command) (j : ScriptState) → Allows hides c → AllSpare hides (due_for unsat c j)
   due_spares true (Clause ls) j h = both_spare (bringing (names_of ls) j) [] (bringing_spares (names_of ls) j) tt
   due_spares false (Clause ls) j h = both_spare (bringing (names_of ls) j) (Adds ls ∷ []) (bringing_spares (names_of ls) j) (tt, tt)
   due_spares unsat (Ask ls) j h = tt
@@ -112,18 +112,18 @@ module _ (hides : Bool) where
   due_spares unsat (Witness names) j h = setting_spares Witnessed names j
   due_spares unsat (Sample names) j h = setting_spares Sampled names j
 
-  showing_spares : (unsat : Bool) (j : Judge) (ls : List Literal) (o : Outcome) → AllSpare hides (showing_if unsat j ls o)
+  showing_spares : (unsat : Bool) (j : ScriptState) (ls : List Literal) (o : Outcome) → AllSpare hides (showing_if unsat j ls o)
   showing_spares true j ls o = tt
   showing_spares false j ls (Sat line) = (tt, tt)
   showing_spares false j ls (Unsat core) = (tt, tt)
   showing_spares false j ls Unknown = tt
 
-  made_plain : {j : Judge} {s t : List Step} {cs : List Command} {os : List Outcome} {counts : List ℕ} → ServesCommands j s t cs os counts → AllByRecursion (Allows hides) cs → ArePlain hides s → ArePlain hides t
+  made_plain : {j : ScriptState} {s t : List Step} {cs : List Command} {os : List Outcome} {counts : List ℕ} → ServesCommands j s t cs os counts → AllByRecursion (Allows hides) cs → ArePlain hides s → ArePlain hides t
   made_plain made_none h p = p
-  made_plain {j} {s} (made_one {c = c} mid n stretch more) h p = made_plain more h.1 (makes_plain stretch.due (due_spares (the_checking.unsat s) c j h.0) p)
+  made_plain {j} {s} (made_one {c = c} mid n stretch more) h p = made_plain more h.1 (makes_plain stretch.due (due_spares (checker_rules.unsat s) c j h.0) p)
   made_plain {j} {s} (made_ask {ls = ls} {o = o} mid a more) h p =
       let opened = makes_plain a.opens.due (both_spare (bringing (names_of ls) j) (Opens ls o ∷ []) (bringing_spares (names_of ls) j) (tt, tt)) p in
-      let shown = makes_plain a.searches.due (showing_spares (the_checking.unsat a.shown) (accepted (Ask ls) j) ls o) opened in
+      let shown = makes_plain a.searches.due (showing_spares (checker_rules.unsat a.shown) (accepted (Ask ls) j) ls o) opened in
       made_plain more h.1 (makes_plain a.closes.due (tt, tt) shown)
 
 -- NO VARIABLE IS HIDDEN THEN
@@ -217,8 +217,8 @@ none_deleted (FailedAssumptions core hs ∷ steps) m p = none_deleted steps m.0 
 none_deleted (End ∷ steps) m p = none_deleted steps m.0 p.1
 
 -- WHAT IS WRITTEN FOR STEPS
-told_delete : (before now : ℕ) (steps : List Step) → has_delete_var (width_told before now ++ steps) ≡ has_delete_var steps
-told_delete before now steps = go (eqb before now)
+reported_delete : (before now : ℕ) (steps : List Step) → has_delete_var (width_change before now ++ steps) ≡ has_delete_var steps
+reported_delete before now steps = go (eqb before now)
   where
     go : (b : Bool) → has_delete_var (cond b [] (ChangeHashBits now ∷ []) ++ steps) ≡ has_delete_var steps
     go true = refl
@@ -232,7 +232,7 @@ cuts_delete : {c d : Counting} {made written : List Step} → TruncatesHashes c 
 cuts_delete none_made = refl
 cuts_delete (ask_begun k) = cuts_delete k
 cuts_delete (one_made {d = d} {made = made} {written = written} step keeps k) =
-    narrowed_delete (counted step d).bits step made (width_told d.bits (counted step d).bits ++ written) (told_delete d.bits (counted step d).bits written ∙ cuts_delete k)
+    narrowed_delete (counted step d).bits step made (width_change d.bits (counted step d).bits ++ written) (reported_delete d.bits (counted step d).bits written ∙ cuts_delete k)
 
 -- none of them is an end
 abbrev GoOn : List Step → Type 0
@@ -242,8 +242,8 @@ plain_goes_on : (steps : List Step) → ArePlain true steps → GoOn steps
 plain_goes_on [] p = tt
 plain_goes_on (step ∷ steps) p = ((λ e. subst (IsPlain true) e p.0), plain_goes_on steps p.1)
 
-told_goes_on : (before now : ℕ) (steps : List Step) → GoOn steps → GoOn (width_told before now ++ steps)
-told_goes_on before now steps h = go (eqb before now)
+reported_goes_on : (before now : ℕ) (steps : List Step) → GoOn steps → GoOn (width_change before now ++ steps)
+reported_goes_on before now steps h = go (eqb before now)
   where
     go : (b : Bool) → GoOn (cond b [] (ChangeHashBits now ∷ []) ++ steps)
     go true = h
@@ -257,7 +257,7 @@ cuts_go_on : {c d : Counting} {made written : List Step} → TruncatesHashes c m
 cuts_go_on none_made h = tt
 cuts_go_on (ask_begun k) h = cuts_go_on k h
 cuts_go_on (one_made {d = d} {written = written} step keeps k) h =
-    (narrowed_goes_on (counted step d).bits step h.0, told_goes_on d.bits (counted step d).bits written (cuts_go_on k h.1))
+    (narrowed_goes_on (counted step d).bits step h.0, reported_goes_on d.bits (counted step d).bits written (cuts_go_on k h.1))
 
 -- the closing end is written last, and is the only one
 pub record EndsWith (steps : List Step) : Type 0 where
@@ -272,12 +272,12 @@ cuts_end (one_made {d = d} {made = earlier} {written = written} step keeps k) ma
     let is : step ≡ End = cc in
     let rest : earlier ≡ made = cc in
     record {
-      before = width_told d.bits (counted step d).bits ++ written;
-      last = ap (λ x. narrowed (counted step d).bits x ∷ (width_told d.bits (counted step d).bits ++ written)) is;
-      goes_on = told_goes_on d.bits (counted step d).bits written (cuts_go_on k (subst GoOn (sym rest) h));
+      before = width_change d.bits (counted step d).bits ++ written;
+      last = ap (λ x. narrowed (counted step d).bits x ∷ (width_change d.bits (counted step d).bits ++ written)) is;
+      goes_on = reported_goes_on d.bits (counted step d).bits written (cuts_go_on k (subst GoOn (sym rest) h));
     }
 
-module _ {j : Judge} {all written : List Step} {cs : List Command} {os : List Outcome} {counts : List ℕ} {c d : Counting} (follows : ServesCommands j [] all cs os counts) (cuts : TruncatesHashes c (End ∷ all) written d) where
+module _ {j : ScriptState} {all written : List Step} {cs : List Command} {os : List Outcome} {counts : List ℕ} {c d : Counting} (follows : ServesCommands j [] all cs os counts) (cuts : TruncatesHashes c (End ∷ all) written d) where
   pub none_deletes : AllByRecursion HidesNothing cs → MayAll all → has_delete_var written ≡ false
   none_deletes hides may = cuts_delete cuts ∙ none_deleted all may (made_plain false follows (none_allowed cs hides) tt)
 

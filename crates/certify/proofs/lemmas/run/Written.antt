@@ -5,8 +5,8 @@ use mathlib.Core.Path.{fun_ext}
 use Rattle.sat_base.specs.steps.Steps.{Step, SolverVarName, UserVarName, DeleteVar, ChangeSamplingMode, AddClause, AtClause, UnitClauses, DeleteClause, ChangeHashBits, Model, Assumptions, FailedAssumptions, End}
 use Rattle.sat_checker.specs.matching.Checking.{is_ordered, variable_of}
 use Rattle.sat_checker.specs.matching.Expected.{Outcome, Expected, Opens, Closes, Fits, new_name, no_name, adds, opens, shows, fails, closes, finish, EachSpelt, SameSet}
-use Rattle.sat_checker.specs.matching.ProofChecking.{the_checking}
-use Rattle.sat_solver.specs.proof.Counting.{start, counted, width_told, written_for, TruncatesHashes, none_made, ask_begun, one_made}
+use Rattle.sat_checker.specs.matching.ProofChecking.{checker_rules}
+use Rattle.sat_solver.specs.proof.Counting.{nothing_counted, counted, width_change, written_for, TruncatesHashes, none_made, ask_begun, one_made}
 use Rattle.sat_solver.specs.session.Session.{MayAll}
 use Rattle.sat_solver.specs.proof.Widths.{IsNarrowedTo, none_yet, width_changes, one_more, KeepsWidth, MayAt, narrowed}
 use Rattle.sat_solver.proofs.lemmas.session.Narrowing.{widths_are_free}
@@ -26,22 +26,22 @@ one_narrowed : {e w made written : List Step} (before now : ℕ) (step : Step) �
 one_narrowed {e} {w} {made} {written} before now step k true same n =
     subst (λ b. Narrows e w b made written) (sym (eqb-true before now same)) (same_width step k (subst (λ (t : List Step). Narrows (step ∷ e) (narrowed now step ∷ (t ++ w)) now made written) (none before now same) n))
   where
-    none : (before now : ℕ) → eqb before now ≡ true → width_told before now ≡ []
+    none : (before now : ℕ) → eqb before now ≡ true → width_change before now ≡ []
     none before now e = rw e refl
 one_narrowed {e} {w} {made} {written} before now step k false same n =
     new_width now step k (subst (λ (t : List Step). Narrows (step ∷ e) (narrowed now step ∷ (t ++ w)) now made written) (some before now same) n)
   where
-    some : (before now : ℕ) → eqb before now ≡ false → width_told before now ≡ ChangeHashBits now ∷ []
+    some : (before now : ℕ) → eqb before now ≡ false → width_change before now ≡ ChangeHashBits now ∷ []
     some before now e = rw e refl
 
-narrows : {c d : _} {e w made written : List Step} → c ≡ start → TruncatesHashes c e w d → Narrows e w d.bits made written → Narrows [] [] 64 made written
+narrows : {c d : _} {e w made written : List Step} → c ≡ nothing_counted → TruncatesHashes c e w d → Narrows e w d.bits made written → Narrows [] [] 64 made written
 narrows {made = made} {written = written} s none_made n = subst (λ x. Narrows [] [] x.bits made written) s n
 narrows s (ask_begun p) n = narrows s p n
 narrows s (one_made {d = d} step k p) n = narrows s p (one_narrowed d.bits (counted step d).bits step k (eqb d.bits (counted step d).bits) refl n)
 
 -- THE NEXT STEP
 
-pub certified_front : {all : List Step} {current : Option Outcome} {earlier : List Step} {es : List Expected} {counts : List ℕ} → Certifies the_checking all current earlier es counts → (later : List Step) × (all ≡ later ++ earlier)
+pub certified_front : {all : List Step} {current : Option Outcome} {earlier : List Step} {es : List Expected} {counts : List ℕ} → Certifies checker_rules all current earlier es counts → (later : List Step) × (all ≡ later ++ earlier)
 certified_front complete = ([], refl)
 certified_front (left_out m r c) = certified_front c
 certified_front (other {earlier = earlier} {step = step} q c) = let h = certified_front c in (h.0 ++ step ∷ [], h.1 ∙ sym (append_assoc h.0 (step ∷ []) earlier))
@@ -91,29 +91,29 @@ module _ (e w : List Step) (width : ℕ) (p : IsNarrowedTo e w width) (may : May
   at : MayAt e w width
   at = widths_are_free e w width p may
 
-  pub unsat_same : the_checking.unsat w ≡ the_checking.unsat e
+  pub unsat_same : checker_rules.unsat w ≡ checker_rules.unsat e
   unsat_same = (sessions_are_accepted w at.may).1.unsat ∙ ap (λ s. s.unsat) at.session ∙ sym (sessions_are_accepted e may).1.unsat
 
-  knows_same : the_checking.knows w ≡ the_checking.knows e
+  knows_same : checker_rules.knows w ≡ checker_rules.knows e
   knows_same = fun_ext (λ v.
       ap (λ f. (f v).known) (sessions_are_accepted w at.may).1.variables ∙ ap (λ s. (s.variables v).known) at.session ∙ sym (ap (λ f. (f v).known) (sessions_are_accepted e may).1.variables))
 
   names_same : variable_of w ≡ variable_of e
   names_same = fun_ext (variable_written p)
 
-  pub recorded_same : IsRecorded the_checking e → IsRecorded the_checking w
+  pub recorded_same : IsRecorded checker_rules e → IsRecorded checker_rules w
   recorded_same r = recorded_at w at.may (unsat_same ∙ r.recorded)
 
-  pub stands_same : (x : Expected) → MayStand (the_checking.unsat e) x → MayStand (the_checking.unsat w) x
+  pub stands_same : (x : Expected) → MayStand (checker_rules.unsat e) x → MayStand (checker_rules.unsat w) x
   stands_same x = subst (λ b. MayStand b x) (sym unsat_same)
 
-  known_not : (v : ℕ) → the_checking.knows e v ≡ false → the_checking.knows w v ≡ false
+  known_not : (v : ℕ) → checker_rules.knows e v ≡ false → checker_rules.knows w v ≡ false
   known_not v h = ap (λ f. f v) knows_same ∙ h
 
   set_same : (ls : _) (c : List ℕ) → SameSet (variable_of e) ls c → SameSet (variable_of w) ls c
   set_same ls c = subst (λ f. SameSet f ls c) (sym names_same)
 
-  pub fits_same : (bits : ℕ) (x : Expected) (step : Step) → Fits (the_checking.knows e) e x step → Fits (the_checking.knows w) w x (narrowed bits step)
+  pub fits_same : (bits : ℕ) (x : Expected) (step : Step) → Fits (checker_rules.knows e) e x step → Fits (checker_rules.knows w) w x (narrowed bits step)
   fits_same bits x step (new_name {v = v} h k) = new_name h (known_not v k)
   fits_same bits x step (no_name {name = name} h) = no_name (ap (λ f. f name) names_same ∙ h)
   fits_same bits x step (adds {ls = ls} {c = c} h) = adds (set_same ls c h)
@@ -134,7 +134,7 @@ may_front (new_width bits step k n) m = (may_front n m).0
 record Turned (e w made written : List Step) (width : ℕ) (step : Step) : Type 0 where
   now : ℕ
   told : List Step
-  is_told : (es : List Expected) (x : Expected) (current : Option Outcome) (counts : List ℕ) → Certifies the_checking written current (told ++ w) (x ∷ es) counts → Certifies the_checking written current w (x ∷ es) counts
+  is_told : (es : List Expected) (x : Expected) (current : Option Outcome) (counts : List ℕ) → Certifies checker_rules written current (told ++ w) (x ∷ es) counts → Certifies checker_rules written current w (x ∷ es) counts
   before : IsNarrowedTo e (told ++ w) now
   next : Narrows (step ∷ e) (narrowed now step ∷ (told ++ w)) now made written
   behind : IsNarrowedTo (step ∷ e) (narrowed now step ∷ (told ++ w)) now
@@ -169,8 +169,8 @@ at_end same all_narrowed = refl
 at_end {e} same (same_width step k n) = let f = narrowed_front n in absurd (too_long f.0 step e (same ∙ f.1))
 at_end {e} same (new_width bits step k n) = let f = narrowed_front n in absurd (too_long f.0 step e (same ∙ f.1))
 
-transferred : {made written : List Step} (may : MayAll made) {current : Option Outcome} {e w : List Step} {width : ℕ} {es : List Expected} {counts : List ℕ} → IsNarrowedTo e w width → Narrows e w width made written → Certifies the_checking made current e es counts → Certifies the_checking written current w es counts
-transferred {made} {written} may p n complete = subst (λ w. Certifies the_checking written None w [] []) (sym (at_end refl n)) complete
+transferred : {made written : List Step} (may : MayAll made) {current : Option Outcome} {e w : List Step} {width : ℕ} {es : List Expected} {counts : List ℕ} → IsNarrowedTo e w width → Narrows e w width made written → Certifies checker_rules made current e es counts → Certifies checker_rules written current w es counts
+transferred {made} {written} may p n complete = subst (λ w. Certifies checker_rules written None w [] []) (sym (at_end refl n)) complete
 transferred may {e = e} {w = w} {width = width} p n (left_out m r c) = left_out m (recorded_same e w width p (may_front n may) r) (transferred may p n c)
 transferred may {current = current} {e = e} {w = w} {width = width} {counts = counts} p n (other {step = step} {e = x} {es = es} q c) =
     let f = certified_front c in
@@ -192,5 +192,5 @@ transferred may {e = e} {w = w} {width = width} p n (answered {step = step} {o =
     let may_here = may_front n may in
     t.is_told es Closes (Some o) counts (answered (λ u. k (sym (unsat_same e (t.told ++ w) t.now t.before may_here) ∙ u)) (fits_same e (t.told ++ w) t.now t.before may_here t.now Closes step s) (transferred may t.behind t.next c))
 
-pub written_certifies : (made written : List Step) (c : _) (es : List Expected) (counts : List ℕ) → TruncatesHashes start made written c → MayAll made → Certifies the_checking made None [] es counts → Certifies the_checking written None [] es counts
+pub written_certifies : (made written : List Step) (c : _) (es : List Expected) (counts : List ℕ) → TruncatesHashes nothing_counted made written c → MayAll made → Certifies checker_rules made None [] es counts → Certifies checker_rules written None [] es counts
 written_certifies made written c es counts p may h = transferred may none_yet (narrows refl p all_narrowed) h

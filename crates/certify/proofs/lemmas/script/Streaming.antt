@@ -2,7 +2,7 @@
 use Rattle.std.proofs.Common.{◌≡◌, ℕ, ◌+◌, ◌-◌, ◌*◌, ◌<◌, ◌≤◌, Bool, true, false, List, [], ◌∷◌, ◌++◌, length, length-append, take, drop, Some, None, Ok, Err, refl, sym, ap, subst, ◌∙◌, arith}
 use Rattle.std.proofs.lemmas.List.{length-take, length-take-le, take-append-drop}
 use Rattle.sat_base.specs.device.Device.{Reader, most_reads}
-use Rattle.sat_base.specs.device.Reading.{Source, AtEnd, Passes, PassesToEnd}
+use Rattle.sat_base.specs.device.Reading.{Source, AtEnd, ConsumesBytes, ConsumesToEnd}
 use Rattle.sat_base.specs.script.Script.{Malformed}
 use Rattle.sat_base.specs.script.Language.{Reading}
 use Rattle.sat_base.specs.text.Chunks.{Follows}
@@ -10,10 +10,10 @@ use Rattle.sat_base.specs.declared.device.whole.ReadError.{ReadError}
 use Rattle.sat_base.specs.declared.device.whole.ReadError.TheVariants as errors
 use Rattle.sat_base.proofs.lemmas.device.ReadLemmas.{gave_some, gave_nothing, passes_more}
 use Rattle.certify.specs.confirm.Streams.{rest_in}
-use Rattle.certify.specs.script.Ahead.{Refills, TakesSome, source_in, waiting}
+use Rattle.certify.specs.script.LastPiece.{RefillsAhead, TakesSome, source_in, waiting_bytes}
 use Rattle.certify.specs.script.Commands.{EndsLast, EndsWhateverFollows, MeansIf, TakesBytes, end_if}
 use Rattle.certify.specs.script.Streaming.{Arrives, Brings, NextComes, FinishesText, TakesWaiting}
-use Rattle.certify.specs.declared.script.ahead.Ahead.{Ahead}
+use Rattle.certify.specs.declared.script.ahead.LastPiece.{LastPiece}
 use Rattle.certify.specs.declared.script.Reached.{Reached}
 use Rattle.certify.specs.declared.script.Reached.TheVariants as reached
 use Rattle.certify.specs.declared.script.ScriptEnd.{ScriptEnd}
@@ -23,7 +23,7 @@ use Rattle.certify.specs.declared.script.stream.Next.{Next}
 use Rattle.certify.specs.declared.script.stream.Next.TheVariants as next
 use Rattle.certify.proofs.lemmas.confirm.Streams.{all_over, nothing_behind, stays_open, taken_front}
 use Rattle.certify.proofs.lemmas.confirm.Joining.{covers_took, failed_then, took_halted, took_none, took_then}
-use Rattle.certify.proofs.lemmas.script.Ahead.{passes_front}
+use Rattle.certify.proofs.lemmas.script.LastPieces.{passes_front}
 use Rattle.certify.proofs.lemmas.script.Bytes.{followed, goes_nowhere}
 
 -- BYTES THAT WAIT
@@ -35,11 +35,11 @@ take_parts r old new xs w v n e low some d t =
     let same : length xs ≡ length w = ap length e in
     (take n xs, sym (take-append-drop n w) ∙ ap (λ (z : List ℕ). take n z ++ drop n w) (sym e) ∙ ap (λ (z : List ℕ). take n xs ++ z) (sym d), (λ h. let k = some (omega arith) in omega arith), t)
 
-came : {R : Type 0} (seen : R → Reader) (r : R) (reached_so : Reached) (old new : CommandStream) → 0 < length (waiting old.ahead) → TakesWaiting {E = ReadError} (Ok reached_so) old new
-    → (text : List ℕ) × Passes (source_in seen r old.ahead) (source_in seen r new.ahead) text × (0 < length text) × TakesBytes reached_so old.reader text new.reader
-came seen r reached_so old new some t = (t.0, passes_front (seen r) old.ahead.reads new.ahead.reads (waiting old.ahead) (waiting new.ahead) t.0 t.1 t.2, t.3 some, t.4)
+came : {R : Type 0} (seen : R → Reader) (r : R) (reached_so : Reached) (old new : CommandStream) → 0 < length (waiting_bytes old.ahead) → TakesWaiting {E = ReadError} (Ok reached_so) old new
+    → (text : List ℕ) × ConsumesBytes (source_in seen r old.ahead) (source_in seen r new.ahead) text × (0 < length text) × TakesBytes reached_so old.reader text new.reader
+came seen r reached_so old new some t = (t.0, passes_front (seen r) old.ahead.reads new.ahead.reads (waiting_bytes old.ahead) (waiting_bytes new.ahead) t.0 t.1 t.2, t.3 some, t.4)
 
-module _ {R : Type 0} (seen : R → Reader) (r : R) (old new : CommandStream) (some : 0 < length (waiting old.ahead)) where
+module _ {R : Type 0} (seen : R → Reader) (r : R) (old new : CommandStream) (some : 0 < length (waiting_bytes old.ahead)) where
   pub brings_more : TakesWaiting {E = ReadError} (Ok reached.More) old new → Brings (Ok None) (source_in seen r old.ahead) (source_in seen r new.ahead) old.reader new.reader
   brings_more t = let h = came seen r reached.More old new some t in (h.0, h.1, h.3)
 
@@ -59,33 +59,33 @@ module _ {R : Type 0} (seen : R → Reader) (r : R) (old new : CommandStream) (s
 pub brings_none : {R : Type 0} (seen : R → Reader) (r : R) (old new : CommandStream) (e : ReadError) → e ≡ errors.OutOfMemory → new.ahead ≡ old.ahead → Brings (Err e) (source_in seen r old.ahead) (source_in seen r new.ahead) old.reader new.reader
 brings_none seen r old new e starved same =
     subst (λ (x : ReadError). Brings (Err x) (source_in seen r old.ahead) (source_in seen r new.ahead) old.reader new.reader) (sym starved)
-    (subst (λ (a : Ahead). TakesSome true (source_in seen r old.ahead) (source_in seen r a)) (sym same) (took_none (source_in seen r old.ahead)))
+    (subst (λ (a : LastPiece). TakesSome true (source_in seen r old.ahead) (source_in seen r a)) (sym same) (took_none (source_in seen r old.ahead)))
 
 -- fewer rounds are left
-pub taken_fewer : (old new : Ahead) (text : List ℕ) → waiting old ≡ text ++ waiting new → new.reads ≡ old.reads → 0 < length text → 4097 * (most_reads - new.reads) + length (waiting new) < 4097 * (most_reads - old.reads) + length (waiting old)
+pub taken_fewer : (old new : LastPiece) (text : List ℕ) → waiting_bytes old ≡ text ++ waiting_bytes new → new.reads ≡ old.reads → 0 < length text → 4097 * (most_reads - new.reads) + length (waiting_bytes new) < 4097 * (most_reads - old.reads) + length (waiting_bytes old)
 taken_fewer old new text e same some =
-    let l : length (waiting old) ≡ length text + length (waiting new) = ap length e ∙ length-append text (waiting new) in
+    let l : length (waiting_bytes old) ≡ length text + length (waiting_bytes new) = ap length e ∙ length-append text (waiting_bytes new) in
     let m : most_reads - new.reads ≡ most_reads - old.reads = ap (λ (n : ℕ). most_reads - n) same in
     omega arith
 
-pub refilled_fewer : (old new : Ahead) → waiting old ≡ [] → new.reads ≡ old.reads + 1 → 4097 * (most_reads - new.reads) + length (waiting new) < 4097 * (most_reads - old.reads) + length (waiting old)
+pub refilled_fewer : (old new : LastPiece) → waiting_bytes old ≡ [] → new.reads ≡ old.reads + 1 → 4097 * (most_reads - new.reads) + length (waiting_bytes new) < 4097 * (most_reads - old.reads) + length (waiting_bytes old)
 refilled_fewer old new none more =
     let l = length-take (new.end - new.at) (drop new.at new.piece) in
-    let z : length (waiting old) ≡ 0 = ap length none in
+    let z : length (waiting_bytes old) ≡ 0 = ap length none in
     let w = new.within in
     let b = new.bounded in
     omega arith
 
 -- ANOTHER PIECE
 
-pub refill_goes : (n : ℕ) (a b : Source) (reader : ScriptReader) → (n ≡ 0 → ⊥) → Refills (Ok n) a b → Brings (Ok None) a b reader reader
+pub refill_goes : (n : ℕ) (a b : Source) (reader : ScriptReader) → (n ≡ 0 → ⊥) → RefillsAhead (Ok n) a b → Brings (Ok None) a b reader reader
 refill_goes n a b reader some h = ([], gave_some n a b some h.0, goes_nowhere reader)
 
-pub refill_ends : (n : ℕ) (answer : Next) (a b : Source) (old new : ScriptReader) → n ≡ 0 → Refills (Ok n) a b → FinishesText answer old new → Brings (Ok (Some answer)) a b old new
+pub refill_ends : (n : ℕ) (answer : Next) (a b : Source) (old new : ScriptReader) → n ≡ 0 → RefillsAhead (Ok n) a b → FinishesText answer old new → Brings (Ok (Some answer)) a b old new
 refill_ends n next.Command a b old new none h f = absurd f
 refill_ends n (next.Last e) a b old new none h f = ([], (gave_nothing n a b none h.0, h.1 none), f)
 refill_ends n (next.End e) a b old new none h f =
-    let ends : PassesToEnd a b [] = (gave_nothing n a b none h.0, h.1 none) in
+    let ends : ConsumesToEnd a b [] = (gave_nothing n a b none h.0, h.1 none) in
     ((([], ends.0), λ x. all_over b ends.1), λ asks before m total c. ap before (nothing_behind a b [] total ends c) ∙ f asks before m)
 
 -- THE TEXT HAS ENDED, AND IS NOT READ ON
@@ -94,12 +94,12 @@ brings_over a reader e open_yet ends = (took_halted a a open_yet (took_none a), 
 
 -- ONE AFTER ANOTHER
 
-module _ (a b c : Source) (old mid new : ScriptReader) (text : List ℕ) (open_yet : AtEnd a → ⊥) (p : Passes a b text) (f : (asks : Bool) → Follows (MeansIf asks) old text mid) where
+module _ (a b c : Source) (old mid new : ScriptReader) (text : List ℕ) (open_yet : AtEnd a → ⊥) (p : ConsumesBytes a b text) (f : (asks : Bool) → Follows (MeansIf asks) old text mid) where
   pub brings_then : (e : ReadError) → Brings (Err e) b c mid new → NextComes (Err e) a c old new
   brings_then errors.Failed h = failed_then a b c (text, p) h
   brings_then errors.OutOfMemory h = took_then true a b c (text, p) h
 
-  pub follows_more : Brings (Ok None) b c mid new → (whole : List ℕ) × Passes a c whole × ((asks : Bool) → Follows (MeansIf asks) old whole new)
+  pub follows_more : Brings (Ok None) b c mid new → (whole : List ℕ) × ConsumesBytes a c whole × ((asks : Bool) → Follows (MeansIf asks) old whole new)
   follows_more h = (text ++ h.0, passes_more a b c text h.0 p h.1, followed reached.More old mid new text h.0 f h.2)
 
   pub arrives_then : (n : Next) → Arrives n b c mid new → Arrives n a c old new

@@ -6,7 +6,7 @@ use Rattle.sat_base.specs.declared.text.Token.TheVariants as code
 use Rattle.sat_base.specs.text.Text.{Token, Number, Letter, Header, Wrong}
 use Rattle.sat_base.specs.text.Tokenizing.{held, held_token}
 use Rattle.sat_base.specs.script.Script.{Literal, Command, Clause, Ask, Hide, Witness, Sample, ScriptEnding, Clean, Malformed, has_ask, is_clean}
-use Rattle.sat_base.specs.script.Language.{Reading, onto_commands, Kind, OfClause, OfAsk, OfHide, OfWitness, OfSample, command_of, CommandHand, Nothing, Within, CommandTurn, GoesOn, Ends, Fails, command_in, may_stand, turn_with_literal, kind_of_letter, beginning, with_letter, command_turn, at_end, behind_turn, commands_of, with_ask}
+use Rattle.sat_base.specs.script.Language.{Reading, onto_commands, Kind, OfClause, OfAsk, OfHide, OfWitness, OfSample, command_of, CommandHand, Nothing, Within, CommandTurn, GoesOn, Ends, Fails, command_in, may_stand, turn_with_literal, kind_of_letter, beginning, with_letter, command_turn, command_at_end, behind_command_turn, commands_of, with_ask}
 use Rattle.sat_base.proofs.lemmas.script.ScriptSpellings.{commands_of_nil, commands_of_cons}
 use Rattle.certify.specs.script.Commands.{kind_of, is_ask_kind, IsWholeCommand, HoldsHand, opened, is_header, any_header, meaning, TakesToken, end_if}
 use Rattle.certify.specs.declared.script.Reached.TheVariants as reached
@@ -68,9 +68,9 @@ is_asked e ls = refl
 
 -- TOKENS
 behind : (asks : Bool) (old : Commands) (hand : CommandHand) (t : Token) (k : CommandTurn) (ts : List Token) → command_turn hand t ≡ k
-    → meaning asks old hand (t ∷ ts) ≡ with_ask (asks && ((old.headed || (is_header t || any_header ts)) && not old.asked)) (behind_turn k (λ d. commands_of d ts))
+    → meaning asks old hand (t ∷ ts) ≡ with_ask (asks && ((old.headed || (is_header t || any_header ts)) && not old.asked)) (behind_command_turn k (λ d. commands_of d ts))
 behind asks old hand t k ts e =
-    ap (with_ask (asks && ((old.headed || (is_header t || any_header ts)) && not old.asked))) (commands_of_cons hand t ts ∙ ap (λ (j : CommandTurn). behind_turn j (λ d. commands_of d ts)) e)
+    ap (with_ask (asks && ((old.headed || (is_header t || any_header ts)) && not old.asked))) (commands_of_cons hand t ts ∙ ap (λ (j : CommandTurn). behind_command_turn j (λ d. commands_of d ts)) e)
 
 -- a token that is no header, behind which the command goes on
 pub goes_on : (old new : Commands) (hand next : CommandHand) (t : Token) → is_header t ≡ false → new.headed ≡ old.headed → new.asked ≡ old.asked → command_turn hand t ≡ GoesOn next
@@ -153,7 +153,7 @@ pub held_some : (v name : ℕ) → name ≡ held v → 0 < name → 0 < v
 held_some v name e h = omega arith
 
 -- THE END
-ends_at : (asks : Bool) (commands : Commands) (hand : CommandHand) → meaning asks commands hand [] ≡ with_ask (asks && (commands.headed && not commands.asked)) ([], at_end hand)
+ends_at : (asks : Bool) (commands : Commands) (hand : CommandHand) → meaning asks commands hand [] ≡ with_ask (asks && (commands.headed && not commands.asked)) ([], command_at_end hand)
 ends_at asks commands hand = ap (λ (b : Bool). with_ask (asks && (b && not commands.asked)) (commands_of hand [])) (or_false commands.headed) ∙ ap (with_ask (asks && (commands.headed && not commands.asked))) (commands_of_nil hand)
 
 -- malformed text ends so, whatever is asked for

@@ -1,7 +1,7 @@
 use Rattle.std.proofs.Common.{subst}
 use Rattle.sat_base.specs.device.Reading.{Source}
-use Rattle.sat_base.specs.script.Judge.{start}
-use Rattle.certify.specs.script.Ahead.{source_in}
+use Rattle.sat_base.specs.script.ScriptState.{start}
+use Rattle.certify.specs.script.LastPiece.{source_in}
 use Rattle.sat_base.specs.script.Language.{reading, written}
 use Rattle.certify.specs.run.ServedScript.{ServesScript}
 use Rattle.certify.proofs.lemmas.run.Runs.{IsNew, counter_so, fresh_source, has_target, is_open_yet, is_ready, reads_few, runs_so, steps_so, unfinished_so}

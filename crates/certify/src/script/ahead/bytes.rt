@@ -1,20 +1,20 @@
 //! Consumes bytes that were read before they are needed.
 ghost use Rattle.std.specs.Prelude.{◌≡◌, ◌+◌, ◌≤◌, [], length, drop, OnOk};
-ghost use Rattle.certify.specs.script.Ahead.{Refills, source_in, waiting};
+ghost use Rattle.certify.specs.script.LastPiece.{RefillsAhead, source_in, waiting_bytes};
 
-use super::{Ahead, PIECE};
+use super::{LastPiece, PIECE};
 use sat_base::{CountedRead, ReadError};
 
 /// The largest number of reads.
 const MAX_READS: u64 = 1 << 48;
 
-impl Ahead {
+impl LastPiece {
     /// Returns a buffer before the first read.
-    pub fn new() -> Ahead
-        ensures waiting { waiting result ≡ [] }
+    pub fn new() -> LastPiece
+        ensures waiting { waiting_bytes result ≡ [] }
         ensures reads { result.reads ≡ 0 }
     {
-        Ahead {
+        LastPiece {
             piece: [0; PIECE],
             at: 0,
             end: 0,
@@ -24,15 +24,15 @@ impl Ahead {
 
     /// Returns the bytes that are not consumed yet.
     pub fn waiting(&self) -> &[u8]
-        ensures { result.now ≡ waiting self.now }
+        ensures { result.now ≡ waiting_bytes self.now }
     {
         &self.piece[self.at..self.end]
     }
 
     /// Consumes `count` of these bytes.
     pub fn take(&mut self, count: usize)
-        requires { count ≤ length (waiting self.old) }
-        ensures waiting { waiting self.new ≡ drop count (waiting self.old) }
+        requires { count ≤ length (waiting_bytes self.old) }
+        ensures waiting { waiting_bytes self.new ≡ drop count (waiting_bytes self.old) }
         ensures reads { self.new.reads ≡ self.old.reads }
     {
         self.at += count;
@@ -41,8 +41,8 @@ impl Ahead {
     /// Reads the next chunk, if all of the last one is consumed. Returns its length, which is 0 only at the reader's
     /// end.
     pub fn refill<R: CountedRead>(&mut self, reader: &mut R) -> Result<usize, ReadError>
-        requires { waiting self.old ≡ [] }
-        ensures bytes { Refills result (source_in R.seen reader.old self.old) (source_in R.seen reader.new self.new) }
+        requires { waiting_bytes self.old ≡ [] }
+        ensures bytes { RefillsAhead result (source_in R.seen reader.old self.old) (source_in R.seen reader.new self.new) }
         ensures reads { OnOk result (self.new.reads ≡ self.old.reads + 1) }
     {
         if self.reads >= MAX_READS {

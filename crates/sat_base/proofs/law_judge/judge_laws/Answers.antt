@@ -1,4 +1,4 @@
-use Rattle.sat_base.proofs.lemmas.script.JudgeStates.{judge_kept, given_suffice}
+use Rattle.sat_base.proofs.lemmas.script.ScriptStates.{judge_kept, given_suffice}
 use Rattle.sat_base.proofs.lemmas.script.NamesListed.{lists_in_use}
 use Rattle.sat_base.proofs.law_judge.judge_laws.Goals as goal
 

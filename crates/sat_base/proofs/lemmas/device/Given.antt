@@ -140,14 +140,14 @@ rest_ends : (k : Option (List ℕ)) (rest : List ℕ) → k ≡ Some rest → Is
 rest_ends None rest h o = absurd cc
 rest_ends (Some xs) rest h o = let j : xs ≡ rest = cc in sym j ∙ o
 
-told_of : (s t : Option (List ℕ)) (xs : List ℕ) (P : List ℕ → Type 0) → Consumes s t xs → ((rest : List ℕ) → t ≡ Some rest → P (xs ++ rest)) → IfSome s P
-told_of None t xs P h k = tt
-told_of (Some all) None xs P h k = absurd h
-told_of (Some all) (Some rest) xs P h k = subst P (sym h) (k rest refl)
+reported_of : (s t : Option (List ℕ)) (xs : List ℕ) (P : List ℕ → Type 0) → Consumes s t xs → ((rest : List ℕ) → t ≡ Some rest → P (xs ++ rest)) → IfSome s P
+reported_of None t xs P h k = tt
+reported_of (Some all) None xs P h k = absurd h
+reported_of (Some all) (Some rest) xs P h k = subst P (sym h) (k rest refl)
 
 -- where the reader tells its bytes, it is so of all that there were
-pub enough_told : (a c : Reader) (P : List ℕ → Type 0) → GaveEnough a c P → IfSome a.to_come P
-enough_told a c P g = told_of a.to_come c.to_come g.text P g.front.told (λ rest h. g.holds rest (λ called e. rest_ends c.to_come rest h (g.over called e)))
+pub enough_reported : (a c : Reader) (P : List ℕ → Type 0) → GaveEnough a c P → IfSome a.to_come P
+enough_reported a c P g = reported_of a.to_come c.to_come g.text P g.front.told (λ rest h. g.holds rest (λ called e. rest_ends c.to_come rest h (g.over called e)))
 
 -- what follows from it is so, too
 pub enough_as : (a c : Reader) (P Q : List ℕ → Type 0) → ((text : List ℕ) → P text → Q text) → GaveEnough a c P → GaveEnough a c Q

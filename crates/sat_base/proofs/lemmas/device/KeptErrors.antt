@@ -2,11 +2,11 @@
 use Rattle.std.proofs.Common.{◌≡◌, ℕ, List, Result, Ok, Err, sym, ap, ◌∙◌}
 use Rattle.std.specs.Prelude.{OnOk, is_ok}
 use Rattle.sat_base.specs.declared.device.output.Output.{Output}
-use Rattle.sat_base.specs.device.Device.{Writer, FlushesOnce, Puts}
-use Rattle.sat_base.specs.device.Sink.{Sink, Sends, sink_of}
+use Rattle.sat_base.specs.device.Device.{Writer, FlushesOnce, WritesText}
+use Rattle.sat_base.specs.device.Sink.{Sink, SendsText, sink_of}
 
 -- what is said of one holds of the other
-pub puts_alike : {E F : Type 0} (q : Result (Unit {0}) F) (r : Result (Unit {0}) E) (text : List ℕ) (v w : Writer) → is_ok q ≡ is_ok r → Puts text r v w → Puts text q v w
+pub puts_alike : {E F : Type 0} (q : Result (Unit {0}) F) (r : Result (Unit {0}) E) (text : List ℕ) (v w : Writer) → is_ok q ≡ is_ok r → WritesText text r v w → WritesText text q v w
 puts_alike (Ok u) (Ok x) text v w e p = p
 puts_alike (Ok u) (Err x) text v w e p = absurd cc
 puts_alike (Err f) (Ok x) text v w e p = absurd cc
@@ -18,7 +18,7 @@ flush_alike (Ok u) (Err x) v w e p = absurd cc
 flush_alike (Err f) (Ok x) v w e p = absurd cc
 flush_alike (Err f) (Err x) v w e p = record { told = p.told; taken = p.taken; flushed = p.flushed; flushes = p.flushes; failures = p.failures; calls = p.calls; loans = p.loans }
 
-pub sends_alike : {E F : Type 0} (q : Result (Unit {0}) F) (r : Result (Unit {0}) E) (text : List ℕ) (a b : Sink) → is_ok q ≡ is_ok r → Sends text r a b → Sends text q a b
+pub sends_alike : {E F : Type 0} (q : Result (Unit {0}) F) (r : Result (Unit {0}) E) (text : List ℕ) (a b : Sink) → is_ok q ≡ is_ok r → SendsText text r a b → SendsText text q a b
 sends_alike (Ok u) (Ok x) text a b e p = p
 sends_alike (Ok u) (Err x) text a b e p = absurd cc
 sends_alike (Err f) (Ok x) text a b e p = absurd cc

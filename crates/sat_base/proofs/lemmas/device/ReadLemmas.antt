@@ -7,14 +7,14 @@ use Rattle.std.specs.Io.KnownBytes.{Consumes, IsAtEnd, Keeps, prepend_known}
 use Rattle.sat_base.specs.device.Device.{Reader, ReadsOnce, most_reads}
 use Rattle.sat_base.specs.declared.steps.error.StepError.{StepError}
 use Rattle.sat_base.specs.declared.steps.error.StepError.TheVariants as errors
-use Rattle.sat_base.specs.steps.Formats.{Open}
+use Rattle.sat_base.specs.steps.Formats.{BeginsText}
 use Rattle.sat_base.specs.steps.Numbers.{IsBelow}
-use Rattle.sat_base.specs.device.Reading.{Source, to_come, PassesBut, Passes, PassesToEnd, none_given, Faults, Refills, NextByte, ByteWithin, ReadsValue}
+use Rattle.sat_base.specs.device.Reading.{Source, to_come, ConsumesWithReads, ConsumesBytes, ConsumesToEnd, none_given, ConsumesAndFails, Refills, NextByte, ByteWithin, ReadsValue}
 use Rattle.sat_base.proofs.lemmas.device.Known.{consumes_none, consumes_more}
 use Rattle.sat_base.proofs.lemmas.steps.Numbers.{Front, front_none, front_more, live, last_read, shut_zero, shut_large, shut_on}
 
 -- TAKEN BYTES
-pub passes_none : (s : Source) → Passes s s []
+pub passes_none : (s : Source) → ConsumesBytes s s []
 passes_none s = record {
   fresh = [];
   gave = sym (append-nil s.reader.given);
@@ -39,7 +39,7 @@ room_more fs gs a b c h k = omega (arith, length-append fs gs)
 few_more : (fs gs : List ℕ) (a b c n : ℕ) → b ≤ a + length fs + 0 → c ≤ b + length gs + n → c ≤ a + length (fs ++ gs) + n
 few_more fs gs a b c n h k = omega (arith, length-append fs gs)
 
-pub passes_more : {n : ℕ} (old mid new : Source) (xs ys : List ℕ) → Passes old mid xs → PassesBut n mid new ys → PassesBut n old new (xs ++ ys)
+pub passes_more : {n : ℕ} (old mid new : Source) (xs ys : List ℕ) → ConsumesBytes old mid xs → ConsumesWithReads n mid new ys → ConsumesWithReads n old new (xs ++ ys)
 passes_more {n} old mid new xs ys p q = record {
   fresh = p.fresh ++ q.fresh;
   gave = q.gave ∙ ap (λ (z : List ℕ). z ++ q.fresh) p.gave ∙ append_assoc old.reader.given p.fresh q.fresh;
@@ -54,7 +54,7 @@ passes_more {n} old mid new xs ys p q = record {
   going = λ e h. p.going refl (q.going e h);
 }
 
-pub faults_later : (old mid new : Source) (xs ys : List ℕ) → Passes old mid xs → Faults mid new ys → Faults old new (xs ++ ys)
+pub faults_later : (old mid new : Source) (xs ys : List ℕ) → ConsumesBytes old mid xs → ConsumesAndFails mid new ys → ConsumesAndFails old new (xs ++ ys)
 faults_later old mid new xs ys p f = record {
   fresh = p.fresh ++ f.fresh;
   gave = f.gave ∙ ap (λ (z : List ℕ). z ++ f.fresh) p.gave ∙ append_assoc old.reader.given p.fresh f.fresh;
@@ -70,11 +70,11 @@ faults_later old mid new xs ys p f = record {
 }
 
 -- nothing more was taken before the failure
-pub faults_there : (old mid new : Source) (xs : List ℕ) → Passes old mid xs → Faults mid new [] → Faults old new xs
-faults_there old mid new xs p f = subst (Faults old new) (append-nil xs) (faults_later old mid new xs [] p f)
+pub faults_there : (old mid new : Source) (xs : List ℕ) → ConsumesBytes old mid xs → ConsumesAndFails mid new [] → ConsumesAndFails old new xs
+faults_there old mid new xs p f = subst (ConsumesAndFails old new) (append-nil xs) (faults_later old mid new xs [] p f)
 
-pub ends_there : (old mid new : Source) (xs : List ℕ) → Passes old mid xs → PassesToEnd mid new [] → PassesToEnd old new xs
-ends_there old mid new xs p q = (subst (PassesBut 1 old new) (append-nil xs) (passes_more old mid new xs [] p q.0), q.1)
+pub ends_there : (old mid new : Source) (xs : List ℕ) → ConsumesBytes old mid xs → ConsumesToEnd mid new [] → ConsumesToEnd old new xs
+ends_there old mid new xs p q = (subst (ConsumesWithReads 1 old new) (append-nil xs) (passes_more old mid new xs [] p q.0), q.1)
 
 -- A READ THAT FAILS
 
@@ -83,7 +83,7 @@ keeps_none None b ws vs e f h = tt
 keeps_none (Some x) None ws vs e f h = absurd h
 keeps_none (Some x) (Some y) ws vs e f h = ap (λ (z : List ℕ). z ++ x) e ∙ sym h ∙ ap (λ (z : List ℕ). z ++ y) (sym f)
 
-pub faults_now : {E : Type 0} (e : E) (a b : Reader) (ws vs room names : List ℕ) (n : ℕ) → ReadsOnce {E = E} (Err e) room a b → ws ≡ [] → vs ≡ [] → Faults (record { reader = a; waiting = ws; reads = n; names = names }) (record { reader = b; waiting = vs; reads = n + 1; names = names }) []
+pub faults_now : {E : Type 0} (e : E) (a b : Reader) (ws vs room names : List ℕ) (n : ℕ) → ReadsOnce {E = E} (Err e) room a b → ws ≡ [] → vs ≡ [] → ConsumesAndFails (record { reader = a; waiting = ws; reads = n; names = names }) (record { reader = b; waiting = vs; reads = n + 1; names = names }) []
 faults_now e a b ws vs room names n r d f = record {
   fresh = [];
   gave = r.given ∙ sym (append-nil a.given);
@@ -99,7 +99,7 @@ faults_now e a b ws vs room names n r d f = record {
 }
 
 -- or isn't made, after so many
-pub faults_spent : (s : Source) → s.waiting ≡ [] → most_reads ≤ s.reads → Faults s s []
+pub faults_spent : (s : Source) → s.waiting ≡ [] → most_reads ≤ s.reads → ConsumesAndFails s s []
 faults_spent s d h = record {
   fresh = [];
   gave = sym (append-nil s.reader.given);
@@ -165,7 +165,7 @@ none_waits at end piece h = drop_all at (take end piece) (let e = length-take en
 -- THE GROUPS OF A NUMBER, from the low end
 pub record Groups (limit value place : ℕ) (old new : Source) : Type 0 where
   pub text : List ℕ
-  pub passes : Passes old new text
+  pub passes : ConsumesBytes old new text
   pub front : Front text value place
   pub small : value + place < limit
   pub begun : ((text ≡ []) × (value ≡ 0) × (place ≡ 1)) ⊎ ((text ≡ [] → ⊥) × (1 < place))
@@ -176,7 +176,7 @@ groups_none limit s h = record { text = []; passes = passes_none s; front = fron
 pub place_some : (limit value place : ℕ) (old new : Source) → Groups limit value place old new → 0 < place
 place_some limit value place old new g = elim g.begun [ inl h ↦ omega (arith, h.2) | inr h ↦ omega (arith, h.1) ]
 
-groups_cut : (limit value place : ℕ) (old mid new : Source) → Groups limit value place old mid → PassesToEnd mid new [] → ReadsValue (IsBelow limit) (Err errors.Cut) old new
+groups_cut : (limit value place : ℕ) (old mid new : Source) → Groups limit value place old mid → ConsumesToEnd mid new [] → ReadsValue (IsBelow limit) (Err errors.Cut) old new
 groups_cut limit value place old mid new g h = (g.text, ends_there old mid new g.text g.passes h, live limit g.text value place g.front g.small)
 
 pub groups_stop : (limit value place : ℕ) (old mid new : Source) (e : StepError) → Groups limit value place old mid → ByteWithin (Err e) mid new → ReadsValue (IsBelow limit) (Err e) old new
@@ -184,29 +184,29 @@ groups_stop limit value place old mid new errors.Read g h = (g.text, faults_ther
 groups_stop limit value place old mid new errors.Cut g h = groups_cut limit value place old mid new g h
 groups_stop limit value place old mid new e g h = absurd h
 
-pub groups_bad : (limit value place b : ℕ) (old mid new : Source) → (g : Groups limit value place old mid) → Passes mid new (b ∷ []) → (Open (IsBelow limit) (g.text ++ b ∷ []) → ⊥) → ReadsValue (IsBelow limit) (Err errors.BadByte) old new
+pub groups_bad : (limit value place b : ℕ) (old mid new : Source) → (g : Groups limit value place old mid) → ConsumesBytes mid new (b ∷ []) → (BeginsText (IsBelow limit) (g.text ++ b ∷ []) → ⊥) → ReadsValue (IsBelow limit) (Err errors.BadByte) old new
 groups_bad limit value place b old mid new g h k = (g.text, b, passes_more old mid new g.text (b ∷ []) g.passes h, live limit g.text value place g.front g.small, k)
 
 -- a last group of 0 is the whole number
-pub groups_zero : (limit value place b : ℕ) (old mid new : Source) → Groups limit value place old mid → Passes mid new (b ∷ []) → b ≡ 0 → place ≡ 1 → 1 < limit → ReadsValue (IsBelow limit) (Ok 0) old new
+pub groups_zero : (limit value place b : ℕ) (old mid new : Source) → Groups limit value place old mid → ConsumesBytes mid new (b ∷ []) → b ≡ 0 → place ≡ 1 → 1 < limit → ReadsValue (IsBelow limit) (Ok 0) old new
 groups_zero limit value place b old mid new g h e f l = elim g.begun [
-  | inl k ↦ (b ∷ [], subst (λ (z : List ℕ). Passes old new (z ++ b ∷ [])) k.0 (passes_more old mid new g.text (b ∷ []) g.passes h), ((omega arith, sym e), omega arith))
+  | inl k ↦ (b ∷ [], subst (λ (z : List ℕ). ConsumesBytes old new (z ++ b ∷ [])) k.0 (passes_more old mid new g.text (b ∷ []) g.passes h), ((omega arith, sym e), omega arith))
   | inr k ↦ absurd (omega (arith, k.1))
 ]
 
-pub groups_zero_bad : (limit value place b : ℕ) (old mid new : Source) → Groups limit value place old mid → Passes mid new (b ∷ []) → b ≡ 0 → (place ≡ 1 → ⊥) → ReadsValue (IsBelow limit) (Err errors.BadByte) old new
+pub groups_zero_bad : (limit value place b : ℕ) (old mid new : Source) → Groups limit value place old mid → ConsumesBytes mid new (b ∷ []) → b ≡ 0 → (place ≡ 1 → ⊥) → ReadsValue (IsBelow limit) (Err errors.BadByte) old new
 groups_zero_bad limit value place b old mid new g h e f = elim g.begun [
   | inl k ↦ absurd (f k.2)
   | inr k ↦ groups_bad limit value place b old mid new g h (shut_zero limit g.text value place b g.front k.0 e)
 ]
 
-pub groups_last : (limit value place b : ℕ) (old mid new : Source) → Groups limit value place old mid → Passes mid new (b ∷ []) → (b ≡ 0 → ⊥) → b < 128 → value + place * b < limit → ReadsValue (IsBelow limit) (Ok (value + place * b)) old new
+pub groups_last : (limit value place b : ℕ) (old mid new : Source) → Groups limit value place old mid → ConsumesBytes mid new (b ∷ []) → (b ≡ 0 → ⊥) → b < 128 → value + place * b < limit → ReadsValue (IsBelow limit) (Ok (value + place * b)) old new
 groups_last limit value place b old mid new g h z l m = (g.text ++ b ∷ [], passes_more old mid new g.text (b ∷ []) g.passes h, last_read limit g.text value place b g.front l (inr (omega arith)) m)
 
-pub groups_large : (limit value place b : ℕ) (old mid new : Source) → Groups limit value place old mid → Passes mid new (b ∷ []) → b < 128 → limit ≤ value + place * b → ReadsValue (IsBelow limit) (Err errors.BadByte) old new
+pub groups_large : (limit value place b : ℕ) (old mid new : Source) → Groups limit value place old mid → ConsumesBytes mid new (b ∷ []) → b < 128 → limit ≤ value + place * b → ReadsValue (IsBelow limit) (Err errors.BadByte) old new
 groups_large limit value place b old mid new g h l m = groups_bad limit value place b old mid new g h (shut_large limit g.text value place b g.front l m)
 
-pub groups_on : (limit value place b : ℕ) (old mid new : Source) → Groups limit value place old mid → Passes mid new (b ∷ []) → 128 ≤ b → limit ≤ (value + place * (b - 128)) + place * 128 → ReadsValue (IsBelow limit) (Err errors.BadByte) old new
+pub groups_on : (limit value place b : ℕ) (old mid new : Source) → Groups limit value place old mid → ConsumesBytes mid new (b ∷ []) → 128 ≤ b → limit ≤ (value + place * (b - 128)) + place * 128 → ReadsValue (IsBelow limit) (Err errors.BadByte) old new
 groups_on limit value place b old mid new g h l m = groups_bad limit value place b old mid new g h (shut_on limit g.text value place b g.front l m)
 
 -- THE ROOM THAT IS LEFT for the groups to come: so many times the place fit into what the number may still grow by
@@ -232,12 +232,12 @@ small_group b h = grind (arith, common_steps)
 large_group : (b : ℕ) → nat_lt b 128 ≡ false → 128 ≤ b
 large_group b h = grind (arith, common_steps)
 
-by_kind : (largest value place b : ℕ) (old mid new : Source) → Groups (largest + 1) value place old mid → Passes mid new (b ∷ []) → largest + 1 ≤ value + place * b → (t : Bool) → nat_lt b 128 ≡ t → ReadsValue (IsBelow (largest + 1)) (Err errors.BadByte) old new
+by_kind : (largest value place b : ℕ) (old mid new : Source) → Groups (largest + 1) value place old mid → ConsumesBytes mid new (b ∷ []) → largest + 1 ≤ value + place * b → (t : Bool) → nat_lt b 128 ≡ t → ReadsValue (IsBelow (largest + 1)) (Err errors.BadByte) old new
 by_kind largest value place b old mid new g h k true e = groups_large (largest + 1) value place b old mid new g h (small_group b e) k
 by_kind largest value place b old mid new g h k false e = groups_on (largest + 1) value place b old mid new g h (large_group b e) (let s = split_group place b (large_group b e) in omega arith)
 
 -- a group that has no room
-pub groups_past : (largest value place room b : ℕ) (old mid new : Source) → Groups (largest + 1) value place old mid → Passes mid new (b ∷ []) → largest < value + place * (room + 1) → room < b → ReadsValue (IsBelow (largest + 1)) (Err errors.BadByte) old new
+pub groups_past : (largest value place room b : ℕ) (old mid new : Source) → Groups (largest + 1) value place old mid → ConsumesBytes mid new (b ∷ []) → largest < value + place * (room + 1) → room < b → ReadsValue (IsBelow (largest + 1)) (Err errors.BadByte) old new
 groups_past largest value place room b old mid new g h k l = by_kind largest value place b old mid new g h (past_room largest value place room b k l) (nat_lt b 128) refl
 
 low_of : (largest value place room g q : ℕ) → value + place * room ≤ largest → g + 128 * q ≤ room → (value + place * g) + (place * 128) * q ≤ largest
@@ -260,7 +260,7 @@ not_none : (xs : List ℕ) (b : ℕ) → xs ++ b ∷ [] ≡ [] → ⊥
 not_none [] b e = cc
 not_none (x ∷ xs) b e = cc
 
-pub groups_more : (limit value place b : ℕ) (old mid new : Source) → Groups limit value place old mid → Passes mid new (b ∷ []) → 128 ≤ b → b < 256 → (value + place * (b - 128)) + place * 128 < limit → Groups limit (value + place * (b - 128)) (place * 128) old new
+pub groups_more : (limit value place b : ℕ) (old mid new : Source) → Groups limit value place old mid → ConsumesBytes mid new (b ∷ []) → 128 ≤ b → b < 256 → (value + place * (b - 128)) + place * 128 < limit → Groups limit (value + place * (b - 128)) (place * 128) old new
 groups_more limit value place b old mid new g h l m s = record {
   text = g.text ++ b ∷ [];
   passes = passes_more old mid new g.text (b ∷ []) g.passes h;
@@ -282,8 +282,8 @@ took_known None b ws vs text e h = tt
 took_known (Some x) None ws vs text e h = absurd h
 took_known (Some x) (Some y) ws vs text e h = h ∙ ap (λ (z : List ℕ). z ++ y) e ∙ append_assoc text vs y
 
-pub took_text : (s : Source) (r : Reader) (ws vs names : List ℕ) (n m : ℕ) (text : List ℕ) → Passes s (record { reader = r; waiting = ws; reads = n; names = names }) [] → ws ≡ text ++ vs → m ≡ n
-    → Passes s (record { reader = r; waiting = vs; reads = m; names = names }) text
+pub took_text : (s : Source) (r : Reader) (ws vs names : List ℕ) (n m : ℕ) (text : List ℕ) → ConsumesBytes s (record { reader = r; waiting = ws; reads = n; names = names }) [] → ws ≡ text ++ vs → m ≡ n
+    → ConsumesBytes s (record { reader = r; waiting = vs; reads = m; names = names }) text
 took_text s r ws vs names n m text p e f = record {
   fresh = p.fresh;
   gave = p.gave;
@@ -299,8 +299,8 @@ took_text s r ws vs names n m text p e f = record {
 }
 
 -- a read that gave some bytes, and one that gave none
-pub gave_some : (n : ℕ) (s t : Source) → (n ≡ 0 → ⊥) → PassesBut (none_given n) s t [] → Passes s t []
-gave_some n s t h p = subst (λ (k : ℕ). PassesBut k s t []) (none_zero n h) p
+pub gave_some : (n : ℕ) (s t : Source) → (n ≡ 0 → ⊥) → ConsumesWithReads (none_given n) s t [] → ConsumesBytes s t []
+gave_some n s t h p = subst (λ (k : ℕ). ConsumesWithReads k s t []) (none_zero n h) p
 
-pub gave_nothing : (n : ℕ) (s t : Source) → n ≡ 0 → PassesBut (none_given n) s t [] → PassesBut 1 s t []
-gave_nothing n s t h p = subst (λ (k : ℕ). PassesBut (none_given k) s t []) h p
+pub gave_nothing : (n : ℕ) (s t : Source) → n ≡ 0 → ConsumesWithReads (none_given n) s t [] → ConsumesWithReads 1 s t []
+gave_nothing n s t h p = subst (λ (k : ℕ). ConsumesWithReads (none_given k) s t []) h p

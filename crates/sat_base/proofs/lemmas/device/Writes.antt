@@ -4,7 +4,7 @@ use Rattle.std.proofs.lemmas.List.{append-nil, take-append-drop, length-take-le}
 use Rattle.std.proofs.lemmas.Grind.{common_steps}
 use Rattle.std.proofs.Math.Seq.{take-add}
 use Rattle.std.specs.Io.KnownBytes.{Appends, Keeps}
-use Rattle.sat_base.specs.device.Device.{Writer, WritesOnce, FlushesOnce, WriterTakes, WriterBreaks, Puts, takes_none, lent_writer}
+use Rattle.sat_base.specs.device.Device.{Writer, WritesOnce, FlushesOnce, WriterTakes, WriterBreaks, WritesText, takes_none, lent_writer}
 use Rattle.sat_base.proofs.lemmas.device.Known.{appends_none, appends_more, rest_is}
 
 pub took_none : (w : Writer) → WriterTakes w w []
@@ -184,7 +184,7 @@ lent_breaks a b given back text p = record {
 }
 
 -- a writer that was lent and given back holds what it held at the end of the loan
-pub lent_puts : {E W : Type 0} (seen : W → Writer) (a z v : W) (given back : ℕ) (text : List ℕ) (r : Result (Unit {0}) E) → (given ≡ back → z ≡ v) → Puts text r (lent_writer given (seen a)) (lent_writer back (seen v)) → Puts text r (seen a) (seen z)
+pub lent_puts : {E W : Type 0} (seen : W → Writer) (a z v : W) (given back : ℕ) (text : List ℕ) (r : Result (Unit {0}) E) → (given ≡ back → z ≡ v) → WritesText text r (lent_writer given (seen a)) (lent_writer back (seen v)) → WritesText text r (seen a) (seen z)
 lent_puts {E} {W} seen a z v given back text (Ok u) h p =
     subst (λ (x : W). WriterTakes (seen a) (seen x) text) (sym (loans_end W z v given back (seen a).loans (seen v).loans h p.loans)) (lent_takes (seen a) (seen v) given back text p)
 lent_puts {E} {W} seen a z v given back text (Err e) h p =

@@ -5,9 +5,9 @@ use Rattle.std.proofs.lemmas.Bool.Decides.{nat_tests}
 use Rattle.std.specs.Prelude.{nat_eq, nat_lt, not, ◌||◌, if◌then◌else◌}
 use Rattle.sat_base.specs.values.Literals.{coded, var_limit}
 use Rattle.sat_base.specs.text.Text.{is_blank, Token, Number, Letter, Header, Wrong, Scan, scan}
-use Rattle.sat_base.specs.text.Spot.{onto}
+use Rattle.sat_base.specs.text.Position.{onto}
 use Rattle.sat_base.specs.text.Tokenizing.{held, held_token, IsOfHeader, HoldsNoWord}
-use Rattle.sat_base.specs.dimacs.Dimacs.{Hand, Turn, GoesOn, Ends, Fails, Ending, Limit, Dimacs, literals_in, turn, at_end, behind_turn, clauses_of, dimacs_of, dimacs, has_blank, settled}
+use Rattle.sat_base.specs.dimacs.Dimacs.{Hand, Turn, GoesOn, Ends, Fails, Ending, Limit, Dimacs, literals_in, turn, at_end, behind_turn, clauses_of, dimacs_of, dimacs, has_blank, up_to_last_blank}
 use Rattle.sat_base.specs.dimacs.Collecting.{token_of}
 use Rattle.sat_base.specs.dimacs.Parsing.{has_LF, whole_lines, NoFault, unless_fault}
 use Rattle.sat_base.specs.dimacs.ParserPlaces.{onto_clauses, HaveTakenTokens}
@@ -21,7 +21,7 @@ has_blank-behind (x ∷ xs) b e = rw (has_blank-behind xs b e) (or_true (is_blan
     or_true true = refl
     or_true false = refl
 
-pub settled_blank : (text : List ℕ) (b : ℕ) → is_blank b ≡ true → settled (text ++ b ∷ []) ≡ text ++ b ∷ []
+pub settled_blank : (text : List ℕ) (b : ℕ) → is_blank b ≡ true → up_to_last_blank (text ++ b ∷ []) ≡ text ++ b ∷ []
 settled_blank [] b e = rw e refl
 settled_blank (x ∷ xs) b e = rw (has_blank-behind (x ∷ xs) b e) (ap (λ (ys : List ℕ). x ∷ ys) (settled_blank xs b e))
 
@@ -29,7 +29,7 @@ has_blank-inside : (text : List ℕ) (b : ℕ) → is_blank b ≡ false → has_
 has_blank-inside [] b e = rw e refl
 has_blank-inside (x ∷ xs) b e = ap (λ (c : Bool). is_blank x || c) (has_blank-inside xs b e)
 
-pub settled_inside : (text : List ℕ) (b : ℕ) → is_blank b ≡ false → settled (text ++ b ∷ []) ≡ settled text
+pub settled_inside : (text : List ℕ) (b : ℕ) → is_blank b ≡ false → up_to_last_blank (text ++ b ∷ []) ≡ up_to_last_blank text
 settled_inside [] b e = rw e refl
 settled_inside (x ∷ xs) b e = rw (has_blank-inside (x ∷ xs) b e, settled_inside xs b e) refl
 

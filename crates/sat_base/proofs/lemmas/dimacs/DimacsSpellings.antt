@@ -8,7 +8,7 @@ use Rattle.sat_base.specs.text.Text.{Token, Number, Letter, Header, Wrong, token
 use Rattle.sat_base.specs.script.Language.{spoken}
 use Rattle.sat_base.specs.dimacs.Dimacs.{Ending, Clean, Malformed, Limit, Dimacs, Hand, Turn, GoesOn, Ends, literals_in, with_number, turn, at_end, behind_turn, clauses_of, dimacs}
 use Rattle.sat_base.specs.script.ScriptSpelling.{IsZero}
-use Rattle.sat_base.specs.dimacs.DimacsSpelling.{signed_number, AreWithin, SpellsClauses, SpellsFormula, OneFormula, CleanIfSpelled}
+use Rattle.sat_base.specs.dimacs.DimacsSpelling.{signed_number, AreWithinLimit, SpellsClauses, SpellsFormula, OneFormula, CleanIfSpelled}
 use Rattle.sat_base.proofs.lemmas.dimacs.WrittenIsRead.{clauses_nil, clauses_cons, coded_back}
 use Rattle.sat_base.proofs.lemmas.text.HeaderFirst.{IsWord, AreWords, AreScript, text_is}
 
@@ -23,7 +23,7 @@ pub record SpellsRest (done : List ℕ) (cs : List (List ℕ)) (ts : List Token)
   pub later : List Token
   pub clauses : List (List ℕ)
   pub is_last : IsZero last
-  pub within : AreWithin literals
+  pub within : AreWithinLimit literals
   pub first : cs ≡ (done ++ literals) ∷ clauses
   pub whole : ts ≡ (map signed_number literals ++ last ∷ []) ++ later
   pub rest : SpellsClauses clauses later
@@ -58,7 +58,7 @@ rest_of (t ∷ ts) = ts
 
 -- TAKEN APART
 rest_next : (h : Hand) (literals : List ℕ) (last : Token) (later : List Token) (clauses cs : List (List ℕ)) (t : Token) (ts : List Token)
-    → IsZero last → AreWithin literals → cs ≡ (literals_in h ++ literals) ∷ clauses → t ∷ ts ≡ (map signed_number literals ++ last ∷ []) ++ later → SpellsClauses clauses later → Next h cs t ts
+    → IsZero last → AreWithinLimit literals → cs ≡ (literals_in h ++ literals) ∷ clauses → t ∷ ts ≡ (map signed_number literals ++ last ∷ []) ++ later → SpellsClauses clauses later → Next h cs t ts
 rest_next h [] last later clauses cs t ts z w f e s =
     let same : t ≡ last = ap first_of e in
     let behind : ts ≡ later = ap rest_of e in

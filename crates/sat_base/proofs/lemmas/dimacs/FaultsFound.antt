@@ -8,7 +8,7 @@ use Rattle.sat_base.specs.declared.text.Tokenizer.{Tokenizer}
 use Rattle.sat_base.specs.declared.dimacs.error.DimacsError.{DimacsError}
 use Rattle.sat_base.specs.declared.dimacs.error.DimacsError.TheVariants as errors
 use Rattle.sat_base.specs.text.Text.{is_blank, Token, Wrong, Scan, scan, tokens}
-use Rattle.sat_base.specs.text.Spot.{onto}
+use Rattle.sat_base.specs.text.Position.{onto}
 use Rattle.sat_base.specs.text.WrongWords.{RightAhead, WrongAhead}
 use Rattle.sat_base.specs.text.Tokenizing.{held, held_token, StandsBefore}
 use Rattle.sat_base.specs.dimacs.Dimacs.{Hand, Turn, GoesOn, Ends, Fails, Ending, Malformed, Limit, Dimacs, turn, clauses_of, dimacs}

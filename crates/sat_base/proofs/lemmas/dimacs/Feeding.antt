@@ -15,12 +15,12 @@ use Rattle.sat_base.specs.declared.text.Token.TheVariants as code
 use Rattle.sat_base.specs.declared.text.Tokenizer.{Tokenizer}
 use Rattle.sat_base.specs.text.Text.{is_blank, Token, Number, Letter, Header, Wrong, Scan, lines, tokens_of, last_line, scan, HasEnded, header_from, header_first, dimacs_header}
 use Rattle.sat_base.specs.text.Chunks.{IgnoresRest}
-use Rattle.sat_base.specs.text.Spot.{onto}
+use Rattle.sat_base.specs.text.Position.{onto}
 use Rattle.sat_base.specs.text.WrongWords.{HaveNoWrongWord, RightAhead, WrongAhead}
 use Rattle.sat_base.specs.text.Tokenizing.{held, held_token, StandsBefore, TakesByte, GivesLast, IsOfHeader, HoldsNoWord}
 use Rattle.sat_base.specs.values.Formulas.{Formula, no_formula, vars_in, vars_of}
-use Rattle.sat_base.specs.dimacs.Dimacs.{Hand, Turn, GoesOn, Ends, Fails, Ending, Clean, Malformed, Limit, Dimacs, literals_in, turn, at_end, clauses_of, dimacs, settled}
-use Rattle.sat_base.specs.dimacs.Collecting.{token_of, hand_in, header_behind, is_literal, NeedsRoom, Stay, AllStay, TakesTokenTurn}
+use Rattle.sat_base.specs.dimacs.Dimacs.{Hand, Turn, GoesOn, Ends, Fails, Ending, Clean, Malformed, Limit, Dimacs, literals_in, turn, at_end, clauses_of, dimacs, up_to_last_blank}
+use Rattle.sat_base.specs.dimacs.Collecting.{token_of, hand_in, header_behind, is_literal, NeedsRoom, SameClausesAndCount, SameClausesAndHeader, TakesTokenTurn}
 use Rattle.sat_base.specs.dimacs.Parsing.{Progress, SaysEnded, NoFault, unless_fault, IsSoundText, GoesWell, EndsWell, EndsAtFault, FeedsPiece, Finishes, with_fed, cut_short, at_its_end, clauses_read, lines_read, whole_lines, held_numbers, last_byte}
 use Rattle.sat_base.specs.dimacs.ParserPlaces.{progress_of, all_in, onto_clauses, HaveTakenTokens, IsGoingParser, IsParser, EndsClean}
 use Rattle.sat_base.specs.dimacs.Faults.{HasTakenSoundly}
@@ -51,7 +51,7 @@ turned_by before taken old new n t (Fails ending) e m s = absurd s
 abbrev pub Counted : List (List ℕ) → Clauses → Type 0
 Counted taken c = (c.count ≡ held (length (taken ++ c.formula.clauses))) × (c.formula.var_count ≡ vars_of (taken ++ c.formula.clauses))
 
-pub counted_stay : (taken : List (List ℕ)) (old new : Clauses) → Stay old new → Counted taken old → Counted taken new
+pub counted_stay : (taken : List (List ℕ)) (old new : Clauses) → SameClausesAndCount old new → Counted taken old → Counted taken new
 counted_stay taken old new s c = rw (s.0, s.1) c
 
 pub counted_by : (taken : List (List ℕ)) (old new : Clauses) (k : Turn) → TakesTokenTurn k old new → Counted taken old → Counted taken new
@@ -123,18 +123,18 @@ module _ (old new : Parser) (g : IsGoingParser old) (b : ℕ) (xs : List (ℕ ×
     right = r;
   }
 
-  pub step_settled : (old_clauses : (dimacs (settled old.history.fed)).clauses ≡ all_in old) → (is_blank b ≡ false → all_in new ≡ all_in old) → HaveTakenTokens (g.before ++ xs) (all_in new) (hand_in new.clauses)
-      → (blank : Bool) → is_blank b ≡ blank → (dimacs (settled new.history.fed)).clauses ≡ all_in new
+  pub step_settled : (old_clauses : (dimacs (up_to_last_blank old.history.fed)).clauses ≡ all_in old) → (is_blank b ≡ false → all_in new ≡ all_in old) → HaveTakenTokens (g.before ++ xs) (all_in new) (hand_in new.clauses)
+      → (blank : Bool) → is_blank b ≡ blank → (dimacs (up_to_last_blank new.history.fed)).clauses ≡ all_in new
   step_settled o i m true e =
-      ap (λ (text : List ℕ). (dimacs text).clauses) (ap settled s.fed ∙ settled_blank old.history.fed b e ∙ sym s.fed)
+      ap (λ (text : List ℕ). (dimacs text).clauses) (ap up_to_last_blank s.fed ∙ settled_blank old.history.fed b e ∙ sym s.fed)
       ∙ settled_clauses new.history.fed (g.before ++ xs) (all_in new) (hand_in new.clauses) (after []) step_scan m (s.quiet e)
   step_settled o i m false e =
-      ap (λ (text : List ℕ). (dimacs text).clauses) (ap settled s.fed ∙ settled_inside old.history.fed b e) ∙ o ∙ sym (i e)
+      ap (λ (text : List ℕ). (dimacs text).clauses) (ap up_to_last_blank s.fed ∙ settled_inside old.history.fed b e) ∙ o ∙ sym (i e)
 
-clauses_open : (p : Parser) → p.ended ≡ false → (dimacs (settled p.history.fed)).clauses ≡ all_in p → clauses_read (progress_of p) ≡ all_in p
+clauses_open : (p : Parser) → p.ended ≡ false → (dimacs (up_to_last_blank p.history.fed)).clauses ≡ all_in p → clauses_read (progress_of p) ≡ all_in p
 clauses_open p e h = rw e h
 
-settled_open : (p : Parser) → p.ended ≡ false → clauses_read (progress_of p) ≡ all_in p → (dimacs (settled p.history.fed)).clauses ≡ all_in p
+settled_open : (p : Parser) → p.ended ≡ false → clauses_read (progress_of p) ≡ all_in p → (dimacs (up_to_last_blank p.history.fed)).clauses ≡ all_in p
 settled_open p e h = rw e at h
 
 header_open : (p : Parser) → p.ended ≡ false → p.clauses.header ≡ held_numbers (dimacs_header (whole_lines p.history.fed)) → p.clauses.header ≡ held_numbers (dimacs_header (lines_read (progress_of p)))
@@ -333,7 +333,7 @@ pub record FaultAt (ending : ℕ → Ending) (line b : ℕ) (old new : Parser) :
   pub faults : EndsAtFault (ending n) (b ∷ []) (progress_of old) (progress_of new)
 
 pub push_fails : (old new : Parser) (b : ℕ) (t : CodeToken) (ending : ℕ → Ending) (line : ℕ) → IsParser old → old.stopped ≡ false → Pushed old.tokenizer new.tokenizer b (Some t) → ByteTaken old new b
-    → new.stopped ≡ true → new.ended ≡ true → AllStay old.clauses new.clauses → ((n : ℕ) → turn (hand_in old.clauses) n (token_of t) ≡ Fails (ending n))
+    → new.stopped ≡ true → new.ended ≡ true → SameClausesAndHeader old.clauses new.clauses → ((n : ℕ) → turn (hand_in old.clauses) n (token_of t) ≡ Fails (ending n))
     → ((before : List ℕ → Scan) → StandsBefore new.tokenizer before → line ≡ held (before []).last) → FaultAt ending line b old new
 push_fails old new b t ending line i o p y st en stay f l =
     let g = i.goes o in
@@ -608,7 +608,7 @@ pub record FaultAtEnd (ending : ℕ → Ending) (line : ℕ) (old new : Parser) 
   pub answer : (old.stopped ≡ false) × (progress_of new ≡ at_its_end (progress_of old)) × (n : ℕ) × (line ≡ held n) × ((dimacs old.history.fed).ending ≡ ending n)
 
 pub finish_fails : (old p : Parser) (i : IsParser old) (o : old.stopped ≡ false) (t : CodeToken) (ending : ℕ → Ending) (line : ℕ) → p.history ≡ old.history → ((left_of : List ℕ → Scan) → StandsBefore old.tokenizer left_of → GivesLast (Some t) (left_of []))
-    → AllStay old.clauses p.clauses → ((n : ℕ) → turn (hand_in old.clauses) n (token_of t) ≡ Fails (ending n)) → ((before : List ℕ → Scan) → StandsBefore old.tokenizer before → line ≡ held (before []).last)
+    → SameClausesAndHeader old.clauses p.clauses → ((n : ℕ) → turn (hand_in old.clauses) n (token_of t) ≡ Fails (ending n)) → ((before : List ℕ → Scan) → StandsBefore old.tokenizer before → line ≡ held (before []).last)
     → FaultAtEnd ending line old (at_end_of p)
 finish_fails old p i o t ending line h gives stay f l =
     let g = i.goes o in

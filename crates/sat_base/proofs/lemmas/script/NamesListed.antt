@@ -3,9 +3,9 @@ use Rattle.std.proofs.Common.{ℕ, ◌≡◌, ◌∙◌, ◌<◌, ◌⊎◌, Boo
 use Rattle.std.proofs.lemmas.Bool.{eqb-true, eqb-false}
 use Rattle.std.specs.List.{AllByRecursion}
 use Rattle.sat_base.specs.script.Script.{Among}
-use Rattle.sat_base.specs.script.Judge.{Named, identity_in, identity_of}
+use Rattle.sat_base.specs.script.ScriptState.{Named, identity_in, identity_of}
 use Rattle.sat_base.proofs.lemmas.script.LiteralValues.{all_at}
-use Rattle.sat_base.specs.script.JudgeLaws.{NamesIncrease, Increase, NamesAreListed}
+use Rattle.sat_base.specs.script.ScriptStateLaws.{NamesIncrease, Increase, NamesAreListed}
 
 same_increasing : (xs ys : List ℕ) → Increase xs → Increase ys → ((n : ℕ) → Among n xs → Among n ys) → ((n : ℕ) → Among n ys → Among n xs) → xs ≡ ys
 same_increasing [] [] h k there back = refl

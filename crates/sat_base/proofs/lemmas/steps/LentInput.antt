@@ -5,7 +5,7 @@ use Rattle.sat_base.specs.declared.device.input.Input.{Input}
 use Rattle.sat_base.specs.declared.steps.error.StepError.{StepError}
 use Rattle.sat_base.specs.declared.steps.error.StepError.TheVariants as errors
 use Rattle.sat_base.specs.device.Device.{Reader}
-use Rattle.sat_base.specs.device.Reading.{Source, PassesBut, Faults, AllTaken, AnswersStepRead, source, source_of, named}
+use Rattle.sat_base.specs.device.Reading.{Source, ConsumesWithReads, ConsumesAndFails, AllTaken, AnswersStepRead, source, source_of, with_borrows}
 use Rattle.sat_base.specs.steps.Steps.{Step}
 
 same_names : (r : Result Step StepError) (s t : Source) → AnswersStepRead r s t → t.names ≡ s.names
@@ -17,16 +17,16 @@ same_names (Err errors.Read) s t h = h.1.names
 same_names (Err errors.OutOfMemory) s t h = h.2.names
 same_names (Err errors.HasFailed) s t h = absurd h
 
-passes_named : {n : ℕ} (ns : List ℕ) (s t : Source) (text : List ℕ) → PassesBut n s t text → PassesBut n (named ns s) (named ns t) text
+passes_named : {n : ℕ} (ns : List ℕ) (s t : Source) (text : List ℕ) → ConsumesWithReads n s t text → ConsumesWithReads n (with_borrows ns s) (with_borrows ns t) text
 passes_named ns s t text p = record { fresh = p.fresh; gave = p.gave; flows = p.flows; bytes = p.bytes; failures = p.failures; calls = p.calls; room = p.room; few = p.few; loans = p.loans; names = refl; going = p.going }
 
-faults_named : (ns : List ℕ) (s t : Source) (text : List ℕ) → Faults s t text → Faults (named ns s) (named ns t) text
+faults_named : (ns : List ℕ) (s t : Source) (text : List ℕ) → ConsumesAndFails s t text → ConsumesAndFails (with_borrows ns s) (with_borrows ns t) text
 faults_named ns s t text f = record { fresh = f.fresh; gave = f.gave; flows = f.flows; none = f.none; bytes = f.bytes; cause = f.cause; calls = f.calls; room = f.room; few = f.few; loans = f.loans; names = refl }
 
-taken_named : (ns : List ℕ) (t : Source) → AllTaken t → AllTaken (named ns t)
+taken_named : (ns : List ℕ) (t : Source) → AllTaken t → AllTaken (with_borrows ns t)
 taken_named ns t a = record { read = a.read; ended = a.ended; waiting = a.waiting; over = a.over }
 
-answers_named : (ns : List ℕ) (r : Result Step StepError) (s t : Source) → AnswersStepRead r s t → AnswersStepRead r (named ns s) (named ns t)
+answers_named : (ns : List ℕ) (r : Result Step StepError) (s t : Source) → AnswersStepRead r s t → AnswersStepRead r (with_borrows ns s) (with_borrows ns t)
 answers_named ns (Ok step) s t h = (h.0, passes_named ns s t h.0 h.1, h.2)
 answers_named ns (Err errors.Ends) s t h = (passes_named ns s t [] h.0, taken_named ns t h.1)
 answers_named ns (Err errors.Cut) s t h = (h.0, h.1, (passes_named ns s t (h.0 ∷ h.1) h.2.0, taken_named ns t h.2.1), h.3)

@@ -4,7 +4,7 @@ use Rattle.std.specs.Prelude.{OnOk, length}
 use Rattle.std.proofs.lemmas.List.{length-append}
 use Rattle.std.proofs.lemmas.Grind.{common_steps}
 use Rattle.std.proofs.Math.Nat.{pow-succ'}
-use Rattle.sat_base.specs.device.Sink.{Sink, Sent, Broken, Sends, Writes}
+use Rattle.sat_base.specs.device.Sink.{Sink, AddsToSink, SinkFails, SendsText, Writes}
 use Rattle.sat_base.specs.steps.Formats.{Format, Both}
 use Rattle.sat_base.specs.steps.Numbers.{IsNumber, IsBelow}
 use Rattle.sat_base.proofs.lemmas.steps.Numbers.{group}
@@ -32,7 +32,7 @@ groups_on k n h = ap (λ (t : Bool). if t then n ∷ [] else (n % 128 + 128) ∷
 pub record GroupsPut (number rest : ℕ) (old new : Sink) : Type 0 where
   pub done : List ℕ
   pub left : ℕ
-  pub sent : Sent old new done
+  pub sent : AddsToSink old new done
   pub whole : done ++ groups left rest ≡ groups 9 number
   pub fits : rest < 128 ^ (left + 1)
 
@@ -49,7 +49,7 @@ one_less : (left n : ℕ) → 128 ≤ n → n < 128 ^ (left + 1) → (k : ℕ) �
 one_less zero n h f = absurd (omega (arith, f))
 one_less (suc k) n h f = (k, refl, smaller (128 ^ (k + 1)) n (power k n f))
 
-pub groups_more : (number rest byte : ℕ) (old mid new : Sink) → 128 ≤ rest → byte ≡ rest % 128 + 128 → GroupsPut number rest old mid → Sent mid new (byte ∷ []) → GroupsPut number (rest / 128) old new
+pub groups_more : (number rest byte : ℕ) (old mid new : Sink) → 128 ≤ rest → byte ≡ rest % 128 + 128 → GroupsPut number rest old mid → AddsToSink mid new (byte ∷ []) → GroupsPut number (rest / 128) old new
 groups_more number rest byte old mid new h e g w =
     let k = one_less g.left rest h g.fits in
     record {
@@ -61,15 +61,15 @@ groups_more number rest byte old mid new h e g w =
     }
 
 -- a failure at one that goes on
-pub groups_break : (number rest byte : ℕ) (old mid new : Sink) → 128 ≤ rest → byte ≡ rest % 128 + 128 → GroupsPut number rest old mid → Broken mid new (byte ∷ []) → Broken old new (groups 9 number)
+pub groups_break : (number rest byte : ℕ) (old mid new : Sink) → 128 ≤ rest → byte ≡ rest % 128 + 128 → GroupsPut number rest old mid → SinkFails mid new (byte ∷ []) → SinkFails old new (groups 9 number)
 groups_break number rest byte old mid new h e g w =
     let k = one_less g.left rest h g.fits in
     let more = groups k.0 (rest / 128) in
     let whole : g.done ++ (byte ∷ more) ≡ groups 9 number = ap (λ (b : ℕ). g.done ++ b ∷ more) e ∙ ap (λ (z : List ℕ). g.done ++ z) (sym (groups_on k.0 rest h)) ∙ ap (λ (j : ℕ). g.done ++ groups j rest) (sym k.1) ∙ g.whole in
-    subst (λ (z : List ℕ). Broken old new z) whole (sends_breaks old mid new g.done (byte ∷ more) g.sent (sends_stops mid new (byte ∷ []) more w))
+    subst (λ (z : List ℕ). SinkFails old new z) whole (sends_breaks old mid new g.done (byte ∷ more) g.sent (sends_stops mid new (byte ∷ []) more w))
 
 -- the last one
-pub groups_end : {E : Type 0} (number rest : ℕ) (old mid new : Sink) (r : Result (Unit {0}) E) → rest < 128 → GroupsPut number rest old mid → Sends (rest ∷ []) r mid new → Sends (groups 9 number) r old new
+pub groups_end : {E : Type 0} (number rest : ℕ) (old mid new : Sink) (r : Result (Unit {0}) E) → rest < 128 → GroupsPut number rest old mid → SendsText (rest ∷ []) r mid new → SendsText (groups 9 number) r old new
 groups_end number rest old mid new r h g w =
     sends_same old new (g.done ++ rest ∷ []) (groups 9 number) r (ap (λ (z : List ℕ). g.done ++ z) (sym (groups_last g.left rest h)) ∙ g.whole) (sends_more old mid new g.done (rest ∷ []) r g.sent w)
 
@@ -128,9 +128,9 @@ pub spells_number : (limit n : ℕ) → n < limit → limit ≤ 2 ^ 64 → IsBel
 spells_number limit n h k = (spells_groups 9 n (omega arith), h)
 
 -- a number in its range, under another name
-pub number_writes : {E : Type 0} (limit m n : ℕ) (a b : Sink) (r : Result (Unit {0}) E) → m ≡ n → n < limit → limit ≤ 2 ^ 64 → Sends (groups 9 m) r a b → Writes (IsBelow limit) n (groups 9 n) r a b
-number_writes limit m n a b (Ok u) e h k w = (subst (λ (j : ℕ). Sent a b (groups 9 j)) e w, spells_number limit n h k)
-number_writes limit m n a b (Err x) e h k w = subst (λ (j : ℕ). Broken a b (groups 9 j)) e w
+pub number_writes : {E : Type 0} (limit m n : ℕ) (a b : Sink) (r : Result (Unit {0}) E) → m ≡ n → n < limit → limit ≤ 2 ^ 64 → SendsText (groups 9 m) r a b → Writes (IsBelow limit) n (groups 9 n) r a b
+number_writes limit m n a b (Ok u) e h k w = (subst (λ (j : ℕ). AddsToSink a b (groups 9 j)) e w, spells_number limit n h k)
+number_writes limit m n a b (Err x) e h k w = subst (λ (j : ℕ). SinkFails a b (groups 9 j)) e w
 
 -- the same under another format
 pub writes_as : {A B E : Type 0} (F : Format A) (G : Format B) (x : A) (y : B) (text : List ℕ) (a b : Sink) (r : Result (Unit {0}) E) → (F x text → G y text) → Writes F x text r a b → Writes G y text r a b
@@ -138,16 +138,16 @@ writes_as F G x y text a b (Ok u) f w = (w.0, f w.1)
 writes_as F G x y text a b (Err e) f w = w
 
 -- one and then another
-pub both_written : {A B E : Type 0} (F : Format A) (G : Format B) (x : A) (y : B) (s t : List ℕ) (a b c : Sink) (r : Result (Unit {0}) E) → Sent a b s → F x s → Writes G y t r b c → Writes (Both F G) (x, y) (s ++ t) r a c
+pub both_written : {A B E : Type 0} (F : Format A) (G : Format B) (x : A) (y : B) (s t : List ℕ) (a b c : Sink) (r : Result (Unit {0}) E) → AddsToSink a b s → F x s → Writes G y t r b c → Writes (Both F G) (x, y) (s ++ t) r a c
 both_written F G x y s t a b c (Ok u) p f w = (sent_more a b c s t p w.0, (s, t, f, w.1, refl))
 both_written F G x y s t a b c (Err e) p f w = sends_breaks a b c s t p w
 
 -- what waits is written out behind a value
-pub writes_last : {A E : Type 0} (F : Format A) (x : A) (text : List ℕ) (a b c : Sink) (r : Result (Unit {0}) E) → Sent a b text → F x text → Sends [] r b c → Writes F x text r a c
+pub writes_last : {A E : Type 0} (F : Format A) (x : A) (text : List ℕ) (a b c : Sink) (r : Result (Unit {0}) E) → AddsToSink a b text → F x text → SendsText [] r b c → Writes F x text r a c
 writes_last F x text a b c (Ok u) p f w = (sends_last {E = Unit {0}} a b c text (Ok u) p w, f)
 writes_last F x text a b c (Err e) p f w = sends_last a b c text (Err e) p w
 
-pub sends_of : {A E : Type 0} (F : Format A) (x : A) (text : List ℕ) (a b : Sink) (r : Result (Unit {0}) E) → Writes F x text r a b → Sends text r a b
+pub sends_of : {A E : Type 0} (F : Format A) (x : A) (text : List ℕ) (a b : Sink) (r : Result (Unit {0}) E) → Writes F x text r a b → SendsText text r a b
 sends_of F x text a b (Ok u) w = w.0
 sends_of F x text a b (Err e) w = w
 

@@ -1,7 +1,7 @@
 -- Numbers, read from their low end.
 use Rattle.std.proofs.Common.{◌≡◌, ℕ, ◌+◌, ◌*◌, ◌-◌, ◌<◌, ◌≤◌, List, [], ◌∷◌, ◌++◌, ◌⊎◌, inl, inr, append_assoc, refl, sym, ap, subst, ◌∙◌, arith}
 use Rattle.std.proofs.Math.Nat.{mul-le-mul_left}
-use Rattle.sat_base.specs.steps.Formats.{IsProperFront, Open, OneForm}
+use Rattle.sat_base.specs.steps.Formats.{IsProperFront, BeginsText, IsUniquelyDecodable}
 use Rattle.sat_base.proofs.lemmas.steps.Formats.{HasText}
 use Rattle.sat_base.specs.steps.Numbers.{IsNumber, IsBelow}
 
@@ -63,21 +63,21 @@ alone : (b m : ℕ) (tail : List ℕ) → b < 128 → IsNumber m (b ∷ tail) �
 alone b m [] p h = h.1
 alone b m (c ∷ tail) p h = absurd (omega (arith, h.0))
 
-shut_by : (limit : ℕ) (front : List ℕ) (value place b : ℕ) → Front front value place → ((m : ℕ) (tail : List ℕ) → IsNumber m (b ∷ tail) → (front ≡ []) ⊎ (0 < m) → value + place * m < limit → ⊥) → Open (IsBelow limit) (front ++ b ∷ []) → ⊥
+shut_by : (limit : ℕ) (front : List ℕ) (value place b : ℕ) → Front front value place → ((m : ℕ) (tail : List ℕ) → IsNumber m (b ∷ tail) → (front ≡ []) ⊎ (0 < m) → value + place * m < limit → ⊥) → BeginsText (IsBelow limit) (front ++ b ∷ []) → ⊥
 shut_by limit front value place b f g o =
     let k = f.only o.0 (b ∷ o.1) (subst (IsNumber o.0) (append_assoc front (b ∷ []) o.1) o.2.0) in
     g k.0 o.1 k.1 k.3 (subst (λ (n : ℕ). n < limit) k.2 o.2.1)
 
 -- a last group of 0 behind another
-pub shut_zero : (limit : ℕ) (front : List ℕ) (value place b : ℕ) → Front front value place → (front ≡ [] → ⊥) → b ≡ 0 → Open (IsBelow limit) (front ++ b ∷ []) → ⊥
+pub shut_zero : (limit : ℕ) (front : List ℕ) (value place b : ℕ) → Front front value place → (front ≡ [] → ⊥) → b ≡ 0 → BeginsText (IsBelow limit) (front ++ b ∷ []) → ⊥
 shut_zero limit front value place b f n z = shut_by limit front value place b f (λ m tail h k l. zero_case front b m n z (alone b m tail (omega arith) h) k)
 
 -- a last group that makes the number too large
-pub shut_large : (limit : ℕ) (front : List ℕ) (value place b : ℕ) → Front front value place → b < 128 → limit ≤ value + place * b → Open (IsBelow limit) (front ++ b ∷ []) → ⊥
+pub shut_large : (limit : ℕ) (front : List ℕ) (value place b : ℕ) → Front front value place → b < 128 → limit ≤ value + place * b → BeginsText (IsBelow limit) (front ++ b ∷ []) → ⊥
 shut_large limit front value place b f p h = shut_by limit front value place b f (λ m tail g k l. let e = alone b m tail p g in let d : value + place * m ≡ value + place * b = ap (λ (x : ℕ). value + place * x) e in omega arith)
 
 -- a group that goes on, behind which each number is too large
-pub shut_on : (limit : ℕ) (front : List ℕ) (value place b : ℕ) → Front front value place → 128 ≤ b → limit ≤ (value + place * (b - 128)) + place * 128 → Open (IsBelow limit) (front ++ b ∷ []) → ⊥
+pub shut_on : (limit : ℕ) (front : List ℕ) (value place b : ℕ) → Front front value place → 128 ≤ b → limit ≤ (value + place * (b - 128)) + place * 128 → BeginsText (IsBelow limit) (front ++ b ∷ []) → ⊥
 shut_on limit front value place b f p h =
     shut_by limit front value place b f (λ m tail g k l. let j = ungroup b m tail p g in
     let e : value + place * m ≡ (value + place * (b - 128)) + (place * 128) * j.0 = ap (λ (x : ℕ). value + place * x) j.2 ∙ spread value place (b - 128) j.0 in
@@ -85,7 +85,7 @@ shut_on limit front value place b f p h =
     omega arith)
 
 -- each number has one form, and none begins another
-pub one_number : OneForm IsNumber
+pub one_number : IsUniquelyDecodable IsNumber
 one_number m n [] b s t h k e = absurd h
 one_number m n (x ∷ a) [] s t h k e = absurd k
 one_number m n (x ∷ []) (y ∷ []) s t h k e = let z : x ≡ y = cc in (ap (λ (c : ℕ). c ∷ []) z, h.1 ∙ z ∙ sym k.1)
@@ -96,7 +96,7 @@ one_number m n (x ∷ w ∷ a) (y ∷ z ∷ b) s t h k e =
     let r = one_number h.2 k.2 (w ∷ a) (z ∷ b) s t h.5 k.5 (cc) in
     (ap (λ (c : List ℕ). x ∷ c) r.0 ∙ ap (λ (c : ℕ). c ∷ z ∷ b) q, omega (arith, h.4, k.4, r.1))
 
-pub one_below : (limit : ℕ) → OneForm (IsBelow limit)
+pub one_below : (limit : ℕ) → IsUniquelyDecodable (IsBelow limit)
 one_below limit x y a b s t h k e = one_number x y a b s t h.0 k.0 e
 
 pub some_below : (limit : ℕ) → 1 < limit → HasText (IsBelow limit)

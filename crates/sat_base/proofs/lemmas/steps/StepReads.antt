@@ -2,13 +2,13 @@
 use Rattle.std.proofs.Common.{◌≡◌, ℕ, ◌+◌, ◌*◌, ◌^◌, zero, suc, Bool, true, false, Option, Some, None, List, [], ◌∷◌, ◌++◌, length, Result, Ok, Err, append_assoc, refl, sym, ap, subst, ◌∙◌, arith}
 use Rattle.sat_base.specs.declared.steps.error.StepError.{StepError}
 use Rattle.sat_base.specs.declared.steps.error.StepError.TheVariants as errors
-use Rattle.sat_base.specs.steps.Formats.{Format, Both, Items, ListOf, OneForm}
+use Rattle.sat_base.specs.steps.Formats.{Format, Both, Items, ListOf, IsUniquelyDecodable}
 use Rattle.sat_base.specs.values.Literals.{var_limit}
 use Rattle.sat_base.specs.steps.Numbers.{IsBelow}
 use Rattle.sat_base.specs.steps.Steps.{Deletion, Redundant, Simplified, Satisfied, Step, SolverVarName, UserVarName, DeleteVar, ChangeSamplingMode, AddClause, AtClause, UnitClauses, DeleteClause, ChangeHashBits, Model, Assumptions, FailedAssumptions, End}
 use Rattle.sat_base.specs.steps.StepText.{IsVariable, IsOptionalVariable, IsLiteral, IsHash, IsFlag, IsWidth, IsDeletion, AreLiterals, AreHashes, AreHashedLiterals, tag_of, SpellsFields, SpellsStep, SpellsSteps}
 use Rattle.sat_base.specs.steps.Kinds.{is_tag}
-use Rattle.sat_base.specs.device.Reading.{Source, Passes, ReadsValue, AnswersStepRead, Behind, NextByte}
+use Rattle.sat_base.specs.device.Reading.{Source, ConsumesBytes, ReadsValue, AnswersStepRead, Behind, NextByte}
 use Rattle.sat_base.proofs.lemmas.steps.Formats.{HasText, cancel, one_then}
 use Rattle.sat_base.proofs.lemmas.steps.Numbers.{one_below, some_below}
 use Rattle.sat_base.proofs.lemmas.device.ReadLemmas.{passes_more, faults_later}
@@ -16,7 +16,7 @@ use Rattle.sat_base.proofs.lemmas.steps.FormatReads.{reads_as}
 use Rattle.sat_base.proofs.lemmas.steps.TagForms.{form_one, solver_form, user_form, variable_form, mode_form, clause_form, at_form, units_form, deletion_form, width_form, model_form, assumptions_form, failed_form}
 
 -- ONE FORM
-pub one_items : {A : Type 0} (F : Format A) → OneForm F → (xs ys : List A) (a b s t : List ℕ) → Items F xs a → Items F ys b → length xs ≡ length ys → a ++ s ≡ b ++ t → (a ≡ b) × (xs ≡ ys)
+pub one_items : {A : Type 0} (F : Format A) → IsUniquelyDecodable F → (xs ys : List A) (a b s t : List ℕ) → Items F xs a → Items F ys b → length xs ≡ length ys → a ++ s ≡ b ++ t → (a ≡ b) × (xs ≡ ys)
 one_items F one [] [] a b s t h k n e = (h ∙ sym k, refl)
 one_items F one [] (y ∷ ys) a b s t h k n e = absurd (omega arith)
 one_items F one (x ∷ xs) [] a b s t h k n e = absurd (omega arith)
@@ -27,7 +27,7 @@ one_items {A} F one (x ∷ xs) (y ∷ ys) a b s t h k n e =
     let q = one_items F one xs ys h.1 k.1 s t h.3 k.3 (omega arith) v in
     (h.4 ∙ ap (λ (z : List ℕ). z ++ h.1) p.0 ∙ ap (λ (z : List ℕ). k.0 ++ z) q.0 ∙ sym k.4, ap (λ (z : A). z ∷ xs) p.1 ∙ ap (λ (z : List A). y ∷ z) q.1)
 
-pub one_list : {A : Type 0} (C : Format ℕ) (F : Format A) → OneForm C → OneForm F → OneForm (ListOf C F)
+pub one_list : {A : Type 0} (C : Format ℕ) (F : Format A) → IsUniquelyDecodable C → IsUniquelyDecodable F → IsUniquelyDecodable (ListOf C F)
 one_list C F count one xs ys a b s t h k e =
     let u : h.0 ++ (h.1 ++ s) ≡ k.0 ++ (k.1 ++ t) = sym (append_assoc h.0 h.1 s) ∙ ap (λ (z : List ℕ). z ++ s) (sym h.4) ∙ e ∙ ap (λ (z : List ℕ). z ++ t) k.4 ∙ append_assoc k.0 k.1 t in
     let p = count (length xs) (length ys) h.0 k.0 (h.1 ++ s) (k.1 ++ t) h.2 k.2 u in
@@ -35,28 +35,28 @@ one_list C F count one xs ys a b s t h k e =
     let q = one_items F one xs ys h.1 k.1 s t h.3 k.3 p.1 v in
     (h.4 ∙ ap (λ (z : List ℕ). z ++ h.1) p.0 ∙ ap (λ (z : List ℕ). k.0 ++ z) q.0 ∙ sym k.4, q.1)
 
-pub one_literals : OneForm AreLiterals
+pub one_literals : IsUniquelyDecodable AreLiterals
 one_literals = one_list (IsBelow (2 ^ 64)) IsLiteral (one_below (2 ^ 64)) (one_below (2 * var_limit))
 
-pub one_hashes : OneForm AreHashes
+pub one_hashes : IsUniquelyDecodable AreHashes
 one_hashes = one_list (IsBelow (2 ^ 64)) IsHash (one_below (2 ^ 64)) (one_below (2 ^ 64))
 
-pub one_both : {A B : Type 0} (F : Format A) (G : Format B) → OneForm F → OneForm G → OneForm (Both F G)
+pub one_both : {A B : Type 0} (F : Format A) (G : Format B) → IsUniquelyDecodable F → IsUniquelyDecodable G → IsUniquelyDecodable (Both F G)
 one_both F G one two = one_then F (λ _. G) one (λ _. two)
 
-pub one_unit : OneForm (Both IsLiteral IsHash)
+pub one_unit : IsUniquelyDecodable (Both IsLiteral IsHash)
 one_unit = one_both IsLiteral IsHash (one_below (2 * var_limit)) (one_below (2 ^ 64))
 
-pub one_units : OneForm AreHashedLiterals
+pub one_units : IsUniquelyDecodable AreHashedLiterals
 one_units = one_list (IsBelow (2 ^ 64)) (Both IsLiteral IsHash) (one_below (2 ^ 64)) one_unit
 
-pub one_optional : OneForm IsOptionalVariable
+pub one_optional : IsUniquelyDecodable IsOptionalVariable
 one_optional None None a b s t h k e = ((one_below (var_limit + 1) 0 0 a b s t h k e).0, refl)
 one_optional None (Some w) a b s t h k e = let p = one_below (var_limit + 1) 0 (w + 1) a b s t h k e in absurd (omega (arith, p.1))
 one_optional (Some v) None a b s t h k e = let p = one_below (var_limit + 1) (v + 1) 0 a b s t h k e in absurd (omega (arith, p.1))
 one_optional (Some v) (Some w) a b s t h k e = let p = one_below (var_limit + 1) (v + 1) (w + 1) a b s t h k e in (p.0, ap Some (omega (arith, p.1)))
 
-pub one_flag : OneForm IsFlag
+pub one_flag : IsUniquelyDecodable IsFlag
 one_flag false false a b s t h k e = ((one_below 2 0 0 a b s t h k e).0, refl)
 one_flag false true a b s t h k e = let p = one_below 2 0 1 a b s t h k e in absurd (omega (arith, p.1))
 one_flag true false a b s t h k e = let p = one_below 2 1 0 a b s t h k e in absurd (omega (arith, p.1))
@@ -83,7 +83,7 @@ deletion_is Redundant = refl
 deletion_is Simplified = refl
 deletion_is Satisfied = refl
 
-pub one_deletion : OneForm IsDeletion
+pub one_deletion : IsUniquelyDecodable IsDeletion
 one_deletion x y a b s t h k e = let p = one_below 3 (deletion_code x) (deletion_code y) a b s t (deletion_below x a h) (deletion_below y b k) e in (p.0, sym (deletion_is x) ∙ ap deletion_at p.1 ∙ deletion_is y)
 
 -- SOME TEXT
@@ -178,7 +178,7 @@ spelled tag step b h = (b, ap (λ (n : ℕ). n ∷ b) (sym h.0), h.1)
 behind : (tag : ℕ) (step : Step) (b : List ℕ) → SpellsStep step (tag ∷ b) → Behind tag step b
 behind tag step b h = let e : tag ≡ tag_of step = let d = h.1 in cc in let f : h.0 ≡ b = let d = h.1 in cc in (sym e, subst (SpellsFields step) f h.2)
 
-pub answers_behind : (tag : ℕ) (old mid new : Source) (r : Result Step StepError) → Passes old mid (tag ∷ []) → ReadsValue (Behind tag) r mid new → AnswersStepRead r old new
+pub answers_behind : (tag : ℕ) (old mid new : Source) (r : Result Step StepError) → ConsumesBytes old mid (tag ∷ []) → ReadsValue (Behind tag) r mid new → AnswersStepRead r old new
 answers_behind tag old mid new (Ok step) p r = (tag ∷ r.0, passes_more old mid new (tag ∷ []) r.0 p r.1, spelled tag step r.0 r.2)
 answers_behind tag old mid new (Err errors.Cut) p r = (tag, r.0, (passes_more old mid new (tag ∷ []) r.0 p r.1.0, r.1.1), (r.2.0, r.2.1, r.2.2, spelled tag r.2.0 (r.0 ++ r.2.1 ∷ r.2.2) r.2.3))
 answers_behind tag old mid new (Err errors.BadByte) p r = (tag ∷ r.0, r.1, passes_more old mid new (tag ∷ []) (r.0 ++ r.1 ∷ []) p r.2, (r.3.0, r.3.1, r.3.2, spelled tag r.3.0 (r.0 ++ r.3.1 ∷ r.3.2) r.3.3), λ o. r.4 (o.0, o.1, behind tag o.0 ((r.0 ++ r.1 ∷ []) ++ o.1) o.2))
@@ -188,7 +188,7 @@ answers_behind tag old mid new (Err errors.Ends) p r = absurd r
 answers_behind tag old mid new (Err errors.HasFailed) p r = absurd r
 
 -- the byte that was taken
-pub some_byte : (byte : ℕ) (o : Option ℕ) (old new : Source) → o ≡ Some byte → NextByte (Ok o) old new → Passes old new (byte ∷ [])
+pub some_byte : (byte : ℕ) (o : Option ℕ) (old new : Source) → o ≡ Some byte → NextByte (Ok o) old new → ConsumesBytes old new (byte ∷ [])
 some_byte byte o old new e h = subst (λ (z : Option ℕ). NextByte (Ok z) old new) e h
 
 -- an unknown tag
@@ -199,14 +199,14 @@ known step = refl
 no_step : (step : Step) (tag : ℕ) (b : List ℕ) → is_tag tag ≡ false → Behind tag step b → ⊥
 no_step step tag b n h = let e : is_tag tag ≡ true = ap is_tag (sym h.0) ∙ known step in cc
 
-pub unknown_tag : (tag : ℕ) (old new : Source) → is_tag tag ≡ false → Passes old new (tag ∷ []) → AnswersStepRead (Err errors.BadByte) old new
+pub unknown_tag : (tag : ℕ) (old new : Source) → is_tag tag ≡ false → ConsumesBytes old new (tag ∷ []) → AnswersStepRead (Err errors.BadByte) old new
 unknown_tag tag old new n p = ([], tag, p, (End, 13, [], ([], refl, refl)), λ o. no_step o.0 tag o.1 n (behind tag o.0 o.1 o.2))
 
 -- no step's text begins another's, and no text has two steps
-one_variables : OneForm (Both IsVariable IsOptionalVariable)
+one_variables : IsUniquelyDecodable (Both IsVariable IsOptionalVariable)
 one_variables = one_both IsVariable IsOptionalVariable (one_below var_limit) one_optional
 
-one_lists : OneForm (Both AreLiterals AreHashes)
+one_lists : IsUniquelyDecodable (Both AreLiterals AreHashes)
 one_lists = one_both AreLiterals AreHashes one_literals one_hashes
 
 end_one : (x y : Step) (a b : List ℕ) → Behind 13 x a → Behind 13 y b → (a ≡ b) × (x ≡ y)
@@ -214,7 +214,7 @@ end_one End End a b h k = (h.1 ∙ sym k.1, refl)
 end_one End _ a b h k = absurd (omega (arith, k.0))
 end_one _ y a b h k = absurd (omega (arith, h.0))
 
-behind_one : (step : Step) → OneForm (Behind (tag_of step))
+behind_one : (step : Step) → IsUniquelyDecodable (Behind (tag_of step))
 behind_one (SolverVarName v u) = form_one 1 (Both IsVariable IsOptionalVariable) (λ x. SolverVarName x.0 x.1) solver_form one_variables
 behind_one (UserVarName v u) = form_one 2 (Both IsVariable IsOptionalVariable) (λ x. UserVarName x.0 x.1) user_form one_variables
 behind_one (DeleteVar v) = form_one 3 IsVariable DeleteVar variable_form (one_below var_limit)
@@ -232,7 +232,7 @@ behind_one End = λ x y a b s t h k e. end_one x y a b h k
 fields_one : (x y : Step) (a b s t : List ℕ) → tag_of x ≡ tag_of y → SpellsFields x a → SpellsFields y b → a ++ s ≡ b ++ t → (a ≡ b) × (x ≡ y)
 fields_one x y a b s t g h k e = behind_one x x y a b s t (refl, h) (sym g, k) e
 
-pub one_step : OneForm SpellsStep
+pub one_step : IsUniquelyDecodable SpellsStep
 one_step x y a b s t h k e =
     let f : tag_of x ∷ (h.0 ++ s) ≡ tag_of y ∷ (k.0 ++ t) = ap (λ (z : List ℕ). z ++ s) (sym h.1) ∙ e ∙ ap (λ (z : List ℕ). z ++ t) k.1 in
     let g : tag_of x ≡ tag_of y = cc in

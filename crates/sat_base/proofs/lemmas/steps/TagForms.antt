@@ -1,7 +1,7 @@
 -- What stands behind each tag. A further tag wants its `.._back` and `.._form`, and a line in `behind_one` and in `known` of `StepReads`.
 use Rattle.std.proofs.Common.{◌≡◌, ℕ, Bool, Option, List, [], Result, Ok, Err, refl, sym, ap, ◌∙◌, arith}
 use Rattle.sat_base.specs.declared.steps.error.StepError.{StepError}
-use Rattle.sat_base.specs.steps.Formats.{Format, Both, OneForm}
+use Rattle.sat_base.specs.steps.Formats.{Format, Both, IsUniquelyDecodable}
 use Rattle.sat_base.specs.steps.Steps.{Deletion, Step, SolverVarName, UserVarName, DeleteVar, ChangeSamplingMode, AddClause, AtClause, UnitClauses, DeleteClause, ChangeHashBits, Model, Assumptions, FailedAssumptions, End}
 use Rattle.sat_base.specs.steps.StepText.{IsVariable, IsOptionalVariable, IsFlag, IsWidth, IsDeletion, AreLiterals, AreHashes, AreHashedLiterals}
 use Rattle.sat_base.specs.device.Reading.{Source, ReadsValue, Behind, valued}
@@ -16,7 +16,7 @@ pub record TagForm {A : Type 0} (tag : ℕ) (H : Format A) (f : A → Step) : Ty
 pub form_read : {A : Type 0} (tag : ℕ) (H : Format A) (f : A → Step) → TagForm tag H f → (r : Result A StepError) (old new : Source) → ReadsValue H r old new → ReadsValue (Behind tag) (valued f r) old new
 form_read tag H f k r old new h = reads_as H (Behind tag) f k.to (λ s t b. let p = k.back s t b in (p.0, p.1)) r old new h
 
-pub form_one : {A : Type 0} (tag : ℕ) (H : Format A) (f : A → Step) → TagForm tag H f → OneForm H → OneForm (Behind tag)
+pub form_one : {A : Type 0} (tag : ℕ) (H : Format A) (f : A → Step) → TagForm tag H f → IsUniquelyDecodable H → IsUniquelyDecodable (Behind tag)
 form_one tag H f k one x y a b s t h i e =
     let p = k.back x a h in
     let q = k.back y b i in

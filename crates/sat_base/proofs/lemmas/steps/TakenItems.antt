@@ -5,10 +5,10 @@ use Rattle.sat_base.specs.declared.device.ahead.Ahead.{Ahead}
 use Rattle.sat_base.specs.declared.steps.error.StepError.{StepError}
 use Rattle.sat_base.specs.declared.steps.error.StepError.TheVariants as errors
 use Rattle.sat_base.specs.device.Device.{Reader}
-use Rattle.sat_base.specs.device.Reading.{Source, Passes, ReadsValue}
+use Rattle.sat_base.specs.device.Reading.{Source, ConsumesBytes, ReadsValue}
 use Rattle.sat_base.specs.device.TakenAhead.{TakesItems}
 use Rattle.sat_base.specs.device.Waiting.{waiting}
-use Rattle.sat_base.specs.steps.Formats.{Format, Items, Times, OneForm}
+use Rattle.sat_base.specs.steps.Formats.{Format, Items, Times, IsUniquelyDecodable}
 use Rattle.sat_base.proofs.lemmas.device.ReadLemmas.{passes_none, took_text}
 use Rattle.sat_base.proofs.lemmas.steps.Formats.{HasText, Times_text}
 use Rattle.sat_base.proofs.lemmas.steps.FormatReads.{Counted, item_read, with_front, front_none}
@@ -44,7 +44,7 @@ taken_more F n x before now whole rest text more t f e = record {
 abbrev with_waiting : Reader → List ℕ → ℕ → List ℕ → Source
 with_waiting r ws n names = record { reader = r; waiting = ws; reads = n; names = names }
 
-takes : (r : Reader) (text ws : List ℕ) (n : ℕ) (names : List ℕ) → Passes (with_waiting r (text ++ ws) n names) (with_waiting r ws n names) text
+takes : (r : Reader) (text ws : List ℕ) (n : ℕ) (names : List ℕ) → ConsumesBytes (with_waiting r (text ++ ws) n names) (with_waiting r ws n names) text
 takes r text ws n names = took_text (with_waiting r (text ++ ws) n names) r (text ++ ws) ws names n n text (passes_none (with_waiting r (text ++ ws) n names)) refl refl
 
 front_two : {A : Type 0} (xs ys : List A) (r : Result (List A) StepError) → with_front xs (with_front ys r) ≡ with_front (xs ++ ys) r
@@ -52,7 +52,7 @@ front_two xs ys (Ok zs) = ap (λ ws. Ok ws) (sym (append_assoc xs ys zs))
 front_two xs ys (Err e) = refl
 
 -- whatever is read of the rest, behind items that waited
-items_then : (F : Format ℕ) → OneForm F → (more : ℕ) (xs text ws : List ℕ) (s : Reader) (n : ℕ) (names : List ℕ) (r : Result (List ℕ) StepError) (new : Source) → Items F xs text → ReadsValue (Times F more) r (with_waiting s ws n names) new
+items_then : (F : Format ℕ) → IsUniquelyDecodable F → (more : ℕ) (xs text ws : List ℕ) (s : Reader) (n : ℕ) (names : List ℕ) (r : Result (List ℕ) StepError) (new : Source) → Items F xs text → ReadsValue (Times F more) r (with_waiting s ws n names) new
     → ReadsValue (Times F (length xs + more)) (with_front xs r) (with_waiting s (text ++ ws) n names) new
 items_then F one more [] text ws s n names r new i h =
     let z : more ≡ 0 + more = omega arith in
@@ -67,7 +67,7 @@ items_then F one more (x ∷ xs) text ws s n names r new i h =
     (item_read F one (length xs + more) x (with_waiting s (i.0 ++ (i.1 ++ ws)) n names) (with_waiting s (i.1 ++ ws) n names) new (i.0, takes s i.0 (i.1 ++ ws) n names, i.2) (with_front xs r) (items_then F one more xs i.1 ws s n names r new i.3 h))))
 
 -- a loop over a count, where several were taken at once
-pub counted_taken : (F : Format ℕ) → OneForm F → (count left n : ℕ) (before now : List ℕ) (old : Source) (s : Reader) (names : List ℕ) (a b : Ahead) → TakesItems F left (Ok n) before now a b
+pub counted_taken : (F : Format ℕ) → IsUniquelyDecodable F → (count left n : ℕ) (before now : List ℕ) (old : Source) (s : Reader) (names : List ℕ) (a b : Ahead) → TakesItems F left (Ok n) before now a b
     → Counted F count left before old (with_waiting s (waiting a) a.reads names) → Counted F count (left - n) now old (with_waiting s (waiting b) b.reads names)
 counted_taken F one count left n before now old s names a b t c = record {
   rests = λ r new h.

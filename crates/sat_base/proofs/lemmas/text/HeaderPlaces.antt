@@ -9,9 +9,9 @@ use Rattle.sat_base.specs.declared.text.header.Stage.TheVariants as stage
 use Rattle.sat_base.specs.declared.text.Token.{Token as CodeToken}
 use Rattle.sat_base.specs.declared.text.Token.TheVariants as code
 use Rattle.sat_base.specs.text.Text.{is_blank, is_digit, digits, Token, Header}
-use Rattle.sat_base.specs.text.Spot.{Stage, Begun, Named, Format, Vars, Both, with_value, stage_end, behind_word, Spot, HeaderWithin, Spoilt, Solid, in_hand, behind_header_word}
-use Rattle.sat_base.specs.text.Tokenizing.{held_token, BeginsSpoilt, IsAtHeader, MovesSpot, MovesHeader, BeganHeader, grown, IsHeldToken, SaysInHand, ended_stage, IsStageIf, LeadsBehind}
-use Rattle.sat_base.proofs.lemmas.text.Spots.{Solid-more, header_between_word, header_within_more, header_spoilt}
+use Rattle.sat_base.specs.text.Position.{Stage, Begun, Named, Format, Vars, Both, with_value, stage_end, behind_word, Position, HeaderWithin, Spoilt, HasNoBlank, in_hand, behind_header_word}
+use Rattle.sat_base.specs.text.Tokenizing.{held_token, BeginsSpoilt, IsAtHeader, MovesPosition, MovesHeader, BeganHeader, grown, IsHeldToken, SaysInHand, ended_stage, IsStageIf, LeadsBehind}
+use Rattle.sat_base.proofs.lemmas.text.Positions.{Solid-more, header_between_word, header_within_more, header_spoilt}
 use Rattle.sat_base.proofs.lemmas.text.Words.{SpellsHeld_one, SpellsHeld_more, digits_stop, digits_wrong_in}
 use Rattle.sat_base.proofs.lemmas.text.Places.{no_LF, behind_word_in_header}
 
@@ -54,10 +54,10 @@ between_moves ended b (Some place) f began = λ spot i.
     rw i.2 (HeaderWithin s b [], began s h, λ n rest. header_between_word s n b rest (no_LF b f))
 
 -- a byte that spoils the word
-spoilt_by : (s : Stage) (x : ℕ) (w : List ℕ) (b : ℕ) → Solid (x ∷ w) → is_blank b ≡ false → BeginsSpoilt s ((x ∷ w) ++ b ∷ []) → MovesSpot (HeaderWithin s x w) b Spoilt
+spoilt_by : (s : Stage) (x : ℕ) (w : List ℕ) (b : ℕ) → HasNoBlank (x ∷ w) → is_blank b ≡ false → BeginsSpoilt s ((x ∷ w) ++ b ∷ []) → MovesPosition (HeaderWithin s x w) b Spoilt
 spoilt_by s x w b solid f h n rest = header_within_more s x w n b rest (no_LF b f) ∙ header_spoilt s x (w ++ b ∷ []) n rest (Solid-more (x ∷ w) b solid f) h
 
-goes_on_within : (s : Stage) (x : ℕ) (w : List ℕ) (b : ℕ) → is_blank b ≡ false → MovesSpot (HeaderWithin s x w) b (HeaderWithin s x (w ++ b ∷ []))
+goes_on_within : (s : Stage) (x : ℕ) (w : List ℕ) (b : ℕ) → is_blank b ≡ false → MovesPosition (HeaderWithin s x w) b (HeaderWithin s x (w ++ b ∷ []))
 goes_on_within s x w b f n rest = header_within_more s x w n b rest (no_LF b f)
 
 pub c_n : MovesHeader header.C 110 (Some header.Cn)
@@ -95,23 +95,23 @@ clauses_no_digit vars value b f d spot (v, x, w, k, s, (m, h, j), e) =
     rw e (spoilt_by (Vars v) x w b s f (λ more. ap (with_value (Both v)) (digits_wrong_in m b (x ∷ w) more h d)))
 
 -- WORDS END
-pub ended_vars : (value : ℕ) (spot : Spot) → IsAtHeader (header.Vars value) spot → IsStageIf (Some (stage.Vars value)) (ended_stage spot)
+pub ended_vars : (value : ℕ) (spot : Position) → IsAtHeader (header.Vars value) spot → IsStageIf (Some (stage.Vars value)) (ended_stage spot)
 ended_vars value spot (x, w, s, (m, h, k), e) = rw e (Vars m, (m, k, refl), ap (with_value Vars) h)
 
-pub ended_clauses : (vars value : ℕ) (spot : Spot) → IsAtHeader (header.Clauses vars value) spot → IsStageIf (Some (stage.Both vars value)) (ended_stage spot)
+pub ended_clauses : (vars value : ℕ) (spot : Position) → IsAtHeader (header.Clauses vars value) spot → IsStageIf (Some (stage.Both vars value)) (ended_stage spot)
 ended_clauses vars value spot (v, x, w, k, s, (m, h, j), e) = rw e (Both v m, (v, m, k, j, refl), ap (with_value (Both v)) h)
 
 abbrev pub EndsAs : HeaderPlace → Option CodeStage → Type 0
-EndsAs place o = (spot : Spot) → IsAtHeader place spot → IsStageIf o (ended_stage spot)
+EndsAs place o = (spot : Position) → IsAtHeader place spot → IsStageIf o (ended_stage spot)
 
 -- where the line ends
-in_hand_is : (p : HeaderPlace) (spot : Spot) (n : ℕ) → IsAtHeader p spot → in_hand spot n ≡ (n + 1, behind_word (ended_stage spot) stage_end) ∷ []
+in_hand_is : (p : HeaderPlace) (spot : Position) (n : ℕ) → IsAtHeader p spot → in_hand spot n ≡ (n + 1, behind_word (ended_stage spot) stage_end) ∷ []
 in_hand_is (header.Between ended) spot n (s, h, e) = rw e refl
 in_hand_is (header.Vars value) spot n (x, w, s, h, e) = rw e refl
 in_hand_is (header.Clauses vars value) spot n (v, x, w, k, s, h, e) = rw e refl
 in_hand_is z spot n e = rw e refl
 
-given_at_end : (p : HeaderPlace) (spot : Spot) (t : Token) (given : CodeToken) → IsAtHeader p spot → given ≡ held_token t → behind_word (ended_stage spot) stage_end ≡ t → IsHeldToken (Some given) (in_hand spot)
+given_at_end : (p : HeaderPlace) (spot : Position) (t : Token) (given : CodeToken) → IsAtHeader p spot → given ≡ held_token t → behind_word (ended_stage spot) stage_end ≡ t → IsHeldToken (Some given) (in_hand spot)
 given_at_end p spot t given i h e = (t, h, λ n. in_hand_is p spot n i ∙ ap (λ (u : Token). (n + 1, u) ∷ []) e)
 
 pub says_header : (p : HeaderPlace) (vars clauses : ℕ) → EndsAs p (Some (stage.Both vars clauses)) → SaysInHand (Some (code.Header vars clauses)) (at.Header p)

@@ -2,7 +2,7 @@
 use Rattle.std.proofs.Common.{◌≡◌, ℕ, List, [], ◌∷◌, Bool, true, false, cond, Option, Some, None, refl, ap, ◌∙◌}
 use Rattle.std.specs.Prelude.{◌&&◌, codes}
 use Rattle.sat_base.specs.text.Text.{digits, same_bytes, with_numbers, header_in, Token, Wrong}
-use Rattle.sat_base.specs.text.Spot.{Stage, Begun, Named, Format, Vars, Both, with_value, stage_behind, stage_end, behind_word, stage_token}
+use Rattle.sat_base.specs.text.Position.{Stage, Begun, Named, Format, Vars, Both, with_value, stage_behind, stage_end, behind_word, stage_token}
 
 pub stage_nil : (stage : Stage) → stage_token stage [] ≡ stage_end stage
 unfolding stage_token

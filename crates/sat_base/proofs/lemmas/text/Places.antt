@@ -9,9 +9,9 @@ use Rattle.sat_base.specs.declared.text.header.HeaderPlace.TheVariants as header
 use Rattle.sat_base.specs.declared.text.Token.{Token as CodeToken}
 use Rattle.sat_base.specs.declared.text.Token.TheVariants as code
 use Rattle.sat_base.specs.text.Text.{is_blank, is_digit, minus, token, Token, Number, Letter, Wrong}
-use Rattle.sat_base.specs.text.Spot.{Stage, Spot, Fresh, Leading, Comment, Within, HeaderWithin, Spoilt, Over, IsSpot, in_hand, behind_header_word, behind_blank, line_at}
-use Rattle.sat_base.specs.text.Tokenizing.{held, held_token, IsAtHeader, IsAt, MovesSpot, MovesPlace, Began, grown, IsHeldToken, SaysInHand, ended_stage, LeadsBehind, LeadsBelow, may_come}
-use Rattle.sat_base.proofs.lemmas.text.Spots.{Solid-more, fresh_leads, leading_comment, leading_end, leading_header, leading_late_header, leading_word, comment_more, between_word, within_more, spoilt_more, over_more}
+use Rattle.sat_base.specs.text.Position.{Stage, Position, Fresh, Leading, Comment, Within, HeaderWithin, Spoilt, Over, IsPosition, in_hand, behind_header_word, behind_blank, line_at}
+use Rattle.sat_base.specs.text.Tokenizing.{held, held_token, IsAtHeader, IsAt, MovesPosition, MovesPlace, Began, grown, IsHeldToken, SaysInHand, ended_stage, LeadsBehind, LeadsBelow, may_come}
+use Rattle.sat_base.proofs.lemmas.text.Positions.{Solid-more, fresh_leads, leading_comment, leading_end, leading_header, leading_late_header, leading_word, comment_more, between_word, within_more, spoilt_more, over_more}
 use Rattle.sat_base.proofs.lemmas.text.Words.{SpellsHeld_one, SpellsHeld_more, BeginsWrong_more, BeginsWrong_letter, BeginsWrong_plain, BeginsWrong_minus, BeginsWrong_negative, word_plain, word_minus, word_bare, word_letter, word_wrong}
 
 pub no_LF : (b : ℕ) → is_blank b ≡ false → nat_eq b 10 ≡ false
@@ -53,7 +53,7 @@ pub moves_over : (b : ℕ) → MovesPlace at.Over b at.Over
 moves_over b spot e = rw e (Over, refl, λ n rest. over_more n b rest)
 
 -- in a word
-goes_on_within : (x : ℕ) (w : List ℕ) (b : ℕ) → is_blank b ≡ false → MovesSpot (Within x w) b (Within x (w ++ b ∷ []))
+goes_on_within : (x : ℕ) (w : List ℕ) (b : ℕ) → is_blank b ≡ false → MovesPosition (Within x w) b (Within x (w ++ b ∷ []))
 goes_on_within x w b f n rest = within_more x w n b rest (no_LF b f)
 
 pub moves_minus_digit : (b : ℕ) → is_blank b ≡ false → is_digit b ≡ true → b < 256 → MovesPlace at.Minus b (at.Digits true (b - 48))
@@ -81,7 +81,7 @@ pub moves_bad : (b : ℕ) → is_blank b ≡ false → MovesPlace at.Bad b at.Ba
 moves_bad b f spot (x, w, s, h, e) = rw e (Within x (w ++ b ∷ []), (x, w ++ b ∷ [], Solid-more (x ∷ w) b s f, BeginsWrong_more (x ∷ w) b h, refl), goes_on_within x w b f)
 
 -- PLACES AND SPOTS
-IsSpot_header : (p : HeaderPlace) (spot : Spot) → IsAtHeader p spot → IsSpot spot
+IsSpot_header : (p : HeaderPlace) (spot : Position) → IsAtHeader p spot → IsPosition spot
 IsSpot_header (header.Between ended) spot (s, h, e) = rw e tt
 IsSpot_header header.P spot e = rw e (refl, tt)
 IsSpot_header header.C spot e = rw e (refl, tt)
@@ -90,7 +90,7 @@ IsSpot_header header.Cnf spot e = rw e (refl, (refl, (refl, tt)))
 IsSpot_header (header.Vars value) spot (x, w, s, h, e) = rw e s
 IsSpot_header (header.Clauses vars value) spot (v, x, w, k, s, h, e) = rw e s
 
-pub IsSpot_of : (p : Place) (spot : Spot) → IsAt p spot → IsSpot spot
+pub IsSpot_of : (p : Place) (spot : Position) → IsAt p spot → IsPosition spot
 IsSpot_of at.Minus spot e = rw e (refl, tt)
 IsSpot_of (at.Digits false value) spot (x, w, s, h, n, l, e) = rw e s
 IsSpot_of (at.Digits true value) spot (w, s, some_w, h, e) = rw e (refl, s)
@@ -100,7 +100,7 @@ IsSpot_of (at.Header place) spot h = IsSpot_header place spot h
 IsSpot_of z spot e = rw e tt
 
 -- only a word or a header line in hand gives a token, and its line has not ended
-pub line-in_hand : (spot : Spot) (n : ℕ) (t : ℕ × Token) → in_hand spot n ≡ t ∷ [] → line_at spot n ≡ n + 1
+pub line-in_hand : (spot : Position) (n : ℕ) (t : ℕ × Token) → in_hand spot n ≡ t ∷ [] → line_at spot n ≡ n + 1
 line-in_hand (Fresh may) n t e = absurd (cc)
 line-in_hand x n t e = refl
 
@@ -108,20 +108,20 @@ line-header_word : (o : Option Stage) (n : ℕ) → line_at (behind_header_word 
 line-header_word None n = refl
 line-header_word (Some s) n = refl
 
-pub line-behind_blank : (spot : Spot) (n : ℕ) → line_at (behind_blank spot) n ≡ n + 1
+pub line-behind_blank : (spot : Position) (n : ℕ) → line_at (behind_blank spot) n ≡ n + 1
 line-behind_blank (HeaderWithin s x w) n = line-header_word _ n
 line-behind_blank e n = refl
 
-pub line-Fresh : (p : Place) (may : Bool) (spot : Spot) (n : ℕ) → p ≡ at.Fresh may → IsAt p spot → line_at spot n ≡ n
+pub line-Fresh : (p : Place) (may : Bool) (spot : Position) (n : ℕ) → p ≡ at.Fresh may → IsAt p spot → line_at spot n ≡ n
 line-Fresh p may spot n e i = let f : IsAt (at.Fresh may) spot = rw e at i in rw f refl
 
-header-line : (p : HeaderPlace) (spot : Spot) (n : ℕ) → IsAtHeader p spot → line_at spot n ≡ n + 1
+header-line : (p : HeaderPlace) (spot : Position) (n : ℕ) → IsAtHeader p spot → line_at spot n ≡ n + 1
 header-line (header.Between ended) spot n (s, h, e) = rw e refl
 header-line (header.Vars value) spot n (x, w, s, h, e) = rw e refl
 header-line (header.Clauses vars value) spot n (v, x, w, k, s, h, e) = rw e refl
 header-line z spot n e = rw e refl
 
-pub line-other : (p : Place) (spot : Spot) (n : ℕ) → ((may : Bool) → p ≡ at.Fresh may → ⊥) → IsAt p spot → line_at spot n ≡ n + 1
+pub line-other : (p : Place) (spot : Position) (n : ℕ) → ((may : Bool) → p ≡ at.Fresh may → ⊥) → IsAt p spot → line_at spot n ≡ n + 1
 line-other (at.Fresh may) spot n h i = absurd (h may refl)
 line-other (at.Digits false value) spot n h (x, w, s, k, m, l, e) = rw e refl
 line-other (at.Digits true value) spot n h (w, s, some_w, k, e) = rw e refl
@@ -135,7 +135,7 @@ pub behind_number : (negative : Bool) (v : ℕ) → LeadsBehind (at.Digits negat
 behind_number false v spot (x, w, s, h, n, l, e) = rw e refl
 behind_number true v spot (w, s, some_w, h, e) = rw e refl
 
-pub behind_word_in_header : (p : HeaderPlace) (spot : Spot) → IsAtHeader p spot → behind_blank spot ≡ behind_header_word (ended_stage spot)
+pub behind_word_in_header : (p : HeaderPlace) (spot : Position) → IsAtHeader p spot → behind_blank spot ≡ behind_header_word (ended_stage spot)
 behind_word_in_header (header.Between ended) spot (s, h, e) = rw e refl
 behind_word_in_header (header.Vars value) spot (x, w, s, h, e) = rw e refl
 behind_word_in_header (header.Clauses vars value) spot (v, x, w, k, s, h, e) = rw e refl
@@ -157,7 +157,7 @@ abbrev one : Token → ℕ → List (ℕ × Token)
 one t n = (n + 1, t) ∷ []
 
 -- a word in hand is given
-given_word : (x : ℕ) (w : List ℕ) (t : Token) (given : CodeToken) (spot : Spot) → token (x ∷ w) ≡ t → given ≡ held_token t → spot ≡ Within x w → IsHeldToken (Some given) (in_hand spot)
+given_word : (x : ℕ) (w : List ℕ) (t : Token) (given : CodeToken) (spot : Position) → token (x ∷ w) ≡ t → given ≡ held_token t → spot ≡ Within x w → IsHeldToken (Some given) (in_hand spot)
 given_word x w t given spot e h s = rw s (t, h, λ n. ap (λ (u : Token). one u n) e)
 
 pub says_minus : SaysInHand (Some code.Wrong) at.Minus

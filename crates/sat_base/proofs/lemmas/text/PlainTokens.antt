@@ -4,10 +4,10 @@ use Rattle.std.proofs.lemmas.Bool.Decides.{nat_tests}
 use Rattle.std.specs.Prelude.{nat_eq}
 use Rattle.sat_base.specs.declared.text.Tokenizer.{Tokenizer}
 use Rattle.sat_base.specs.text.Text.{is_blank, digits, Token, Header, Wrong, token, Scan, header_from}
-use Rattle.sat_base.specs.text.Spot.{Stage, Begun, stage_behind, stage_end, Spot, Fresh, Leading, Comment, Between, Within, HeaderBetween, HeaderWithin, Spoilt, Over, IsSpot, left, in_hand, spoils, behind_header_word, ended_by_blank, behind_blank, behind_LF, lines_behind, onto}
+use Rattle.sat_base.specs.text.Position.{Stage, Begun, stage_behind, stage_end, Position, Fresh, Leading, Comment, Between, Within, HeaderBetween, HeaderWithin, Spoilt, Over, IsPosition, left, in_hand, spoils, behind_header_word, ended_by_blank, behind_blank, behind_LF, lines_behind, onto}
 use Rattle.sat_base.specs.text.Tokenizing.{BeginsSpoilt, StandsBefore, IsOfHeader, HoldsNoWord}
 use Rattle.sat_base.proofs.lemmas.text.HeaderFirst.{IsWord, word_token}
-use Rattle.sat_base.proofs.lemmas.text.Spots.{LF_left, blank_left, end_left, header_between_word, header_spoilt}
+use Rattle.sat_base.proofs.lemmas.text.Positions.{LF_left, blank_left, end_left, header_between_word, header_spoilt}
 use Rattle.sat_base.proofs.lemmas.text.Places.{IsSpot_of}
 use Rattle.sat_base.proofs.lemmas.text.TextRuns.{of_header, QuietTokens}
 
@@ -36,10 +36,10 @@ spoilt_next s n =
     ap (λ (k : Scan). k.tokens) (header_between_word s n 120 [] refl ∙ header_spoilt s 120 [] n [] (refl, tt) (x_spoils s) ∙ end_left Spoilt n tt)
 
 -- what a blank gives, whatever comes
-abbrev GivesThen : Spot → ℕ → ℕ → Token → (List ℕ → Scan) → Type 0
+abbrev GivesThen : Position → ℕ → ℕ → Token → (List ℕ → Scan) → Type 0
 GivesThen spot n l t after = (rest : List ℕ) → ended_by_blank spot n ++ (left (behind_blank spot) n rest).tokens ≡ (l, t) ∷ (after rest).tokens
 
-none_left : (spot : Spot) (n l : ℕ) (t : Token) (after : List ℕ → Scan) → IsSpot spot → in_hand spot n ≡ [] → (left spot n []).tokens ≡ (l, t) ∷ (after []).tokens → header_from t ≡ None
+none_left : (spot : Position) (n l : ℕ) (t : Token) (after : List ℕ → Scan) → IsPosition spot → in_hand spot n ≡ [] → (left spot n []).tokens ≡ (l, t) ∷ (after []).tokens → header_from t ≡ None
 none_left spot n l t after i h e =
     cons_not_nil (l, t) (after []).tokens (header_from t ≡ None) (sym (ap (λ (k : Scan). k.tokens) (end_left spot n i) ∙ h) ∙ e)
 
@@ -53,7 +53,7 @@ word_given : (o : Option Stage) (n l : ℕ) (t : Token) (after : List ℕ → Sc
 word_given None n l t after h = wrong_given (n + 1) l t (left (Comment false) n []).tokens (after []).tokens (h [])
 word_given (Some s) n l t after h = header_given s n l t after h
 
-blank_gives : (spot : Spot) (n l : ℕ) (t : Token) (after : List ℕ → Scan) → GivesThen spot n l t after → header_from t ≡ None
+blank_gives : (spot : Position) (n l : ℕ) (t : Token) (after : List ℕ → Scan) → GivesThen spot n l t after → header_from t ≡ None
 blank_gives (Fresh may) n l t after h = none_left (Leading may) n l t after tt refl (h [])
 blank_gives (Within x w) n l t after h =
     ap header_from (sym (first_token (n + 1) l (token (x ∷ w)) t (left Between n []).tokens (after []).tokens (h []))) ∙ no_header (token (x ∷ w)) (word_token (x ∷ w))
@@ -74,17 +74,17 @@ tail_of [] = []
 tail_of (x ∷ xs) = xs
 
 -- what is left at a spot where the text ends
-left_at : (spot : Spot) (n : ℕ) → IsSpot spot → (left spot n []).tokens ≡ in_hand spot n
+left_at : (spot : Position) (n : ℕ) → IsPosition spot → (left spot n []).tokens ≡ in_hand spot n
 left_at spot n i = ap (λ (k : Scan). k.tokens) (end_left spot n i)
 
-none_then : (spot : Spot) (n l : ℕ) (t : Token) (ts : List (ℕ × Token)) → IsSpot spot → in_hand spot n ≡ [] → (left spot n []).tokens ≡ (l, t) ∷ ts → ts ≡ []
+none_then : (spot : Position) (n l : ℕ) (t : Token) (ts : List (ℕ × Token)) → IsPosition spot → in_hand spot n ≡ [] → (left spot n []).tokens ≡ (l, t) ∷ ts → ts ≡ []
 none_then spot n l t ts i h e = cons_not_nil (l, t) ts (ts ≡ []) (sym (left_at spot n i ∙ h) ∙ e)
 
 word_then : (o : Option Stage) (n l : ℕ) (t : Token) (ts : List (ℕ × Token)) → spoils o n ++ (left (behind_header_word o) n []).tokens ≡ (l, t) ∷ ts → ts ≡ []
 word_then None n l t ts e = sym (ap tail_of e) ∙ left_at (Comment false) n tt
 word_then (Some s) n l t ts e = sym (ap tail_of (sym (left_at (HeaderBetween s) n tt) ∙ e))
 
-blank_then : (spot : Spot) (n l : ℕ) (t : Token) (ts : List (ℕ × Token)) → ended_by_blank spot n ++ (left (behind_blank spot) n []).tokens ≡ (l, t) ∷ ts → ts ≡ []
+blank_then : (spot : Position) (n l : ℕ) (t : Token) (ts : List (ℕ × Token)) → ended_by_blank spot n ++ (left (behind_blank spot) n []).tokens ≡ (l, t) ∷ ts → ts ≡ []
 blank_then (Fresh may) n l t ts e = none_then (Leading may) n l t ts tt refl e
 blank_then (Within x w) n l t ts e = sym (ap tail_of e) ∙ left_at Between n tt
 blank_then (HeaderBetween s) n l t ts e = sym (ap tail_of (sym (left_at (HeaderBetween s) n tt) ∙ e))
@@ -110,29 +110,29 @@ word_quiet : (o : Option Stage) (n l : ℕ) (t : Token) (ts : List (ℕ × Token
 word_quiet None n l t ts e = first_of (n + 1) l Wrong t [] ts tt e
 word_quiet (Some s) n l t ts e = first_of (n + 1) l (stage_end s) t [] ts (of_header s) e
 
-blank_quiet : (spot : Spot) (n l : ℕ) (t : Token) (ts : List (ℕ × Token)) → QuietTokens (in_hand spot n) → ended_by_blank spot n ++ in_hand (behind_blank spot) n ≡ (l, t) ∷ ts → IsOfHeader t
+blank_quiet : (spot : Position) (n l : ℕ) (t : Token) (ts : List (ℕ × Token)) → QuietTokens (in_hand spot n) → ended_by_blank spot n ++ in_hand (behind_blank spot) n ≡ (l, t) ∷ ts → IsOfHeader t
 blank_quiet (Within x w) n l t ts q e = quiet_first ((n + 1, token (x ∷ w)) ∷ []) [] l t ts q refl e
 blank_quiet (HeaderBetween s) n l t ts q e = first_of (n + 1) l (stage_end s) t [] ts (of_header s) e
 blank_quiet (HeaderWithin s x w) n l t ts q e = word_quiet (stage_behind s (x ∷ w)) n l t ts e
 blank_quiet Spoilt n l t ts q e = first_of (n + 1) l Wrong t [] ts tt e
 blank_quiet z n l t ts q e = cons_not_nil (l, t) ts (IsOfHeader t) e
 
-below_quiet : (spot : Spot) (n : ℕ) → (left (behind_LF spot) (lines_behind spot n) []).tokens ≡ []
+below_quiet : (spot : Position) (n : ℕ) → (left (behind_LF spot) (lines_behind spot n) []).tokens ≡ []
 below_quiet Over n = left_at Over n tt
 below_quiet (Fresh may) n = left_at (Fresh may) (n + 1) tt
 below_quiet (Leading may) n = left_at (Fresh may) (n + 1) tt
 below_quiet (Comment may) n = left_at (Fresh may) (n + 1) tt
 below_quiet e n = left_at (Fresh false) (n + 1) tt
 
-IsSpot_word : (o : Option Stage) → IsSpot (behind_header_word o)
+IsSpot_word : (o : Option Stage) → IsPosition (behind_header_word o)
 IsSpot_word None = tt
 IsSpot_word (Some s) = tt
 
-IsSpot_behind : (spot : Spot) → IsSpot (behind_blank spot)
+IsSpot_behind : (spot : Position) → IsPosition (behind_blank spot)
 IsSpot_behind (HeaderWithin s x w) = IsSpot_word (stage_behind s (x ∷ w))
 IsSpot_behind e = tt
 
-quiet_blank : (spot : Spot) (n b l : ℕ) (t : Token) (ts : List (ℕ × Token)) → IsSpot spot → QuietTokens (in_hand spot n) → is_blank b ≡ true → (is_LF : Bool) → nat_eq b 10 ≡ is_LF
+quiet_blank : (spot : Position) (n b l : ℕ) (t : Token) (ts : List (ℕ × Token)) → IsPosition spot → QuietTokens (in_hand spot n) → is_blank b ≡ true → (is_LF : Bool) → nat_eq b 10 ≡ is_LF
     → (left spot n (b ∷ [])).tokens ≡ (l, t) ∷ ts → IsOfHeader t
 quiet_blank spot n b l t ts i q k true m e =
     let ten : b ≡ 10 = grind (arith, nat_tests) in

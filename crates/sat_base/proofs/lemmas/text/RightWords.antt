@@ -10,16 +10,16 @@ use Rattle.sat_base.specs.declared.text.Token.{Token as CodeToken}
 use Rattle.sat_base.specs.declared.text.Token.TheVariants as code
 use Rattle.sat_base.specs.declared.text.Tokenizer.{Tokenizer}
 use Rattle.sat_base.specs.text.Text.{is_blank, lines, on_line, tokens_of, Token, Wrong, Scan}
-use Rattle.sat_base.specs.text.Spot.{first_line, later_lines, Stage, Named, Format, Spot, Within, Spoilt, Solid, left, in_hand, spoils, ended_by_blank, behind_blank}
+use Rattle.sat_base.specs.text.Position.{first_line, later_lines, Stage, Named, Format, Position, Within, Spoilt, HasNoBlank, left, in_hand, spoils, ended_by_blank, behind_blank}
 use Rattle.sat_base.specs.text.WrongWords.{HaveNoWrongWord, RightAhead, WrongAhead}
 use Rattle.sat_base.specs.text.Tokenizing.{held_token, BeginsWrong, IsAtHeader, IsAt, MovesPlace, BeganHeader, grown, IsHeldToken, SaysInHand, SaysAtBlank, ended_stage, LeadsBehind, IsQuiet, StandsBefore}
-use Rattle.sat_base.proofs.lemmas.text.Spots.{first_word, blank_left, end_left, last_left_end}
+use Rattle.sat_base.proofs.lemmas.text.Positions.{first_word, blank_left, end_left, last_left_end}
 use Rattle.sat_base.proofs.lemmas.text.Places.{IsSpot_of, moves_minus_digit, moves_digit, says_letter, says_number}
 use Rattle.sat_base.proofs.lemmas.text.HeaderPlaces.{EndsAs, begun_c, begun_vars, begun_clauses, between_moves, c_n, cn_f, ended_vars, ended_clauses, says_header, behind_ended}
 
 -- some bytes may follow at this place so that nothing more is wrong
 abbrev MayBeRight : Place → Type 0
-MayBeRight p = (spot : Spot) → IsAt p spot → (n : ℕ) → RightAhead (left spot n)
+MayBeRight p = (spot : Position) → IsAt p spot → (n : ℕ) → RightAhead (left spot n)
 
 -- none is in hand, or one that isn't wrong
 abbrev IsRight : Option CodeToken → Type 0
@@ -64,7 +64,7 @@ minus_right : MayBeRight at.Minus
 minus_right = right_before at.Minus (at.Digits true 1) 49 (moves_minus_digit 49 refl refl (omega arith)) (number_right true 1 (λ e. omega arith))
 
 -- HEADER LINES
-ended_in_header : (p : HeaderPlace) (spot : Spot) (n : ℕ) → IsAtHeader p spot → ended_by_blank spot n ≡ spoils (ended_stage spot) n
+ended_in_header : (p : HeaderPlace) (spot : Position) (n : ℕ) → IsAtHeader p spot → ended_by_blank spot n ≡ spoils (ended_stage spot) n
 ended_in_header (header.Between ended) spot n (s, h, e) = rw e refl
 ended_in_header (header.Vars value) spot n (x, w, s, h, e) = rw e refl
 ended_in_header (header.Clauses vars value) spot n (v, x, w, k, s, h, e) = rw e refl
@@ -166,7 +166,7 @@ right_behind machine q = right_ahead machine (λ e. subst IsQuiet e q) (λ e. su
 
 -- WRONG WORDS
 -- what is left behind a line's word in hand
-word_wrong : (x : ℕ) (w : List ℕ) (n : ℕ) (rest : List ℕ) → Solid (x ∷ w) → BeginsWrong (x ∷ w) → (more : List (ℕ × Token)) × ((left (Within x w) n rest).tokens ≡ (n + 1, Wrong) ∷ more)
+word_wrong : (x : ℕ) (w : List ℕ) (n : ℕ) (rest : List ℕ) → HasNoBlank (x ∷ w) → BeginsWrong (x ∷ w) → (more : List (ℕ × Token)) × ((left (Within x w) n rest).tokens ≡ (n + 1, Wrong) ∷ more)
 unfolding left
 word_wrong x w n rest s h =
     let ls = lines rest in
@@ -179,7 +179,7 @@ unfolding left
 line_wrong n rest = (tokens_of false (n + 1) (later_lines (lines rest)), refl)
 
 -- on the line of the last byte
-on_last : (before : List ℕ → Scan) (spot : Spot) (n : ℕ) → ((rest : List ℕ) → before rest ≡ left spot n rest) → (left spot n []).last ≡ n + 1
+on_last : (before : List ℕ → Scan) (spot : Position) (n : ℕ) → ((rest : List ℕ) → before rest ≡ left spot n rest) → (left spot n []).last ≡ n + 1
     → ((rest : List ℕ) → (more : List (ℕ × Token)) × ((left spot n rest).tokens ≡ (n + 1, Wrong) ∷ more)) → WrongAhead before
 on_last before spot n e l h rest =
     let k = h rest in
@@ -190,14 +190,14 @@ pub wrong_word : (machine : Tokenizer) → machine.place ≡ at.Bad → (before 
 unfolding StandsBefore
 wrong_word machine p before (spot, n, i, l, e) = let j : IsAt at.Bad spot = rw p at i in of_word spot n e j
   where
-    of_word : (spot : Spot) (n : ℕ) → ((rest : List ℕ) → before rest ≡ left spot n rest) → IsAt at.Bad spot → WrongAhead before
+    of_word : (spot : Position) (n : ℕ) → ((rest : List ℕ) → before rest ≡ left spot n rest) → IsAt at.Bad spot → WrongAhead before
     of_word spot n e (x, w, s, h, f) =
-        let g : (rest : List ℕ) → before rest ≡ left (Within x w) n rest = λ rest. e rest ∙ ap (λ (k : Spot). left k n rest) f in
+        let g : (rest : List ℕ) → before rest ≡ left (Within x w) n rest = λ rest. e rest ∙ ap (λ (k : Position). left k n rest) f in
         on_last before (Within x w) n g (last_left_end (Within x w) n s) (λ rest. word_wrong x w n rest s h)
 
 pub wrong_line : (machine : Tokenizer) → machine.place ≡ at.Spoilt → (before : List ℕ → Scan) → StandsBefore machine before → WrongAhead before
 unfolding StandsBefore
 wrong_line machine p before (spot, n, i, l, e) =
     let j : spot ≡ Spoilt = rw p at i in
-    let g : (rest : List ℕ) → before rest ≡ left Spoilt n rest = λ rest. e rest ∙ ap (λ (k : Spot). left k n rest) j in
+    let g : (rest : List ℕ) → before rest ≡ left Spoilt n rest = λ rest. e rest ∙ ap (λ (k : Position). left k n rest) j in
     on_last before Spoilt n g (last_left_end Spoilt n tt) (line_wrong n)

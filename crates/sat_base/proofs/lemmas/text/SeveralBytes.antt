@@ -9,7 +9,7 @@ use Rattle.sat_base.specs.declared.text.Place.TheVariants as at
 use Rattle.sat_base.specs.declared.text.Token.{Token as CodeToken}
 use Rattle.sat_base.specs.declared.text.Tokenizer.{Tokenizer}
 use Rattle.sat_base.specs.text.Text.{is_blank, is_digit}
-use Rattle.sat_base.specs.text.Spot.{left}
+use Rattle.sat_base.specs.text.Position.{left}
 use Rattle.sat_base.specs.text.Chunks.{Follows}
 use Rattle.sat_base.specs.text.Tokenizing.{MovesPlace, MovesBy, BeginsWord, Began, grown, StandsBefore, TakesByte, TakesFront}
 use Rattle.sat_base.proofs.lemmas.text.Words.{SpellsHeld_one, no_minus_digit, no_letter_digit}

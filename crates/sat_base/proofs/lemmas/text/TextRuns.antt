@@ -7,10 +7,10 @@ use Rattle.sat_base.specs.declared.text.header.HeaderPlace.TheVariants as header
 use Rattle.sat_base.specs.declared.text.Token.{Token as CodeToken}
 use Rattle.sat_base.specs.declared.text.Tokenizer.{Tokenizer}
 use Rattle.sat_base.specs.text.Text.{is_blank, Token, Scan, scan}
-use Rattle.sat_base.specs.text.Spot.{Stage, Begun, stage_end, Spot, Fresh, Over, IsSpot, left, in_hand, behind_LF, lines_behind, behind_blank, ended_by_blank, line_at, onto}
+use Rattle.sat_base.specs.text.Position.{Stage, Begun, stage_end, Position, Fresh, Over, IsPosition, left, in_hand, behind_LF, lines_behind, behind_blank, ended_by_blank, line_at, onto}
 use Rattle.sat_base.specs.text.Chunks.{IgnoresRest}
 use Rattle.sat_base.specs.text.Tokenizing.{held, IsAt, MovesPlace, may_come, IsHeldToken, SaysInHand, SaysAtBlank, LeadsBehind, StandsBefore, GivesToken, TakesByte, IsQuiet, IsOfHeader, HoldsNoWord, GivesLast}
-use Rattle.sat_base.proofs.lemmas.text.Spots.{start, LF_left, blank_left, end_left, last_left_end, over_more}
+use Rattle.sat_base.proofs.lemmas.text.Positions.{start, LF_left, blank_left, end_left, last_left_end, over_more}
 use Rattle.sat_base.proofs.lemmas.text.Places.{IsSpot_of, line-Fresh, line-other, line-in_hand, line-behind_blank, below, held_next}
 
 abbrev pub standing : Place → ℕ → Tokenizer
@@ -34,10 +34,10 @@ takes_byte old b place m before (spot, n, i, h, e) =
     (left k.0 n, (k.0, n, k.1, h, λ rest. refl), λ rest. e (b ∷ rest) ∙ k.2 n rest)
 
 -- LF
-fresh_below : (p : Place) (spot : Spot) → (p ≡ at.Over → ⊥) → IsAt p spot → behind_LF spot ≡ Fresh (may_come p)
+fresh_below : (p : Place) (spot : Position) → (p ≡ at.Over → ⊥) → IsAt p spot → behind_LF spot ≡ Fresh (may_come p)
 fresh_below p spot h i = below p h spot i
 
-lines_below : (spot : Spot) (n : ℕ) (may : Bool) → behind_LF spot ≡ Fresh may → lines_behind spot n ≡ n + 1
+lines_below : (spot : Position) (n : ℕ) (may : Bool) → behind_LF spot ≡ Fresh may → lines_behind spot n ≡ n + 1
 lines_below Over n may e = absurd (cc)
 lines_below x n may e = refl
 
@@ -52,7 +52,7 @@ takes_LF old given k h says e before (spot, n, i, l, f) =
       after,
       (Fresh may, n + 1, refl, held_next old.lines n k l e, λ rest. refl),
       gives given (in_hand spot) n 10 before after (says spot i) (last_left_end (Fresh may) (n + 1) tt)
-          (λ rest. f (10 ∷ rest) ∙ LF_left spot n rest (IsSpot_of old.place spot i) ∙ ap (λ (s : Spot). onto (in_hand spot n) (left s (lines_behind spot n) rest)) fresh ∙ ap (λ (m : ℕ). onto (in_hand spot n) (left (Fresh may) m rest)) more),
+          (λ rest. f (10 ∷ rest) ∙ LF_left spot n rest (IsSpot_of old.place spot i) ∙ ap (λ (s : Position). onto (in_hand spot n) (left s (lines_behind spot n) rest)) fresh ∙ ap (λ (m : ℕ). onto (in_hand spot n) (left (Fresh may) m rest)) more),
     )
 
 -- nothing goes on behind `%`
@@ -60,7 +60,7 @@ pub over_LF : (old : Tokenizer) → old.place ≡ at.Over → TakesByte old 10 N
 unfolding StandsBefore
 over_LF old e before (spot, n, i, l, f) =
     let j : spot ≡ Over = rw e at i in
-    (left spot n, (spot, n, i, l, λ rest. refl), λ rest. f (10 ∷ rest) ∙ ap (λ (s : Spot). left s n (10 ∷ rest)) j ∙ over_more n 10 rest ∙ ap (λ (s : Spot). left s n rest) (sym j))
+    (left spot n, (spot, n, i, l, λ rest. refl), λ rest. f (10 ∷ rest) ∙ ap (λ (s : Position). left s n (10 ∷ rest)) j ∙ over_more n 10 rest ∙ ap (λ (s : Position). left s n rest) (sym j))
 
 pub takes_blank : (old : Tokenizer) (b : ℕ) (given : Option CodeToken) (place : Place) → SaysAtBlank given old.place → LeadsBehind old.place place → nat_eq b 10 ≡ false → is_blank b ≡ true
     → TakesByte old b given (standing place old.lines)
@@ -76,7 +76,7 @@ takes_blank old b given place says leads e f before (spot, n, i, l, h) =
 
 -- NO WORD IS IN HAND
 -- what is left where the text ends
-left_in_hand : (machine : Tokenizer) (spot : Spot) (n : ℕ) (before : List ℕ → Scan) → IsAt machine.place spot → ((rest : List ℕ) → before rest ≡ left spot n rest)
+left_in_hand : (machine : Tokenizer) (spot : Position) (n : ℕ) (before : List ℕ → Scan) → IsAt machine.place spot → ((rest : List ℕ) → before rest ≡ left spot n rest)
     → (before []).tokens ≡ in_hand spot n
 left_in_hand machine spot n before i e = ap (λ (s : Scan). s.tokens) (e [] ∙ end_left spot n (IsSpot_of machine.place spot i))
 
@@ -84,13 +84,13 @@ pub none_fresh : (machine : Tokenizer) (may : Bool) → machine.place ≡ at.Fre
 unfolding StandsBefore
 none_fresh machine may e before (spot, n, i, l, f) =
     let j : spot ≡ Fresh may = rw e at i in
-    left_in_hand machine spot n before i f ∙ ap (λ (s : Spot). in_hand s n) j
+    left_in_hand machine spot n before i f ∙ ap (λ (s : Position). in_hand s n) j
 
 pub none_over : (machine : Tokenizer) → machine.place ≡ at.Over → (before : List ℕ → Scan) → StandsBefore machine before → (before []).tokens ≡ []
 unfolding StandsBefore
 none_over machine e before (spot, n, i, l, f) =
     let j : spot ≡ Over = rw e at i in
-    left_in_hand machine spot n before i f ∙ ap (λ (s : Spot). in_hand s n) j
+    left_in_hand machine spot n before i f ∙ ap (λ (s : Position). in_hand s n) j
 
 abbrev pub QuietTokens : List (ℕ × Token) → Type 0
 QuietTokens ts = (ts ≡ []) ⊎ ((line : ℕ) × (t : Token) × IsOfHeader t × (ts ≡ (line, t) ∷ []))
@@ -99,7 +99,7 @@ pub of_header : (s : Stage) → IsOfHeader (stage_end s)
 of_header Begun = tt
 of_header e = tt
 
-quiet_at : (p : Place) (spot : Spot) (n : ℕ) → IsQuiet p → IsAt p spot → QuietTokens (in_hand spot n)
+quiet_at : (p : Place) (spot : Position) (n : ℕ) → IsQuiet p → IsAt p spot → QuietTokens (in_hand spot n)
 quiet_at (at.Leading may) spot n q e = rw e (inl refl)
 quiet_at (at.Comment may) spot n q e = rw e (inl refl)
 quiet_at at.Between spot n q e = rw e (inl refl)
@@ -111,7 +111,7 @@ pub quiet_behind : (machine : Tokenizer) → IsQuiet machine.place → (before :
 unfolding StandsBefore
 quiet_behind machine q before (spot, n, i, l, f) = rw (left_in_hand machine spot n before i f) (quiet_at machine.place spot n q i)
 
-gives_last : (given : Option CodeToken) (spot : Spot) (n : ℕ) (rest : Scan) → IsHeldToken given (in_hand spot) → rest ≡ record { tokens = in_hand spot n; last = line_at spot n } → GivesLast given rest
+gives_last : (given : Option CodeToken) (spot : Position) (n : ℕ) (rest : Scan) → IsHeldToken given (in_hand spot) → rest ≡ record { tokens = in_hand spot n; last = line_at spot n } → GivesLast given rest
 gives_last None spot n rest s h = ap (λ (r : Scan). r.tokens) h ∙ s n
 gives_last (Some t) spot n rest s h =
     let last : rest.last ≡ n + 1 = ap (λ (r : Scan). r.last) h ∙ line-in_hand spot n (n + 1, s.0) (s.2 n) in
@@ -121,7 +121,7 @@ pub ended : (machine : Tokenizer) (given : Option CodeToken) → SaysInHand give
 unfolding StandsBefore
 ended machine given says before (spot, n, i, l, f) = gives_last given spot n (before []) (says spot i) (f [] ∙ end_left spot n (IsSpot_of machine.place spot i))
 
-line_is : (machine : Tokenizer) (before : List ℕ → Scan) (spot : Spot) (n : ℕ) → IsAt machine.place spot → ((rest : List ℕ) → before rest ≡ left spot n rest) → (before []).last ≡ line_at spot n
+line_is : (machine : Tokenizer) (before : List ℕ → Scan) (spot : Position) (n : ℕ) → IsAt machine.place spot → ((rest : List ℕ) → before rest ≡ left spot n rest) → (before []).last ≡ line_at spot n
 line_is machine before spot n i h = ap (λ (r : Scan). r.last) (h []) ∙ last_left_end spot n (IsSpot_of machine.place spot i)
 
 pub line_fresh : (machine : Tokenizer) (may : Bool) → machine.place ≡ at.Fresh may → (before : List ℕ → Scan) → StandsBefore machine before → machine.lines ≡ held (before []).last
@@ -141,17 +141,17 @@ pub over_ignores : (machine : Tokenizer) → machine.place ≡ at.Over → (befo
 unfolding StandsBefore
 over_ignores machine e before (spot, n, i, l, f) rest =
     let j : spot ≡ Over = rw e at i in
-    f rest ∙ ap (λ (s : Spot). left s n rest) j ∙ over_left n rest ∙ ap (λ (s : Spot). left s n []) (sym j) ∙ sym (f [])
+    f rest ∙ ap (λ (s : Position). left s n rest) j ∙ over_left n rest ∙ ap (λ (s : Position). left s n []) (sym j) ∙ sym (f [])
 
 -- elsewhere two more lines are looked at
-line_most : (spot : Spot) (n : ℕ) → line_at spot n ≤ n + 1
+line_most : (spot : Position) (n : ℕ) → line_at spot n ≤ n + 1
 line_most (Fresh may) n = omega arith
 line_most x n = omega arith
 
-below_once : (spot next : Spot) (n m : ℕ) (rest : List ℕ) → IsSpot spot → behind_LF spot ≡ next → lines_behind spot n ≡ m → (left spot n (10 ∷ rest)).last ≡ (left next m rest).last
-below_once spot next n m rest s e f = ap (λ (r : Scan). r.last) (LF_left spot n rest s) ∙ ap (λ (k : Spot). (left k (lines_behind spot n) rest).last) e ∙ ap (λ (k : ℕ). (left next k rest).last) f
+below_once : (spot next : Position) (n m : ℕ) (rest : List ℕ) → IsPosition spot → behind_LF spot ≡ next → lines_behind spot n ≡ m → (left spot n (10 ∷ rest)).last ≡ (left next m rest).last
+below_once spot next n m rest s e f = ap (λ (r : Scan). r.last) (LF_left spot n rest s) ∙ ap (λ (k : Position). (left k (lines_behind spot n) rest).last) e ∙ ap (λ (k : ℕ). (left next k rest).last) f
 
-below_twice : (p : Place) (spot : Spot) (n : ℕ) → (p ≡ at.Over → ⊥) → IsAt p spot → (left spot n (10 ∷ 10 ∷ [])).last ≡ n + 1 + 1
+below_twice : (p : Place) (spot : Position) (n : ℕ) → (p ≡ at.Over → ⊥) → IsAt p spot → (left spot n (10 ∷ 10 ∷ [])).last ≡ n + 1 + 1
 below_twice p spot n o i =
     let may = may_come p in
     let fresh = fresh_below p spot o i in

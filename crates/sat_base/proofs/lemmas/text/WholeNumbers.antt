@@ -3,7 +3,7 @@ use Rattle.std.proofs.Common.{◌≡◌, ℕ, ◌+◌, ◌-◌, ◌^◌, ◌<◌
 use Rattle.sat_base.specs.declared.text.Place.TheVariants as at
 use Rattle.sat_base.specs.declared.text.Token.TheVariants as code
 use Rattle.sat_base.specs.declared.text.Tokenizer.{Tokenizer}
-use Rattle.sat_base.specs.text.Spot.{Spot, in_hand}
+use Rattle.sat_base.specs.text.Position.{Position, in_hand}
 use Rattle.sat_base.specs.text.Tokenizing.{IsHeldToken, SaysAtBlank, MovesBy, TakesByte, TakesFront}
 use Rattle.sat_base.proofs.lemmas.text.Places.{says_number, behind_number}
 use Rattle.sat_base.proofs.lemmas.text.SeveralBytes.{follows_by, takes_front}
@@ -11,8 +11,8 @@ use Rattle.sat_base.proofs.lemmas.text.TextRuns.{takes_LF, takes_blank}
 
 -- a blank inside a line ends it as LF does
 says_at_blank : (negative : Bool) (v : ℕ) → (negative ≡ true → 0 < v) → SaysAtBlank (Some (code.Number negative v)) (at.Digits negative v)
-says_at_blank true v z spot (w, s, some_w, h, e) = let k = says_number true v z spot (w, s, some_w, h, e) in rw e (subst (λ (t : Spot). IsHeldToken (Some (code.Number true v)) (in_hand t)) e k)
-says_at_blank false v z spot (x, w, s, h, n, l, e) = let k = says_number false v z spot (x, w, s, h, n, l, e) in rw e (subst (λ (t : Spot). IsHeldToken (Some (code.Number false v)) (in_hand t)) e k)
+says_at_blank true v z spot (w, s, some_w, h, e) = let k = says_number true v z spot (w, s, some_w, h, e) in rw e (subst (λ (t : Position). IsHeldToken (Some (code.Number true v)) (in_hand t)) e k)
+says_at_blank false v z spot (x, w, s, h, n, l, e) = let k = says_number false v z spot (x, w, s, h, n, l, e) in rw e (subst (λ (t : Position). IsHeldToken (Some (code.Number false v)) (in_hand t)) e k)
 
 abbrev behind_digits : Tokenizer → Bool → ℕ → Tokenizer
 behind_digits old negative v = record { place = at.Digits negative v; lines = old.lines }

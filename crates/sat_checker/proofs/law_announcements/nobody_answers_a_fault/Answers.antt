@@ -1,4 +1,4 @@
-use Rattle.sat_checker.proofs.lemmas.telling.Heard.{nobody_fails}
+use Rattle.sat_checker.proofs.lemmas.listeners.Heard.{nobody_fails}
 use Rattle.sat_checker.proofs.law_announcements.nobody_answers_a_fault.Goals as goal
 
 pub returns : goal.returns

@@ -8,8 +8,8 @@ use Rattle.sat_checker.specs.inner.Marks.{NoRepeats}
 use Rattle.sat_checker.specs.Propagation.{IsFalsified, IsUnit}
 use Rattle.sat_checker.specs.Stored.{StoredClause}
 use Rattle.sat_checker.specs.inner.Walk.{Verdict, falsified, opens, rests, verdict, verdict_of_open, not_false, walk, walk_on, and_then}
-use Rattle.sat_checker.specs.announcements.Needed.{Ground, others_denied, ground_by, ground}
-use Rattle.sat_checker.specs.announcements.Promises.{IsOneOf, Reason, is_conflict, is_unit, is_neither, IsNeededLiteral, of_last, of_reason, IsGround}
+use Rattle.sat_checker.specs.announcements.Needed.{ConflictCauses, others_denied, causes_by, conflict_causes}
+use Rattle.sat_checker.specs.announcements.Promises.{IsOneOf, Reason, is_conflict, is_unit, is_neither, IsNeededLiteral, of_last, of_reason, IsConflictCauses}
 use Rattle.sat_checker.proofs.lemmas.meaning.Clauses.{literals_of}
 use Rattle.sat_checker.proofs.lemmas.sets.Members.{each_at}
 use Rattle.sat_checker.proofs.lemmas.announcements.Grounds.{among_negated, Says, verdict_says}
@@ -121,8 +121,8 @@ map_each P Q [] w h = tt
 map_each P Q (r ∷ rs) w h = (w r h.0, map_each P Q rs w h.1)
 
 -- it is the ground, and what the reasons made true wasn't assumed
-pub record Followed (assumed : List ℕ) (cs : List StoredClause) (g : Ground) : Type 0 where
-  pub is_ground : IsGround assumed cs g
+pub record Followed (assumed : List ℕ) (cs : List StoredClause) (g : ConflictCauses) : Type 0 where
+  pub is_ground : IsConflictCauses assumed cs g
   pub fresh : AllByRecursion (λ r. is_among assumed r.literal ≡ false) is_ground.reasons
 
 module _ (assumed : List ℕ) (c : StoredClause) (cs : List StoredClause) where
@@ -142,7 +142,7 @@ module _ (assumed : List ℕ) (c : StoredClause) (cs : List StoredClause) where
       back m (of_last l k) = among_negated c.literals l k
       back m (of_reason r l k n w d) = absurd k
 
-  followed_over : (IsFalsified assumed c.literals → ⊥) → ((l : ℕ) → IsUnit assumed c.literals l → ⊥) → (g : Ground) → Followed assumed cs g → Followed assumed (c ∷ cs) g
+  followed_over : (IsFalsified assumed c.literals → ⊥) → ((l : ℕ) → IsUnit assumed c.literals l → ⊥) → (g : ConflictCauses) → Followed assumed cs g → Followed assumed (c ∷ cs) g
   followed_over nf nu g d = record {
     is_ground = record {
       reasons = d.is_ground.reasons;
@@ -154,7 +154,7 @@ module _ (assumed : List ℕ) (c : StoredClause) (cs : List StoredClause) where
     fresh = d.fresh;
   }
 
-  module _ (o : ℕ) (u : IsUnit assumed c.literals o) (g : Ground) (d : Followed (o ∷ assumed) cs g) where
+  module _ (o : ℕ) (u : IsUnit assumed c.literals o) (g : ConflictCauses) (d : Followed (o ∷ assumed) cs g) where
     this : Reason
     this = record { clause = c; literal = o }
 
@@ -240,18 +240,18 @@ module _ (assumed : List ℕ) (c : StoredClause) (cs : List StoredClause) where
             ]
 
 abbrev Follow : List StoredClause → Type 0
-Follow cs = (assumed : List ℕ) → walk assumed (literals_of cs) ≡ None → Followed assumed cs (ground assumed cs)
+Follow cs = (assumed : List ℕ) → walk assumed (literals_of cs) ≡ None → Followed assumed cs (conflict_causes assumed cs)
 
-pub followed : (cs : List StoredClause) (assumed : List ℕ) → AllByRecursion (λ c. NoRepeats c.literals) cs → walk assumed (literals_of cs) ≡ None → Followed assumed cs (ground assumed cs)
+pub followed : (cs : List StoredClause) (assumed : List ℕ) → AllByRecursion (λ c. NoRepeats c.literals) cs → walk assumed (literals_of cs) ≡ None → Followed assumed cs (conflict_causes assumed cs)
 followed [] assumed n e = absurd cc
 followed (c ∷ cs) assumed n e = go (λ m. followed cs m n.1) (verdict assumed c.literals) refl (verdict_says assumed c.literals) e
   where
-    opened : Follow cs → (o : ℕ) → IsUnit assumed c.literals o → walk (o ∷ assumed) (literals_of cs) ≡ None → (b : Bool) → is_among (ground (o ∷ assumed) cs).literals o ≡ b
-        → Followed assumed (c ∷ cs) (cond b (record { literals = others_denied o c.literals ++ (ground (o ∷ assumed) cs).literals; clauses = c ∷ (ground (o ∷ assumed) cs).clauses }) (ground (o ∷ assumed) cs))
-    opened ih o u w true k = followed_taken assumed c cs o u (ground (o ∷ assumed) cs) (ih (o ∷ assumed) w) k
-    opened ih o u w false k = followed_left assumed c cs o u (ground (o ∷ assumed) cs) (ih (o ∷ assumed) w) k
+    opened : Follow cs → (o : ℕ) → IsUnit assumed c.literals o → walk (o ∷ assumed) (literals_of cs) ≡ None → (b : Bool) → is_among (conflict_causes (o ∷ assumed) cs).literals o ≡ b
+        → Followed assumed (c ∷ cs) (cond b (record { literals = others_denied o c.literals ++ (conflict_causes (o ∷ assumed) cs).literals; clauses = c ∷ (conflict_causes (o ∷ assumed) cs).clauses }) (conflict_causes (o ∷ assumed) cs))
+    opened ih o u w true k = followed_taken assumed c cs o u (conflict_causes (o ∷ assumed) cs) (ih (o ∷ assumed) w) k
+    opened ih o u w false k = followed_left assumed c cs o u (conflict_causes (o ∷ assumed) cs) (ih (o ∷ assumed) w) k
 
-    go : Follow cs → (v : Verdict) → verdict assumed c.literals ≡ v → Says assumed c.literals v → and_then (walk_on v assumed) (λ more. walk more (literals_of cs)) ≡ None → Followed assumed (c ∷ cs) (ground_by v c assumed (λ more. ground more cs))
+    go : Follow cs → (v : Verdict) → verdict assumed c.literals ≡ v → Says assumed c.literals v → and_then (walk_on v assumed) (λ more. walk more (literals_of cs)) ≡ None → Followed assumed (c ∷ cs) (causes_by v c assumed (λ more. conflict_causes more cs))
     go ih falsified q s w = followed_conflict assumed c cs s
-    go ih (opens o) q s w = opened ih o s w (is_among (ground (o ∷ assumed) cs).literals o) refl
-    go ih rests q s w = followed_over assumed c cs (never_falsified assumed c.literals q) (never_unit assumed c.literals n.0 q) (ground assumed cs) (ih assumed w)
+    go ih (opens o) q s w = opened ih o s w (is_among (conflict_causes (o ∷ assumed) cs).literals o) refl
+    go ih rests q s w = followed_over assumed c cs (never_falsified assumed c.literals q) (never_unit assumed c.literals n.0 q) (conflict_causes assumed cs) (ih assumed w)

@@ -4,7 +4,7 @@ use Rattle.std.specs.List.{list_any}
 use Rattle.sat_base.specs.values.Literals.{negated}
 use Rattle.sat_checker.specs.LiteralSets.{is_among, is_tautology, canonical}
 use Rattle.sat_checker.specs.Stored.{StoredUnit, Stored, unit_literals}
-use Rattle.sat_checker.specs.announcements.Needed.{ground, clauses_named, conflict_ids, true_unit, unit_alone, propagations}
+use Rattle.sat_checker.specs.announcements.Needed.{conflict_causes, clauses_named, conflict_ids, true_unit, unit_alone, propagations}
 use Rattle.sat_checker.proofs.lemmas.sets.Canonical.{canonical_among, canonical_tautology}
 use Rattle.sat_checker.proofs.lemmas.announcements.Rests.{any_none, true_missing}
 
@@ -23,16 +23,16 @@ module _ (clause literals : List ℕ) (set : literals ≡ canonical clause) wher
   module _ (f : Stored) (hashes : List ℕ) where
     pub none_of_signs : is_tautology literals ≡ true → propagations f clause hashes ≡ []
     none_of_signs t =
-        let ids : List ℕ = unit_alone (true_unit (canonical clause) f.units) (conflict_ids (map negated clause) (ground (map negated clause ++ unit_literals f) (clauses_named hashes f)) f.units) in
+        let ids : List ℕ = unit_alone (true_unit (canonical clause) f.units) (conflict_ids (map negated clause) (conflict_causes (map negated clause ++ unit_literals f) (clauses_named hashes f)) f.units) in
         ap (λ b. cond b [] ids) (sym signs_of ∙ t)
 
     pub unit_of_literals : (id : ℕ) → is_tautology literals ≡ false → true_unit literals f.units ≡ Some id → propagations f clause hashes ≡ id ∷ []
     unit_of_literals id t e =
-        let ids : List ℕ = conflict_ids (map negated clause) (ground (map negated clause ++ unit_literals f) (clauses_named hashes f)) f.units in
+        let ids : List ℕ = conflict_ids (map negated clause) (conflict_causes (map negated clause ++ unit_literals f) (clauses_named hashes f)) f.units in
         ap (λ b. cond b [] (unit_alone (true_unit (canonical clause) f.units) ids)) (sym signs_of ∙ t) ∙ ap (λ o. unit_alone o ids) (ap (λ ls. true_unit ls f.units) (sym set) ∙ e)
 
     pub ids_of_conflict : is_tautology literals ≡ false → true_unit literals f.units ≡ None
-        → propagations f clause hashes ≡ conflict_ids (map negated clause) (ground (map negated clause ++ unit_literals f) (clauses_named hashes f)) f.units
+        → propagations f clause hashes ≡ conflict_ids (map negated clause) (conflict_causes (map negated clause ++ unit_literals f) (clauses_named hashes f)) f.units
     ids_of_conflict t e =
-        let ids : List ℕ = conflict_ids (map negated clause) (ground (map negated clause ++ unit_literals f) (clauses_named hashes f)) f.units in
+        let ids : List ℕ = conflict_ids (map negated clause) (conflict_causes (map negated clause ++ unit_literals f) (clauses_named hashes f)) f.units in
         ap (λ b. cond b [] (unit_alone (true_unit (canonical clause) f.units) ids)) (sym signs_of ∙ t) ∙ ap (λ o. unit_alone o ids) (ap (λ ls. true_unit ls f.units) (sym set) ∙ e)

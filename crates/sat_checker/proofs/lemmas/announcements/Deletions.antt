@@ -10,7 +10,7 @@ use Rattle.sat_checker.specs.Storing.{clause_numbered, unit_numbered, last_liter
 use Rattle.sat_checker.specs.Accepts.{IsStrictSubset, ready_after, stored_after}
 use Rattle.sat_checker.specs.announcements.Needed.{true_unit}
 use Rattle.sat_checker.specs.announcements.Announcements.{one, last_id, delayed}
-use Rattle.sat_checker.specs.announcements.Promises.{IsOneOf, RestsOn, IsNoEmpty, DeletionsRest, ToldInOrder}
+use Rattle.sat_checker.specs.announcements.Promises.{IsOneOf, RestsOn, IsNoEmpty, DeletionsRest, NoticesInOrder}
 use Rattle.sat_checker.proofs.lemmas.sets.Canonical.{canonical_among}
 use Rattle.sat_checker.proofs.lemmas.sets.Subsets.{each_true, some_of}
 use Rattle.sat_checker.proofs.lemmas.meaning.Meaning.{means_ready}
@@ -104,7 +104,7 @@ settled_once : (f : Stored) (x : Option (ℕ × ℕ)) → f.conflict ≡ x → d
 settled_once f None e = rw e refl
 settled_once f (Some units) e = refl
 
-pub in_order : ToldInOrder
+pub in_order : NoticesInOrder
 in_order steps step = (
   refl,
   settled_once (stored_after steps) (stored_after steps).conflict refl,

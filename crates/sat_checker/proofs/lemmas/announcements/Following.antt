@@ -3,20 +3,20 @@ use Rattle.std.proofs.Common.{ℕ, ◌≡◌, List, [], ◌∷◌, ◌++◌, map
 use Rattle.sat_base.specs.values.Literals.{negated}
 use Rattle.sat_checker.specs.Stored.{StoredClause}
 use Rattle.sat_checker.specs.inner.Walk.{falsified, opens, rests, verdict}
-use Rattle.sat_checker.specs.announcements.Needed.{Ground, with_reason, ground_by, ground}
+use Rattle.sat_checker.specs.announcements.Needed.{ConflictCauses, with_cause, causes_by, conflict_causes}
 use Rattle.sat_checker.specs.announcements.Promises.{Reason}
 use Rattle.sat_checker.specs.announcements.Following.{followed_back}
 
-back_push : (rs : List Reason) (r : Reason) (g : Ground) → followed_back (rs ++ r ∷ []) g ≡ followed_back rs (with_reason r.literal r.clause g)
+back_push : (rs : List Reason) (r : Reason) (g : ConflictCauses) → followed_back (rs ++ r ∷ []) g ≡ followed_back rs (with_cause r.literal r.clause g)
 back_push [] r g = refl
-back_push (s ∷ ss) r g = ap (with_reason s.literal s.clause) (back_push ss r g)
+back_push (s ∷ ss) r g = ap (with_cause s.literal s.clause) (back_push ss r g)
 
-module _ (whole : Ground) (rs : List Reason) (assumed : List ℕ) (c : StoredClause) (cs : List StoredClause) (so_far : whole ≡ followed_back rs (ground assumed (c ∷ cs))) where
-  pub passed_open : (l : ℕ) → verdict assumed c.literals ≡ opens l → whole ≡ followed_back (rs ++ (record { clause = c; literal = l }) ∷ []) (ground (l ∷ assumed) cs)
-  passed_open l e = so_far ∙ ap (λ v. followed_back rs (ground_by v c assumed (λ more. ground more cs))) e ∙ sym (back_push rs (record { clause = c; literal = l }) (ground (l ∷ assumed) cs))
+module _ (whole : ConflictCauses) (rs : List Reason) (assumed : List ℕ) (c : StoredClause) (cs : List StoredClause) (so_far : whole ≡ followed_back rs (conflict_causes assumed (c ∷ cs))) where
+  pub passed_open : (l : ℕ) → verdict assumed c.literals ≡ opens l → whole ≡ followed_back (rs ++ (record { clause = c; literal = l }) ∷ []) (conflict_causes (l ∷ assumed) cs)
+  passed_open l e = so_far ∙ ap (λ v. followed_back rs (causes_by v c assumed (λ more. conflict_causes more cs))) e ∙ sym (back_push rs (record { clause = c; literal = l }) (conflict_causes (l ∷ assumed) cs))
 
-  pub passed_over : verdict assumed c.literals ≡ rests → whole ≡ followed_back rs (ground assumed cs)
-  passed_over e = so_far ∙ ap (λ v. followed_back rs (ground_by v c assumed (λ more. ground more cs))) e
+  pub passed_over : verdict assumed c.literals ≡ rests → whole ≡ followed_back rs (conflict_causes assumed cs)
+  passed_over e = so_far ∙ ap (λ v. followed_back rs (causes_by v c assumed (λ more. conflict_causes more cs))) e
 
   pub passed_conflict : verdict assumed c.literals ≡ falsified → whole ≡ followed_back rs (record { literals = map negated c.literals; clauses = c ∷ [] })
-  passed_conflict e = so_far ∙ ap (λ v. followed_back rs (ground_by v c assumed (λ more. ground more cs))) e
+  passed_conflict e = so_far ∙ ap (λ v. followed_back rs (causes_by v c assumed (λ more. conflict_causes more cs))) e

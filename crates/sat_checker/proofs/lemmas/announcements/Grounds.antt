@@ -7,7 +7,7 @@ use Rattle.sat_checker.specs.LiteralSets.{is_among}
 use Rattle.sat_checker.specs.Propagation.{IsFalsified, IsUnit, UnitInTurn}
 use Rattle.sat_checker.specs.Stored.{StoredClause}
 use Rattle.sat_checker.specs.inner.Walk.{Verdict, falsified, opens, rests, verdict, verdict_of_open, not_false, walk, walk_on, and_then}
-use Rattle.sat_checker.specs.announcements.Needed.{Ground, others_denied, ground_by, ground}
+use Rattle.sat_checker.specs.announcements.Needed.{ConflictCauses, others_denied, causes_by, conflict_causes}
 use Rattle.sat_checker.proofs.lemmas.propagation.Greedy.{Within}
 use Rattle.sat_checker.proofs.lemmas.sets.Members.{each_at}
 use Rattle.sat_checker.proofs.lemmas.meaning.Clauses.{literals_of}
@@ -148,27 +148,27 @@ aside_covers known assumed behind o n k = record {
   ];
 }
 
-abbrev Turns : List ℕ → Ground → Type 0
+abbrev Turns : List ℕ → ConflictCauses → Type 0
 Turns known g = UnitInTurn known (literals_of g.clauses)
 
 abbrev Run : List StoredClause → Type 0
-Run cs = (assumed known : List ℕ) → walk assumed (literals_of cs) ≡ None → Covers known assumed (ground assumed cs).literals → Turns known (ground assumed cs)
+Run cs = (assumed known : List ℕ) → walk assumed (literals_of cs) ≡ None → Covers known assumed (conflict_causes assumed cs).literals → Turns known (conflict_causes assumed cs)
 
 -- the clauses needed run to the conflict
-pub grounds_run : (cs : List StoredClause) (assumed known : List ℕ) → walk assumed (literals_of cs) ≡ None → Covers known assumed (ground assumed cs).literals → UnitInTurn known (literals_of (ground assumed cs).clauses)
+pub grounds_run : (cs : List StoredClause) (assumed known : List ℕ) → walk assumed (literals_of cs) ≡ None → Covers known assumed (conflict_causes assumed cs).literals → UnitInTurn known (literals_of (conflict_causes assumed cs).clauses)
 grounds_run [] assumed known e k = absurd cc
 grounds_run (c ∷ cs) assumed known e k = go (grounds_run cs) (verdict assumed c.literals) (verdict_says assumed c.literals) e k
   where
-    opened : Run cs → (o : ℕ) → IsUnit assumed c.literals o → walk (o ∷ assumed) (literals_of cs) ≡ None → (b : Bool) → is_among (ground (o ∷ assumed) cs).literals o ≡ b
-        → Covers known assumed (cond b (record { literals = others_denied o c.literals ++ (ground (o ∷ assumed) cs).literals; clauses = c ∷ (ground (o ∷ assumed) cs).clauses }) (ground (o ∷ assumed) cs)).literals
-        → Turns known (cond b (record { literals = others_denied o c.literals ++ (ground (o ∷ assumed) cs).literals; clauses = c ∷ (ground (o ∷ assumed) cs).clauses }) (ground (o ∷ assumed) cs))
+    opened : Run cs → (o : ℕ) → IsUnit assumed c.literals o → walk (o ∷ assumed) (literals_of cs) ≡ None → (b : Bool) → is_among (conflict_causes (o ∷ assumed) cs).literals o ≡ b
+        → Covers known assumed (cond b (record { literals = others_denied o c.literals ++ (conflict_causes (o ∷ assumed) cs).literals; clauses = c ∷ (conflict_causes (o ∷ assumed) cs).clauses }) (conflict_causes (o ∷ assumed) cs)).literals
+        → Turns known (cond b (record { literals = others_denied o c.literals ++ (conflict_causes (o ∷ assumed) cs).literals; clauses = c ∷ (conflict_causes (o ∷ assumed) cs).clauses }) (conflict_causes (o ∷ assumed) cs))
     opened ih o u w true n k' =
-        unit_front known c.literals o (literals_of (ground (o ∷ assumed) cs).clauses) (unit_known known assumed c.literals (ground (o ∷ assumed) cs).literals o k' u)
-        (ih (o ∷ assumed) (o ∷ known) w (behind_covers known assumed (others_denied o c.literals) (ground (o ∷ assumed) cs).literals o k'))
-    opened ih o u w false n k' = ih (o ∷ assumed) known w (aside_covers known assumed (ground (o ∷ assumed) cs).literals o n k')
+        unit_front known c.literals o (literals_of (conflict_causes (o ∷ assumed) cs).clauses) (unit_known known assumed c.literals (conflict_causes (o ∷ assumed) cs).literals o k' u)
+        (ih (o ∷ assumed) (o ∷ known) w (behind_covers known assumed (others_denied o c.literals) (conflict_causes (o ∷ assumed) cs).literals o k'))
+    opened ih o u w false n k' = ih (o ∷ assumed) known w (aside_covers known assumed (conflict_causes (o ∷ assumed) cs).literals o n k')
 
     go : Run cs → (v : Verdict) → Says assumed c.literals v → and_then (walk_on v assumed) (λ more. walk more (literals_of cs)) ≡ None
-        → Covers known assumed (ground_by v c assumed (λ more. ground more cs)).literals → Turns known (ground_by v c assumed (λ more. ground more cs))
+        → Covers known assumed (causes_by v c assumed (λ more. conflict_causes more cs)).literals → Turns known (causes_by v c assumed (λ more. conflict_causes more cs))
     go ih falsified s w k' = falsified_known known assumed c.literals k' s
-    go ih (opens o) s w k' = opened ih o s w (is_among (ground (o ∷ assumed) cs).literals o) refl k'
+    go ih (opens o) s w k' = opened ih o s w (is_among (conflict_causes (o ∷ assumed) cs).literals o) refl k'
     go ih rests s w k' = ih assumed known w k'

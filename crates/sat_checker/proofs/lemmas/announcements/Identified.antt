@@ -9,12 +9,12 @@ use Rattle.sat_checker.specs.Stored.{StoredClause, StoredUnit, Last, NoneYet, Em
 use Rattle.sat_checker.specs.Storing.{with_count, with_stored_clause, clause_with, without_count, unless_gone, without_clause, unit_id, first_conflict, with_unit, with_contradiction, with_new_unit, settled, settled_by, with_set, unit_at, long_at, place_of, with_canonical, with_stored, with_input, with_units, with_known, with_literals_known, clause_numbered, unit_numbered, last_literals}
 use Rattle.sat_checker.specs.Accepts.{IsStrictSubset, effect, stored_after, ready_after}
 use Rattle.sat_checker.specs.announcements.Needed.{propagations}
-use Rattle.sat_checker.specs.announcements.Announcements.{Announcement, id_of, id_of_set, input_set, input, derived_set, derived, derived_units, one, last_id, announced, delayed_by, delayed, Told, told_over, told_after, all_told_after}
+use Rattle.sat_checker.specs.announcements.Announcements.{Announcement, id_of, id_of_set, input_set, input, derived_set, derived, derived_units, one, last_id, announced, delayed_by, delayed, Notice, notices_over, notices_after, all_notices_after}
 use Rattle.sat_checker.specs.announcements.Announcements as announcements
 use Rattle.sat_checker.specs.announcements.Promises.{IsOneOf, IsAnnouncedAs, IsAnnounced, AreAnnounced, IdsAreAnnounced, ConflictIsAnnounced, SimplifiedIsAnnounced}
 use Rattle.sat_checker.proofs.lemmas.propagation.Soundness.{negated-negated}
 use Rattle.sat_checker.proofs.lemmas.state.Units.{known_units}
-use Rattle.sat_checker.proofs.lemmas.telling.Settling.{settled_none}
+use Rattle.sat_checker.proofs.lemmas.listeners.Settling.{settled_none}
 use Rattle.sat_checker.proofs.lemmas.announcements.Rests.{unit_found}
 use Rattle.sat_checker.proofs.lemmas.announcements.Deletions.{unit_of, signed}
 
@@ -49,14 +49,14 @@ news_front id ls xs ys n = (n.0, one_front n.0 xs ys n.1, n.2)
 news_behind : (id : ℕ) (ls : List ℕ) (xs ys : List Announcement) → IsNews id ls ys → IsNews id ls (xs ++ ys)
 news_behind id ls xs ys n = (n.0, one_behind n.0 xs ys n.1, n.2)
 
-news_told : (f : Stored) (id : ℕ) (ls : List ℕ) (news : List Announcement) → IsNews id ls news → IsAnnounced id ls (told_over f news)
-news_told f id ls news n = (record { announcement = n.0; variables = f.variables }, one_mapped (λ a. record { announcement = a; variables = f.variables }) n.0 news n.1, n.2)
+news_reported : (f : Stored) (id : ℕ) (ls : List ℕ) (news : List Announcement) → IsNews id ls news → IsAnnounced id ls (notices_over f news)
+news_reported f id ls news n = (record { announcement = n.0; variables = f.variables }, one_mapped (λ a. record { announcement = a; variables = f.variables }) n.0 news n.1, n.2)
 
-told_front : (id : ℕ) (ls : List ℕ) (xs ys : List Told) → IsAnnounced id ls xs → IsAnnounced id ls (xs ++ ys)
-told_front id ls xs ys t = (t.0, one_front t.0 xs ys t.1, t.2)
+reported_front : (id : ℕ) (ls : List ℕ) (xs ys : List Notice) → IsAnnounced id ls xs → IsAnnounced id ls (xs ++ ys)
+reported_front id ls xs ys t = (t.0, one_front t.0 xs ys t.1, t.2)
 
-told_behind : (id : ℕ) (ls : List ℕ) (xs ys : List Told) → IsAnnounced id ls ys → IsAnnounced id ls (xs ++ ys)
-told_behind id ls xs ys t = (t.0, one_behind t.0 xs ys t.1, t.2)
+reported_behind : (id : ℕ) (ls : List ℕ) (xs ys : List Notice) → IsAnnounced id ls ys → IsAnnounced id ls (xs ++ ys)
+reported_behind id ls xs ys t = (t.0, one_behind t.0 xs ys t.1, t.2)
 
 -- a clause that isn't stored yet is announced under the next id
 derived_news : (r : Bool) (c hs : List ℕ) (f : Stored) → is_tautology c ≡ false → id_of_set (canonical c) f ≡ None → IsNews f.next_id (canonical c) (derived r c hs f)
@@ -97,15 +97,15 @@ long_not_empty id None last e = e
 long_not_empty id (Some c) last e = absurd cc
 
 -- what was announced stays announced as more is told
-told_more : (f : Stored) (told next : List Told) → ((id : ℕ) (ls : List ℕ) → IsAnnounced id ls told → IsAnnounced id ls next) → AreAnnounced f told → AreAnnounced f next
-told_more f told next w a = record {
+reported_more : (f : Stored) (told next : List Notice) → ((id : ℕ) (ls : List ℕ) → IsAnnounced id ls told → IsAnnounced id ls next) → AreAnnounced f told → AreAnnounced f next
+reported_more f told next w a = record {
   clauses = each_more (λ c. IsAnnounced c.id c.literals told) (λ c. IsAnnounced c.id c.literals next) (λ c. w c.id c.literals) f.clauses a.clauses;
   units = each_more (λ u. IsAnnounced u.id (u.literal ∷ []) told) (λ u. IsAnnounced u.id (u.literal ∷ []) next) (λ u. w u.id (u.literal ∷ [])) f.units a.units;
   last = λ id e. w id [] (a.last id e);
   conflict = λ ids e. let k = a.conflict ids e in (k.0, k.1, k.2, w ids.1 (negated k.0.literal ∷ []) k.3);
 }
 
-module _ (told : List Told) where
+module _ (told : List Notice) where
   abbrev AreClauses : List StoredClause → Type 0
   AreClauses = AllByRecursion (λ c. IsAnnounced c.id c.literals told)
 
@@ -278,20 +278,20 @@ module _ (told : List Told) where
       go (Some units) = record { clauses = a.clauses; units = a.units; last = a.last; conflict = λ ids e. absurd cc }
 
 -- once the empty clause of a unit conflict was told
-ready_announced : (steps : List Step) → AreAnnounced (stored_after steps) (told_after steps) → AreAnnounced (ready_after steps) (all_told_after steps)
+ready_announced : (steps : List Step) → AreAnnounced (stored_after steps) (notices_after steps) → AreAnnounced (ready_after steps) (all_notices_after steps)
 ready_announced steps a =
-    let told : List Told = told_after steps in
-    let waiting : List Told = told_over (stored_after steps) (delayed (stored_after steps)) in
-    settled_announced (told ++ waiting) (stored_after steps) (told_more (stored_after steps) told (told ++ waiting) (λ id ls t. told_front id ls told waiting t) a)
+    let told : List Notice = notices_after steps in
+    let waiting : List Notice = notices_over (stored_after steps) (delayed (stored_after steps)) in
+    settled_announced (told ++ waiting) (stored_after steps) (reported_more (stored_after steps) told (told ++ waiting) (λ id ls t. reported_front id ls told waiting t) a)
 
 pub identified : IdsAreAnnounced
 identified [] = record { clauses = tt; units = tt; last = λ id e. absurd cc; conflict = λ ids e. absurd cc }
 identified (step ∷ earlier) =
     let f : Stored = ready_after earlier in
-    let told : List Told = all_told_after earlier in
-    let more : List Told = told_over f (announced f step) in
-    effect_announced (told ++ more) step f (settled_none (stored_after earlier)) (λ id ls n. told_behind id ls told more (news_told f id ls (announced f step) n))
-    (told_more f told (told ++ more) (λ id ls t. told_front id ls told more t) (ready_announced earlier (identified earlier)))
+    let told : List Notice = all_notices_after earlier in
+    let more : List Notice = notices_over f (announced f step) in
+    effect_announced (told ++ more) step f (settled_none (stored_after earlier)) (λ id ls n. reported_behind id ls told more (news_reported f id ls (announced f step) n))
+    (reported_more f told (told ++ more) (λ id ls t. reported_front id ls told more t) (ready_announced earlier (identified earlier)))
 
 -- the two ids of a delayed empty clause
 pub conflict_named : ConflictIsAnnounced
@@ -300,8 +300,8 @@ conflict_named steps id i j e = go f.conflict refl e
     f : Stored
     f = stored_after steps
 
-    told : List Told
-    told = told_after steps
+    told : List Notice
+    told = notices_after steps
 
     go : (x : Option (ℕ × ℕ)) → f.conflict ≡ x → delayed_by f.next_id x ≡ announcements.AtClause id false [] (i ∷ j ∷ []) ∷ [] → (l : ℕ) × IsAnnounced i (l ∷ []) told × IsAnnounced j (negated l ∷ []) told
     go None s k = absurd cc
@@ -314,11 +314,11 @@ conflict_named steps id i j e = go f.conflict refl e
         (c.0.literal, subst (λ x. IsAnnounced x (c.0.literal ∷ []) told) (c.2 ∙ first) this, subst (λ x. IsAnnounced x (negated c.0.literal ∷ []) told) second c.3)
 
 -- these ids are the one of an announced part of the clause
-abbrev NamesPart : List Told → List ℕ → List ℕ → Type 0
+abbrev NamesPart : List Notice → List ℕ → List ℕ → Type 0
 NamesPart told clause ids = (id : ℕ) × (part : List ℕ) × (ids ≡ id ∷ []) × (is_part part clause ≡ true) × IsAnnounced id part told
 
 -- the id of the last irredundant clause stored, while it's still there
-last_named : (f : Stored) (told : List Told) → AreAnnounced f told → (clause : List ℕ) (last : Last) → f.last ≡ last → IsStrictSubset (last_literals last f) clause → NamesPart told clause (one (last_id last))
+last_named : (f : Stored) (told : List Notice) → AreAnnounced f told → (clause : List ℕ) (last : Last) → f.last ≡ last → IsStrictSubset (last_literals last f) clause → NamesPart told clause (one (last_id last))
 last_named f told a clause NoneYet is s = absurd s
 last_named f told a clause (Empty id) is s = (id, [], refl, s.0, a.last id is)
 last_named f told a clause (UnitClause id) is s = go (unit_numbered id f.units) refl s
@@ -339,4 +339,4 @@ last_named f told a clause (LongClause id) is s = go (clause_numbered id f.claus
         (id, ls, refl, k.0, subst (λ x. IsAnnounced x ls told) c.id_is (subst (λ x. IsAnnounced c.clause.id x told) c.literals_are this))
 
 pub simplified_named : SimplifiedIsAnnounced
-simplified_named steps clause ok = last_named (ready_after steps) (all_told_after steps) (ready_announced steps (identified steps)) clause (ready_after steps).last refl ok.1
+simplified_named steps clause ok = last_named (ready_after steps) (all_notices_after steps) (ready_announced steps (identified steps)) clause (ready_after steps).last refl ok.1

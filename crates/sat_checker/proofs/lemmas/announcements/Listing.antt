@@ -14,7 +14,7 @@ use Rattle.sat_checker.specs.inner.Marks.{NoRepeats, IsIncreasing}
 use Rattle.sat_checker.specs.inner.WalkNotes.{WalkNotes}
 use Rattle.sat_checker.specs.inner.Reasons.{named, Explains}
 use Rattle.sat_checker.specs.inner.SlotView.{Slot}
-use Rattle.sat_checker.specs.announcements.Needed.{Ground, ground, needed_units, conflict_ids, or_else, true_unit}
+use Rattle.sat_checker.specs.announcements.Needed.{ConflictCauses, conflict_causes, needed_units, conflict_ids, or_else, true_unit}
 use Rattle.sat_checker.specs.announcements.Promises.{IsOneOf}
 use Rattle.sat_checker.proofs.lemmas.sets.Canonical.{same_increasing, among_from_contains, contains_from_among}
 use Rattle.sat_checker.proofs.lemmas.sets.Distinct.{sorted_increasing}
@@ -30,8 +30,8 @@ use Rattle.sat_checker.proofs.lemmas.announcements.Noting.{ground_same}
 
 -- what the notes explain, whatever the order in which the units are assumed
 pub explained_units : {E : Type 0} (r : Result Bool E) (ss : List Slot) (passed : WalkNotes) (value : List StoredUnit) (assigned clause hashes : List ℕ) → ((l : ℕ) → is_among assigned l ≡ is_among (map (λ u. u.literal) value) l)
-    → IfOk r (λ b. b ≡ true → list_any (is_among assigned) clause ≡ false → is_tautology clause ≡ false → Explains ss passed (ground (map negated clause ++ assigned) (named hashes ss)))
-    → IfOk r (λ b. b ≡ true → list_any (is_among (map (λ u. u.literal) value)) clause ≡ false → is_tautology clause ≡ false → Explains ss passed (ground (map negated clause ++ map (λ u. u.literal) value) (named hashes ss)))
+    → IfOk r (λ b. b ≡ true → list_any (is_among assigned) clause ≡ false → is_tautology clause ≡ false → Explains ss passed (conflict_causes (map negated clause ++ assigned) (named hashes ss)))
+    → IfOk r (λ b. b ≡ true → list_any (is_among (map (λ u. u.literal) value)) clause ≡ false → is_tautology clause ≡ false → Explains ss passed (conflict_causes (map negated clause ++ map (λ u. u.literal) value) (named hashes ss)))
 explained_units (Err e) ss passed value assigned clause hashes same h = tt
 explained_units (Ok b) ss passed value assigned clause hashes same h = λ t n s.
     let units : List ℕ = map (λ u. u.literal) value in
@@ -202,7 +202,7 @@ ids_once denied units (l ∷ ls) i n = go (is_among denied l) (unit_id l units) 
 
 -- The ids of the marked literals that are units and aren't denied, sorted, are those of the units needed.
 pub units_listed : (denied marked : List ℕ) (units : List StoredUnit) (ls ids sorted : List ℕ) → ls ≡ reverse marked → NoRepeats ls → NoRepeats (map (λ u. u.literal) units) → ids ≡ unit_ids_of denied units ls → IsPermutation ids sorted → IsSorted nat_cmp sorted
-    → (g : Ground) → ((m : ℕ) → is_among marked m ≡ is_among g.literals m) → IsIncreasing (map (λ u. u.id) units) → sorted ≡ map (λ u. u.id) (needed_units denied g units)
+    → (g : ConflictCauses) → ((m : ℕ) → is_among marked m ≡ is_among g.literals m) → IsIncreasing (map (λ u. u.id) units) → sorted ≡ map (λ u. u.id) (needed_units denied g units)
 units_listed denied marked units ls ids sorted r n u e p s g same i =
     same_increasing sorted (map (λ w. w.id) (needed_units denied g units)) (sorted_increasing ids sorted (subst NoRepeats (sym e) (ids_once denied units ls i n)) p s) (few_increasing test units i) (λ m. same_tests _ _ (forth m) (back m))
   where
@@ -233,7 +233,7 @@ few_same : (p q : StoredUnit → Bool) (us : List StoredUnit) → ((u : StoredUn
 few_same p q [] h = refl
 few_same p q (u ∷ us) h = ap (λ b. cond b (u ∷ filter p us) (filter p us)) (h u) ∙ ap (λ xs. cond (q u) (u ∷ xs) xs) (few_same p q us h)
 
-pub denied_same : (xs ys : List ℕ) (g : Ground) (units : List StoredUnit) → ((m : ℕ) → is_among xs m ≡ is_among ys m) → conflict_ids xs g units ≡ conflict_ids ys g units
+pub denied_same : (xs ys : List ℕ) (g : ConflictCauses) (units : List StoredUnit) → ((m : ℕ) → is_among xs m ≡ is_among ys m) → conflict_ids xs g units ≡ conflict_ids ys g units
 denied_same xs ys g units same =
     ap (λ us. map (λ (u : StoredUnit). u.id) us ++ map (λ c. c.id) g.clauses)
     (few_same (λ u. is_among g.literals u.literal && not (is_among xs u.literal)) (λ u. is_among g.literals u.literal && not (is_among ys u.literal)) units (λ u. ap (λ b. is_among g.literals u.literal && not b) (same u.literal)))
@@ -272,7 +272,7 @@ no_units denied literals (u ∷ us) h = go (no_units denied literals us) (is_amo
     go ih true e = absurd (true≢false (sym (or_left (eqb u.literal u.literal) (is_among (map (λ v. v.literal) us) u.literal) (eq-eqb u.literal u.literal refl)) ∙ h u.literal e))
     go ih false e = ih (λ l k. later (eqb u.literal l) (is_among (map (λ v. v.literal) us) l) (h l k))
 
-pub clauses_alone : (denied marked ids listed : List ℕ) (g : Ground) (us : List StoredUnit) → ((m : ℕ) → is_among marked m ≡ is_among g.literals m) → ((l : ℕ) → is_among marked l ≡ true → is_among (map (λ u. u.literal) us) l ≡ false)
+pub clauses_alone : (denied marked ids listed : List ℕ) (g : ConflictCauses) (us : List StoredUnit) → ((m : ℕ) → is_among marked m ≡ is_among g.literals m) → ((l : ℕ) → is_among marked l ≡ true → is_among (map (λ u. u.literal) us) l ≡ false)
     → ids ≡ reverse (map (λ c. c.id) g.clauses) → listed ≡ [] ++ reverse ids → listed ≡ conflict_ids denied g us
 clauses_alone denied marked ids listed g us same none i e =
     e ∙ ap reverse i ∙ reverse-reverse (map (λ c. c.id) g.clauses) ∙ ap (λ xs. map (λ (u : StoredUnit). u.id) xs ++ map (λ c. c.id) g.clauses) (sym (no_units denied g.literals us (λ l k. none l (same l ∙ k))))

@@ -7,7 +7,7 @@ use Rattle.sat_checker.specs.LiteralSets.{is_tautology, canonical, same_literals
 use Rattle.sat_checker.specs.Stored.{StoredClause, Stored, is_unit}
 use Rattle.sat_checker.specs.Storing.{with_count, with_stored_clause, clause_with, without_count, unless_gone, without_clause, with_unit, with_contradiction, with_new_unit, settled, settled_by, with_set, with_canonical, with_stored, with_input, with_units, with_literals_known}
 use Rattle.sat_checker.specs.Accepts.{effect, stored_after, ready_after}
-use Rattle.sat_checker.specs.telling.AnnouncingView as announcing
+use Rattle.sat_checker.specs.listeners.AnnouncingView as announcing
 use Rattle.sat_checker.proofs.lemmas.meaning.Clauses.{same}
 
 -- each has two literals or more

@@ -9,9 +9,9 @@ use Rattle.sat_checker.specs.announcements.Following.{followed_back}
 use Rattle.sat_checker.specs.declared.rup.passed.Reason as noted
 use Rattle.sat_checker.specs.LiteralSets.{is_among}
 use Rattle.sat_checker.specs.Stored.{StoredClause}
-use Rattle.sat_checker.specs.announcements.Needed.{Ground, others_denied, with_reason}
+use Rattle.sat_checker.specs.announcements.Needed.{ConflictCauses, others_denied, with_cause}
 use Rattle.sat_checker.specs.inner.NeededView.{IsFollowed}
-use Rattle.sat_checker.specs.inner.Room.{AssumesOnce, LiteralsAndRoom, with_room}
+use Rattle.sat_checker.specs.inner.AssumedRoom.{AssumesOnce, LiteralsAndRoom, with_room}
 use Rattle.sat_checker.specs.inner.WalkNotes.{WalkNotes}
 use Rattle.sat_checker.specs.inner.SlotView.{Slot, literals_at}
 use Rattle.sat_checker.specs.inner.Reasons.{clause_at, reason_in, conflict_at, conflict_length, noted_length}
@@ -80,11 +80,11 @@ begins ss place needed marked e h k = record {
   ids = k;
 }
 
-module _ (old new : Needed) (c : StoredClause) (l : ℕ) (g : Ground) (f : IsFollowed old g) where
-  pub not_needed : is_among old.marked.literals l ≡ false → IsFollowed old (with_reason l c g)
+module _ (old new : Needed) (c : StoredClause) (l : ℕ) (g : ConflictCauses) (f : IsFollowed old g) where
+  pub not_needed : is_among old.marked.literals l ≡ false → IsFollowed old (with_cause l c g)
   not_needed n = subst (λ b. IsFollowed old (cond b (record { literals = others_denied l c.literals ++ g.literals; clauses = c ∷ g.clauses }) g)) (sym (sym (f.marked l) ∙ n)) f
 
-  pub is_needed : is_among old.marked.literals l ≡ true → ((m : ℕ) → is_among new.marked.literals m ≡ (is_among (others_denied l c.literals) m || is_among old.marked.literals m)) → new.ids.items ≡ old.ids.items ++ c.id ∷ [] → IsFollowed new (with_reason l c g)
+  pub is_needed : is_among old.marked.literals l ≡ true → ((m : ℕ) → is_among new.marked.literals m ≡ (is_among (others_denied l c.literals) m || is_among old.marked.literals m)) → new.ids.items ≡ old.ids.items ++ c.id ∷ [] → IsFollowed new (with_cause l c g)
   is_needed t h k = subst (λ b. IsFollowed new (cond b (record { literals = others_denied l c.literals ++ g.literals; clauses = c ∷ g.clauses }) g)) (sym (sym (f.marked l) ∙ t)) (record {
     marked = λ m. h m ∙ ap (λ b. is_among (others_denied l c.literals) m || b) (f.marked m) ∙ sym (among-append (others_denied l c.literals) g.literals m);
     ids = k ∙ ap (λ xs. xs ++ c.id ∷ []) f.ids ∙ sym (reverse_more c.id (map (λ x. x.id) g.clauses));
@@ -105,7 +105,7 @@ module _ (ss : List Slot) (rs : List noted.Reason) (k n : ℕ) (r : noted.Reason
   from_here : drop k rs ≡ r ∷ drop n rs
   from_here = drop_more rs k r inside ∙ ap (λ x. x ∷ drop (k + 1) rs) there ∙ ap (λ i. r ∷ drop i rs) next
 
-  pub back_next : (needed : Needed) (g : Ground) → IsFollowed needed (with_reason r.lit (clause_at ss r.place) (followed_back (map (reason_in ss) (drop n rs)) g)) → IsFollowed needed (followed_back (map (reason_in ss) (drop k rs)) g)
+  pub back_next : (needed : Needed) (g : ConflictCauses) → IsFollowed needed (with_cause r.lit (clause_at ss r.place) (followed_back (map (reason_in ss) (drop n rs)) g)) → IsFollowed needed (followed_back (map (reason_in ss) (drop k rs)) g)
   back_next needed g h = subst (λ xs. IsFollowed needed (followed_back (map (reason_in ss) xs) g)) (sym from_here) h
 
   pub read_next : (old looks new base : ℕ) → looks ≤ old + base + total_length (map (λ x. literals_at ss x.place) (drop n rs)) → new ≤ looks + length (literals_at ss r.place) → new ≤ old + base + total_length (map (λ x. literals_at ss x.place) (drop k rs))

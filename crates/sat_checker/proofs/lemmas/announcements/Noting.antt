@@ -8,7 +8,7 @@ use Rattle.sat_checker.specs.Stored.{StoredClause}
 use Rattle.sat_base.specs.values.Literals.{negated}
 use Rattle.sat_checker.specs.LiteralSets.{is_among, is_tautology}
 use Rattle.sat_checker.specs.inner.Walk.{Verdict, falsified, opens, rests, verdict, verdict_of_open, not_false, denied_in_turn}
-use Rattle.sat_checker.specs.announcements.Needed.{with_reason, ground_by, ground}
+use Rattle.sat_checker.specs.announcements.Needed.{with_cause, causes_by, conflict_causes}
 use Rattle.sat_checker.specs.announcements.Following.{followed_back}
 use Rattle.sat_checker.specs.inner.SlotView.{Slot, slot_at, literals_at, is_filed, places_from, places_of}
 use Rattle.sat_checker.specs.inner.WalkNotes.{WalkNotes}
@@ -33,20 +33,20 @@ module _ (ss : List Slot) (old new : WalkNotes) (assumed : List ℕ) (place : �
       let r : noted.Reason = record { place = place; lit = l } in
       let notes : reasons_in ss new ≡ reasons_in ss old ++ reason_in ss r ∷ [] = ap (map (reason_in ss)) e ∙ map-append (reason_in ss) old.reasons (r ∷ []) in
       record {
-        same = λ rest. passed_open (followed_back (reasons_in ss old) (ground assumed (clause_at ss place ∷ rest))) (reasons_in ss old) assumed (clause_at ss place) rest refl l v
-            ∙ ap (λ rs. followed_back rs (ground (l ∷ assumed) rest)) (sym notes);
+        same = λ rest. passed_open (followed_back (reasons_in ss old) (conflict_causes assumed (clause_at ss place ∷ rest))) (reasons_in ss old) assumed (clause_at ss place) rest refl l v
+            ∙ ap (λ rs. followed_back rs (conflict_causes (l ∷ assumed) rest)) (sym notes);
         there = λ h. subst (AllByRecursion (λ x. x.place < length ss)) (sym e) (all_push (λ x. x.place < length ss) old.reasons r h inside);
       }
 
   pub leads_over : verdict assumed (literals_at ss place) ≡ rests → KeepsGround ss old assumed (clause_at ss place ∷ []) old assumed []
   leads_over v = record {
-    same = λ rest. passed_over (followed_back (reasons_in ss old) (ground assumed (clause_at ss place ∷ rest))) (reasons_in ss old) assumed (clause_at ss place) rest refl v;
+    same = λ rest. passed_over (followed_back (reasons_in ss old) (conflict_causes assumed (clause_at ss place ∷ rest))) (reasons_in ss old) assumed (clause_at ss place) rest refl v;
     there = λ h. h;
   }
 
   pub ends_there : verdict assumed (literals_at ss place) ≡ falsified → new.reasons ≡ old.reasons → new.conflict ≡ Some place → MeetsConflict ss old assumed (clause_at ss place ∷ []) new
   ends_there v e k = record {
-    same = λ rest. passed_conflict (followed_back (reasons_in ss old) (ground assumed (clause_at ss place ∷ rest))) (reasons_in ss old) assumed (clause_at ss place) rest refl v
+    same = λ rest. passed_conflict (followed_back (reasons_in ss old) (conflict_causes assumed (clause_at ss place ∷ rest))) (reasons_in ss old) assumed (clause_at ss place) rest refl v
         ∙ ap (λ rs. followed_back (map (reason_in ss) rs) (conflict_at ss (Some place))) (sym e) ∙ ap (λ c. followed_back (reasons_in ss new) (conflict_at ss c)) (sym k);
     there = λ h. subst (AllByRecursion (λ x. x.place < length ss)) (sym e) h;
     met = subst (IsConflictPlace ss) (sym k) inside;
@@ -71,13 +71,13 @@ module _ (ss : List Slot) (old new : WalkNotes) (assumed : List ℕ) (place : �
 module _ (ss : List Slot) (old mid new : WalkNotes) (assumed more most : List ℕ) (cs front left : List StoredClause) (first : KeepsGround ss old assumed cs mid more (front ++ left)) where
   pub leads_further : KeepsGround ss mid more front new most [] → KeepsGround ss old assumed cs new most left
   leads_further then = record {
-    same = λ rest. first.same rest ∙ ap (λ xs. followed_back (reasons_in ss mid) (ground more xs)) (append_assoc front left rest) ∙ then.same (left ++ rest);
+    same = λ rest. first.same rest ∙ ap (λ xs. followed_back (reasons_in ss mid) (conflict_causes more xs)) (append_assoc front left rest) ∙ then.same (left ++ rest);
     there = λ h. then.there (first.there h);
   }
 
   pub ends_further : MeetsConflict ss mid more front new → MeetsConflict ss old assumed cs new
   ends_further then = record {
-    same = λ rest. first.same rest ∙ ap (λ xs. followed_back (reasons_in ss mid) (ground more xs)) (append_assoc front left rest) ∙ then.same (left ++ rest);
+    same = λ rest. first.same rest ∙ ap (λ xs. followed_back (reasons_in ss mid) (conflict_causes more xs)) (append_assoc front left rest) ∙ then.same (left ++ rest);
     there = λ h. then.there (first.there h);
     met = then.met;
   }
@@ -162,15 +162,15 @@ open_same us vs [] same = refl
 open_same us vs (l ∷ []) same = ap (λ b. cond b rests (opens l)) (same l)
 open_same us vs (l ∷ m ∷ ls) same = refl
 
-pub ground_same : (cs : List StoredClause) (us vs : List ℕ) → ((l : ℕ) → is_among us l ≡ is_among vs l) → ground us cs ≡ ground vs cs
+pub ground_same : (cs : List StoredClause) (us vs : List ℕ) → ((l : ℕ) → is_among us l ≡ is_among vs l) → conflict_causes us cs ≡ conflict_causes vs cs
 ground_same [] us vs same = refl
 ground_same (c ∷ cs) us vs same =
-    ap (λ v. ground_by v c us (λ more. ground more cs)) (ap (verdict_of_open us) (not_false_same us vs c.literals same) ∙ open_same us vs (not_false vs c.literals) same)
+    ap (λ v. causes_by v c us (λ more. conflict_causes more cs)) (ap (verdict_of_open us) (not_false_same us vs c.literals same) ∙ open_same us vs (not_false vs c.literals) same)
     ∙ go (ground_same cs) (verdict vs c.literals)
   where
-    go : ((xs ys : List ℕ) → SameMembers xs ys → ground xs cs ≡ ground ys cs) → (v : Verdict) → ground_by v c us (λ more. ground more cs) ≡ ground_by v c vs (λ more. ground more cs)
+    go : ((xs ys : List ℕ) → SameMembers xs ys → conflict_causes xs cs ≡ conflict_causes ys cs) → (v : Verdict) → causes_by v c us (λ more. conflict_causes more cs) ≡ causes_by v c vs (λ more. conflict_causes more cs)
     go ih falsified = refl
-    go ih (opens l) = ap (with_reason l c) (ih (l ∷ us) (l ∷ vs) (λ m. ap (λ b. eqb l m || b) (same m)))
+    go ih (opens l) = ap (with_cause l c) (ih (l ∷ us) (l ∷ vs) (λ m. ap (λ b. eqb l m || b) (same m)))
     go ih rests = ih us vs same
 
 both_same : (a b : Bool) → (a ≡ true → b ≡ true) → (b ≡ true → a ≡ true) → a ≡ b
@@ -180,13 +180,13 @@ both_same false false f g = refl
 
 -- A walk that starts with no notes, under the negated clause, ends with notes that explain the ground of its conflict.
 pub explained : (ss : List Slot) (old new : WalkNotes) (units clause more hashes : List ℕ) → old.reasons ≡ [] → denied_in_turn units clause ≡ Some more → MeetsConflict ss old more (named hashes ss) new
-    → Explains ss new (ground (map negated clause ++ units) (named hashes ss))
+    → Explains ss new (conflict_causes (map negated clause ++ units) (named hashes ss))
 explained ss old new units clause more hashes e d h =
     let k = denied_some clause units more d in
     let none : reasons_in ss old ≡ [] = ap (map (reason_in ss)) e in
     record {
       same = ground_same (named hashes ss) (map negated clause ++ units) more (λ l. both_same (is_among (map negated clause ++ units) l) (is_among more l) (k.enough.each l) (k.only.each l))
-          ∙ ap (ground more) (sym (append-nil (named hashes ss))) ∙ ap (λ rs. followed_back rs (ground more (named hashes ss ++ []))) (sym none) ∙ h.same [];
+          ∙ ap (conflict_causes more) (sym (append-nil (named hashes ss))) ∙ ap (λ rs. followed_back rs (conflict_causes more (named hashes ss ++ []))) (sym none) ∙ h.same [];
       there = h.there (subst (AllByRecursion (λ x. x.place < length ss)) (sym e) tt);
       met = h.met;
     }

@@ -10,10 +10,10 @@ use Rattle.sat_checker.specs.Propagation.{unit_true, tautology}
 use Rattle.sat_checker.specs.Rows.{AllAccepted, behind, ready_by}
 use Rattle.sat_checker.specs.inner.Walk.{walk_buckets}
 use Rattle.sat_checker.specs.announcements.Announcements as tells
-use Rattle.sat_checker.specs.announcements.Announcements.{Announcement, Told, announced, delayed, told_after, told_over}
-use Rattle.sat_checker.specs.announcements.Rows.{announcements_of, NameNew, as_witness, NameOfKnown, NameRemoved, SolverNameSet, ModeChanged, ModeLeft, ModeOfNameless, Modelled, Assumed, CoreFailed, CoreOfBothSigns, OthersTell, units_and_clauses, UnitsFirst, UnitsHeld, PassedNotNeeded, UnitAlone, NameNewRead, NameOfKnownRead, NameRemovedRead, ModesRead, InputsRead, RefutedRead, OthersRead, AnswersRead}
+use Rattle.sat_checker.specs.announcements.Announcements.{Announcement, Notice, announced, delayed, notices_after, notices_over}
+use Rattle.sat_checker.specs.announcements.Rows.{announcements_of, NameNew, as_witness, NameOfKnown, NameRemoved, SolverNameSet, ModeChanged, ModeLeft, ModeOfNameless, ModelAnnounced, AssumedAnnounced, CoreFailed, CoreOfBothSigns, OthersAnnounce, units_and_clauses, UnitsFirst, UnitsHeld, PassedNotNeeded, UnitAlone, NameNewRead, NameOfKnownRead, NameRemovedRead, ModesRead, InputsRead, RefutedRead, OthersRead, AnswersRead}
 use Rattle.sat_checker.proofs.lemmas.rows.Accepted.{walked}
-use Rattle.sat_checker.proofs.lemmas.announcements.Told.{first_name}
+use Rattle.sat_checker.proofs.lemmas.announcements.Notices.{first_name}
 use Rattle.sat_checker.proofs.lemmas.announcements.Clauses.{input_new, input_duplicate, input_tautology, derived_irredundant, redundant_gone, satisfied_kept}
 
 pub name_new : NameNew
@@ -45,10 +45,10 @@ mode_left = (((tt, first_name 7), refl), refl)
 pub mode_nameless : ModeOfNameless
 mode_nameless = (((tt, tt), refl), refl)
 
-pub modelled : Modelled
+pub modelled : ModelAnnounced
 modelled = (((tt, inr (refl, (refl, tt))), record { consistent = refl; apart = (refl, (refl, tt)); units = tt; clauses = (inr refl, tt) }), refl)
 
-pub assumed : Assumed
+pub assumed : AssumedAnnounced
 assumed = ((tt, tt), refl)
 
 pub core_failed : CoreFailed
@@ -57,22 +57,22 @@ core_failed = ((((tt, inr (refl, (refl, tt))), tt), (refl, walked (ready_by (Add
 pub both_signs : CoreOfBothSigns
 both_signs = ((((tt, inr (refl, tt)), tt), (refl, tautology refl)), refl)
 
-pub others_tell : OthersTell
-others_tell = (((tt, tt), refl), ((tt, tt), refl), (((tt, inr (refl, tt)), record { known = refl; nameless = refl; unused = refl; not_assumed = refl }), refl))
+pub others_report : OthersAnnounce
+others_report = (((tt, tt), refl), ((tt, tt), refl), (((tt, inr (refl, tt)), record { known = refl; nameless = refl; unused = refl; not_assumed = refl }), refl))
 
 -- what is told over any variables is what was to be told
-told_again : (f : Stored) (xs : List Announcement) → announcements_of (told_over f xs) ≡ xs
-told_again f [] = refl
-told_again f (x ∷ xs) = ap (λ ys. x ∷ ys) (told_again f xs)
+reported_again : (f : Stored) (xs : List Announcement) → announcements_of (notices_over f xs) ≡ xs
+reported_again f [] = refl
+reported_again f (x ∷ xs) = ap (λ ys. x ∷ ys) (reported_again f xs)
 
 -- the last step's announcements come behind those before it, where nothing was delayed
-tells_last : (earlier : List Step) (last : Step) (told : List Announcement) → delayed (stored_after earlier) ≡ [] → announced (ready_after earlier) last ≡ told → announcements_of (told_after (last ∷ earlier)) ≡ announcements_of (told_after earlier) ++ told
-tells_last earlier last told d a =
+reports_last : (earlier : List Step) (last : Step) (told : List Announcement) → delayed (stored_after earlier) ≡ [] → announced (ready_after earlier) last ≡ told → announcements_of (notices_after (last ∷ earlier)) ≡ announcements_of (notices_after earlier) ++ told
+reports_last earlier last told d a =
     let s : Stored = stored_after earlier in
     let r : Stored = ready_after earlier in
-    let waiting = map-append (λ (t : Told). t.announcement) (told_after earlier) (told_over s (delayed s)) ∙ ap (λ xs. announcements_of (told_after earlier) ++ xs) (told_again s (delayed s) ∙ d) ∙ append-nil (announcements_of (told_after earlier)) in
-    map-append (λ (t : Told). t.announcement) (told_after earlier ++ told_over s (delayed s)) (told_over r (announced r last)) ∙ ap (λ xs. xs ++ announcements_of (told_over r (announced r last))) waiting
-    ∙ ap (λ xs. announcements_of (told_after earlier) ++ xs) (told_again r (announced r last) ∙ a)
+    let waiting = map-append (λ (t : Notice). t.announcement) (notices_after earlier) (notices_over s (delayed s)) ∙ ap (λ xs. announcements_of (notices_after earlier) ++ xs) (reported_again s (delayed s) ∙ d) ∙ append-nil (announcements_of (notices_after earlier)) in
+    map-append (λ (t : Notice). t.announcement) (notices_after earlier ++ notices_over s (delayed s)) (notices_over r (announced r last)) ∙ ap (λ xs. xs ++ announcements_of (notices_over r (announced r last))) waiting
+    ∙ ap (λ xs. announcements_of (notices_after earlier) ++ xs) (reported_again r (announced r last) ∙ a)
 
 abbrev long : ℕ → List ℕ → StoredClause
 long id literals = record { id = id; literals = literals; irredundant = 1; redundant = 0 }
@@ -91,8 +91,8 @@ held_is = refl
 all_taken : AllAccepted units_and_clauses
 all_taken = (((((((tt, inr (refl, tt)), inr (refl, tt)), inr (refl, (refl, (refl, tt)))), inr (refl, (refl, tt))), inr (refl, (refl, tt))), inr (refl, (refl, (refl, tt)))), tt)
 
-behind_them : (last : Step) (told : List Announcement) → announced held last ≡ told → announcements_of (told_after (last ∷ behind units_and_clauses [])) ≡ announcements_of (told_after (behind units_and_clauses [])) ++ told
-behind_them last told a = tells_last (behind units_and_clauses []) last told refl (ap (λ f. announced f last) held_is ∙ a)
+behind_them : (last : Step) (told : List Announcement) → announced held last ≡ told → announcements_of (notices_after (last ∷ behind units_and_clauses [])) ≡ announcements_of (notices_after (behind units_and_clauses [])) ++ told
+behind_them last told a = reports_last (behind units_and_clauses []) last told refl (ap (λ f. announced f last) held_is ∙ a)
 
 passes_there : (clause : List ℕ) → walk_buckets (map negated clause ++ unit_literals held) (map (bucket held) (0 ∷ [])) ≡ true → PassesByHashes (ready_by units_and_clauses) clause (0 ∷ [])
 passes_there clause e = subst (λ f. PassesByHashes f clause (0 ∷ [])) (sym held_is) (walked held clause (0 ∷ []) e)
@@ -128,7 +128,7 @@ pub refuted_read : RefutedRead
 refuted_read = refl
 
 pub others_read : OthersRead
-others_read = ((derived_irredundant.0, refl), (redundant_gone.0, refl), (satisfied_kept.0, refl), (others_tell.2.0, refl))
+others_read = ((derived_irredundant.0, refl), (redundant_gone.0, refl), (satisfied_kept.0, refl), (others_report.2.0, refl))
 
 pub answers_read : AnswersRead
 answers_read = (

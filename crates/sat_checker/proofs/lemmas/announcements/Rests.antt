@@ -10,7 +10,7 @@ use Rattle.sat_checker.specs.Stored.{StoredClause, StoredUnit, Stored, unit_lite
 use Rattle.sat_checker.specs.Storing.{unit_id}
 use Rattle.sat_checker.specs.Accepts.{VariablesApart, PassesByHashes}
 use Rattle.sat_checker.specs.inner.Walk.{Verdict, falsified, opens, rests, verdict, walk, walk_on, and_then, walk_buckets, if_conflict}
-use Rattle.sat_checker.specs.announcements.Needed.{Ground, ground_by, ground, clauses_named, needed_units, conflict_ids, or_else, true_unit, unit_alone, propagations}
+use Rattle.sat_checker.specs.announcements.Needed.{ConflictCauses, causes_by, conflict_causes, clauses_named, needed_units, conflict_ids, or_else, true_unit, unit_alone, propagations}
 use Rattle.sat_checker.specs.announcements.Promises.{IsOneOf, RestsOn, TautologiesRestOnNothing}
 use Rattle.sat_checker.proofs.lemmas.sets.Order.{among-append}
 use Rattle.sat_checker.proofs.lemmas.sets.Canonical.{canonical_among}
@@ -249,17 +249,17 @@ named_stored (k ∷ ks) f c h =
       | inr m ↦ named_stored ks f c m
     ]
 
-grounds_among : (P : StoredClause → Type 0) (cs : List StoredClause) (assumed : List ℕ) → ((c : StoredClause) → IsOneOf c cs → P c) → AllByRecursion P (ground assumed cs).clauses
+grounds_among : (P : StoredClause → Type 0) (cs : List StoredClause) (assumed : List ℕ) → ((c : StoredClause) → IsOneOf c cs → P c) → AllByRecursion P (conflict_causes assumed cs).clauses
 grounds_among P [] assumed h = tt
 grounds_among P (c ∷ cs) assumed h = go (λ m. grounds_among P cs m (λ d k. h d (inr k))) (verdict assumed c.literals)
   where
-    opened : (o : ℕ) (g : Ground) → AllByRecursion P g.clauses → (b : Bool) → AllByRecursion P (cond b (record { literals = map negated (filter (λ m. not (eqb m o)) c.literals) ++ g.literals; clauses = c ∷ g.clauses }) g).clauses
+    opened : (o : ℕ) (g : ConflictCauses) → AllByRecursion P g.clauses → (b : Bool) → AllByRecursion P (cond b (record { literals = map negated (filter (λ m. not (eqb m o)) c.literals) ++ g.literals; clauses = c ∷ g.clauses }) g).clauses
     opened o g ih true = (h c (inl refl), ih)
     opened o g ih false = ih
 
-    go : ((m : List ℕ) → AllByRecursion P (ground m cs).clauses) → (v : Verdict) → AllByRecursion P (ground_by v c assumed (λ more. ground more cs)).clauses
+    go : ((m : List ℕ) → AllByRecursion P (conflict_causes m cs).clauses) → (v : Verdict) → AllByRecursion P (causes_by v c assumed (λ more. conflict_causes more cs)).clauses
     go ih falsified = (h c (inl refl), tt)
-    go ih (opens o) = opened o (ground (o ∷ assumed) cs) (ih (o ∷ assumed)) (is_among (ground (o ∷ assumed) cs).literals o)
+    go ih (opens o) = opened o (conflict_causes (o ∷ assumed) cs) (ih (o ∷ assumed)) (is_among (conflict_causes (o ∷ assumed) cs).literals o)
     go ih rests = ih assumed
 
 unnegated : (ls : List ℕ) (m : ℕ) → is_among (map negated ls) (negated m) ≡ true → is_among ls m ≡ true
@@ -295,11 +295,11 @@ each_imp P Q (u ∷ us) w h = (w u h.0, each_imp P Q us w h.1)
 -- where no unit is true in the clause, and the clauses named run to a conflict
 module _ (f : Stored) (clause hashes : List ℕ) (sorted : Sorted f) (apart : VariablesApart (unit_literals f)) where
   rests_on_conflict : ((m : ℕ) → is_among clause m ≡ true → is_among (unit_literals f) m ≡ false) → walk (map negated clause ++ unit_literals f) (literals_of (clauses_named hashes f)) ≡ None
-      → RestsOn f clause (conflict_ids (map negated clause) (ground (map negated clause ++ unit_literals f) (clauses_named hashes f)) f.units)
+      → RestsOn f clause (conflict_ids (map negated clause) (conflict_causes (map negated clause ++ unit_literals f) (clauses_named hashes f)) f.units)
   rests_on_conflict none e =
       let denied : List ℕ = map negated clause in
       let assumed : List ℕ = denied ++ unit_literals f in
-      let g : Ground = ground assumed (clauses_named hashes f) in
+      let g : ConflictCauses = conflict_causes assumed (clauses_named hashes f) in
       let p : StoredUnit → Bool = λ u. is_among g.literals u.literal && not (is_among denied u.literal) in
       let needed : List StoredUnit = needed_units denied g f.units in
       let open_units : AreOpen denied needed = few_each p (λ u. (is_among denied u.literal ≡ false) × (is_among denied (negated u.literal) ≡ false)) f.units
@@ -356,7 +356,7 @@ module _ (f : Stored) (clause hashes : List ℕ) (sorted : Sorted f) (apart : Va
   rests_on passes n = subst (λ b. RestsOn f clause (cond b [] (unit_alone (true_unit (canonical clause) f.units) ids))) (sym n) (go (true_unit (canonical clause) f.units) refl)
     where
       ids : List ℕ
-      ids = conflict_ids (map negated clause) (ground (map negated clause ++ unit_literals f) (clauses_named hashes f)) f.units
+      ids = conflict_ids (map negated clause) (conflict_causes (map negated clause ++ unit_literals f) (clauses_named hashes f)) f.units
 
       go : (x : Option ℕ) → true_unit (canonical clause) f.units ≡ x → RestsOn f clause (unit_alone x ids)
       go (Some id) e = rests_on_unit id e

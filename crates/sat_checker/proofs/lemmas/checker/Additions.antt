@@ -7,16 +7,16 @@ use Rattle.sat_checker.specs.Storing.{settled, settled_by}
 use Rattle.sat_checker.specs.Accepts.{MayBeAdded, ready_after}
 use Rattle.sat_checker.specs.Looks.{most_looks}
 use Rattle.sat_checker.specs.KernelView.{LooksAtMost, KeepsAfter}
-use Rattle.sat_checker.specs.CheckerView.{Seen, has_failed, looks_of, AnswersStep, AnswersClause}
+use Rattle.sat_checker.specs.CheckerView.{CheckerView, has_failed, looks_of, AnswersStep, AnswersClause}
 use Rattle.sat_checker.specs.ProofView.{taken_after, most_looks_behind, StandsUnfailed}
 use Rattle.sat_checker.specs.ClausesView.{additions, AddsFirstClauses, after_additions, AnswersClauses}
-use Rattle.sat_checker.specs.announcements.Announcements.{Told}
+use Rattle.sat_checker.specs.announcements.Announcements.{Notice}
 use Rattle.sat_checker.specs.declared.processing.ProcessingError.{ProcessingError}
 use Rattle.sat_checker.specs.declared.error.CheckerError.{CheckerError}
 use Rattle.sat_checker.specs.declared.error.CheckerError.TheVariants as errors
 use Rattle.sat_checker.specs.declared.state.State.{State}
 use Rattle.sat_checker.proofs.lemmas.checker.Proofs.{taken_one, looks_one, looks_more}
-use Rattle.sat_checker.proofs.lemmas.telling.Settling.{ready_of}
+use Rattle.sat_checker.proofs.lemmas.listeners.Settling.{ready_of}
 
 additions_one : (cs : List (List ℕ)) (c : List ℕ) → additions (cs ++ c ∷ []) ≡ additions cs ++ AddClause c ∷ []
 additions_one [] c = refl
@@ -39,22 +39,22 @@ may_settle f c h = go f.conflict
 pub may_add : (state : State) (steps : List Step) (kept : KeepsAfter state steps) (c : List ℕ) → MayBeAdded kept.formula c → MayBeAdded (ready_after steps) c
 may_add state steps kept c h = subst (λ f. MayBeAdded f c) (ready_of state steps kept) (may_settle kept.formula c h)
 
-module _ {L : Type 0} (Hears : L → Told → Result Unit ProcessingError → L → Type 0) (before : List Told) (begun : L) where
+module _ {L : Type 0} (Hears : L → Notice → Result Unit ProcessingError → L → Type 0) (before : List Notice) (begun : L) where
   -- these clauses were added, and those are left
-  pub record Added (old new : Seen L) (clauses rest : List (List ℕ)) (earlier : List Step) : Type 0 where
+  pub record Added (old new : CheckerView L) (clauses rest : List (List ℕ)) (earlier : List Step) : Type 0 where
     pub added : List (List ℕ)
     pub split : clauses ≡ added ++ rest
     pub goes_on : StandsUnfailed Hears before begun new (after_additions added earlier)
     pub looks : looks_of new ≤ looks_of old + most_looks_behind (additions added) earlier
 
-  tried_cost : (a b d : Seen L) (clauses rest : List (List ℕ)) (c : List ℕ) (earlier : List Step) → (p : Added a b clauses rest earlier) → LooksAtMost b.kernel (AddClause c) d.kernel
+  tried_cost : (a b d : CheckerView L) (clauses rest : List (List ℕ)) (c : List ℕ) (earlier : List Step) → (p : Added a b clauses rest earlier) → LooksAtMost b.kernel (AddClause c) d.kernel
       → looks_of d ≤ looks_of a + most_looks_behind (additions (p.added ++ c ∷ [])) earlier
   tried_cost a b d clauses rest c earlier p l = looks_more (looks_of a) (looks_of b) (looks_of d) _ _ _ p.looks (l (after_additions p.added earlier) p.goes_on.0.kernel) (cost_one p.added c earlier)
 
   split_one : (clauses added rest more : List (List ℕ)) (c : List ℕ) → clauses ≡ added ++ rest → rest ≡ c ∷ more → clauses ≡ (added ++ c ∷ []) ++ more
   split_one clauses added rest more c e f = e ∙ ap (λ (z : List (List ℕ)). added ++ z) f ∙ sym (append_assoc added (c ∷ []) more)
 
-  pub added_one : (a b d : Seen L) (clauses rest more : List (List ℕ)) (c : List ℕ) (earlier : List Step) → rest ≡ c ∷ more → (p : Added a b clauses rest earlier) → LooksAtMost b.kernel (AddClause c) d.kernel
+  pub added_one : (a b d : CheckerView L) (clauses rest more : List (List ℕ)) (c : List ℕ) (earlier : List Step) → rest ≡ c ∷ more → (p : Added a b clauses rest earlier) → LooksAtMost b.kernel (AddClause c) d.kernel
       → AnswersClause Hears before begun (Ok tt) b c d (after_additions p.added earlier) → Added a d clauses more earlier
   added_one a b d clauses rest more c earlier e p l k = record {
     added = p.added ++ c ∷ [];
@@ -63,11 +63,11 @@ module _ {L : Type 0} (Hears : L → Told → Result Unit ProcessingError → L 
     looks = tried_cost a b d clauses rest c earlier p l;
   }
 
-  adds_tried : (a b d : Seen L) (clauses rest more : List (List ℕ)) (c : List ℕ) (earlier : List Step) → has_failed a ≡ false → rest ≡ c ∷ more → (p : Added a b clauses rest earlier) → LooksAtMost b.kernel (AddClause c) d.kernel
+  adds_tried : (a b d : CheckerView L) (clauses rest more : List (List ℕ)) (c : List ℕ) (earlier : List Step) → has_failed a ≡ false → rest ≡ c ∷ more → (p : Added a b clauses rest earlier) → LooksAtMost b.kernel (AddClause c) d.kernel
       → AddsFirstClauses a d clauses p.added (c ∷ []) earlier
   adds_tried a b d clauses rest more c earlier h e p l = record { well = h; left = more; split = split_one clauses p.added rest more c p.split e; looks = tried_cost a b d clauses rest c earlier p l }
 
-  pub added_stops : (a b d : Seen L) (g : CheckerError) (clauses rest more : List (List ℕ)) (c : List ℕ) (earlier : List Step) → has_failed a ≡ false → rest ≡ c ∷ more → (p : Added a b clauses rest earlier) → LooksAtMost b.kernel (AddClause c) d.kernel
+  pub added_stops : (a b d : CheckerView L) (g : CheckerError) (clauses rest more : List (List ℕ)) (c : List ℕ) (earlier : List Step) → has_failed a ≡ false → rest ≡ c ∷ more → (p : Added a b clauses rest earlier) → LooksAtMost b.kernel (AddClause c) d.kernel
       → AnswersClause Hears before begun (Err g) b c d (after_additions p.added earlier) → AnswersClauses Hears before begun (Err g) a d clauses earlier
   added_stops a b d errors.CheckFailed clauses rest more c earlier h e p l k = (p.added, c, adds_tried a b d clauses rest more c earlier h e p l, k.1, subst (λ z. StandsUnfailed Hears before begun z (after_additions p.added earlier)) (sym k.2) p.goes_on)
   added_stops a b d errors.CounterEnd clauses rest more c earlier h e p l k = (p.added, c, adds_tried a b d clauses rest more c earlier h e p l, k.1, k.2)
@@ -76,7 +76,7 @@ module _ {L : Type 0} (Hears : L → Told → Result Unit ProcessingError → L 
   added_stops a b d errors.HasFailed clauses rest more c earlier h e p l k = absurd (let g : ◌≡◌ {A = Bool} true false = sym k.0 ∙ p.goes_on.1 in cc)
   added_stops a b d x clauses rest more c earlier h e p l k = absurd k
 
-  pub added_all : (a b : Seen L) (clauses rest : List (List ℕ)) (earlier : List Step) → has_failed a ≡ false → rest ≡ [] → Added a b clauses rest earlier → AnswersClauses Hears before begun (Ok tt) a b clauses earlier
+  pub added_all : (a b : CheckerView L) (clauses rest : List (List ℕ)) (earlier : List Step) → has_failed a ≡ false → rest ≡ [] → Added a b clauses rest earlier → AnswersClauses Hears before begun (Ok tt) a b clauses earlier
   added_all a b clauses rest earlier h e p =
       let all : clauses ≡ p.added = p.split ∙ ap (λ (z : List (List ℕ)). p.added ++ z) e ∙ append-nil p.added in
       let cost : additions p.added ≡ additions (clauses ++ []) = ap additions (sym all ∙ sym (append-nil clauses)) in (
@@ -90,6 +90,6 @@ module _ {L : Type 0} (Hears : L → Told → Result Unit ProcessingError → L 
       )
 
   -- a clause that may be added is accepted
-  pub clause_checked : (r : Result Unit CheckerError) (a b : Seen L) (c : List ℕ) (steps : List Step) → MayBeAdded (ready_after steps) c → AnswersStep Hears before begun r a (AddClause c) b steps → AnswersClause Hears before begun r a c b steps
+  pub clause_checked : (r : Result Unit CheckerError) (a b : CheckerView L) (c : List ℕ) (steps : List Step) → MayBeAdded (ready_after steps) c → AnswersStep Hears before begun r a (AddClause c) b steps → AnswersClause Hears before begun r a c b steps
   clause_checked (Err errors.CheckFailed) a b c steps m k = absurd (k.1 m)
   clause_checked e a b c steps m k = k

@@ -4,10 +4,10 @@ use Rattle.std.specs.Prelude.{nat_eq, ◌||◌}
 use Rattle.std.proofs.lemmas.List.{append-nil}
 use Rattle.std.proofs.lemmas.Bool.Decides.{nat_tests}
 use Rattle.sat_base.specs.text.Text.{is_blank, Token, Scan, scan}
-use Rattle.sat_base.specs.text.Spot.{Stage, Begun, stage_end, stage_behind, Spot, Fresh, Leading, Comment, Between, Within, HeaderBetween, HeaderWithin, Spoilt, Over, IsSpot, left, in_hand, behind_LF, lines_behind, behind_header_word, behind_blank, ended_by_blank, onto}
+use Rattle.sat_base.specs.text.Position.{Stage, Begun, stage_end, stage_behind, Position, Fresh, Leading, Comment, Between, Within, HeaderBetween, HeaderWithin, Spoilt, Over, IsPosition, left, in_hand, behind_LF, lines_behind, behind_header_word, behind_blank, ended_by_blank, onto}
 use Rattle.sat_base.specs.text.Tokenizing.{HoldsNoWord}
-use Rattle.sat_base.specs.dimacs.Dimacs.{Hand, Turn, GoesOn, Ends, Fails, Dimacs, turn, behind_turn, clauses_of, dimacs, has_blank, settled}
-use Rattle.sat_base.proofs.lemmas.text.Spots.{Solid-more, start, LF_left, fresh_leads, blank_left, leading_comment, leading_end, leading_header, leading_late_header, leading_word, comment_more, between_word, within_more, header_between_word, header_within_more, spoilt_more, over_more, end_left}
+use Rattle.sat_base.specs.dimacs.Dimacs.{Hand, Turn, GoesOn, Ends, Fails, Dimacs, turn, behind_turn, clauses_of, dimacs, has_blank, up_to_last_blank}
+use Rattle.sat_base.proofs.lemmas.text.Positions.{Solid-more, start, LF_left, fresh_leads, blank_left, leading_comment, leading_end, leading_header, leading_late_header, leading_word, comment_more, between_word, within_more, header_between_word, header_within_more, spoilt_more, over_more, end_left}
 use Rattle.sat_base.proofs.lemmas.text.TextRuns.{QuietTokens, of_header}
 use Rattle.sat_base.proofs.lemmas.dimacs.Collected.{clauses_of_cons, dimacs_is, quiet_clauses}
 use Rattle.sat_checker.specs.DimacsView.{AreFirst, AreRead}
@@ -16,22 +16,22 @@ use Rattle.sat_checker.proofs.lemmas.checker.Texts.{no_clauses}
 -- SPOTS
 
 -- what one byte gives, and where it leads
-record Stepped (spot : Spot) (n b : ℕ) : Type 0 where
+record Stepped (spot : Position) (n b : ℕ) : Type 0 where
   gives : List (ℕ × Token)
-  next : Spot
+  next : Position
   lines : ℕ
-  good : IsSpot next
+  good : IsPosition next
   leaves : (rest : List ℕ) → left spot n (b ∷ rest) ≡ onto gives (left next lines rest)
 
-LF_good : (spot : Spot) → IsSpot (behind_LF spot)
+LF_good : (spot : Position) → IsPosition (behind_LF spot)
 LF_good (Fresh may) = tt
 LF_good e = tt
 
-LF_quiet : (spot : Spot) (n : ℕ) → in_hand (behind_LF spot) n ≡ []
+LF_quiet : (spot : Position) (n : ℕ) → in_hand (behind_LF spot) n ≡ []
 LF_quiet (Fresh may) n = refl
 LF_quiet e n = refl
 
-header_good : (o : Option Stage) → IsSpot (behind_header_word o)
+header_good : (o : Option Stage) → IsPosition (behind_header_word o)
 header_good None = tt
 header_good (Some stage) = tt
 
@@ -39,21 +39,21 @@ header_quiet : (o : Option Stage) (n : ℕ) → QuietTokens (in_hand (behind_hea
 header_quiet None n = inl refl
 header_quiet (Some stage) n = inr (n + 1, stage_end stage, of_header stage, refl)
 
-blank_good : (spot : Spot) → IsSpot (behind_blank spot)
+blank_good : (spot : Position) → IsPosition (behind_blank spot)
 blank_good (HeaderWithin stage x w) = header_good (stage_behind stage (x ∷ w))
 blank_good e = tt
 
-blank_quiet : (spot : Spot) (n : ℕ) → QuietTokens (in_hand (behind_blank spot) n)
+blank_quiet : (spot : Position) (n : ℕ) → QuietTokens (in_hand (behind_blank spot) n)
 blank_quiet (HeaderBetween stage) n = inr (n + 1, stage_end stage, of_header stage, refl)
 blank_quiet (HeaderWithin stage x w) n = header_quiet (stage_behind stage (x ∷ w)) n
 blank_quiet e n = inl refl
 
 -- a blank ends the word in hand
-record Blanked (spot : Spot) (n b : ℕ) : Type 0 where
+record Blanked (spot : Position) (n b : ℕ) : Type 0 where
   step : Stepped spot n b
   quiet : QuietTokens (in_hand step.next step.lines)
 
-by_blank : (spot : Spot) (n b : ℕ) (is_LF : Bool) → nat_eq b 10 ≡ is_LF → is_blank b ≡ true → IsSpot spot → Blanked spot n b
+by_blank : (spot : Position) (n b : ℕ) (is_LF : Bool) → nat_eq b 10 ≡ is_LF → is_blank b ≡ true → IsPosition spot → Blanked spot n b
 by_blank spot n b true e f g =
     let ten : b ≡ 10 = grind (arith, nat_tests) in
     record {
@@ -78,7 +78,7 @@ by_blank spot n b false e f g = record {
 }
 
 -- nothing is given inside a line
-leads : (spot next : Spot) (n b : ℕ) → IsSpot next → ((rest : List ℕ) → left spot n (b ∷ rest) ≡ left next n rest) → Stepped spot n b
+leads : (spot next : Position) (n b : ℕ) → IsPosition next → ((rest : List ℕ) → left spot n (b ∷ rest) ≡ left next n rest) → Stepped spot n b
 leads spot next n b good h = record { gives = []; next = next; lines = n; good = good; leaves = h }
 
 same_byte : (b c : ℕ) → nat_eq b c ≡ true → b ≡ c
@@ -99,7 +99,7 @@ at_line may n b false false false p c h e f = leads (Leading may) (Within b []) 
 freshly : (may : Bool) (n b : ℕ) → nat_eq b 10 ≡ false → Stepped (Leading may) n b → Stepped (Fresh may) n b
 freshly may n b e s = record { gives = s.gives; next = s.next; lines = s.lines; good = s.good; leaves = λ rest. fresh_leads may n b rest e ∙ s.leaves rest }
 
-by_byte : (spot : Spot) (n b : ℕ) → nat_eq b 10 ≡ false → is_blank b ≡ false → IsSpot spot → Stepped spot n b
+by_byte : (spot : Position) (n b : ℕ) → nat_eq b 10 ≡ false → is_blank b ≡ false → IsPosition spot → Stepped spot n b
 by_byte (Fresh may) n b e f g = freshly may n b e (at_line may n b (nat_eq b 37) (nat_eq b 99) (nat_eq b 112) refl refl refl e f)
 by_byte (Leading may) n b e f g = at_line may n b (nat_eq b 37) (nat_eq b 99) (nat_eq b 112) refl refl refl e f
 by_byte (Comment may) n b e f g = leads (Comment may) (Comment may) n b tt (λ rest. comment_more may n b rest e)
@@ -115,22 +115,22 @@ no_LF : (b : ℕ) (is_LF : Bool) → nat_eq b 10 ≡ is_LF → is_blank b ≡ fa
 no_LF b true e f = grind (arith, nat_tests)
 no_LF b false e f = e
 
-step_if : (spot : Spot) (n b : ℕ) (blank : Bool) → is_blank b ≡ blank → IsSpot spot → Stepped spot n b
+step_if : (spot : Position) (n b : ℕ) (blank : Bool) → is_blank b ≡ blank → IsPosition spot → Stepped spot n b
 step_if spot n b true e g = (by_blank spot n b (nat_eq b 10) refl e g).step
 step_if spot n b false e g = by_byte spot n b (no_LF b (nat_eq b 10) refl e) e g
 
 -- what bytes give, and where they lead
-record Reached (spot : Spot) (n : ℕ) (text : List ℕ) : Type 0 where
+record Reached (spot : Position) (n : ℕ) (text : List ℕ) : Type 0 where
   gives : List (ℕ × Token)
-  next : Spot
+  next : Position
   lines : ℕ
-  good : IsSpot next
+  good : IsPosition next
   leaves : (rest : List ℕ) → left spot n (text ++ rest) ≡ onto gives (left next lines rest)
 
 onto_both : (xs ys : List (ℕ × Token)) (s : Scan) → onto xs (onto ys s) ≡ onto (xs ++ ys) s
 onto_both xs ys s = ap (λ (ts : List (ℕ × Token)). record { tokens = ts; last = s.last }) (sym (append_assoc xs ys s.tokens))
 
-reach : (text : List ℕ) (spot : Spot) (n : ℕ) → IsSpot spot → Reached spot n text
+reach : (text : List ℕ) (spot : Position) (n : ℕ) → IsPosition spot → Reached spot n text
 reach [] spot n g = record { gives = []; next = spot; lines = n; good = g; leaves = λ rest. refl }
 reach (b ∷ bs) spot n g =
     let s = step_if spot n b (is_blank b) refl g in
@@ -150,7 +150,7 @@ record Rests (text : List ℕ) : Type 0 where
   scans : (rest : List ℕ) → scan (text ++ rest) ≡ onto gives (left_of rest)
   quiet : HoldsNoWord (left_of [])
 
-quiet_at : (spot : Spot) (n : ℕ) → IsSpot spot → QuietTokens (in_hand spot n) → HoldsNoWord (left spot n [])
+quiet_at : (spot : Position) (n : ℕ) → IsPosition spot → QuietTokens (in_hand spot n) → HoldsNoWord (left spot n [])
 quiet_at spot n g q = subst QuietTokens (sym (ap (λ (s : Scan). s.tokens) (end_left spot n g))) q
 
 rests : (front : List ℕ) (b : ℕ) → is_blank b ≡ true → Rests (front ++ b ∷ [])
@@ -216,7 +216,7 @@ behind_rest text rest r =
 
 -- UP TO THE LAST BLANK
 
-settled_none : (text : List ℕ) → has_blank text ≡ false → settled text ≡ []
+settled_none : (text : List ℕ) → has_blank text ≡ false → up_to_last_blank text ≡ []
 settled_none [] e = refl
 settled_none (b ∷ bs) e = rw e refl
 
@@ -225,7 +225,7 @@ record Cut (text : List ℕ) : Type 0 where
   front : List ℕ
   byte : ℕ
   blank : is_blank byte ≡ true
-  cut : settled text ≡ front ++ byte ∷ []
+  cut : up_to_last_blank text ≡ front ++ byte ∷ []
 
 or_left : (a b : Bool) → (a || b) ≡ true → b ≡ false → a ≡ true
 or_left true b e f = refl
@@ -243,25 +243,25 @@ cuts [] e = absurd cc
 cuts (b ∷ bs) e = cut_if b bs (has_blank bs) refl e (λ f. cuts bs f)
 
 -- it is a front
-unsettled_if : (b : ℕ) (bs : List ℕ) (blank : Bool) → has_blank (b ∷ bs) ≡ blank → (more : List ℕ) × (bs ≡ settled bs ++ more) → (more : List ℕ) × (b ∷ bs ≡ settled (b ∷ bs) ++ more)
+unsettled_if : (b : ℕ) (bs : List ℕ) (blank : Bool) → has_blank (b ∷ bs) ≡ blank → (more : List ℕ) × (bs ≡ up_to_last_blank bs ++ more) → (more : List ℕ) × (b ∷ bs ≡ up_to_last_blank (b ∷ bs) ++ more)
 unsettled_if b bs true e h = (h.0, rw e (ap (λ (ys : List ℕ). b ∷ ys) h.1))
 unsettled_if b bs false e h = (b ∷ bs, rw e refl)
 
-unsettled : (text : List ℕ) → (more : List ℕ) × (text ≡ settled text ++ more)
+unsettled : (text : List ℕ) → (more : List ℕ) × (text ≡ up_to_last_blank text ++ more)
 unsettled [] = ([], refl)
 unsettled (b ∷ bs) = unsettled_if b bs (has_blank (b ∷ bs)) refl (unsettled bs)
 
-first_if : (text rest : List ℕ) (blank : Bool) → has_blank text ≡ blank → AreFirst (dimacs (settled text)).clauses (settled text ++ rest)
+first_if : (text rest : List ℕ) (blank : Bool) → has_blank text ≡ blank → AreFirst (dimacs (up_to_last_blank text)).clauses (up_to_last_blank text ++ rest)
 first_if text rest true e =
     let c = cuts text e in
     subst (λ (s : List ℕ). AreFirst (dimacs s).clauses (s ++ rest)) (sym c.cut) (behind_rest (c.front ++ c.byte ∷ []) rest (rests c.front c.byte c.blank))
 first_if text rest false e = subst (λ (s : List ℕ). AreFirst (dimacs s).clauses (s ++ rest)) (sym (settled_none text e)) ((dimacs rest).clauses, ap (λ (cs : List (List ℕ)). cs ++ (dimacs rest).clauses) (sym no_clauses))
 
 -- the clauses of the words that have ended stay the first, however the text goes on
-pub settled_first : (text rest : List ℕ) → AreFirst (dimacs (settled text)).clauses (text ++ rest)
+pub settled_first : (text rest : List ℕ) → AreFirst (dimacs (up_to_last_blank text)).clauses (text ++ rest)
 settled_first text rest =
     let u = unsettled text in
-    subst (λ (s : List ℕ). AreFirst (dimacs (settled text)).clauses s) (sym (ap (λ (s : List ℕ). s ++ rest) u.1 ∙ append_assoc (settled text) u.0 rest)) (first_if text (u.0 ++ rest) (has_blank text) refl)
+    subst (λ (s : List ℕ). AreFirst (dimacs (up_to_last_blank text)).clauses s) (sym (ap (λ (s : List ℕ). s ++ rest) u.1 ∙ append_assoc (up_to_last_blank text) u.0 rest)) (first_if text (u.0 ++ rest) (has_blank text) refl)
 
 pub read_first : (text : List ℕ) (clauses : List (List ℕ)) → AreRead text clauses → AreFirst clauses text
 read_first text clauses (inl f) = subst (λ (s : List ℕ). AreFirst clauses s) (sym f.2) (subst (λ (cs : List (List ℕ)). AreFirst cs (f.0 ++ f.1)) (sym f.3) (settled_first f.0 f.1))

@@ -11,7 +11,7 @@ use Rattle.sat_base.specs.declared.steps.error.StepError.TheVariants as unread_b
 use Rattle.sat_base.specs.declared.steps.reader.StepReader.{StepReader}
 use Rattle.sat_base.specs.declared.steps.reader.Buffers.{Buffers}
 use Rattle.sat_base.specs.device.Device.{Reader, IsOver, ReadFails, most_reads, piece_size}
-use Rattle.sat_base.specs.device.Reading.{Source, PassesBut, Passes, Faults, AllTaken, AtEnd, giving, unread}
+use Rattle.sat_base.specs.device.Reading.{Source, ConsumesWithReads, ConsumesBytes, ConsumesAndFails, AllTaken, AtEnd, giving, unread}
 use Rattle.sat_base.specs.steps.Formats.{Format, Items, IsProperFront}
 use Rattle.sat_base.specs.steps.StepReading.{reader_source, AnswersUnlessFailed, Next}
 use Rattle.sat_base.specs.steps.StepReading as reading
@@ -20,14 +20,14 @@ use Rattle.sat_base.specs.steps.StepText.{tag_of, SpellsStep, SpellsSteps}
 use Rattle.sat_base.proofs.lemmas.device.ReadLemmas.{passes_none, passes_more, faults_later}
 use Rattle.sat_checker.specs.Accepts.{ready_after}
 use Rattle.sat_checker.specs.Looks.{most_looks}
-use Rattle.sat_checker.specs.CheckerView.{Seen, has_failed, looks_of, IsSettled, HasAccepted, FailsBeforeStep, AnswersStep}
+use Rattle.sat_checker.specs.CheckerView.{CheckerView, has_failed, looks_of, IsSettled, HasAccepted, FailsBeforeStep, AnswersStep}
 use Rattle.sat_checker.specs.inner.DimacsPieces.{with_flag}
 use Rattle.sat_checker.specs.ProofView.{taken_after, most_bytes, most_looks_behind, GaveSteps, ReadsProofPart, StandsUnfailed, FoundNoEnd, AnswersProof}
-use Rattle.sat_checker.specs.inner.ProofSteps.{CountsReads, CheckerAtSource, at_source, TriesStep, StepsOn, TakesStepsBeforeEnd, error_of, is_final, bytes_left}
-use Rattle.sat_checker.specs.announcements.Announcements.{Told}
+use Rattle.sat_checker.specs.inner.ProofSteps.{CountsReads, CheckerAtSource, at_source, TriesStep, StepsOn, TakesStepsBeforeEnd, read_error, is_final, bytes_left}
+use Rattle.sat_checker.specs.announcements.Announcements.{Notice}
 use Rattle.sat_checker.specs.declared.processing.ProcessingError.{ProcessingError}
-use Rattle.sat_checker.proofs.lemmas.telling.Heard.{heard_some}
-use Rattle.sat_checker.proofs.lemmas.telling.Settling.{none_pending, end_settled}
+use Rattle.sat_checker.proofs.lemmas.listeners.Heard.{heard_some}
+use Rattle.sat_checker.proofs.lemmas.listeners.Settling.{none_pending, end_settled}
 use Rattle.sat_checker.specs.declared.error.CheckerError.{CheckerError}
 use Rattle.sat_checker.specs.declared.error.CheckerError.TheVariants as errors
 
@@ -76,7 +76,7 @@ some_byte step text h = let e : length text ≡ length h.0 + 1 = ap length h.1 �
     more : (b : ℕ) (bs : List ℕ) → length (b ∷ bs) ≡ length bs + 1
     more b bs = omega arith
 
-pub step_takes : (s t : Source) (step : Step) (text : List ℕ) → Passes s t text → SpellsStep step text → t.reads ≤ most_reads → bytes_left t < bytes_left s
+pub step_takes : (s t : Source) (step : Step) (text : List ℕ) → ConsumesBytes s t text → SpellsStep step text → t.reads ≤ most_reads → bytes_left t < bytes_left s
 step_takes s t step text p h k = less_left most_reads s.reads t.reads (length s.waiting) (length t.waiting) (length text) (length p.fresh) p.room (flowed s.waiting p.fresh text t.waiting p.flows) (some_byte step text h) k
 
 pub none_read : (s : Source) → s ≡ unread s.reader → s.reads ≤ most_reads
@@ -105,9 +105,9 @@ calls_of (Err unread_by.OutOfMemory) s t a = a.2.calls
 calls_of (Err unread_by.HasFailed) s t a = rw a (omega arith)
 
 -- where memory ran out as a step was read, no read since found the end
-pub starved_going : (e : StepError) (s t : Source) → error_of e ≡ errors.OutOfMemory → AnswersUnlessFailed (Err e) s t → AtEnd t → AtEnd s
+pub starved_going : (e : StepError) (s t : Source) → read_error e ≡ errors.OutOfMemory → AnswersUnlessFailed (Err e) s t → AtEnd t → AtEnd s
 starved_going unread_by.OutOfMemory s t h a = a.2.going refl
-starved_going e s t h a = let k : error_of e ≡ errors.OutOfMemory = h in absurd cc
+starved_going e s t h a = let k : read_error e ≡ errors.OutOfMemory = h in absurd cc
 
 -- the answer of a `?` is that of the call
 pub same_error : {A B : Type 0} (r : Result A CheckerError) (y e x : CheckerError) → r ≡ Err y → y ≡ e → r ≡ Err x → ◌≡◌ {A = Result B CheckerError} (Err e) (Err x)
@@ -133,10 +133,10 @@ none_found s t e c n = λ h k. n (let z : s.reads ≡ 0 = ap (λ (x : Source). x
 
 -- WHAT WAS READ, AS A READER SEES IT
 
-told_front : (a b : Option (List ℕ)) (ws text : List ℕ) → Consumes (prepend_known [] a) (prepend_known ws b) text → Consumes a b (text ++ ws)
-told_front None b ws text h = tt
-told_front (Some x) None ws text h = absurd h
-told_front (Some x) (Some y) ws text h = h ∙ sym (append_assoc text ws y)
+reported_front : (a b : Option (List ℕ)) (ws text : List ℕ) → Consumes (prepend_known [] a) (prepend_known ws b) text → Consumes a b (text ++ ws)
+reported_front None b ws text h = tt
+reported_front (Some x) None ws text h = absurd h
+reported_front (Some x) (Some y) ws text h = h ∙ sym (append_assoc text ws y)
 
 few_of : (n rc tc tr m : ℕ) (rg tg fresh : List ℕ) → n ≤ 1 → tc + 0 ≡ rc + tr → tr ≤ 0 + length fresh + n → tg ≡ rg ++ fresh → tc + length rg ≤ rc + length tg + 1
 few_of n rc tc tr m rg tg fresh h e k g = let l : length tg ≡ length rg + length fresh = ap length g ∙ length-append rg fresh in omega arith
@@ -147,7 +147,7 @@ few_calls rc tc tr m e h = omega arith
 few_bytes : (r : ℕ) (fresh bytes : List ℕ) → length fresh + piece_size * 0 ≤ piece_size * r → r ≤ most_reads → fresh ≡ bytes → length bytes ≤ most_bytes
 few_bytes r fresh bytes h k e = let l : length fresh ≡ length bytes = ap length e in omega arith
 
-gave_steps : (n : ℕ) (r : Reader) (t : Source) (steps : List Step) (text more : List ℕ) → n ≤ 1 → t.reads ≤ most_reads → PassesBut n (unread r) t (text ++ more) → SpellsSteps steps text → GaveSteps r t.reader steps (more ++ t.waiting)
+gave_steps : (n : ℕ) (r : Reader) (t : Source) (steps : List Step) (text more : List ℕ) → n ≤ 1 → t.reads ≤ most_reads → ConsumesWithReads n (unread r) t (text ++ more) → SpellsSteps steps text → GaveSteps r t.reader steps (more ++ t.waiting)
 gave_steps n r t steps text more h b p spelt =
     let fresh : p.fresh ≡ text ++ (more ++ t.waiting) = p.flows ∙ append_assoc text more t.waiting in
     record {
@@ -155,7 +155,7 @@ gave_steps n r t steps text more h b p spelt =
       spelt = spelt;
       front = record {
         gave = p.gave ∙ ap (λ (z : List ℕ). r.given ++ z) fresh;
-        told = subst (Consumes r.to_come t.reader.to_come) (append_assoc text more t.waiting) (told_front r.to_come t.reader.to_come t.waiting (text ++ more) p.bytes);
+        told = subst (Consumes r.to_come t.reader.to_come) (append_assoc text more t.waiting) (reported_front r.to_come t.reader.to_come t.waiting (text ++ more) p.bytes);
         loans = p.loans;
       };
       few = few_of n r.calls t.reader.calls t.reads 0 r.given t.reader.given p.fresh h p.calls p.few p.gave;
@@ -163,13 +163,13 @@ gave_steps n r t steps text more h b p spelt =
       bytes = few_bytes t.reads p.fresh (text ++ (more ++ t.waiting)) p.room b fresh;
     }
 
-faulted_steps : (r : Reader) (t : Source) (steps : List Step) (text more : List ℕ) → t.reads ≤ most_reads → Faults (unread r) t (text ++ more) → SpellsSteps steps text → GaveSteps r t.reader steps more
+faulted_steps : (r : Reader) (t : Source) (steps : List Step) (text more : List ℕ) → t.reads ≤ most_reads → ConsumesAndFails (unread r) t (text ++ more) → SpellsSteps steps text → GaveSteps r t.reader steps more
 faulted_steps r t steps text more b p spelt = record {
   text = text;
   spelt = spelt;
   front = record {
     gave = p.gave ∙ ap (λ (z : List ℕ). r.given ++ z) p.flows;
-    told = subst (Consumes r.to_come t.reader.to_come) (append-nil (text ++ more)) (told_front r.to_come t.reader.to_come [] (text ++ more) (subst (λ (z : List ℕ). Consumes (prepend_known [] r.to_come) (prepend_known z t.reader.to_come) (text ++ more)) p.none p.bytes));
+    told = subst (Consumes r.to_come t.reader.to_come) (append-nil (text ++ more)) (reported_front r.to_come t.reader.to_come [] (text ++ more) (subst (λ (z : List ℕ). Consumes (prepend_known [] r.to_come) (prepend_known z t.reader.to_come) (text ++ more)) p.none p.bytes));
     loans = p.loans;
   };
   few = few_of 1 r.calls t.reader.calls t.reads 0 r.given t.reader.given p.fresh (omega arith) p.calls p.few p.gave;
@@ -180,7 +180,7 @@ faulted_steps r t steps text more b p spelt = record {
 read_out : (rc tc tr m : ℕ) → tc + 0 ≡ rc + tr → m ≤ tr → tr ≤ m → tc ≡ rc + m
 read_out rc tc tr m e h k = omega arith
 
-read_fails : (r : Reader) (t : Source) (text : List ℕ) → t.reads ≤ most_reads → Faults (unread r) t text → ReadFails r t.reader
+read_fails : (r : Reader) (t : Source) (text : List ℕ) → t.reads ≤ most_reads → ConsumesAndFails (unread r) t text → ReadFails r t.reader
 read_fails r t text b p = (
   elim p.cause [ inl h ↦ inl (h.0, h.1) | inr h ↦ inr (h.0, read_out r.calls t.reader.calls t.reads most_reads p.calls h.1 b) ],
   few_of 1 r.calls t.reader.calls t.reads 0 r.given t.reader.given p.fresh (omega arith) p.calls p.few p.gave,
@@ -202,12 +202,12 @@ none_waits : (known : Option (List ℕ)) (ws : List ℕ) → ws ≡ [] → IsAtE
 none_waits None ws e h = tt
 none_waits (Some xs) ws e h = sym (ap (λ (z : List ℕ). z ++ xs) e) ∙ h
 
-module _ {L : Type 0} (Hears : L → Told → Result Unit ProcessingError → L → Type 0) (before : List Told) (begun : L) where
+module _ {L : Type 0} (Hears : L → Notice → Result Unit ProcessingError → L → Type 0) (before : List Notice) (begun : L) where
   -- the checker with its flag as it was
-  unfailed : (c : Seen L) (steps : List Step) → has_failed c ≡ false → HasAccepted Hears before begun c steps → StandsUnfailed Hears before begun (with_flag false c) steps
+  unfailed : (c : CheckerView L) (steps : List Step) → has_failed c ≡ false → HasAccepted Hears before begun c steps → StandsUnfailed Hears before begun (with_flag false c) steps
   unfailed c steps h s = (record { kernel = record { accepted = s.kernel.accepted; records = s.kernel.records; kept = λ e. s.kernel.kept h }; heard = λ e. s.heard h }, refl)
 
-  pub failed_now : (c : Seen L) (steps : List Step) → has_failed c ≡ false → HasAccepted Hears before begun c steps → FailsBeforeStep Hears before begun (with_flag true c) steps
+  pub failed_now : (c : CheckerView L) (steps : List Step) → has_failed c ≡ false → HasAccepted Hears before begun c steps → FailsBeforeStep Hears before begun (with_flag true c) steps
   failed_now c steps h s = record {
     fails = record {
       stands = record { kernel = record { accepted = s.kernel.accepted; records = s.kernel.records; kept = λ e. absurd (true≢false e) }; heard = λ e. absurd (true≢false e) };
@@ -216,9 +216,9 @@ module _ {L : Type 0} (Hears : L → Told → Result Unit ProcessingError → L 
     heard = heard_some Hears c.kernel.state.formula.status.conflict steps before begun c.listeners (s.heard h);
   }
 
-  pub unread_answer : {R : Type 0} (seen : R → Reader) (c : Seen L) (s t : StepReader R Buffers) (e : StepError) (step : Step) (earlier : List Step)
+  pub unread_answer : {R : Type 0} (seen : R → Reader) (c : CheckerView L) (s t : StepReader R Buffers) (e : StepError) (step : Step) (earlier : List Step)
       → has_failed c ≡ false → reading.has_reader_failed s ≡ false → Next seen s t (giving step (Err e)) → HasAccepted Hears before begun c earlier
-      → StepsOn Hears before begun (Err (error_of e)) (at_source c (reader_source seen s)) (at_source (with_flag (is_final e) c) (reader_source seen t)) earlier
+      → StepsOn Hears before begun (Err (read_error e)) (at_source c (reader_source seen s)) (at_source (with_flag (is_final e) c) (reader_source seen t)) earlier
   unread_answer seen c s t unread_by.Ends step earlier h k n stands = ([], n.answer, live_none, record { goes_on = unfailed c earlier h stands; looks = refl })
   unread_answer seen c s t unread_by.Cut step earlier h k n stands = let a = n.answer in (a.0 ∷ a.1, a.2, a.3, record { goes_on = unfailed c earlier h stands; looks = refl })
   unread_answer seen c s t unread_by.BadByte step earlier h k n stands = let a = n.answer in (a.0, a.1, a.2, a.3, a.4, record { goes_on = unfailed c earlier h stands; looks = refl })
@@ -247,11 +247,11 @@ module _ {L : Type 0} (Hears : L → Told → Result Unit ProcessingError → L 
   went_tried : (a b c : CheckerAtSource L) (earlier xs : List Step) (x : Step) → a.source ≡ unread a.source.reader → has_failed a.checker ≡ false → c.source.reads ≤ most_reads
       → TakesStepsBeforeEnd Hears before begun a b earlier xs → TriesStep b c (taken_after xs earlier) x → ReadsProofPart a.checker c.checker a.source.reader c.source.reader earlier xs (x ∷ []) ([] ++ c.source.waiting)
   went_tried a b c earlier xs x e h k p t =
-      let both : Passes a.source c.source (p.text ++ t.text) = passes_more a.source b.source c.source p.text t.text p.passes t.passes in
+      let both : ConsumesBytes a.source c.source (p.text ++ t.text) = passes_more a.source b.source c.source p.text t.text p.passes t.passes in
       record {
         well = h;
         steps = gave_steps 0 a.source.reader c.source (xs ++ x ∷ []) (p.text ++ t.text) [] (omega arith) k
-            (subst (PassesBut 0 (unread a.source.reader) c.source) (sym (append-nil (p.text ++ t.text))) (from_start (λ s. Passes s c.source (p.text ++ t.text)) a.source e both))
+            (subst (ConsumesWithReads 0 (unread a.source.reader) c.source) (sym (append-nil (p.text ++ t.text))) (from_start (λ s. ConsumesBytes s c.source (p.text ++ t.text)) a.source e both))
             (items_one SpellsStep xs x p.text t.text p.spelt t.spelt);
         unended = p.unended;
         looks = tried_looks a b c earlier xs x p t;
@@ -259,29 +259,29 @@ module _ {L : Type 0} (Hears : L → Told → Result Unit ProcessingError → L 
 
   -- and then bytes of which no step was read
   went_waiting : (n : ℕ) (a b c : CheckerAtSource L) (earlier xs : List Step) (more : List ℕ) → n ≤ 1 → a.source ≡ unread a.source.reader → has_failed a.checker ≡ false → c.source.reads ≤ most_reads
-      → looks_of c.checker ≡ looks_of b.checker → TakesStepsBeforeEnd Hears before begun a b earlier xs → PassesBut n b.source c.source more → ReadsProofPart a.checker c.checker a.source.reader c.source.reader earlier xs [] (more ++ c.source.waiting)
+      → looks_of c.checker ≡ looks_of b.checker → TakesStepsBeforeEnd Hears before begun a b earlier xs → ConsumesWithReads n b.source c.source more → ReadsProofPart a.checker c.checker a.source.reader c.source.reader earlier xs [] (more ++ c.source.waiting)
   went_waiting n a b c earlier xs more m e h k l p w = record {
     well = h;
     steps = gave_steps n a.source.reader c.source (xs ++ []) p.text more m k
-        (from_start (λ s. PassesBut n s c.source (p.text ++ more)) a.source e (passes_more a.source b.source c.source p.text more p.passes w))
+        (from_start (λ s. ConsumesWithReads n s c.source (p.text ++ more)) a.source e (passes_more a.source b.source c.source p.text more p.passes w))
         (subst (λ (z : List Step). SpellsSteps z p.text) (sym (append-nil xs)) p.spelt);
     unended = p.unended;
     looks = looks_still (looks_of a.checker) (looks_of b.checker) (looks_of c.checker) _ _ p.looks l (none_behind xs earlier);
   }
 
   went_faulted : (a b c : CheckerAtSource L) (earlier xs : List Step) (more : List ℕ) → a.source ≡ unread a.source.reader → has_failed a.checker ≡ false → c.source.reads ≤ most_reads
-      → looks_of c.checker ≡ looks_of b.checker → TakesStepsBeforeEnd Hears before begun a b earlier xs → Faults b.source c.source more → ReadsProofPart a.checker c.checker a.source.reader c.source.reader earlier xs [] more
+      → looks_of c.checker ≡ looks_of b.checker → TakesStepsBeforeEnd Hears before begun a b earlier xs → ConsumesAndFails b.source c.source more → ReadsProofPart a.checker c.checker a.source.reader c.source.reader earlier xs [] more
   went_faulted a b c earlier xs more e h k l p w = record {
     well = h;
     steps = faulted_steps a.source.reader c.source (xs ++ []) p.text more k
-        (from_start (λ s. Faults s c.source (p.text ++ more)) a.source e (faults_later a.source b.source c.source p.text more p.passes w))
+        (from_start (λ s. ConsumesAndFails s c.source (p.text ++ more)) a.source e (faults_later a.source b.source c.source p.text more p.passes w))
         (subst (λ (z : List Step). SpellsSteps z p.text) (sym (append-nil xs)) p.spelt);
     unended = p.unended;
     looks = looks_still (looks_of a.checker) (looks_of b.checker) (looks_of c.checker) _ _ p.looks l (none_behind xs earlier);
   }
 
   -- no read failed
-  kept_by : (n : ℕ) (a b c : CheckerAtSource L) (earlier xs : List Step) (more : List ℕ) → TakesStepsBeforeEnd Hears before begun a b earlier xs → PassesBut n b.source c.source more → c.source.reader.failures ≡ a.source.reader.failures
+  kept_by : (n : ℕ) (a b c : CheckerAtSource L) (earlier xs : List Step) (more : List ℕ) → TakesStepsBeforeEnd Hears before begun a b earlier xs → ConsumesWithReads n b.source c.source more → c.source.reader.failures ≡ a.source.reader.failures
   kept_by n a b c earlier xs more p w = w.failures ∙ p.passes.failures
 
   -- an error behind steps that were taken
@@ -331,14 +331,14 @@ module _ {L : Type 0} (Hears : L → Told → Result Unit ProcessingError → L 
     xs,
     s.0,
     went_faulted a b c earlier xs s.0 e h k s.3.looks p s.1,
-    read_fails a.source.reader c.source (p.text ++ s.0) k (from_start (λ z. Faults z c.source (p.text ++ s.0)) a.source e (faults_later a.source b.source c.source p.text s.0 p.passes s.1)),
+    read_fails a.source.reader c.source (p.text ++ s.0) k (from_start (λ z. ConsumesAndFails z c.source (p.text ++ s.0)) a.source e (faults_later a.source b.source c.source p.text s.0 p.passes s.1)),
     s.2,
     s.3.goes_on,
   )
   stops a b c errors.HasFailed earlier xs e h k p s = absurd s
 
   -- behind an end nothing is pending
-  settled_end : (steps : List Step) (c : Seen L) → has_failed c ≡ false → HasAccepted Hears before begun c (End ∷ steps) → IsSettled c
+  settled_end : (steps : List Step) (c : CheckerView L) → has_failed c ≡ false → HasAccepted Hears before begun c (End ∷ steps) → IsSettled c
   settled_end steps c h s = let k = s.kernel.kept h in none_pending c.kernel (End ∷ steps) k (end_settled steps)
 
   -- the end behind steps that were taken

@@ -4,7 +4,7 @@ use Rattle.std.proofs.lemmas.Bool.{true≢false}
 use Rattle.std.proofs.lemmas.List.{append-nil, map-append}
 use Rattle.sat_base.specs.device.Device.{Reader, GaveAll, GaveEnough, GaveFront, ReadFails}
 use Rattle.sat_base.specs.text.Text.{scan, tokens_of, lines}
-use Rattle.sat_base.specs.dimacs.Dimacs.{Dimacs, Ending, Clean, Malformed, Limit, clauses_of, dimacs, settled, IsDimacs}
+use Rattle.sat_base.specs.dimacs.Dimacs.{Dimacs, Ending, Clean, Malformed, Limit, clauses_of, dimacs, up_to_last_blank, IsDimacs}
 use Rattle.sat_base.specs.dimacs.Parsing.{Progress, no_progress, with_fed, cut_short, at_its_end, clauses_read, all_taken, EndsAtFault, FallsShort, FeedsPiece, Finishes, IsSoundSoFar, IsSoundText}
 use Rattle.sat_base.specs.declared.dimacs.error.DimacsError.{DimacsError}
 use Rattle.sat_base.specs.declared.dimacs.error.DimacsError.TheVariants as texts
@@ -12,12 +12,12 @@ use Rattle.sat_base.proofs.lemmas.device.Given.{enough_all, enough_front}
 use Rattle.sat_base.proofs.lemmas.dimacs.Parsed.{HasAccepted as HasFed, stops_on, ends_by}
 use Rattle.sat_base.specs.steps.Steps.{Step, AddClause}
 use Rattle.sat_checker.specs.Accepts.{Accepts, stored_after, ready_after}
-use Rattle.sat_checker.specs.CheckerView.{Seen, has_failed, looks_of, HasAccepted, FailsBeforeStep, BreaksAt, StarvesAt}
-use Rattle.sat_checker.specs.announcements.Announcements.{Told}
+use Rattle.sat_checker.specs.CheckerView.{CheckerView, has_failed, looks_of, HasAccepted, FailsBeforeStep, BreaksAt, StarvesAt}
+use Rattle.sat_checker.specs.announcements.Announcements.{Notice}
 use Rattle.sat_checker.specs.ProofView.{taken_after, most_looks_behind, NoReadFailed, StandsUnfailed}
 use Rattle.sat_checker.specs.ClausesView.{additions, AddsFirstClauses, after_additions, AnswersClauses}
 use Rattle.sat_checker.specs.DimacsView.{AreOfFront, AreRead, FailsBehind, StandsBehind, AnswersDimacs, AddsDimacs}
-use Rattle.sat_checker.specs.inner.DimacsPieces.{is_want, with_flag, AddsRead}
+use Rattle.sat_checker.specs.inner.DimacsPieces.{is_out_of_memory, with_flag, AddsRead}
 use Rattle.sat_checker.specs.Spent.{SpentBy}
 use Rattle.sat_checker.specs.declared.processing.ProcessingError.{ProcessingError}
 use Rattle.sat_checker.specs.declared.processing.ProcessingError.TheVariants as faults
@@ -67,7 +67,7 @@ fed_of : (text : List ℕ) (p : Progress) → HasFed text p → p.fed ≡ text
 fed_of text p is = ap (λ (z : Progress). z.fed) is
 
 -- the clauses read of a text that goes on, and of one that is over
-pub open_read : (text piece : List ℕ) (p q : Progress) → HasFed text p → q ≡ with_fed piece p → clauses_read q ≡ (dimacs (settled (text ++ piece))).clauses
+pub open_read : (text piece : List ℕ) (p q : Progress) → HasFed text p → q ≡ with_fed piece p → clauses_read q ≡ (dimacs (up_to_last_blank (text ++ piece))).clauses
 open_read text piece p q is f = ap clauses_read (f ∙ ap (with_fed piece) is)
 
 over_read : (text : List ℕ) (p q : Progress) → HasFed text p → q ≡ at_its_end p → clauses_read q ≡ (dimacs text).clauses
@@ -152,8 +152,8 @@ taken_by_end e p q f = ap (λ (z : Progress). z.taken) f.1
 pub sound_after : (answer : Result Unit DimacsError) (q r : Progress) → answer ≡ Ok tt → OnOk answer (IsSoundSoFar q) → r ≡ all_taken q → IsSoundSoFar r
 sound_after answer q r e s t = subst IsSoundSoFar (sym t) (subst (λ (z : Result Unit DimacsError). OnOk z (IsSoundSoFar q)) e s)
 
-module _ {L : Type 0} (Hears : L → Told → Result Unit ProcessingError → L → Type 0) (before : List Told) (begun : L) where
-  adds_joined : (a b d : Seen L) (cs ds added tried : List (List ℕ)) (earlier : List Step) → AddsFirstClauses a b cs cs [] earlier → AddsFirstClauses b d ds added tried (after_additions cs earlier) → AddsFirstClauses a d (cs ++ ds) (cs ++ added) tried earlier
+module _ {L : Type 0} (Hears : L → Notice → Result Unit ProcessingError → L → Type 0) (before : List Notice) (begun : L) where
+  adds_joined : (a b d : CheckerView L) (cs ds added tried : List (List ℕ)) (earlier : List Step) → AddsFirstClauses a b cs cs [] earlier → AddsFirstClauses b d ds added tried (after_additions cs earlier) → AddsFirstClauses a d (cs ++ ds) (cs ++ added) tried earlier
   adds_joined a b d cs ds added tried earlier p q = record {
     well = p.well;
     left = q.left;
@@ -162,7 +162,7 @@ module _ {L : Type 0} (Hears : L → Told → Result Unit ProcessingError → L 
         (ap (λ (z : List (List ℕ)). most_looks_behind (additions z) earlier) (append_assoc cs added tried) ∙ cost_joined cs (added ++ tried) earlier);
   }
 
-  joined : (r : Result Unit CheckerError) (a b d : Seen L) (cs ds : List (List ℕ)) (earlier : List Step) → AnswersClauses Hears before begun (Ok tt) a b cs earlier → AnswersClauses Hears before begun r b d ds (after_additions cs earlier) → AnswersClauses Hears before begun r a d (cs ++ ds) earlier
+  joined : (r : Result Unit CheckerError) (a b d : CheckerView L) (cs ds : List (List ℕ)) (earlier : List Step) → AnswersClauses Hears before begun (Ok tt) a b cs earlier → AnswersClauses Hears before begun r b d ds (after_additions cs earlier) → AnswersClauses Hears before begun r a d (cs ++ ds) earlier
   joined (Ok x) a b d cs ds earlier p q = (adds_joined a b d cs ds ds [] earlier p.0 q.0, subst (StandsUnfailed Hears before begun d) (sym (behind_joined cs ds earlier)) q.1)
   joined (Err errors.CheckFailed) a b d cs ds earlier p q = (
     cs ++ q.0,
@@ -193,32 +193,32 @@ module _ {L : Type 0} (Hears : L → Told → Result Unit ProcessingError → L 
   joined (Err errors.HasFailed) a b d cs ds earlier p q = absurd (true≢false (sym q.0 ∙ p.1.1))
   joined (Err e) a b d cs ds earlier p q = absurd q
 
-  pub none_added : (c : Seen L) (earlier : List Step) → has_failed c ≡ false → HasAccepted Hears before begun c earlier → AnswersClauses Hears before begun (Ok tt) c c [] earlier
+  pub none_added : (c : CheckerView L) (earlier : List Step) → has_failed c ≡ false → HasAccepted Hears before begun c earlier → AnswersClauses Hears before begun (Ok tt) c c [] earlier
   none_added c earlier h s = (record { well = h; left = []; split = refl; looks = none_more (looks_of c) }, (s, h))
 
-  unflagged : (mid : Seen L) (steps : List Step) → StandsUnfailed Hears before begun mid steps → StandsUnfailed Hears before begun (with_flag false mid) steps
+  unflagged : (mid : CheckerView L) (steps : List Step) → StandsUnfailed Hears before begun mid steps → StandsUnfailed Hears before begun (with_flag false mid) steps
   unflagged mid steps g = (record { kernel = record { accepted = g.0.kernel.accepted; records = g.0.kernel.records; kept = λ h. g.0.kernel.kept g.1 }; heard = λ h. g.0.heard g.1 }, refl)
 
-  set_failed : (e : DimacsError) (mid : Seen L) (steps : List Step) → StandsUnfailed Hears before begun mid steps → StandsBehind Hears before begun e (with_flag (is_want e) mid) steps
+  set_failed : (e : DimacsError) (mid : CheckerView L) (steps : List Step) → StandsUnfailed Hears before begun mid steps → StandsBehind Hears before begun e (with_flag (is_out_of_memory e) mid) steps
   set_failed texts.OutOfMemory mid steps g = failed_now Hears before begun mid steps g.1 g.0
   set_failed e mid steps g = unflagged mid steps g
 
   -- those that were read before were added, and these are tried
-  module _ (old cur new : Seen L) (q : Progress) (earlier : List Step) (clauses : List (List ℕ)) (first : AnswersClauses Hears before begun (Ok tt) old cur q.taken earlier) (split : clauses_read q ≡ q.taken ++ clauses) where
-    pub behind_first : (r : Result Unit CheckerError) (last : Seen L) → ((steps : List Step) → HasAccepted Hears before begun cur steps → AnswersClauses Hears before begun r cur last clauses steps) → AnswersClauses Hears before begun r old last (clauses_read q) earlier
+  module _ (old cur new : CheckerView L) (q : Progress) (earlier : List Step) (clauses : List (List ℕ)) (first : AnswersClauses Hears before begun (Ok tt) old cur q.taken earlier) (split : clauses_read q ≡ q.taken ++ clauses) where
+    pub behind_first : (r : Result Unit CheckerError) (last : CheckerView L) → ((steps : List Step) → HasAccepted Hears before begun cur steps → AnswersClauses Hears before begun r cur last clauses steps) → AnswersClauses Hears before begun r old last (clauses_read q) earlier
     behind_first r last a = subst (λ (z : List (List ℕ)). AnswersClauses Hears before begun r old last z earlier) (sym split) (joined r old cur last q.taken clauses earlier first (a (after_additions q.taken earlier) first.1.0))
 
-  pub answers_dimacs : (result : Result Unit CheckerDimacsError) (answer : Result Unit DimacsError) (old cur new : Seen L) (from to : Reader) (q : Progress) (earlier : List Step) → NoReadFailed from to
+  pub answers_dimacs : (result : Result Unit CheckerDimacsError) (answer : Result Unit DimacsError) (old cur new : CheckerView L) (from to : Reader) (q : Progress) (earlier : List Step) → NoReadFailed from to
       → AnswersClauses Hears before begun (Ok tt) old cur q.taken earlier → (result ≡ Ok tt → answer ≡ Ok tt → GaveEnough from to (λ text. IsDimacs text (clauses_read q) Clean))
       → ((e : DimacsError) → answer ≡ Err e → FailsBehind e from to (clauses_read q)) → GaveEnough from to (λ text. AreRead text (clauses_read q)) → AddsRead Hears result answer q cur new → AnswersDimacs Hears before begun result old new from to earlier
   answers_dimacs (Ok x) answer old cur new from to q earlier n first clean fails read a = (n, clauses_read q, clean refl a.2.0, behind_first old cur new q earlier a.0 first a.1 (Ok tt) new (a.2.1 before begun))
   answers_dimacs (Err (refused.Dimacs e)) answer old cur new from to q earlier n first clean fails read a =
-      let mid : Seen L = a.2.1 in
+      let mid : CheckerView L = a.2.1 in
       let all = behind_first old cur new q earlier a.0 first a.1 (Ok tt) mid (a.2.2 before begun) in (
         clauses_read q,
         fails e a.2.0,
-        subst (λ (z : Seen L). AddsFirstClauses old z (clauses_read q) (clauses_read q) [] earlier) (sym a.2.3) (record { well = all.0.well; left = all.0.left; split = all.0.split; looks = all.0.looks }),
-        subst (λ (z : Seen L). StandsBehind Hears before begun e z (after_additions (clauses_read q) earlier)) (sym a.2.3) (set_failed e mid (after_additions (clauses_read q) earlier) all.1),
+        subst (λ (z : CheckerView L). AddsFirstClauses old z (clauses_read q) (clauses_read q) [] earlier) (sym a.2.3) (record { well = all.0.well; left = all.0.left; split = all.0.split; looks = all.0.looks }),
+        subst (λ (z : CheckerView L). StandsBehind Hears before begun e z (after_additions (clauses_read q) earlier)) (sym a.2.3) (set_failed e mid (after_additions (clauses_read q) earlier) all.1),
       )
   answers_dimacs (Err (refused.Checker errors.HasFailed)) answer old cur new from to q earlier n first clean fails read a = absurd (true≢false (sym (a.2 before begun (after_additions q.taken earlier) first.1.0).0 ∙ first.1.1))
   answers_dimacs (Err (refused.Checker errors.CheckFailed)) answer old cur new from to q earlier n first clean fails read a = (n, clauses_read q, read, behind_first old cur new q earlier a.0 first a.1 (Err errors.CheckFailed) new (a.2 before begun))
@@ -227,20 +227,20 @@ module _ {L : Type 0} (Hears : L → Told → Result Unit ProcessingError → L 
   answers_dimacs (Err (refused.Checker (errors.ProofProcessorError cause))) answer old cur new from to q earlier n first clean fails read a = (n, clauses_read q, read, behind_first old cur new q earlier a.0 first a.1 (Err (errors.ProofProcessorError cause)) new (a.2 before begun))
   answers_dimacs (Err x) answer old cur new from to q earlier n first clean fails read a = absurd (a.2 before begun (after_additions q.taken earlier) first.1.0)
 
-module _ {L : Type 0} (Hears : L → Told → Result Unit ProcessingError → L → Type 0) where
+module _ {L : Type 0} (Hears : L → Notice → Result Unit ProcessingError → L → Type 0) where
   -- the clauses of what was given before were added
-  abbrev pub AddedBefore : Seen L → Seen L → Progress → Type 0
-  AddedBefore old cur p = (before : List Told) (begun : L) (earlier : List Step) → HasAccepted Hears before begun old earlier → AnswersClauses Hears before begun (Ok tt) old cur p.taken earlier
+  abbrev pub AddedBefore : CheckerView L → CheckerView L → Progress → Type 0
+  AddedBefore old cur p = (before : List Notice) (begun : L) (earlier : List Step) → HasAccepted Hears before begun old earlier → AnswersClauses Hears before begun (Ok tt) old cur p.taken earlier
 
-  pub start : (c : Seen L) (p : Progress) → has_failed c ≡ false → p ≡ no_progress → AddedBefore c c p
+  pub start : (c : CheckerView L) (p : Progress) → has_failed c ≡ false → p ≡ no_progress → AddedBefore c c p
   start c p h is = λ before begun earlier stands. subst (λ (z : List (List ℕ)). AnswersClauses Hears before begun (Ok tt) c c z earlier) (sym (ap (λ (z : Progress). z.taken) is)) (none_added Hears before begun c earlier h stands)
 
-  first_of : (old cur : Seen L) (p q : Progress) → AddedBefore old cur p → q.taken ≡ p.taken → (before : List Told) (begun : L) (earlier : List Step) → HasAccepted Hears before begun old earlier → AnswersClauses Hears before begun (Ok tt) old cur q.taken earlier
+  first_of : (old cur : CheckerView L) (p q : Progress) → AddedBefore old cur p → q.taken ≡ p.taken → (before : List Notice) (begun : L) (earlier : List Step) → HasAccepted Hears before begun old earlier → AnswersClauses Hears before begun (Ok tt) old cur q.taken earlier
   first_of old cur p q added e before begun earlier stands = subst (λ (z : List (List ℕ)). AnswersClauses Hears before begun (Ok tt) old cur z earlier) (sym e) (added before begun earlier stands)
 
   -- a piece without a fault
-  pub piece_added : (old cur new : Seen L) (text piece : List ℕ) (p q r : Progress) (answer : Result Unit DimacsError) → HasFed text p → FeedsPiece answer piece p q → r ≡ all_taken q → AddsRead Hears (Ok tt) answer q cur new → AddedBefore old cur p
-      → HasFed (text ++ piece) r × (r.taken ≡ (dimacs (settled (text ++ piece))).clauses) × AddedBefore old new r
+  pub piece_added : (old cur new : CheckerView L) (text piece : List ℕ) (p q r : Progress) (answer : Result Unit DimacsError) → HasFed text p → FeedsPiece answer piece p q → r ≡ all_taken q → AddsRead Hears (Ok tt) answer q cur new → AddedBefore old cur p
+      → HasFed (text ++ piece) r × (r.taken ≡ (dimacs (up_to_last_blank (text ++ piece))).clauses) × AddedBefore old new r
   piece_added old cur new text piece p q r answer is f t a added =
       let fed : q ≡ with_fed piece p = (subst (λ (z : Result Unit DimacsError). FeedsPiece z piece p q) a.2.0 f).1 in (
         fed_more text piece p q r is fed t,
@@ -250,7 +250,7 @@ module _ {L : Type 0} (Hears : L → Told → Result Unit ProcessingError → L 
       )
 
   -- one at which reading stops
-  pub piece_answers : (e : CheckerDimacsError) (answer : Result Unit DimacsError) (old cur new : Seen L) (from to : Reader) (text piece : List ℕ) (p q : Progress) → HasFed text p → FeedsPiece answer piece p q → NoReadFailed from to
+  pub piece_answers : (e : CheckerDimacsError) (answer : Result Unit DimacsError) (old cur new : CheckerView L) (from to : Reader) (text piece : List ℕ) (p q : Progress) → HasFed text p → FeedsPiece answer piece p q → NoReadFailed from to
       → GaveFront from to (text ++ piece) → to.ended ≡ false → to.calls ≤ from.calls + length (text ++ piece) + 1 → AddedBefore old cur p → AddsRead Hears (Err e) answer q cur new → AddsDimacs Hears (Err e) old new from to
   piece_answers e answer old cur new from to text piece p q is f n g o few added a = λ before begun earlier stands. answers_dimacs Hears before begun (Err e) answer old cur new from to q earlier n (first_of old cur p q added (taken_by_piece answer text piece p q is f) before begun earlier stands)
       (λ no. let k : ◌≡◌ {A = Result Unit CheckerDimacsError} (Err e) (Ok tt) = no in absurd cc)
@@ -259,7 +259,7 @@ module _ {L : Type 0} (Hears : L → Told → Result Unit ProcessingError → L 
       a
 
   -- the end of the text
-  pub end_answers : (result : Result Unit CheckerDimacsError) (answer : Result Unit DimacsError) (old cur new : Seen L) (from to : Reader) (text : List ℕ) (p q : Progress) → HasFed text p → Finishes answer p q → NoReadFailed from to
+  pub end_answers : (result : Result Unit CheckerDimacsError) (answer : Result Unit DimacsError) (old cur new : CheckerView L) (from to : Reader) (text : List ℕ) (p q : Progress) → HasFed text p → Finishes answer p q → NoReadFailed from to
       → GaveAll from to text → AddedBefore old cur p → AddsRead Hears result answer q cur new → AddsDimacs Hears result old new from to
   end_answers result answer old cur new from to text p q is f n g added a = λ before begun earlier stands. answers_dimacs Hears before begun result answer old cur new from to q earlier n (first_of old cur p q added (taken_by_end answer p q f) before begun earlier stands)
       (λ ok s. enough_all from to _ text g (clean_by_end text p q is (subst (λ (z : Result Unit DimacsError). Finishes z p q) s f)))
@@ -268,6 +268,6 @@ module _ {L : Type 0} (Hears : L → Told → Result Unit ProcessingError → L 
       a
 
   -- a read that failed
-  pub read_answers : (old cur : Seen L) (from to : Reader) (text : List ℕ) (p : Progress) → HasFed text p → ReadFails from to → GaveFront from to text → IsSoundSoFar p → p.taken ≡ (dimacs (settled text)).clauses → AddedBefore old cur p
+  pub read_answers : (old cur : CheckerView L) (from to : Reader) (text : List ℕ) (p : Progress) → HasFed text p → ReadFails from to → GaveFront from to text → IsSoundSoFar p → p.taken ≡ (dimacs (up_to_last_blank text)).clauses → AddedBefore old cur p
       → AddsDimacs Hears (Err (refused.Dimacs texts.Read)) old cur from to
   read_answers old cur from to text p is r g s t added = λ before begun earlier stands. let all = added before begun earlier stands in (p.taken, (r, text, g, subst IsSoundText (fed_of text p is) s, t), all.0, all.1)

@@ -4,8 +4,8 @@ use Rattle.sat_checker.specs.Stored.{Stored, StoredClause}
 use Rattle.sat_checker.specs.Storing.{clause_with, with_input, with_stored}
 use Rattle.sat_checker.specs.announcements.Announcements.{MakeIrredundant, derived_set, id_of, id_of_set, redundant_alone}
 use Rattle.sat_checker.specs.inner.FormulaView.{KeepsOrSpends}
-use Rattle.sat_checker.specs.inner.StoreView.{Stores, count_in, id_in}
-use Rattle.sat_checker.specs.telling.AnnouncingView.{stored_as, change_in, AreLong}
+use Rattle.sat_checker.specs.inner.StoreView.{StoreEffect, store_count_in, id_in}
+use Rattle.sat_checker.specs.listeners.AnnouncingView.{stored_as, change_in, AreLong}
 use Rattle.sat_checker.specs.declared.announce.announcing.Change.TheVariants as changes
 use Rattle.sat_checker.specs.declared.store.Placed.{Placed}
 use Rattle.sat_checker.specs.declared.store.Store.{Store}
@@ -19,7 +19,7 @@ old_change : (r : Bool) (p : Placed) → p.is_new ≡ false → change_in r p �
 old_change r p e = ap (λ b. cond b changes.New (cond r changes.Neither (cond (p.irredundant == 0) (changes.Irredundant p.id) changes.Neither))) e
 
 -- a clause of two literals or more, by how it was placed
-pub long_change : (store : Store) (f : Stored) (id : ℕ) (r : Bool) (ls ids : List ℕ) (p : Placed) → 2 ≤ length ls → Stores store f id r ls p.id p.is_new → count_in false (clause_with ls f.clauses) ≡ p.irredundant
+pub long_change : (store : Store) (f : Stored) (id : ℕ) (r : Bool) (ls ids : List ℕ) (p : Placed) → 2 ≤ length ls → StoreEffect store f id r ls p.id p.is_new → store_count_in false (clause_with ls f.clauses) ≡ p.irredundant
     → stored_as (change_in r p) f.next_id r ls ids ≡ derived_set r ls ids f (id_of_set ls f)
 long_change store f id r [] ids p l s n = absurd (omega arith)
 long_change store f id r (x ∷ []) ids p l s n = absurd (omega arith)
@@ -35,7 +35,7 @@ long_change store f id r (x ∷ y ∷ ls) ids p l s n = go (clause_with (x ∷ y
         ap (λ c. stored_as c f.next_id r (x ∷ y ∷ ls) ids) (new_change r p (s.new_is ∙ ap (λ o. not (is_some o)) e))
         ∙ sym (ap (λ o. derived_set r (x ∷ y ∷ ls) ids f (id_of o)) e)
     go (Some c) e =
-        let irredundant : p.irredundant ≡ c.irredundant = sym n ∙ ap (count_in false) e in
+        let irredundant : p.irredundant ≡ c.irredundant = sym n ∙ ap (store_count_in false) e in
         let same : p.id ≡ c.id = s.id_is ∙ ap (λ o. id_in o id) e in
         ap (λ d. stored_as d f.next_id r (x ∷ y ∷ ls) ids) (old_change r p (s.new_is ∙ ap (λ o. not (is_some o)) e))
         ∙ ap (λ (k : ℕ). stored_as (cond r changes.Neither (cond (k == 0) (changes.Irredundant p.id) changes.Neither)) f.next_id r (x ∷ y ∷ ls) ids) irredundant
@@ -44,8 +44,8 @@ long_change store f id r (x ∷ y ∷ ls) ids p l s n = go (clause_with (x ∷ y
         ∙ sym (ap (λ o. derived_set r (x ∷ y ∷ ls) ids f (id_of o)) e)
 
 -- a unit that is stored already
-pub neither_told : (r : Bool) (l : ℕ) (ids : List ℕ) (f : Stored) (id : ℕ) → AreLong f → [] ≡ derived_set r (l ∷ []) ids f (Some id)
-neither_told r l ids f id long = sym (ap (λ o. cond (not r && redundant_alone o) (MakeIrredundant id (l ∷ []) ∷ []) []) (long l) ∙ none r)
+pub neither_reported : (r : Bool) (l : ℕ) (ids : List ℕ) (f : Stored) (id : ℕ) → AreLong f → [] ≡ derived_set r (l ∷ []) ids f (Some id)
+neither_reported r l ids f id long = sym (ap (λ o. cond (not r && redundant_alone o) (MakeIrredundant id (l ∷ []) ∷ []) []) (long l) ∙ none r)
   where
     none : (r : Bool) → cond (not r && false) (MakeIrredundant id (l ∷ []) ∷ []) [] ≡ []
     none true = refl

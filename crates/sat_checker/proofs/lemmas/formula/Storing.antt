@@ -7,9 +7,9 @@ use Rattle.sat_checker.specs.LiteralSets.{is_among, same_literals, is_tautology,
 use Rattle.sat_checker.specs.Spent.{CountSpent, IsSpent}
 use Rattle.sat_checker.specs.Stored.{Stored, StoredClause, StoredUnit, Last, UnitClause, LongClause, is_unit}
 use Rattle.sat_checker.specs.Storing.{with_count, new_clause, with_stored_clause, clause_with, irredundant_count, redundant_count, unit_id, unit_at, long_at, with_unit, with_contradiction, with_new_unit, with_set, with_canonical, with_stored, with_input}
-use Rattle.sat_checker.specs.inner.Room.{HasRoomFor, RoomStays, with_room}
+use Rattle.sat_checker.specs.inner.AssumedRoom.{HasClauseRoom, RoomStays, with_room}
 use Rattle.sat_checker.specs.inner.SlotView.{slot_ids}
-use Rattle.sat_checker.specs.inner.StoreView.{KeepsClauses, Stores, PlacesIds, count_in, id_in}
+use Rattle.sat_checker.specs.inner.StoreView.{KeepsClauses, StoreEffect, PlacesIds, store_count_in, id_in}
 use Rattle.sat_checker.specs.inner.UnitView.{UnitsAndRoom}
 use Rattle.sat_checker.specs.inner.FormulaView.{RestOfStored, standing_of, standing_in, AreNumbered, KeepsFormula, KeepsOrSpends}
 use Rattle.sat_checker.specs.declared.store.Placed.{Placed}
@@ -92,18 +92,18 @@ long_there r n ls (c ∷ cs) otherwise = go r (same_literals c.literals ls) refl
     go r false e ih = ap (λ b. long_at (cond b (Some c) (clause_with ls (with_stored_clause r n ls cs))) otherwise) e ∙ ih
 
 -- one count more
-count_more : (r : Bool) (n : ℕ) (ls : List ℕ) (cs : List StoredClause) → count_in r (clause_with ls (with_stored_clause r n ls cs)) ≡ count_in r (clause_with ls cs) + 1
+count_more : (r : Bool) (n : ℕ) (ls : List ℕ) (cs : List StoredClause) → store_count_in r (clause_with ls (with_stored_clause r n ls cs)) ≡ store_count_in r (clause_with ls cs) + 1
 count_more true n ls [] = ap (λ b. redundant_count (cond b (Some (new_clause true n ls)) None)) (itself ls)
 count_more false n ls [] = ap (λ b. irredundant_count (cond b (Some (new_clause false n ls)) None)) (itself ls)
 count_more r n ls (c ∷ cs) = go r (same_literals c.literals ls) refl (count_more r n ls cs)
   where
-    go : (r : Bool) (b : Bool) → same_literals c.literals ls ≡ b → count_in r (clause_with ls (with_stored_clause r n ls cs)) ≡ count_in r (clause_with ls cs) + 1
-        → count_in r (clause_with ls (cond b (with_count r c ∷ cs) (c ∷ with_stored_clause r n ls cs))) ≡ count_in r (cond b (Some c) (clause_with ls cs)) + 1
+    go : (r : Bool) (b : Bool) → same_literals c.literals ls ≡ b → store_count_in r (clause_with ls (with_stored_clause r n ls cs)) ≡ store_count_in r (clause_with ls cs) + 1
+        → store_count_in r (clause_with ls (cond b (with_count r c ∷ cs) (c ∷ with_stored_clause r n ls cs))) ≡ store_count_in r (cond b (Some c) (clause_with ls cs)) + 1
     go true true e ih = ap (λ b. redundant_count (cond b (Some (with_count true c)) (clause_with ls cs))) e
     go false true e ih = ap (λ b. irredundant_count (cond b (Some (with_count false c)) (clause_with ls cs))) e
-    go r false e ih = ap (λ b. count_in r (cond b (Some c) (clause_with ls (with_stored_clause r n ls cs)))) e ∙ ih
+    go r false e ih = ap (λ b. store_count_in r (cond b (Some c) (clause_with ls (with_stored_clause r n ls cs)))) e ∙ ih
 
-counts_spent : (f : Stored) (r : Bool) (ls : List ℕ) → 2 ^ 64 ≤ count_in r (clause_with ls f.clauses) → CountSpent f
+counts_spent : (f : Stored) (r : Bool) (ls : List ℕ) → 2 ^ 64 ≤ store_count_in r (clause_with ls f.clauses) → CountSpent f
 counts_spent f true ls h = record { literals = ls; past = inr h }
 counts_spent f false ls h = record { literals = ls; past = inl h }
 
@@ -150,7 +150,7 @@ module _ (F : Formula) (store : Store) (f : Stored) (x y : ℕ) (ls : List ℕ) 
   numbered_so h e =
       numbered_placed F.store.clauses store.clauses f.units F.status.last f.next_id p.is_new (is_some there) (subst (λ n. PlacesIds F.store.clauses store.clauses n p.is_new) (next_of F f k) h) e k.numbered
 
-  long_done : (r : Bool) (status : Status) → HasRoomFor F.units.room all × HasRoomFor F.marks.room all → Stores store f F.status.next_id r all p.id p.is_new → PlacesIds F.store.clauses store.clauses F.status.next_id p.is_new
+  long_done : (r : Bool) (status : Status) → HasClauseRoom F.units.room all × HasClauseRoom F.marks.room all → StoreEffect store f F.status.next_id r all p.id p.is_new → PlacesIds F.store.clauses store.clauses F.status.next_id p.is_new
       → status ≡ record (noted r p F.status) { next_id = cond p.is_new ((noted r p F.status).next_id + 1) (noted r p F.status).next_id }
       → KeepsFormula (record F { store = store; status = status }) (with_canonical r all f)
   long_done true status roomy s h e = record {
@@ -187,7 +187,7 @@ module _ (F : Formula) (store : Store) (f : Stored) (x y : ℕ) (ls : List ℕ) 
   long_spent true n t h = inl (let a = next_noted true in let b = next_swap (is_some there) p.is_new f.next_id n in let d : cond p.is_new (f.next_id + 1) f.next_id ≡ f.next_id + 1 = ap (λ c. cond c (f.next_id + 1) f.next_id) t in omega (arith, a, b, d, h))
   long_spent false n t h = inl (let a = next_noted false in let b = next_swap (is_some there) p.is_new f.next_id n in let d : cond p.is_new (f.next_id + 1) f.next_id ≡ f.next_id + 1 = ap (λ c. cond c (f.next_id + 1) f.next_id) t in omega (arith, a, b, d, h))
 
-  count_spent : (r : Bool) → 2 ^ 64 ≤ count_in r there + 1 → IsSpent (with_canonical r all f)
+  count_spent : (r : Bool) → 2 ^ 64 ≤ store_count_in r there + 1 → IsSpent (with_canonical r all f)
   count_spent true h = inr (counts_spent (with_canonical true all f) true all (let e = count_more true f.next_id all f.clauses in omega (arith, e, h)))
   count_spent false h = inr (counts_spent (with_canonical false all f) false all (let e = count_more false f.next_id all f.clauses in omega (arith, e, h)))
 
@@ -196,7 +196,7 @@ abbrev pub Takes : {T : Type 0} → Result T StoreError → Status → Bool → 
 Takes result old needed new =
     MatchResult result (λ x. new ≡ record old { next_id = cond needed (old.next_id + 1) old.next_id }) (λ e. (e ≡ CounterEnd) × (needed ≡ true) × (2 ^ 64 ≤ old.next_id + 1))
 
-pub long_stored : {T : Type 0} (result : Result T StoreError) (F : Formula) (store : Store) (was status : Status) (f : Stored) (r : Bool) (ls : List ℕ) (p : Placed) → 2 ≤ length ls → KeepsFormula F f → HasRoomFor F.units.room ls × HasRoomFor F.marks.room ls → Stores store f F.status.next_id r ls p.id p.is_new → PlacesIds F.store.clauses store.clauses F.status.next_id p.is_new
+pub long_stored : {T : Type 0} (result : Result T StoreError) (F : Formula) (store : Store) (was status : Status) (f : Stored) (r : Bool) (ls : List ℕ) (p : Placed) → 2 ≤ length ls → KeepsFormula F f → HasClauseRoom F.units.room ls × HasClauseRoom F.marks.room ls → StoreEffect store f F.status.next_id r ls p.id p.is_new → PlacesIds F.store.clauses store.clauses F.status.next_id p.is_new
     → was ≡ noted r p F.status → Takes result was p.is_new status → KeepsOrSpends result (KeepsFormula (record F { store = store; status = status }) (with_canonical r ls f)) (with_canonical r ls f)
 long_stored result F store was status f r [] p l k q s h w m = absurd (omega arith)
 long_stored result F store was status f r (x ∷ []) p l k q s h w m = absurd (omega arith)
@@ -208,14 +208,14 @@ long_stored {T = T} result F store was status f r (x ∷ y ∷ ls) p l k q s h w
         subst (λ d. KeepsOrSpends {T = T} (Err d) (KeepsFormula (record F { store = store; status = status }) (with_canonical r (x ∷ y ∷ ls) f)) (with_canonical r (x ∷ y ∷ ls) f)) (sym m.0) (long_spent F store f x y ls p k r s.new_is m.1 m.2)
 
 long_fails : (e : StoreError) (T K : Type 0) (F : Formula) (f : Stored) (r : Bool) (ls : List ℕ) → 2 ≤ length ls → KeepsFormula F f
-    → (e ≡ CounterEnd → 2 ^ 64 ≤ count_in r (clause_with ls f.clauses) + 1) → KeepsOrSpends {T = T} (Err e) K (with_canonical r ls f)
+    → (e ≡ CounterEnd → 2 ^ 64 ≤ store_count_in r (clause_with ls f.clauses) + 1) → KeepsOrSpends {T = T} (Err e) K (with_canonical r ls f)
 long_fails e T K F f r [] l k h = absurd (omega arith)
 long_fails e T K F f r (x ∷ []) l k h = absurd (omega arith)
 long_fails OutOfMemory T K F f r (x ∷ y ∷ ls) l k h = tt
 long_fails CounterEnd T K F f r (x ∷ y ∷ ls) l k h = count_spent F F.store f x y ls (record { id = 0; is_new = true; irredundant = 0 }) k r (h refl)
 
 pub long_refused : {T : Type 0} (result : Result T StoreError) (d e : StoreError) → result ≡ Err d → d ≡ e → (K : Type 0) (F : Formula) (f : Stored) (r : Bool) (ls : List ℕ) → 2 ≤ length ls → KeepsFormula F f
-    → (e ≡ CounterEnd → 2 ^ 64 ≤ count_in r (clause_with ls f.clauses) + 1) → KeepsOrSpends result K (with_canonical r ls f)
+    → (e ≡ CounterEnd → 2 ^ 64 ≤ store_count_in r (clause_with ls f.clauses) + 1) → KeepsOrSpends result K (with_canonical r ls f)
 long_refused {T = T} result d e i s K F f r ls l k h = subst (λ x. KeepsOrSpends x K (with_canonical r ls f)) (sym (i ∙ ap Err s)) (long_fails e T K F f r ls l k h)
 
 -- ids don't fall

@@ -5,15 +5,15 @@ use Rattle.std.specs.List.{AllByRecursion}
 use Rattle.sat_base.specs.values.Literals.{coded}
 use Rattle.sat_base.specs.values.Clauses.{Valuation, literal_true, clause_true, flipped, EachTrue}
 use Rattle.sat_base.specs.script.Script.{Literal, Among}
-use Rattle.sat_base.specs.script.Judge.{Judge, Named, identity_in, identity_of, or_zero, over, with_name, without_name, with_clause, start}
+use Rattle.sat_base.specs.script.ScriptState.{ScriptState, Named, identity_in, identity_of, or_zero, over, with_name, without_name, with_clause, start}
 use Rattle.sat_base.specs.steps.Steps.{Step, UserVarName, AddClause, DeleteVar}
 use Rattle.sat_checker.specs.Fold.{Holds}
-use Rattle.sat_checker.specs.matching.Checking.{is_variable, variable_of, Checking, IsSound}
+use Rattle.sat_checker.specs.matching.Checking.{is_variable, variable_of, CheckerRules, IsSound}
 use Rattle.sat_checker.specs.matching.Expected.{Spells, EachSpelt, SameSet}
-use Rattle.sat_checker.specs.matching.Bridge.{Live, AgreesOnLive, Apart, IsBridge}
+use Rattle.sat_checker.specs.matching.Bridge.{Live, AgreesOnLive, AreDistinctVariables, IsBridge}
 use Rattle.sat_base.proofs.lemmas.script.LiteralValues.{coded_half, literal_same, among_true, some_true, some_mapped, among_mapped, all_at, all_map, updated, Below, updated_clauses, placed_found, removed_found, removed_gone}
 
-pub begun : (k : Checking) → IsBridge k start [] []
+pub begun : (k : CheckerRules) → IsBridge k start [] []
 begun k = record {
   accepted = tt;
   once = tt;
@@ -28,7 +28,7 @@ begun k = record {
 }
 
 -- a literal's identity
-module _ (k : Checking) (j : Judge) (earlier : List Step) (live : Live) (bridge : IsBridge k j earlier live) (a b : Valuation) (agrees : AgreesOnLive live a b) where
+module _ (k : CheckerRules) (j : ScriptState) (earlier : List Step) (live : Live) (bridge : IsBridge k j earlier live) (a b : Valuation) (agrees : AgreesOnLive live a b) where
   pub value : (l : Literal) (code : ℕ) → Spells (variable_of earlier) l code → literal_true a code ≡ literal_true b (over j l)
   value l code s =
       let p = bridge.named l.name s.variable s.named in
@@ -62,7 +62,7 @@ abbrev pub pulled : Live → Valuation → Valuation
 pulled [] b = λ x. false
 pulled (p ∷ ps) b = λ x. cond (eqb x p.0) (b p.1) (pulled ps b x)
 
-pub pulled_agrees : (live : Live) (b : Valuation) → Apart live → AgreesOnLive live (pulled live b) b
+pub pulled_agrees : (live : Live) (b : Valuation) → AreDistinctVariables live → AgreesOnLive live (pulled live b) b
 pulled_agrees [] b once = tt
 pulled_agrees (p ∷ ps) b once = (here, all_map (λ q. (q.0 ≡ p.0 → ⊥) × (pulled ps b q.0 ≡ b q.1)) (λ q. pulled (p ∷ ps) b q.0 ≡ b q.1) ps there (both ps once.0 (pulled_agrees ps b once.1)))
   where
@@ -88,11 +88,11 @@ all_without v P Q (p ∷ ps) f h = go (eqb p.0 v) refl (all_without v P Q ps f h
     go true e ih = ih
     go false e ih = (f p h.0 (eqb-false p.0 v e), ih)
 
-apart_without : (v : ℕ) (live : Live) → Apart live → Apart (without v live)
+apart_without : (v : ℕ) (live : Live) → AreDistinctVariables live → AreDistinctVariables (without v live)
 apart_without v [] h = tt
 apart_without v (p ∷ ps) h = go (eqb p.0 v) (apart_without v ps h.1)
   where
-    go : (b : Bool) → Apart (without v ps) → Apart (cond (not b) (p ∷ without v ps) (without v ps))
+    go : (b : Bool) → AreDistinctVariables (without v ps) → AreDistinctVariables (cond (not b) (p ∷ without v ps) (without v ps))
     go true ih = ih
     go false ih = (all_without v (λ q. q.0 ≡ p.0 → ⊥) (λ q. q.0 ≡ p.0 → ⊥) ps (λ q x n. x) h.0, ih)
 
@@ -124,7 +124,7 @@ same_or_not true false = inr refl
 same_or_not false true = inr refl
 same_or_not false false = inl refl
 
-either : (v : ℕ) (a b : Valuation) (live : Live) → Apart live → AgreesOnLive (without v live) a b → AgreesOnLive live a b ⊎ AgreesOnLive live (flipped v a) b
+either : (v : ℕ) (a b : Valuation) (live : Live) → AreDistinctVariables live → AgreesOnLive (without v live) a b → AgreesOnLive live a b ⊎ AgreesOnLive live (flipped v a) b
 either v a b [] once h = inl tt
 either v a b (p ∷ ps) once h = go (eqb p.0 v) refl (either v a b ps once.1) h
   where
@@ -137,7 +137,7 @@ either v a b (p ∷ ps) once h = go (eqb p.0 v) refl (either v a b ps once.1) h
     go false e ih x = elim (ih x.1) [ inl y ↦ inl (x.0, y) | inr y ↦ inr (elsewhere v a p.0 (eqb-false p.0 v e) ∙ x.0, y) ]
 
 -- Each kind of step.
-module _ (k : Checking) (sound : IsSound k) (j : Judge) (earlier : List Step) (live : Live) (bridge : IsBridge k j earlier live) where
+module _ (k : CheckerRules) (sound : IsSound k) (j : ScriptState) (earlier : List Step) (live : Live) (bridge : IsBridge k j earlier live) where
   -- all that is live stays known
   still_known : (step : Step) → k.Accepts earlier step → ((v : ℕ) → step ≡ DeleteVar v → ⊥) → AllByRecursion (λ p. k.knows (step ∷ earlier) p.0 ≡ true) live
   still_known step acc keeps = all_map (λ p. k.knows earlier p.0 ≡ true) (λ p. k.knows (step ∷ earlier) p.0 ≡ true) live (λ p h. elim (sound.keeps earlier step p.0 acc h) [ inl t ↦ t | inr e ↦ absurd (keeps p.0 e) ]) bridge.known

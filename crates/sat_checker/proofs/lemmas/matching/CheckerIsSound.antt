@@ -12,9 +12,9 @@ use Rattle.sat_checker.specs.Storing.{settled, with_stored, with_input, with_uni
 use Rattle.sat_checker.proofs.lemmas.meaning.Answers.{unsat_means_none, models_extend, cores_fail, cores_assumed}
 use Rattle.sat_checker.proofs.lemmas.meaning.Names.{SameVariables, stored_same, units_same, settled_same, named_is_known, known_stays}
 use Rattle.sat_checker.specs.matching.Checking.{is_variable, variable_of, assumed, Accepted, IsSound}
-use Rattle.sat_checker.specs.matching.ProofChecking.{the_checking}
+use Rattle.sat_checker.specs.matching.ProofChecking.{checker_rules}
 
-pub all_accepted : (steps : List Step) → Accepted the_checking steps → AcceptsAll steps
+pub all_accepted : (steps : List Step) → Accepted checker_rules steps → AcceptsAll steps
 all_accepted [] h = tt
 all_accepted (step ∷ earlier) h = (all_accepted earlier h.0, h.1)
 
@@ -139,7 +139,7 @@ known_ready f v h = ap (λ k. (k v).known) (settled_same f).variables ∙ h
 stays_known : (earlier : List Step) (step : Step) (v : ℕ) → is_known v (ready_after earlier) ≡ true → (is_known v (ready_after (step ∷ earlier)) ≡ true) ⊎ (step ≡ DeleteVar v)
 stays_known earlier step v h = elim (known_stays (ready_after earlier) step v h) [ inl k ↦ inl (known_ready (stored_after (step ∷ earlier)) v k) | inr d ↦ inr d ]
 
-pub the_checking_sound : IsSound the_checking
+pub the_checking_sound : IsSound checker_rules
 the_checking_sound = record {
   none_left = λ earlier a acc u h. unsat_means_none earlier a (all_accepted earlier acc) u h;
   model = λ earlier ls acc m.

@@ -1,7 +1,7 @@
 -- Traces one after another, and the trace of an ask that is closed.
 use Rattle.std.proofs.Common.{ℕ, ◌≡◌, Bool, Option, List, [], ◌∷◌, ◌++◌, refl, sym, subst}
 use Rattle.sat_base.specs.steps.Steps.{Step, Assumptions}
-use Rattle.sat_checker.specs.matching.Checking.{Checking, variable_of}
+use Rattle.sat_checker.specs.matching.Checking.{CheckerRules, variable_of}
 use Rattle.sat_checker.specs.matching.Expected.{Outcome, Expected, Opens, Closes, SameSet, Fits, opens, closes}
 use Rattle.sat_checker.specs.matching.Traces.{HasTrace, no_step, silent, visible}
 
@@ -15,7 +15,7 @@ closing_fits knows earlier (Opens ls p) o step (opens {c = c} h) e =
     subst (λ ks. Fits knows earlier Closes (Assumptions ks)) (sym (none_spelt (variable_of earlier) c (subst (λ ks. SameSet (variable_of earlier) ks c) m h))) closes
 closing_fits knows earlier e o step f d = absurd (cc)
 
-module _ {k : Checking} where
+module _ {k : CheckerRules} where
   pub traces_both : {s t u : List Step} {es fs : List Expected} → HasTrace k s t es → HasTrace k t u fs → HasTrace k s u (es ++ fs)
   traces_both no_step q = q
   traces_both (silent e p) q = silent e (traces_both p q)

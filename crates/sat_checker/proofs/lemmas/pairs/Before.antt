@@ -5,7 +5,7 @@ use Rattle.std.proofs.lemmas.Bool.Decides.{nat_tests}
 use Rattle.std.proofs.lemmas.List.{get_or-set_same, get_or-set_other, length-set}
 use Rattle.std.specs.List.{AllByRecursion}
 use Rattle.sat_checker.specs.inner.PairView.{IsPairBefore, AreInOrder, inserted}
-use Rattle.sat_checker.specs.inner.LinkView.{link_at, LinksPairs, top_of, head_at, part_at, listed, AreLinked, Lists, below, last_or}
+use Rattle.sat_checker.specs.inner.LinkView.{link_at, LinksPairs, top_of, head_at, part_at, listed_pairs, AreLinked, LinksListPairs, below, last_or}
 use Rattle.sat_checker.specs.declared.store.links.Pair.{Pair}
 use Rattle.sat_checker.specs.declared.store.links.Link.{Link}
 use Rattle.sat_checker.proofs.lemmas.pairs.Order.{all_weaker, all_both, all_filter, filter_none, inserted_first, not-before}
@@ -135,7 +135,7 @@ module _ (heads : List ℕ) (links : List Link) (shift : ℕ) (a : AreLinked hea
       (λ q k. (k.0.inside, ap (top_of shift (length heads)) (sym k.0.hash) ∙ k.1)) (part_at heads links top)
       (all_both (IsThere links) (λ q. top_of shift (length heads) q.hash ≡ top) (part_at heads links top) (there top inside) (a.parts top inside).tops)))
 
-  module _ (p : Pair) (t : top_of shift (length heads) p.hash ≡ top) (i : p.place < length links) (above : AllByRecursion (λ q. p.place < q.place) (listed heads links)) (room : length (listed heads links) < length links) where
+  module _ (p : Pair) (t : top_of shift (length heads) p.hash ≡ top) (i : p.place < length links) (above : AllByRecursion (λ q. p.place < q.place) (listed_pairs heads links)) (room : length (listed_pairs heads links) < length links) where
     part_above : (s : ℕ) → s < length heads → AllByRecursion (λ q. p.place < q.place) (part_at heads links s)
     part_above s j = all_part (λ q. p.place < q.place) (part_at heads links) (length heads) s j above
 
@@ -149,7 +149,7 @@ module _ (heads : List ℕ) (links : List Link) (shift : ℕ) (a : AreLinked hea
         (all_filter (λ q. p.place < q.place) _ (part_at heads links top) (part_above top inside))
 
     pub put_behind_lower : (new : List Link) (b : ℕ) → Some b ≡ last_or None (below p.hash (part_at heads links top))
-        → new ≡ slice_set (slice_set links p.place (record { hash = p.hash; next = (link_at links b).next })) b (record { hash = (link_at links b).hash; next = p.place }) → Lists heads new shift (inserted p (listed heads links))
+        → new ≡ slice_set (slice_set links p.place (record { hash = p.hash; next = (link_at links b).next })) b (record { hash = (link_at links b).hash; next = p.place }) → LinksListPairs heads new shift (inserted p (listed_pairs heads links))
     put_behind_lower new b e n =
         has_inserted heads links shift a heads new refl (omega (arith, count, a.few)) top inside p t apart (omega (arith, count)) (omega (arith, count, room))
         (put_in links new (head_at heads top) p b (part_at heads links top) (a.parts top inside).leads (a.parts top inside).in_order (part_above top inside) (sym e) i is_in)
@@ -179,7 +179,7 @@ module _ (heads : List ℕ) (links : List Link) (shift : ℕ) (a : AreLinked hea
               ∙ get_or-set_same links p.place (record { hash = p.hash; next = (link_at links b).next }) (record { hash = 0; next = 0 }) i;
         }
 
-    pub put_at_top : (now : List ℕ) (new : List Link) → None ≡ last_or None (below p.hash (part_at heads links top)) → new ≡ slice_set links p.place (record { hash = p.hash; next = head_at heads top }) → now ≡ slice_set heads top p.place → Lists now new shift (inserted p (listed heads links))
+    pub put_at_top : (now : List ℕ) (new : List Link) → None ≡ last_or None (below p.hash (part_at heads links top)) → new ≡ slice_set links p.place (record { hash = p.hash; next = head_at heads top }) → now ≡ slice_set heads top p.place → LinksListPairs now new shift (inserted p (listed_pairs heads links))
     put_at_top now new e n m =
         has_inserted heads links shift a now new (ap length m ∙ length-set heads top p.place) (omega (arith, count, a.few)) top inside p t apart (omega (arith, count)) (omega (arith, count, room))
         (subst (λ y. LinksPairs new y (inserted p (part_at heads links top))) (sym (ap (λ xs. head_at xs top) m ∙ get_or-set_same heads top p.place 0 inside))

@@ -7,7 +7,7 @@ use Rattle.std.specs.Prelude.{slice_index_or}
 use Rattle.std.proofs.lemmas.Map.Keys.{IsDistinct-head, IsDistinct-tail}
 use Rattle.std.proofs.lemmas.List.Elements.{All-from_recursion}
 use Rattle.sat_checker.specs.inner.PairView.{IsPairBefore, AreInOrder, inserted, without_pair, same_place}
-use Rattle.sat_checker.specs.inner.LinkView.{nowhere, link_at, LinksPairs, joined, top_of, head_at, part_at, listed, IsPairChain, AreLinked, AreKeptPairs, Lists, up_to, last_or, place_before}
+use Rattle.sat_checker.specs.inner.LinkView.{nowhere, link_at, LinksPairs, joined, top_of, head_at, part_at, listed_pairs, IsPairChain, AreLinked, AreKeptPairs, LinksListPairs, up_to, last_or, place_before}
 use Rattle.sat_checker.specs.declared.store.links.Pair.{Pair}
 use Rattle.sat_checker.specs.declared.store.links.Link.{Link}
 use Rattle.sat_checker.proofs.lemmas.pairs.Order.{all_weaker, all_both, all_filter, all_inserted, order_filter, order_inserted, length_inserted, length_filter, inserted_first}
@@ -16,7 +16,7 @@ use Rattle.sat_checker.proofs.lemmas.pairs.Walks.{IsThere, leads_there, there_ap
 use Rattle.sat_checker.proofs.lemmas.pairs.Links.{are_linked, listed_is, tops_of, all_there, all_in_order, leads_same, link_behind, link_first, last_member, before_member, IsRelinked, unlink, unlink_first, unlink_none, without_none, IsUnlinked}
 
 module _ (heads : List ℕ) (links : List Link) (shift : ℕ) (a : AreLinked heads links shift) (now : List ℕ) (new : List Link) (counts : length now ≡ length heads) (few : length new ≤ nowhere) (top : ℕ) (inside : top < length heads) where
-  module _ (p : Pair) (t : top_of shift (length heads) p.hash ≡ top) (apart : AllByRecursion (λ q. p.place ≢ q.place) (part_at heads links top)) (more : length links ≤ length new) (room : length (listed heads links) + 1 ≤ length new)
+  module _ (p : Pair) (t : top_of shift (length heads) p.hash ≡ top) (apart : AllByRecursion (λ q. p.place ≢ q.place) (part_at heads links top)) (more : length links ≤ length new) (room : length (listed_pairs heads links) + 1 ≤ length new)
       (here : LinksPairs new (head_at now top) (inserted p (part_at heads links top))) (others : (s : ℕ) → s < length heads → s ≢ top → LinksPairs new (head_at now s) (part_at heads links s)) where
     parts : ℕ → List Pair
     parts s = cond (eqb s top) (inserted p (part_at heads links s)) (part_at heads links s)
@@ -56,12 +56,12 @@ module _ (heads : List ℕ) (links : List Link) (shift : ℕ) (a : AreLinked hea
               tops = subst (λ m. Tops shift m s (part_at heads links s)) (sym counts) old.tops;
             })
 
-    whole : joined parts (length now) ≡ inserted p (listed heads links)
+    whole : joined parts (length now) ≡ inserted p (listed_pairs heads links)
     whole = ap (joined parts) counts ∙ inserted_joined shift (length heads) (part_at heads links) p (length heads) top inside t (tops_of heads links shift a) parts (λ s l n. at_other s n) (at_top top refl)
 
-    pub has_inserted : Lists now new shift (inserted p (listed heads links))
+    pub has_inserted : LinksListPairs now new shift (inserted p (listed_pairs heads links))
     has_inserted = record {
-      linked = are_linked now new shift few parts each (omega (arith, ap length whole, length_inserted p (listed heads links), room));
+      linked = are_linked now new shift few parts each (omega (arith, ap length whole, length_inserted p (listed_pairs heads links), room));
       is = listed_is now new shift few parts each ∙ whole;
     }
 
@@ -91,13 +91,13 @@ module _ (heads : List ℕ) (links : List Link) (shift : ℕ) (a : AreLinked hea
         go true e = made (subst (λ y. LinksPairs new (head_at now y) (without_pair x (part_at heads links y))) (sym (eqb-true s top e)) here)
         go false e = let n = eqb-false s top e in made (subst (LinksPairs new (head_at now s)) (sym (without_none x (part_at heads links s) (apart s i n))) (others s i n))
 
-    whole_left : joined left (length now) ≡ without_pair x (listed heads links)
+    whole_left : joined left (length now) ≡ without_pair x (listed_pairs heads links)
     unfolding left
     whole_left = ap (joined left) counts ∙ sym (filter_joined (λ p. not (eqb p.place x)) (part_at heads links) (length heads))
 
-    pub has_left : Lists now new shift (without_pair x (listed heads links))
+    pub has_left : LinksListPairs now new shift (without_pair x (listed_pairs heads links))
     has_left = record {
-      linked = are_linked now new shift few left each_left (omega (arith, ap length whole_left, length_filter (λ p. not (eqb p.place x)) (listed heads links), a.count, same));
+      linked = are_linked now new shift few left each_left (omega (arith, ap length whole_left, length_filter (λ p. not (eqb p.place x)) (listed_pairs heads links), a.count, same));
       is = listed_is now new shift few left each_left ∙ whole_left;
     }
 
@@ -129,7 +129,7 @@ module _ (heads : List ℕ) (links : List Link) (shift : ℕ) (a : AreLinked hea
     new_apart = all_weaker (IsThere links) (λ q. length links ≢ q.place) (λ q k e. let l : q.place < length links = k.inside in omega arith) (part_at heads links top) (there top inside)
 
     pub put_behind : (new : List Link) (b : ℕ) → Some b ≡ last_or None (up_to h (part_at heads links top)) → new ≡ slice_set (links ++ record { hash = h; next = (link_at links b).next } ∷ []) b (record { hash = (link_at links b).hash; next = length links })
-        → Lists heads new shift (inserted (record { hash = h; place = length links }) (listed heads links))
+        → LinksListPairs heads new shift (inserted (record { hash = h; place = length links }) (listed_pairs heads links))
     put_behind new b e n =
         has_inserted heads links shift a heads new refl (omega (arith, longer, few)) top inside (record { hash = h; place = length links }) t new_apart (omega (arith, longer)) (omega (arith, longer, a.count))
         (link_behind links new (head_at heads top) h b (part_at heads links top) (a.parts top inside).leads (a.parts top inside).in_order (sym e) relinked)
@@ -160,7 +160,7 @@ module _ (heads : List ℕ) (links : List Link) (shift : ℕ) (a : AreLinked hea
         }
 
     pub put_first : (now : List ℕ) (new : List Link) → None ≡ last_or None (up_to h (part_at heads links top)) → new ≡ links ++ record { hash = h; next = head_at heads top } ∷ [] → now ≡ slice_set heads top (length links)
-        → Lists now new shift (inserted (record { hash = h; place = length links }) (listed heads links))
+        → LinksListPairs now new shift (inserted (record { hash = h; place = length links }) (listed_pairs heads links))
     put_first now new e n m =
         has_inserted heads links shift a now new (ap length m ∙ length-set heads top (length links)) (omega (arith, longer, few)) top inside (record { hash = h; place = length links }) t new_apart (omega (arith, longer)) (omega (arith, longer, a.count))
         (subst (λ y. LinksPairs new y (inserted (record { hash = h; place = length links }) (part_at heads links top))) (sym (ap (λ xs. head_at xs top) m ∙ get_or-set_same heads top (length links) 0 inside))
@@ -176,7 +176,7 @@ module _ (heads : List ℕ) (links : List Link) (shift : ℕ) (a : AreLinked hea
         same x l = ap (λ xs. link_at xs x) n ∙ get_or_append_left links (record { hash = h; next = head_at heads top } ∷ []) (record { hash = 0; next = 0 }) x l
 
   module _ (x : ℕ) (i : x < length links) (t : top_of shift (length heads) (link_at links x).hash ≡ top) where
-    pub take_first : (now : List ℕ) → head_at heads top ≡ x → now ≡ slice_set heads top (link_at links x).next → Lists now links shift (without_pair x (listed heads links))
+    pub take_first : (now : List ℕ) → head_at heads top ≡ x → now ≡ slice_set heads top (link_at links x).next → LinksListPairs now links shift (without_pair x (listed_pairs heads links))
     take_first now e m =
         has_left heads links shift a now links (ap length m ∙ length-set heads top (link_at links x).next) a.few top inside x (not_in x t) refl
         (subst (λ y. LinksPairs links y (without_pair x (part_at heads links top))) (sym (ap (λ xs. head_at xs top) m ∙ get_or-set_same heads top (link_at links x).next 0 inside))
@@ -190,7 +190,7 @@ module _ (heads : List ℕ) (links : List Link) (shift : ℕ) (a : AreLinked hea
         (λ q k. (k.0.inside, ap (top_of shift (length heads)) (sym k.0.hash) ∙ k.1)) (part_at heads links top)
         (all_both (IsThere links) (λ q. top_of shift (length heads) q.hash ≡ top) (part_at heads links top) (there top inside) (a.parts top inside).tops))
 
-    pub take_behind : (new : List Link) (b : ℕ) → Some b ≡ place_before x (part_at heads links top) → new ≡ slice_set links b (record { hash = (link_at links b).hash; next = (link_at links x).next }) → Lists heads new shift (without_pair x (listed heads links))
+    pub take_behind : (new : List Link) (b : ℕ) → Some b ≡ place_before x (part_at heads links top) → new ≡ slice_set links b (record { hash = (link_at links b).hash; next = (link_at links x).next }) → LinksListPairs heads new shift (without_pair x (listed_pairs heads links))
     take_behind new b e n =
         has_left heads links shift a heads new refl (omega (arith, count, a.few)) top inside x (not_in x t) count
         (unlink links new (head_at heads top) x b (part_at heads links top) (a.parts top inside).leads (a.parts top inside).in_order (sym e) unlinked)
@@ -210,17 +210,17 @@ module _ (heads : List ℕ) (links : List Link) (shift : ℕ) (a : AreLinked hea
           there = ap (λ xs. link_at xs b) n ∙ get_or-set_same links b (record { hash = (link_at links b).hash; next = (link_at links x).next }) (record { hash = 0; next = 0 }) (before_there b e).0;
         }
 
-    pub take_none : head_at heads top ≢ x → None ≡ place_before x (part_at heads links top) → Lists heads links shift (without_pair x (listed heads links))
+    pub take_none : head_at heads top ≢ x → None ≡ place_before x (part_at heads links top) → LinksListPairs heads links shift (without_pair x (listed_pairs heads links))
     take_none n e =
         has_left heads links shift a heads links refl a.few top inside x (not_in x t) refl
         (subst (LinksPairs links (head_at heads top)) (sym (unlink_none links (head_at heads top) x (part_at heads links top) (a.parts top inside).leads n (sym e))) (a.parts top inside).leads)
         (λ s j d. (a.parts s j).leads)
 
 -- a pair before all others
-pub put_front : (heads : List ℕ) (links : List Link) (shift : ℕ) (ps : List Pair) (p : Pair) (top : ℕ) → Lists heads links shift ps → top < length heads → top_of shift (length heads) p.hash ≡ top → p.place < length links → length ps + 1 ≤ length links
-    → AllByRecursion (IsPairBefore p) ps → AllByRecursion (λ q. p.place ≢ q.place) ps → Lists (slice_set heads top p.place) (slice_set links p.place (record { hash = p.hash; next = head_at heads top })) shift (p ∷ ps)
+pub put_front : (heads : List ℕ) (links : List Link) (shift : ℕ) (ps : List Pair) (p : Pair) (top : ℕ) → LinksListPairs heads links shift ps → top < length heads → top_of shift (length heads) p.hash ≡ top → p.place < length links → length ps + 1 ≤ length links
+    → AllByRecursion (IsPairBefore p) ps → AllByRecursion (λ q. p.place ≢ q.place) ps → LinksListPairs (slice_set heads top p.place) (slice_set links p.place (record { hash = p.hash; next = head_at heads top })) shift (p ∷ ps)
 put_front heads links shift ps p top m inside t i room before apart =
-    subst (Lists now new shift) (ap (inserted p) m.is ∙ inserted_first p ps before)
+    subst (LinksListPairs now new shift) (ap (inserted p) m.is ∙ inserted_first p ps before)
     (has_inserted heads links shift m.linked now new (length-set heads top p.place) (omega (arith, count, m.linked.few)) top inside p t (part (λ q. p.place ≢ q.place) apart top inside) (omega (arith, count)) (omega (arith, count, room, ap length m.is))
     (subst (λ y. LinksPairs new y (inserted p (part_at heads links top))) (sym (get_or-set_same heads top p.place 0 inside))
     (subst (LinksPairs new p.place) (sym (inserted_first p (part_at heads links top) (part (IsPairBefore p) before top inside))) (
@@ -251,7 +251,7 @@ put_front heads links shift ps p top m inside t i room before apart =
         (λ q n. get_or-set_other links p.place q.place (record { hash = p.hash; next = head_at heads top }) (record { hash = 0; next = 0 }) (λ e. n (sym e))) (part_at heads links s) (part (λ q. p.place ≢ q.place) apart s j))
 
 -- nothing is linked yet
-pub lists_none : (heads : List ℕ) (links : List Link) (shift : ℕ) → length links ≤ nowhere → All (λ h. h ≡ nowhere) heads → Lists heads links shift []
+pub lists_none : (heads : List ℕ) (links : List Link) (shift : ℕ) → length links ≤ nowhere → All (λ h. h ≡ nowhere) heads → LinksListPairs heads links shift []
 lists_none heads links shift few none = record {
   linked = are_linked heads links shift few (λ s. []) each (let e : length (joined (λ s. []) (length heads)) ≡ 0 = ap length (nothing (length heads)) in omega (arith, e));
   is = listed_is heads links shift few (λ s. []) each ∙ nothing (length heads);
@@ -302,9 +302,9 @@ distinct_there links [] t o = tt
 distinct_there links (p ∷ ps) t o = (all_weaker (λ q. IsThere links q × IsPairBefore p q) (λ q. same_place p q ≡ false) (λ q k. ne_eqb p.place q.place (λ e. there_apart links p q t.0 k.0 k.1 (sym e))) ps (all_both (IsThere links) (IsPairBefore p) ps t.1 o.0), distinct_there links ps t.1 o.1)
 
 -- pairs that are linked are at places of their own
-pub listed_distinct : (heads : List ℕ) (links : List Link) (shift : ℕ) → AreLinked heads links shift → IsDistinct same_place (listed heads links)
-listed_distinct heads links shift a = distinct_there links (listed heads links) (all_there heads links shift a) (all_in_order heads links shift a)
+pub listed_distinct : (heads : List ℕ) (links : List Link) (shift : ℕ) → AreLinked heads links shift → IsDistinct same_place (listed_pairs heads links)
+listed_distinct heads links shift a = distinct_there links (listed_pairs heads links) (all_there heads links shift a) (all_in_order heads links shift a)
 
-pub listed_within : (heads : List ℕ) (links : List Link) (shift : ℕ) → AreLinked heads links shift → All (λ p. p.place < length links) (listed heads links)
+pub listed_within : (heads : List ℕ) (links : List Link) (shift : ℕ) → AreLinked heads links shift → All (λ p. p.place < length links) (listed_pairs heads links)
 listed_within heads links shift a =
-    All-from_recursion (λ p. p.place < length links) (listed heads links) (all_weaker (IsThere links) (λ p. p.place < length links) (λ p t. t.inside) (listed heads links) (all_there heads links shift a))
+    All-from_recursion (λ p. p.place < length links) (listed_pairs heads links) (all_weaker (IsThere links) (λ p. p.place < length links) (λ p t. t.inside) (listed_pairs heads links) (all_there heads links shift a))

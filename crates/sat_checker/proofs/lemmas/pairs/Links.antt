@@ -5,7 +5,7 @@ use Rattle.std.proofs.lemmas.Bool.Decides.{nat_tests}
 use Rattle.std.specs.List.{AllByRecursion}
 use Rattle.sat_checker.specs.inner.PairView.{IsPairBefore, AreInOrder, inserted, without_pair, places_in, places_behind}
 use Rattle.sat_checker.specs.LiteralSets.{is_among}
-use Rattle.sat_checker.specs.inner.LinkView.{nowhere, link_at, rest, LinksPairs, joined, top_of, head_at, part_at, listed, IsWalk, IsPairChain, AreLinked, up_to, last_or, place_before}
+use Rattle.sat_checker.specs.inner.LinkView.{nowhere, link_at, rest, LinksPairs, joined, top_of, head_at, part_at, listed_pairs, IsWalk, IsPairChain, AreLinked, up_to, last_or, place_before}
 use Rattle.sat_checker.specs.declared.store.links.Pair.{Pair}
 use Rattle.sat_checker.specs.declared.store.links.Link.{Link}
 use Rattle.sat_checker.proofs.lemmas.pairs.Order.{all_weaker, all_both, all_filter, filter_none, filter_whole, inserted_first, not-before}
@@ -18,7 +18,7 @@ module _ (heads : List ℕ) (links : List Link) (shift : ℕ) (few : length link
   pub part_is : (top : ℕ) → top < length heads → part_at heads links top ≡ parts top
   part_is top l = chain_is links few (length links) (head_at heads top) (parts top) (each top l).leads (each top l).short
 
-  pub listed_is : listed heads links ≡ joined parts (length heads)
+  pub listed_is : listed_pairs heads links ≡ joined parts (length heads)
   listed_is = joined_same (part_at heads links) parts (length heads) part_is
 
   pub are_linked : length (joined parts (length heads)) ≤ length links → AreLinked heads links shift
@@ -28,10 +28,10 @@ module _ (heads : List ℕ) (links : List Link) (shift : ℕ) (a : AreLinked hea
   pub tops_of : (top : ℕ) → top < length heads → Tops shift (length heads) top (part_at heads links top)
   tops_of top l = (a.parts top l).tops
 
-  pub all_there : AllByRecursion (IsThere links) (listed heads links)
+  pub all_there : AllByRecursion (IsThere links) (listed_pairs heads links)
   all_there = all_joined (IsThere links) (part_at heads links) (length heads) (λ top l. leads_there links (head_at heads top) (part_at heads links top) (a.parts top l).leads)
 
-  pub all_in_order : AreInOrder (listed heads links)
+  pub all_in_order : AreInOrder (listed_pairs heads links)
   all_in_order = order_joined shift (length heads) (part_at heads links) (length heads) (λ top l. ((a.parts top l).in_order, (a.parts top l).tops))
 
 -- links that change where no pair stands
@@ -327,20 +327,20 @@ place_inside links h x (p ∷ ps) t e = go (eqb p.hash h) e (λ k. place_inside 
 
 module _ (heads : List ℕ) (links : List Link) (shift : ℕ) (a : AreLinked heads links shift) (h : ℕ) where
   -- the places of a hash are in the part of its top
-  pub places_part : (top : ℕ) → top < length heads → top_of shift (length heads) h ≡ top → places_in h (listed heads links) ≡ places_in h (part_at heads links top)
+  pub places_part : (top : ℕ) → top < length heads → top_of shift (length heads) h ≡ top → places_in h (listed_pairs heads links) ≡ places_in h (part_at heads links top)
   places_part top l t = places_joined shift (length heads) (part_at heads links) h (length heads) (omega (arith, l, t)) (tops_of heads links shift a) ∙ ap (λ s. places_in h (part_at heads links s)) t
 
   -- a place of the hash is there, and the links behind it lead over the others of the hash behind it
-  pub next_of : (x : ℕ) → is_among (places_in h (listed heads links)) x ≡ true → (x < length links) × IsWalk links (link_at links x).next × (places_behind x (places_in h (listed heads links)) ≡ places_in h (rest links (link_at links x).next))
+  pub next_of : (x : ℕ) → is_among (places_in h (listed_pairs heads links)) x ≡ true → (x < length links) × IsWalk links (link_at links x).next × (places_behind x (places_in h (listed_pairs heads links)) ≡ places_in h (rest links (link_at links x).next))
   next_of x m = go (cases_lt (top_of shift (length heads) h) (length heads))
     where
-      go : (top_of shift (length heads) h < length heads) ⊎ (length heads ≤ top_of shift (length heads) h) → (x < length links) × IsWalk links (link_at links x).next × (places_behind x (places_in h (listed heads links)) ≡ places_in h (rest links (link_at links x).next))
+      go : (top_of shift (length heads) h < length heads) ⊎ (length heads ≤ top_of shift (length heads) h) → (x < length links) × IsWalk links (link_at links x).next × (places_behind x (places_in h (listed_pairs heads links)) ≡ places_in h (rest links (link_at links x).next))
       go (inl l) =
           let top = top_of shift (length heads) h in
-          let same : places_in h (listed heads links) ≡ places_in h (part_at heads links top) = places_part top l refl in
+          let same : places_in h (listed_pairs heads links) ≡ places_in h (part_at heads links top) = places_part top l refl in
           let part : IsPairChain links shift (length heads) top (head_at heads top) (part_at heads links top) = a.parts top l in
           let w = walk_behind links (head_at heads top) h x (part_at heads links top) a.few part.short part.leads part.in_order (ap (λ ps. is_among ps x) (sym same) ∙ m) in
-          (place_inside links h x (listed heads links) (all_there heads links shift a) m, w.0, ap (places_behind x) same ∙ w.1)
+          (place_inside links h x (listed_pairs heads links) (all_there heads links shift a) m, w.0, ap (places_behind x) same ∙ w.1)
       go (inr l) =
-          let none : listed heads links ≡ [] = ap (joined (part_at heads links)) (let z : length heads ≡ 0 = omega arith in z) in
+          let none : listed_pairs heads links ≡ [] = ap (joined (part_at heads links)) (let z : length heads ≡ 0 = omega arith in z) in
           absurd (true≢false (sym m ∙ ap (λ ps. is_among (places_in h ps) x) none))

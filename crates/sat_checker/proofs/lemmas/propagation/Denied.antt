@@ -7,7 +7,7 @@ use Rattle.sat_checker.specs.LiteralSets.{is_among, is_tautology}
 use Rattle.sat_checker.specs.inner.Marks.{NoRepeats}
 use Rattle.sat_checker.specs.Propagation.{PassesCheck, tautology, unit_true, conflict}
 use Rattle.sat_checker.specs.inner.Look.{AssumesMore}
-use Rattle.sat_checker.specs.inner.Room.{AssumesOnce, LiteralsAndRoom, signed, with_room}
+use Rattle.sat_checker.specs.inner.AssumedRoom.{AssumesOnce, LiteralsAndRoom, signed, with_room}
 use Rattle.sat_checker.specs.inner.Walk.{denied_in_turn, walk_buckets}
 use Rattle.std.proofs.lemmas.List.{length-map, map-append, map-id, get_or-map, take_more, take-append-drop, drop_more}
 use Rattle.sat_checker.proofs.lemmas.propagation.Walking.{Extends-itself, Extends-assumed}

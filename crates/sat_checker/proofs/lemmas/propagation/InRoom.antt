@@ -7,7 +7,7 @@ use Rattle.sat_base.specs.values.Literals.{negated, negated_if}
 use Rattle.sat_checker.specs.LiteralSets.{is_among, is_tautology}
 use Rattle.sat_checker.specs.Propagation.{clauses_in, LeadToConflict, PassesCheck, tautology, unit_true, conflict}
 use Rattle.sat_checker.specs.inner.Marks.{NoRepeats}
-use Rattle.sat_checker.specs.inner.Room.{LiteralsAndRoom, AgreesOn, HasRoomFor, HasRoomForAll, DeniedInRoom, signed}
+use Rattle.sat_checker.specs.inner.AssumedRoom.{LiteralsAndRoom, AgreesOn, HasClauseRoom, HasClausesRoom, DeniedInRoom, signed}
 use Rattle.sat_checker.specs.inner.Walk.{walk_buckets}
 use Rattle.sat_checker.proofs.lemmas.propagation.Denied.{clause_more, clause_split}
 use Rattle.sat_checker.proofs.lemmas.propagation.Greedy.{Within-itself, joined_front, picked_each, rule_from_walk, walk_from_rule}
@@ -135,7 +135,7 @@ module _ (old mid : LiteralsAndRoom) (negate : Bool) (ls before : List ℕ) (i l
       (λ m r. same m (subst (λ xs. is_among xs m ≡ true) (sym room) r) ∙ ap (λ o. eqb o m || is_among mid.literals m) e))
 
 -- what leads to a conflict depends only on the literals that there is room for
-pub rule_same : (room us vs : List ℕ) (buckets : List (List (List ℕ))) → AgreesOn room us vs → AllByRecursion (HasRoomForAll room) buckets → LeadToConflict us buckets → LeadToConflict vs buckets
+pub rule_same : (room us vs : List ℕ) (buckets : List (List (List ℕ))) → AgreesOn room us vs → AllByRecursion (HasClausesRoom room) buckets → LeadToConflict us buckets → LeadToConflict vs buckets
 rule_same room us vs buckets same roomy k = record {
   first = k.first;
   rest = k.rest;
@@ -144,11 +144,11 @@ rule_same room us vs buckets same roomy k = record {
   none_empty = k.none_empty;
   chosen = k.chosen;
   conflict = same_runs_of (λ l. is_among room l ≡ true) k.picked us vs same
-      (picked_each (HasRoomFor room) k.picked (clauses_in k.first) k.chosen (joined_front (HasRoomFor room) k.first k.rest (subst (AllByRecursion (HasRoomForAll room)) k.split roomy))) k.conflict;
+      (picked_each (HasClauseRoom room) k.picked (clauses_in k.first) k.chosen (joined_front (HasClauseRoom room) k.first k.rest (subst (AllByRecursion (HasClausesRoom room)) k.split roomy))) k.conflict;
 }
 
 -- the check without the literals that there is no room for says yes exactly by the rule
-pub exact_in_room : (old new : LiteralsAndRoom) (clause : List ℕ) (buckets : List (List (List ℕ))) (answer : Bool) → AllByRecursion (AllByRecursion NoRepeats) buckets → AllByRecursion (HasRoomForAll old.room) buckets → DeniedInRoom old clause new → answer ≡ walk_buckets new.literals buckets
+pub exact_in_room : (old new : LiteralsAndRoom) (clause : List ℕ) (buckets : List (List (List ℕ))) (answer : Bool) → AllByRecursion (AllByRecursion NoRepeats) buckets → AllByRecursion (HasClausesRoom old.room) buckets → DeniedInRoom old clause new → answer ≡ walk_buckets new.literals buckets
     → (answer ≡ true) ↔ PassesCheck old.literals clause buckets
 exact_in_room old new clause buckets answer sets roomy denied w = (
   (λ t. conflict (rule_same old.room new.literals (map negated clause ++ old.literals) buckets denied.agrees roomy (rule_from_walk new.literals buckets (sym w ∙ t)))),

@@ -7,7 +7,7 @@ use Rattle.sat_checker.specs.Looks.{total_length}
 use Rattle.sat_checker.specs.LiteralSets.{is_among}
 use Rattle.sat_base.specs.values.Literals.{negated}
 use Rattle.sat_checker.specs.inner.Look.{AssumesMore}
-use Rattle.sat_checker.specs.inner.Room.{LiteralsAndRoom, with_room, RoomStays, HasRoomFor, HasRoomForAll}
+use Rattle.sat_checker.specs.inner.AssumedRoom.{LiteralsAndRoom, with_room, RoomStays, HasClauseRoom, HasClausesRoom}
 use Rattle.sat_checker.proofs.lemmas.sets.Members.{each_at, each_mapped}
 use Rattle.sat_checker.proofs.lemmas.sets.Rooms.{room_stays}
 use Rattle.sat_checker.specs.inner.Walk.{opens, rests, verdict, verdict_of_open, not_false, walk, walk_on, and_then, walk_buckets, if_conflict}
@@ -47,21 +47,21 @@ pub opens_among : (assumed clause : List ℕ) (l : ℕ) → verdict assumed clau
 opens_among assumed clause l e = filter_among (λ m. not (is_among assumed (negated m))) clause l (among_open assumed (not_false assumed clause) l e)
 
 -- so there is room for it where there is room for the clause
-pub opens_roomy : (room assumed clause : List ℕ) (l : ℕ) → verdict assumed clause ≡ opens l → HasRoomFor room clause → is_among room l ≡ true
+pub opens_roomy : (room assumed clause : List ℕ) (l : ℕ) → verdict assumed clause ≡ opens l → HasClauseRoom room clause → is_among room l ≡ true
 opens_roomy room assumed clause l e h = (each_at (λ m. (is_among room m ≡ true) × (is_among room (negated m) ≡ true)) clause l h (opens_among assumed clause l e)).0
 
 -- and none has to be made for it
-pub opens_same : (room assumed clause : List ℕ) (l : ℕ) → verdict assumed clause ≡ opens l → HasRoomFor room clause → with_room l room ≡ room
+pub opens_same : (room assumed clause : List ℕ) (l : ℕ) → verdict assumed clause ≡ opens l → HasClauseRoom room clause → with_room l room ≡ room
 opens_same room assumed clause l e h = ap (λ b. cond b room (l ∷ negated l ∷ room)) (opens_roomy room assumed clause l e h)
 
 -- and there is still room for the clause where there is more room
-pub roomy_further : (old new clause : List ℕ) → RoomStays old new → HasRoomFor old clause → HasRoomFor new clause
+pub roomy_further : (old new clause : List ℕ) → RoomStays old new → HasClauseRoom old clause → HasClauseRoom new clause
 roomy_further old new [] s h = tt
 roomy_further old new (l ∷ ls) s h = ((s l h.0.0, s (negated l) h.0.1), roomy_further old new ls s h.1)
 
 -- there is room for a clause where there was room for all of these places
-pub roomy_at : (old new : List ℕ) (literals : ℕ → List ℕ) (places : List ℕ) (place : ℕ) → RoomStays old new → is_among places place ≡ true → HasRoomForAll old (map literals places) → HasRoomFor new (literals place)
-roomy_at old new literals places place s among h = roomy_further old new (literals place) s (each_at (λ p. HasRoomFor old (literals p)) places place (each_mapped (HasRoomFor old) literals places h) among)
+pub roomy_at : (old new : List ℕ) (literals : ℕ → List ℕ) (places : List ℕ) (place : ℕ) → RoomStays old new → is_among places place ≡ true → HasClausesRoom old (map literals places) → HasClauseRoom new (literals place)
+roomy_at old new literals places place s among h = roomy_further old new (literals place) s (each_at (λ p. HasClauseRoom old (literals p)) places place (each_mapped (HasClauseRoom old) literals places h) among)
 
 pub Extends-itself : (t : LiteralsAndRoom) → AssumesMore t t
 Extends-itself t = record { longer = omega arith; below = let e : length t.literals - length t.literals ≡ 0 = omega arith in rw e refl; room = λ l h. h }

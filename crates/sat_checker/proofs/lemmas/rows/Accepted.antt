@@ -12,13 +12,13 @@ use Rattle.sat_checker.specs.Stored.{Stored, Variable, Sample, Hide, unknown, is
 use Rattle.sat_checker.specs.Storing.{with_unit}
 use Rattle.sat_checker.specs.Accepts.{PassesByHashes, MayGetName}
 use Rattle.sat_checker.specs.inner.Walk.{walk_buckets}
-use Rattle.sat_checker.specs.Rows.{ready_by, AllAccepted, HashesOfOneTwo, EndAlone, NamedAgain, four_clauses as four, FourClauses, Refuted, RefutedAtZero, StoredTwice, three_at_zero, NamedOnce, NamedTwice, Colliding, SolverNamesHash, UnitConflict, ConflictAndUnit}
+use Rattle.sat_checker.specs.Rows.{ready_by, AllAccepted, HashesOfOneTwo, EndAloneAccepted, NamedAgain, four_clauses as four, FourClauses, Refuted, RefutedAtZero, StoredTwice, three_at_zero, NamedOnce, NamedTwice, Colliding, SolverNamesHash, UnitConflict, ConflictAndUnit}
 use Rattle.sat_checker.proofs.lemmas.propagation.Greedy.{rule_from_walk, walk_from_rule}
 
 pub of_one_two : HashesOfOneTwo
 of_one_two = refl
 
-pub end_alone : EndAlone
+pub end_alone : EndAloneAccepted
 end_alone = ((tt, tt), refl, refl)
 
 none_some : (n : ℕ) → None ≢ Some n

@@ -3,7 +3,7 @@ use Rattle.std.proofs.Common.{ℕ, ◌<◌, ◌≡◌, None, Some, refl, sym, ar
 use Rattle.std.proofs.lemmas.Bool.{true≢false}
 use Rattle.sat_checker.specs.Accepts.{MayGetName}
 use Rattle.sat_checker.specs.Stored.{nothing_stored}
-use Rattle.sat_checker.specs.Rows.{SimplifiedByPart, SimplifiedByItself, SimplifiedByGone, NoRedundantCount, UnitForgotten, InClause, WithName, Assumed, Unknown, WitnessAdded, HiddenAdded, NameTaken, NamedTwiceOver, HiddenNamed, NoNameTaken, Modelled, ModelAgainstUnit, ModelWithoutClause, ModelTwice, BothSigns, NotAssumed}
+use Rattle.sat_checker.specs.Rows.{SimplifiedByPart, SimplifiedByItself, SimplifiedByGone, NoRedundantCount, UnitForgotten, InClause, WithName, DeletesAssumed, Unknown, WitnessAdded, HiddenAdded, NameTaken, NamedTwiceOver, HiddenNamed, NoNameTaken, Modelled, ModelAgainstUnit, ModelWithoutClause, ModelTwice, BothSigns, NotAssumed}
 use Rattle.sat_checker.specs.Propagation.{unit_true, tautology}
 
 first_name : (name : ℕ) → MayGetName nothing_stored 0 name
@@ -30,7 +30,7 @@ in_clause = ((tt, inr (refl, (refl, tt))), λ h. true≢false h.unused)
 pub with_name : WithName
 with_name = ((tt, first_name 7), λ h. let e : Some 7 ≡ None = h.nameless in cc)
 
-pub while_assumed : Assumed
+pub while_assumed : DeletesAssumed
 while_assumed = ((tt, tt), λ h. true≢false h.not_assumed)
 
 pub while_unknown : Unknown

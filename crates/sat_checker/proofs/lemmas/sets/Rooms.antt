@@ -8,7 +8,7 @@ use Rattle.sat_base.proofs.lemmas.values.TableLemmas.{has_room}
 use Rattle.sat_checker.specs.LiteralSets.{is_among}
 use Rattle.sat_checker.specs.SortedSets.{NoRepeats}
 use Rattle.sat_checker.specs.inner.Marks.{mark_at, mark_for, AreMarks}
-use Rattle.sat_checker.specs.inner.Room.{with_room, RoomStays}
+use Rattle.sat_checker.specs.inner.AssumedRoom.{with_room, RoomStays}
 use Rattle.sat_checker.specs.declared.units.assigned.Mark.{Mark}
 use Rattle.sat_checker.specs.declared.units.assigned.Mark.TheVariants as mark
 use Rattle.sat_checker.proofs.lemmas.propagation.Soundness.{negated-negated}

@@ -6,7 +6,7 @@ use Rattle.std.proofs.lemmas.List.{drop_more, drop_all, take-append-drop, revers
 use Rattle.sat_base.specs.declared.table.Table.{Table}
 use Rattle.sat_checker.specs.LiteralSets.{is_among}
 use Rattle.sat_checker.specs.inner.Marks.{AreMarks, NoRepeats, mark_at, mark_for}
-use Rattle.sat_checker.specs.inner.Room.{LiteralsAndRoom}
+use Rattle.sat_checker.specs.inner.AssumedRoom.{LiteralsAndRoom}
 use Rattle.sat_checker.specs.declared.units.assigned.Mark.{Mark}
 use Rattle.sat_checker.specs.declared.units.assigned.Mark.TheVariants as mark
 use Rattle.sat_checker.proofs.lemmas.sets.Canonical.{among_from_contains}

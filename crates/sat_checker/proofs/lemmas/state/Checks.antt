@@ -5,7 +5,7 @@ use Rattle.sat_checker.specs.Propagation.{PassesCheck}
 use Rattle.sat_checker.specs.Stored.{Stored, StoredUnit, bucket}
 use Rattle.sat_checker.specs.Accepts.{PassesByHashes}
 use Rattle.sat_checker.specs.inner.FormulaView.{ChecksAs, ChecksBeside, KeepsFormula, AreNumbered, standing_in}
-use Rattle.sat_checker.specs.inner.Room.{HasRoomForStored}
+use Rattle.sat_checker.specs.inner.AssumedRoom.{HasStoredRoom}
 use Rattle.sat_checker.specs.inner.SlotView.{slot_ids}
 use Rattle.sat_checker.specs.inner.StoreView.{KeepsClauses}
 use Rattle.sat_checker.specs.inner.UnitView.{UnitsAndRoom}
@@ -50,18 +50,18 @@ units_under : (F : Formula) (f : Stored) → F.units.units ≡ (under F f).units
 unfolding under
 units_under F f = refl
 
-room_under : (F : Formula) (f : Stored) (room : List ℕ) → HasRoomForStored room f.clauses → HasRoomForStored room (under F f).clauses
+room_under : (F : Formula) (f : Stored) (room : List ℕ) → HasStoredRoom room f.clauses → HasStoredRoom room (under F f).clauses
 unfolding under
 room_under F f room h = h
 
 pub checked_as : {E : Type 0} (r : Result Bool E) (F : Formula) (clause hashes : List ℕ)
-    → IfOk r (λ b. (f : Stored) → KeepsClauses F.store f → F.units.units ≡ f.units → HasRoomForStored F.units.room f.clauses → (b ≡ true) ↔ PassesByHashes f clause hashes)
+    → IfOk r (λ b. (f : Stored) → KeepsClauses F.store f → F.units.units ≡ f.units → HasStoredRoom F.units.room f.clauses → (b ≡ true) ↔ PassesByHashes f clause hashes)
     → IfOk r (λ b. (f : Stored) → ChecksAs F f → (b ≡ true) ↔ PassesByHashes f clause hashes)
 checked_as (Ok b) F clause hashes h = λ f a. passes_under F f clause hashes a b (h (under F f) (keeps_under F f a.clauses) (units_under F f) (room_under F f F.units.room a.room))
 checked_as (Err e) F clause hashes h = tt
 
 -- want of memory never comes where all is kept
-pub short_as : {E : Type 0} (r : Result Bool E) (F : Formula) → OnErr r ((f : Stored) → KeepsClauses F.store f → HasRoomForStored F.units.room f.clauses → ⊥) → OnErr r ((f : Stored) → ChecksAs F f → ⊥)
+pub short_as : {E : Type 0} (r : Result Bool E) (F : Formula) → OnErr r ((f : Stored) → KeepsClauses F.store f → HasStoredRoom F.units.room f.clauses → ⊥) → OnErr r ((f : Stored) → ChecksAs F f → ⊥)
 short_as (Ok b) F h = tt
 short_as (Err e) F h = λ f a. h f a.clauses a.room
 
@@ -70,5 +70,5 @@ pub checks_still : (F : Formula) (units : UnitsAndRoom) (status : Status) (f : S
 checks_still F units status f e k = record {
   clauses = k.clauses;
   units = ap (λ (w : UnitsAndRoom). map (λ (u : StoredUnit). u.literal) w.units) e ∙ k.units;
-  room = subst (λ (w : UnitsAndRoom). HasRoomForStored w.room f.clauses) (sym e) k.room;
+  room = subst (λ (w : UnitsAndRoom). HasStoredRoom w.room f.clauses) (sym e) k.room;
 }

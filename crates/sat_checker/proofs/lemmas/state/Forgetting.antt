@@ -12,7 +12,7 @@ use Rattle.sat_checker.specs.inner.LitNumbers.{number_at, AreTrailPlaces}
 use Rattle.sat_checker.specs.inner.Marks.{NoRepeats}
 use Rattle.sat_checker.specs.inner.StateView.{KeepsStored}
 use Rattle.sat_checker.specs.inner.UnitView.{UnitsInvariant}
-use Rattle.sat_checker.specs.inner.VariablesView.{variable_of, variable_at}
+use Rattle.sat_checker.specs.inner.VariablesView.{variable_of_data, variable_at}
 use Rattle.sat_checker.specs.declared.units.lit_numbers.LitNumbers.{LitNumbers}
 use Rattle.sat_checker.specs.declared.state.State.{State}
 use Rattle.sat_checker.specs.declared.variables.VarData.{VarData}
@@ -163,7 +163,7 @@ module _ (state : State) (f : Stored) (k : KeepsStored state f) (v : ℕ) where
   pub assumed_same : mentions state.assumed v ≡ mentions f.assumed v
   assumed_same = ap (λ xs. mentions xs v) k.assumed ∙ mentions_set f.assumed v
 
-  pub may_go : (d : VarData) (b : Bool) → variable_of d ≡ variable_at state.variables v → d.known ≡ true → is_some d.name ≡ false → mentions f.assumed v ≡ false → b ≡ list_any (λ c. mentions c.literals v) f.clauses → MatchBool (not b) (MayBeDeleted f v) (MayBeDeleted f v → ⊥)
+  pub may_go : (d : VarData) (b : Bool) → variable_of_data d ≡ variable_at state.variables v → d.known ≡ true → is_some d.name ≡ false → mentions f.assumed v ≡ false → b ≡ list_any (λ c. mentions c.literals v) f.clauses → MatchBool (not b) (MayBeDeleted f v) (MayBeDeleted f v → ⊥)
   may_go d true e n s a u = λ h. true≢false (u ∙ h.unused)
   may_go d false e n s a u = let same = e ∙ k.variables.each v in record {
     known = sym (ap (λ (x : Variable). x.known) same) ∙ n;

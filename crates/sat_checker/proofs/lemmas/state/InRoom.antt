@@ -11,8 +11,8 @@ use Rattle.sat_checker.specs.Storing.{clause_with}
 use Rattle.sat_checker.specs.Accepts.{Accepts, FitsModel, IsStrictSubset}
 use Rattle.sat_checker.specs.inner.FormulaView.{ChecksBeside, KeepsFormula, refiled_in}
 use Rattle.sat_checker.specs.inner.ModelTests.{are_all_true}
-use Rattle.sat_checker.specs.inner.Room.{LiteralsAndRoom, RoomStays, AgreesOn, HasRoomFor, HasRoomForStored}
-use Rattle.sat_checker.specs.inner.StoreView.{count_in, refiled}
+use Rattle.sat_checker.specs.inner.AssumedRoom.{LiteralsAndRoom, RoomStays, AgreesOn, HasClauseRoom, HasStoredRoom}
+use Rattle.sat_checker.specs.inner.StoreView.{store_count_in, refiled}
 use Rattle.sat_checker.specs.declared.formula.Formula.{Formula}
 use Rattle.sat_checker.proofs.lemmas.meaning.Clauses.{same}
 use Rattle.sat_checker.proofs.lemmas.sets.Canonical.{canonical_among}
@@ -22,38 +22,38 @@ use Rattle.sat_checker.proofs.lemmas.state.Rooms.{stored_stays}
 use Rattle.sat_checker.proofs.lemmas.state.Scanning.{same_part}
 use Rattle.sat_checker.proofs.lemmas.state.Checks.{kept_beside}
 
-any_agrees : (room xs ys c : List ℕ) → AgreesOn room xs ys → HasRoomFor room c → list_any (is_among xs) c ≡ list_any (is_among ys) c
+any_agrees : (room xs ys c : List ℕ) → AgreesOn room xs ys → HasClauseRoom room c → list_any (is_among xs) c ≡ list_any (is_among ys) c
 any_agrees room xs ys [] a h = refl
 any_agrees room xs ys (l ∷ c) a h = ap (λ b. b || list_any (is_among xs) c) (a l h.0.0) ∙ ap (λ b. is_among ys l || b) (any_agrees room xs ys c a h.1)
 
 -- a model's literals without room are of no use
-pub true_agrees : (room xs ys : List ℕ) (cs : List StoredClause) → AgreesOn room xs ys → HasRoomForStored room cs → are_all_true xs cs ≡ are_all_true ys cs
+pub true_agrees : (room xs ys : List ℕ) (cs : List StoredClause) → AgreesOn room xs ys → HasStoredRoom room cs → are_all_true xs cs ≡ are_all_true ys cs
 true_agrees room xs ys [] a h = refl
 true_agrees room xs ys (c ∷ cs) a h =
     ap (λ b. (eqb c.irredundant 0 || b) && are_all_true xs cs) (any_agrees room xs ys c.literals a h.0) ∙ ap (λ b. (eqb c.irredundant 0 || list_any (is_among ys) c.literals) && b) (true_agrees room xs ys cs a h.1)
 
-roomy : (room ls : List ℕ) (l : ℕ) → HasRoomFor room ls → is_among ls l ≡ true → is_among room l ≡ true
+roomy : (room ls : List ℕ) (l : ℕ) → HasClauseRoom room ls → is_among ls l ≡ true → is_among room l ≡ true
 roomy room [] l h k = absurd (true≢false (sym k))
 roomy room (x ∷ xs) l h k = elim (or_cases (eqb x l) (is_among xs l) k) [ inl e ↦ subst (λ y. is_among room y ≡ true) (eqb-true x l e) h.0.0 | inr m ↦ roomy room xs l h.1 m ]
 
-room_found : (room ls : List ℕ) (c : StoredClause) (cs : List StoredClause) → clause_with ls cs ≡ Some c → HasRoomForStored room cs → HasRoomFor room ls
+room_found : (room ls : List ℕ) (c : StoredClause) (cs : List StoredClause) → clause_with ls cs ≡ Some c → HasStoredRoom room cs → HasClauseRoom room ls
 room_found room ls c [] e h = absurd cc
 room_found room ls c (d ∷ ds) e h = go (same_literals d.literals ls) refl e (room_found room ls c ds)
   where
-    go : (b : Bool) → same_literals d.literals ls ≡ b → cond b (Some d) (clause_with ls ds) ≡ Some c → (clause_with ls ds ≡ Some c → HasRoomForStored room ds → HasRoomFor room ls) → HasRoomFor room ls
-    go true n e ih = subst (HasRoomFor room) (same d.literals ls n) h.0
+    go : (b : Bool) → same_literals d.literals ls ≡ b → cond b (Some d) (clause_with ls ds) ≡ Some c → (clause_with ls ds ≡ Some c → HasStoredRoom room ds → HasClauseRoom room ls) → HasClauseRoom room ls
+    go true n e ih = subst (HasClauseRoom room) (same d.literals ls n) h.0
     go false n e ih = ih e h.1
 
 -- a clause with a literal that there is no room for isn't stored
-pub no_room : (room c : List ℕ) (cs : List StoredClause) → is_part c room ≡ false → HasRoomForStored room cs → (r : Bool) → 0 < count_in r (clause_with (canonical c) cs) → ⊥
+pub no_room : (room c : List ℕ) (cs : List StoredClause) → is_part c room ≡ false → HasStoredRoom room cs → (r : Bool) → 0 < store_count_in r (clause_with (canonical c) cs) → ⊥
 no_room room c cs n h r k = go (clause_with (canonical c) cs) refl r k
   where
-    go : (o : Option StoredClause) → clause_with (canonical c) cs ≡ o → (r : Bool) → 0 < count_in r o → ⊥
+    go : (o : Option StoredClause) → clause_with (canonical c) cs ≡ o → (r : Bool) → 0 < store_count_in r o → ⊥
     go None e true k = absurd (omega arith)
     go None e false k = absurd (omega arith)
     go (Some d) e r k = both_ways (is_part c room) n (all_true (is_among room) c (λ l m. roomy room (canonical c) l (room_found room (canonical c) d cs e h) (canonical_among c l ∙ m)))
 
-pub refused : (f : Stored) (c : List ℕ) (p : Deletion) → ((r : Bool) → 0 < count_in r (clause_with (canonical c) f.clauses) → ⊥) → Accepts f (DeleteClause c p) → ⊥
+pub refused : (f : Stored) (c : List ℕ) (p : Deletion) → ((r : Bool) → 0 < store_count_in r (clause_with (canonical c) f.clauses) → ⊥) → Accepts f (DeleteClause c p) → ⊥
 refused f c Redundant n h = n true h
 refused f c Satisfied n h = n false h.0
 refused f c Simplified n h = n false h.0

@@ -12,7 +12,7 @@ use Rattle.sat_checker.specs.Storing.{with_unit, with_contradiction, with_new_un
 use Rattle.sat_checker.specs.Accepts.{PassesByHashes, PassInTurn}
 use Rattle.sat_checker.specs.inner.InTurn.{with_supposed, stands_first, AssumesUnits, PassBehind}
 use Rattle.sat_checker.specs.inner.Look.{AssumesMore}
-use Rattle.sat_checker.specs.inner.Room.{LiteralsAndRoom, AgreesOn, HasRoomForAll, HasRoomForStored}
+use Rattle.sat_checker.specs.inner.AssumedRoom.{LiteralsAndRoom, AgreesOn, HasClausesRoom, HasStoredRoom}
 use Rattle.sat_checker.specs.inner.SlotView.{bucket_of, live}
 use Rattle.sat_checker.specs.inner.StoreView.{KeepsClauses}
 use Rattle.sat_checker.specs.inner.UnitView.{UnitsAndRoom}
@@ -147,7 +147,7 @@ supposed_more old mid new x h e = subst (AssumesMore old) (sym e) (go (is_among 
     go false = h
 
 -- A unit passes over literals that agree with the units as far as there is room, and about itself.
-pub agreeing : (room us vs : List ℕ) (l : ℕ) (bs : List (List (List ℕ))) → AllByRecursion (HasRoomForAll room) bs → AgreesOn room us vs → is_among us l ≡ is_among vs l → PassesCheck us (l ∷ []) bs → PassesCheck vs (l ∷ []) bs
+pub agreeing : (room us vs : List ℕ) (l : ℕ) (bs : List (List (List ℕ))) → AllByRecursion (HasClausesRoom room) bs → AgreesOn room us vs → is_among us l ≡ is_among vs l → PassesCheck us (l ∷ []) bs → PassesCheck vs (l ∷ []) bs
 agreeing room us vs l bs roomy same itself (tautology t) = tautology t
 agreeing room us vs l bs roomy same itself (unit_true t) = unit_true (ap (λ b. b || false) (sym itself) ∙ t)
 agreeing room us vs l bs roomy same itself (conflict k) = conflict (rule_same room (negated l ∷ us) (negated l ∷ vs) bs (λ m r. ap (λ b. eqb (negated l) m || b) (same m r)) roomy k)
@@ -166,11 +166,11 @@ module _ (store : Store) (t : LiteralsAndRoom) (before : List ℕ) (l h : ℕ) (
       go false k i = none (is_among t.literals l) refl k ∙ sym i ∙ sym (s.others l k)
 
   pub unit_exact : {E : Type 0} (r : Result Bool E) → ((m : ℕ) → is_among t.literals m ≡ true → is_among t.room m ≡ true)
-      → IfOk r (λ yes'. HasRoomForStored t.room (live store.clauses) → (yes' ≡ true) ↔ PassesCheck t.literals (l ∷ []) (map (bucket_of store.clauses) (h ∷ [])))
-      → IfOk r (λ yes'. (f : Stored) → KeepsClauses store f → HasRoomForStored t.room f.clauses → AssumesUnits t before f → (yes' ≡ true) ↔ PassesByHashes f (l ∷ []) (h ∷ []))
+      → IfOk r (λ yes'. HasStoredRoom t.room (live store.clauses) → (yes' ≡ true) ↔ PassesCheck t.literals (l ∷ []) (map (bucket_of store.clauses) (h ∷ [])))
+      → IfOk r (λ yes'. (f : Stored) → KeepsClauses store f → HasStoredRoom t.room f.clauses → AssumesUnits t before f → (yes' ≡ true) ↔ PassesByHashes f (l ∷ []) (h ∷ []))
   unit_exact (Err x) stand k = tt
   unit_exact (Ok b) stand k = λ f c r s.
-      let stored = subst (HasRoomForStored t.room) (sym c.clauses) r in
+      let stored = subst (HasStoredRoom t.room) (sym c.clauses) r in
       let exact = k stored in
       let roomy = buckets_roomy t.room (h ∷ []) store.clauses stored in
       let same : map (bucket_of store.clauses) (h ∷ []) ≡ map (bucket f) (h ∷ []) = ap (λ x. x ∷ []) (bucket_same store f c h) in
@@ -188,10 +188,10 @@ kept_with store x f k = go (is_unit f x) (is_unit f (negated x))
     go false true = record { clauses = k.clauses; hashed = k.hashed; names = k.names; width = k.width }
     go false false = record { clauses = k.clauses; hashed = k.hashed; names = k.names; width = k.width }
 
-roomy_with : (room : List ℕ) (x : ℕ) (f : Stored) → HasRoomForStored room f.clauses → HasRoomForStored room (with_unit x f).clauses
+roomy_with : (room : List ℕ) (x : ℕ) (f : Stored) → HasStoredRoom room f.clauses → HasStoredRoom room (with_unit x f).clauses
 roomy_with room x f h = go (is_unit f x) (is_unit f (negated x))
   where
-    go : (b d : Bool) → HasRoomForStored room (cond b f (cond d (with_contradiction x f) (with_new_unit x f))).clauses
+    go : (b d : Bool) → HasStoredRoom room (cond b f (cond d (with_contradiction x f) (with_new_unit x f))).clauses
     go true d = h
     go false true = h
     go false false = h
@@ -200,14 +200,14 @@ roomy_with room x f h = go (is_unit f x) (is_unit f (negated x))
 pub record Passing (store : Store) (room : List ℕ) (f : Stored) (all : List (ℕ × ℕ)) (i : ℕ) (trail : LiteralsAndRoom) : Type 0 where
   pub now : Stored
   pub kept : KeepsClauses store now
-  pub roomy : HasRoomForStored room now.clauses
+  pub roomy : HasStoredRoom room now.clauses
   pub supposes : AssumesUnits trail (firsts (take i all)) now
   pub on : PassBehind now (drop i all) → PassBehind f all
   pub back : PassBehind f all → PassBehind now (drop i all)
 
 -- none came in
 pub passing_none : (store : Store) (trail : LiteralsAndRoom) (f : Stored) (all : List (ℕ × ℕ)) → ((l : ℕ) → is_among trail.literals l ≡ true → is_among trail.room l ≡ true) → KeepsClauses store f → ((l : ℕ) → is_among trail.literals l ≡ is_unit f l)
-    → HasRoomForStored trail.room f.clauses → Passing store trail.room f all 0 trail
+    → HasStoredRoom trail.room f.clauses → Passing store trail.room f all 0 trail
 passing_none store trail f all stand k is h = record {
   now = f;
   kept = k;
@@ -243,10 +243,10 @@ module _ (store : Store) (room : List ℕ) (f : Stored) (all : List (ℕ × ℕ)
         subst (λ t. AssumesUnits t (firsts (take place all)) behind) (sym e) (subst (λ ls. AssumesUnits (record trail { literals = with_supposed u.0 trail }) ls behind) (sym came)
         (supposes_more trail (firsts (take i all)) p.now u.0 p.supposes (subst (λ r. (l : ℕ) → is_among r l ≡ is_among r (negated l)) (sym same) paired)))
 
-    pub behind_judged : (before : List (ℕ × ℕ)) → before ≡ take place all → (b : Bool) → ((g : Stored) → KeepsClauses store g → HasRoomForStored new.room g.clauses → AssumesUnits new (firsts before) g → (b ≡ true) ↔ PassesByHashes g (v.0 ∷ []) (v.1 ∷ []))
+    pub behind_judged : (before : List (ℕ × ℕ)) → before ≡ take place all → (b : Bool) → ((g : Stored) → KeepsClauses store g → HasStoredRoom new.room g.clauses → AssumesUnits new (firsts before) g → (b ≡ true) ↔ PassesByHashes g (v.0 ∷ []) (v.1 ∷ []))
         → (b ≡ true) ↔ PassesByHashes behind (v.0 ∷ []) (v.1 ∷ [])
     behind_judged before front b exact =
-        exact behind (kept_with store u.0 p.now p.kept) (subst (λ r. HasRoomForStored r behind.clauses) (sym (ap (λ (t : LiteralsAndRoom). t.room) e ∙ same)) (roomy_with room u.0 p.now p.roomy))
+        exact behind (kept_with store u.0 p.now p.kept) (subst (λ r. HasStoredRoom r behind.clauses) (sym (ap (λ (t : LiteralsAndRoom). t.room) e ∙ same)) (roomy_with room u.0 p.now p.roomy))
         (subst (λ us. AssumesUnits new (firsts us) behind) (sym front) behind_supposes)
 
     pub behind_passing : (j : ℕ) → j ≡ place → (more : LiteralsAndRoom) → more ≡ new → PassesByHashes behind (v.0 ∷ []) (v.1 ∷ []) → Passing store room f all j more
@@ -282,17 +282,17 @@ looks_end old looks p m n l h = let e : (p - 1) * n ≤ (m - 1) * n = grind arit
 
 -- over units, whatever their ids
 pub passed_units : {E : Type 0} (r : Result Bool E) (store : Store) (value : UnitsAndRoom) (trail : LiteralsAndRoom) (units : List (ℕ × ℕ)) → ((l : ℕ) → is_among trail.literals l ≡ is_among (map (λ u. u.literal) value.units) l) → trail.room ≡ value.room
-    → IfOk r (λ b. (f : Stored) → KeepsClauses store f → ((l : ℕ) → is_among trail.literals l ≡ is_unit f l) → HasRoomForStored trail.room f.clauses → (b ≡ true) ↔ PassBehind f units)
-    → IfOk r (λ b. (f : Stored) → KeepsClauses store f → map (λ u. u.literal) value.units ≡ unit_literals f → HasRoomForStored value.room f.clauses → (b ≡ true) ↔ PassBehind f units)
-passed_units (Ok b) store value trail units same room h = λ f k u r. h f k (λ l. same l ∙ ap (λ ls. is_among ls l) u) (subst (λ x. HasRoomForStored x f.clauses) (sym room) r)
+    → IfOk r (λ b. (f : Stored) → KeepsClauses store f → ((l : ℕ) → is_among trail.literals l ≡ is_unit f l) → HasStoredRoom trail.room f.clauses → (b ≡ true) ↔ PassBehind f units)
+    → IfOk r (λ b. (f : Stored) → KeepsClauses store f → map (λ u. u.literal) value.units ≡ unit_literals f → HasStoredRoom value.room f.clauses → (b ≡ true) ↔ PassBehind f units)
+passed_units (Ok b) store value trail units same room h = λ f k u r. h f k (λ l. same l ∙ ap (λ ls. is_among ls l) u) (subst (λ x. HasStoredRoom x f.clauses) (sym room) r)
 passed_units (Err e) store value trail units same room h = tt
 
-pub short_units : {E : Type 0} (r : Result Bool E) (store : Store) (old new : List ℕ) → old ≡ new → OnErr r ((f : Stored) → KeepsClauses store f → HasRoomForStored old f.clauses → ⊥) → OnErr r ((f : Stored) → KeepsClauses store f → HasRoomForStored new f.clauses → ⊥)
-short_units r store old new e h = subst (λ x. OnErr r ((f : Stored) → KeepsClauses store f → HasRoomForStored x f.clauses → ⊥)) e h
+pub short_units : {E : Type 0} (r : Result Bool E) (store : Store) (old new : List ℕ) → old ≡ new → OnErr r ((f : Stored) → KeepsClauses store f → HasStoredRoom old f.clauses → ⊥) → OnErr r ((f : Stored) → KeepsClauses store f → HasStoredRoom new f.clauses → ⊥)
+short_units r store old new e h = subst (λ x. OnErr r ((f : Stored) → KeepsClauses store f → HasStoredRoom x f.clauses → ⊥)) e h
 
 -- over all that a check needs
 pub passed_as : {E : Type 0} (r : Result Bool E) (F : Formula) (units : List (ℕ × ℕ))
-    → IfOk r (λ b. (f : Stored) → KeepsClauses F.store f → map (λ u. u.literal) F.units.units ≡ unit_literals f → HasRoomForStored F.units.room f.clauses → (b ≡ true) ↔ PassBehind f units)
+    → IfOk r (λ b. (f : Stored) → KeepsClauses F.store f → map (λ u. u.literal) F.units.units ≡ unit_literals f → HasStoredRoom F.units.room f.clauses → (b ≡ true) ↔ PassBehind f units)
     → IfOk r (λ b. (f : Stored) → ChecksAs F f → (b ≡ true) ↔ PassBehind f units)
 passed_as (Ok b) F units h = λ f a. h f a.clauses a.units a.room
 passed_as (Err e) F units h = tt

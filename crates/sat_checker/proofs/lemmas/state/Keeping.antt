@@ -8,8 +8,8 @@ use Rattle.sat_checker.specs.Stored.{Stored, Variable, Sample, mode_of}
 use Rattle.sat_checker.specs.Storing.{settled, with_stored, with_input, with_literals_known, with_solver_name, with_known}
 use Rattle.sat_checker.specs.Accepts.{effect, IsStrictSubset}
 use Rattle.sat_checker.specs.Spent.{IsSpent}
-use Rattle.sat_checker.specs.inner.FormulaView.{KeepsFormula, refiled_in, TurnsIf, KeepsOrSpends}
-use Rattle.sat_checker.specs.inner.StateView.{KeepsStored, with_added}
+use Rattle.sat_checker.specs.inner.FormulaView.{KeepsFormula, refiled_in, FormulaEffectIf, KeepsOrSpends}
+use Rattle.sat_checker.specs.inner.StateView.{KeepsStored, with_added_clause}
 use Rattle.sat_checker.specs.inner.VariablesView.{KeepsVariables, AreSampling}
 use Rattle.sat_checker.specs.declared.store.StoreError.{StoreError}
 use Rattle.sat_checker.specs.declared.store.StoreError.TheVariants.{OutOfMemory, CounterEnd}
@@ -21,10 +21,10 @@ use Rattle.sat_checker.proofs.lemmas.state.Scanning.{same_part}
 use Rattle.sat_checker.proofs.lemmas.meaning.Names.{SameVariables, stored_same, settled_same}
 
 -- an error is handed on
-pub decides_err : {T : Type 0} (first : Result T StoreError) (result : Result Bool StoreError) (d e : StoreError) → first ≡ Err e → result ≡ Err d → d ≡ e → (K A L : Type 0) (g h : Stored) → A → (IsSpent g → IsSpent h) → KeepsOrSpends first K g → TurnsIf result A L h
-decides_err {T = T} first result d e a b s K A L g h p w t = subst (λ x. TurnsIf x A L h) (sym (b ∙ ap Err s)) (go e (subst (λ x. KeepsOrSpends x K g) a t))
+pub decides_err : {T : Type 0} (first : Result T StoreError) (result : Result Bool StoreError) (d e : StoreError) → first ≡ Err e → result ≡ Err d → d ≡ e → (K A L : Type 0) (g h : Stored) → A → (IsSpent g → IsSpent h) → KeepsOrSpends first K g → FormulaEffectIf result A L h
+decides_err {T = T} first result d e a b s K A L g h p w t = subst (λ x. FormulaEffectIf x A L h) (sym (b ∙ ap Err s)) (go e (subst (λ x. KeepsOrSpends x K g) a t))
   where
-    go : (e : StoreError) → KeepsOrSpends {T = T} (Err e) K g → TurnsIf (Err e) A L h
+    go : (e : StoreError) → KeepsOrSpends {T = T} (Err e) K g → FormulaEffectIf (Err e) A L h
     go OutOfMemory t = p
     go CounterEnd t = (p, w t)
 
@@ -44,15 +44,15 @@ pub derived : (new : State) (f : Stored) (r : Bool) (c : List ℕ) → KeepsForm
 derived new f r c F V a = let s = stored_same r c (with_literals_known c f) in record { formula = loosened new.formula (with_stored r c (with_literals_known c f)) F; variables = subst (KeepsVariables new.variables) (sym s.variables) V; assumed = a ∙ ap canonical (sym s.assumed) }
 
 -- a clause of the formula
-pub input_kept : (new : State) (f : Stored) (c : List ℕ) → KeepsFormula new.formula (with_input c (with_literals_known c f)) → KeepsVariables new.variables (with_literals_known c f).variables → new.assumed ≡ canonical f.assumed → KeepsStored new (with_added c f)
+pub input_kept : (new : State) (f : Stored) (c : List ℕ) → KeepsFormula new.formula (with_input c (with_literals_known c f)) → KeepsVariables new.variables (with_literals_known c f).variables → new.assumed ≡ canonical f.assumed → KeepsStored new (with_added_clause c f)
 input_kept new f c F V a =
     let s = stored_same false c (with_literals_known c f) in record { formula = loosened new.formula (with_input c (with_literals_known c f)) F; variables = subst (KeepsVariables new.variables) (sym s.variables) V; assumed = a ∙ ap canonical (sym s.assumed) }
 
-pub added : (new : State) (f : Stored) (c : List ℕ) → f.unsat ≡ false → KeepsStored new (with_added c f) → KeepsStored new (effect (AddClause c) f)
-added new f c e k = subst (λ b. KeepsStored new (cond b f (with_added c f))) (sym e) k
+pub added : (new : State) (f : Stored) (c : List ℕ) → f.unsat ≡ false → KeepsStored new (with_added_clause c f) → KeepsStored new (effect (AddClause c) f)
+added new f c e k = subst (λ b. KeepsStored new (cond b f (with_added_clause c f))) (sym e) k
 
-pub added_spent : (f : Stored) (c : List ℕ) → f.unsat ≡ false → IsSpent (with_added c f) → IsSpent (effect (AddClause c) f)
-added_spent f c e k = subst (λ b. IsSpent (cond b f (with_added c f))) (sym e) k
+pub added_spent : (f : Stored) (c : List ℕ) → f.unsat ≡ false → IsSpent (with_added_clause c f) → IsSpent (effect (AddClause c) f)
+added_spent f c e k = subst (λ b. IsSpent (cond b f (with_added_clause c f))) (sym e) k
 
 -- a solver name
 pub renamed : (new : State) (f : Stored) (v : ℕ) (name : Option ℕ) (n : ℕ) → name ≡ Some n → KeepsFormula (refiled_in new.formula) (with_solver_name v (Some n) f) → KeepsVariables new.variables (with_known (v ∷ []) f).variables → new.assumed ≡ canonical f.assumed

@@ -1,14 +1,14 @@
 -- What is said of a step of one kind is said of the step that is it.
 use Rattle.std.proofs.Common.{ℕ, ◌≡◌, Bool, Result, sym, subst}
 use Rattle.sat_base.specs.steps.Steps.{Step}
-use Rattle.sat_checker.specs.inner.StateView.{Decides, LooksWithin}
-use Rattle.sat_checker.specs.telling.NotedView.{Announces}
+use Rattle.sat_checker.specs.inner.StateView.{DecidesStep, LooksWithin}
+use Rattle.sat_checker.specs.listeners.NotedView.{Announces}
 use Rattle.sat_checker.specs.declared.announce.notes.Notes.{Notes}
 use Rattle.sat_checker.specs.declared.state.State.{State}
 use Rattle.sat_checker.specs.declared.store.StoreError.{StoreError}
 
-pub decided_as : (r : Result Bool StoreError) (old new : State) (step kind : Step) → step ≡ kind → Decides r old kind new → Decides r old step new
-decided_as r old new step kind e h = subst (λ s. Decides r old s new) (sym e) h
+pub decided_as : (r : Result Bool StoreError) (old new : State) (step kind : Step) → step ≡ kind → DecidesStep r old kind new → DecidesStep r old step new
+decided_as r old new step kind e h = subst (λ s. DecidesStep r old s new) (sym e) h
 
 pub within_as : (old : State) (step kind : Step) (before after : ℕ) → step ≡ kind → LooksWithin old kind before after → LooksWithin old step before after
 within_as old step kind before after e h = subst (λ s. LooksWithin old s before after) (sym e) h

@@ -3,50 +3,50 @@ use Rattle.std.proofs.Common.{ℕ, ◌+◌, Bool, true, false, cond, ◌&&◌, e
 use Rattle.sat_checker.specs.LiteralSets.{is_among, same_literals}
 use Rattle.sat_checker.specs.Stored.{StoredClause}
 use Rattle.sat_checker.specs.Storing.{with_stored_clause, without_clause, without_count, unless_gone}
-use Rattle.sat_checker.specs.inner.Room.{RoomStays, HasRoomFor, HasRoomForStored}
+use Rattle.sat_checker.specs.inner.AssumedRoom.{RoomStays, HasClauseRoom, HasStoredRoom}
 
-pub clause_stays : (old new ls : List ℕ) → RoomStays old new → HasRoomFor old ls → HasRoomFor new ls
+pub clause_stays : (old new ls : List ℕ) → RoomStays old new → HasClauseRoom old ls → HasClauseRoom new ls
 clause_stays old new [] s h = tt
 clause_stays old new (l ∷ ls) s h = ((s l h.0.0, s _ h.0.1), clause_stays old new ls s h.1)
 
-pub stored_stays : (old new : List ℕ) (cs : List StoredClause) → RoomStays old new → HasRoomForStored old cs → HasRoomForStored new cs
+pub stored_stays : (old new : List ℕ) (cs : List StoredClause) → RoomStays old new → HasStoredRoom old cs → HasStoredRoom new cs
 stored_stays old new [] s h = tt
 stored_stays old new (c ∷ cs) s h = (clause_stays old new c.literals s h.0, stored_stays old new cs s h.1)
 
 -- one clause more
-pub stored_with : (room : List ℕ) (r : Bool) (n : ℕ) (ls : List ℕ) (cs : List StoredClause) → HasRoomFor room ls → HasRoomForStored room cs → HasRoomForStored room (with_stored_clause r n ls cs)
+pub stored_with : (room : List ℕ) (r : Bool) (n : ℕ) (ls : List ℕ) (cs : List StoredClause) → HasClauseRoom room ls → HasStoredRoom room cs → HasStoredRoom room (with_stored_clause r n ls cs)
 stored_with room true n ls [] l h = (l, tt)
 stored_with room false n ls [] l h = (l, tt)
 stored_with room r n ls (c ∷ cs) l h = go r (same_literals c.literals ls) (stored_with room r n ls cs l h.1)
   where
-    go : (r b : Bool) → HasRoomForStored room (with_stored_clause r n ls cs)
-        → HasRoomForStored room (cond b (cond r (record c { redundant = c.redundant + 1 }) (record c { irredundant = c.irredundant + 1 }) ∷ cs) (c ∷ with_stored_clause r n ls cs))
+    go : (r b : Bool) → HasStoredRoom room (with_stored_clause r n ls cs)
+        → HasStoredRoom room (cond b (cond r (record c { redundant = c.redundant + 1 }) (record c { irredundant = c.irredundant + 1 }) ∷ cs) (c ∷ with_stored_clause r n ls cs))
     go true true ih = (h.0, h.1)
     go false true ih = (h.0, h.1)
     go r false ih = (h.0, ih)
 
 -- one count less
-pub stored_without : (room : List ℕ) (r : Bool) (ls : List ℕ) (cs : List StoredClause) → HasRoomForStored room cs → HasRoomForStored room (without_clause r ls cs)
+pub stored_without : (room : List ℕ) (r : Bool) (ls : List ℕ) (cs : List StoredClause) → HasStoredRoom room cs → HasStoredRoom room (without_clause r ls cs)
 stored_without room r ls [] h = tt
 stored_without room r ls (c ∷ cs) h = go (same_literals c.literals ls) (stored_without room r ls cs h.1)
   where
-    left : (d : StoredClause) → HasRoomFor room d.literals → HasRoomForStored room (unless_gone d ++ cs)
+    left : (d : StoredClause) → HasClauseRoom room d.literals → HasStoredRoom room (unless_gone d ++ cs)
     left d k = pick (eqb d.irredundant 0 && eqb d.redundant 0)
       where
-        pick : (b : Bool) → HasRoomForStored room (cond b [] (d ∷ []) ++ cs)
+        pick : (b : Bool) → HasStoredRoom room (cond b [] (d ∷ []) ++ cs)
         pick true = h.1
         pick false = (k, h.1)
 
-    taken : (r : Bool) → HasRoomFor room (without_count r c).literals
+    taken : (r : Bool) → HasClauseRoom room (without_count r c).literals
     taken true = h.0
     taken false = h.0
 
-    go : (b : Bool) → HasRoomForStored room (without_clause r ls cs) → HasRoomForStored room (cond b (unless_gone (without_count r c) ++ cs) (c ∷ without_clause r ls cs))
+    go : (b : Bool) → HasStoredRoom room (without_clause r ls cs) → HasStoredRoom room (cond b (unless_gone (without_count r c) ++ cs) (c ∷ without_clause r ls cs))
     go true ih = left (without_count r c) (taken r)
     go false ih = (h.0, ih)
 
 -- a literal of a clause that there is room for has room
-pub roomy_item : (room ls : List ℕ) (i x : ℕ) → i < length ls → x ≡ get_or ls i x → HasRoomFor room ls → is_among room x ≡ true
+pub roomy_item : (room ls : List ℕ) (i x : ℕ) → i < length ls → x ≡ get_or ls i x → HasClauseRoom room ls → is_among room x ≡ true
 roomy_item room [] i x h e r = absurd (omega arith)
 roomy_item room (l ∷ ls) zero x h e r = subst (λ k. is_among room k ≡ true) (sym e) r.0.0
 roomy_item room (l ∷ ls) (suc i) x h e r = roomy_item room ls i x (omega arith) e r.1

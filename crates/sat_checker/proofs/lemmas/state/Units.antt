@@ -10,7 +10,7 @@ use Rattle.sat_checker.specs.Spent.{IsSpent}
 use Rattle.sat_checker.specs.Stored.{Stored, is_unit}
 use Rattle.sat_checker.specs.Storing.{with_unit, with_contradiction, with_new_unit, with_units, with_known, with_literals_known}
 use Rattle.sat_checker.specs.Accepts.{PassesByHashes, PassInTurn, effect}
-use Rattle.sat_checker.specs.inner.FormulaView.{KeepsFormula, TurnsIf}
+use Rattle.sat_checker.specs.inner.FormulaView.{KeepsFormula, FormulaEffectIf}
 use Rattle.sat_checker.specs.inner.InTurn.{PassBehind}
 use Rattle.sat_checker.specs.inner.StateView.{KeepsStored}
 use Rattle.sat_checker.specs.inner.VariablesView.{KeepsVariables}
@@ -94,13 +94,13 @@ finished F f all i l left = let e = past all i l in (left.on (subst (PassInTurn 
     past (x ∷ xs) (suc i) l = past xs i (omega arith)
 
 -- A fault was met at one of them, which passes: those behind it pass too, or the units are refused.
-pub failed : (r : Result Bool StoreError) (fault : StoreError) (A B P K L : Type 0) (g h : Stored) → TurnsIf (Err fault) A K g → (IsSpent g → IsSpent h) → (A → P → B) → (B → P)
-    → MatchResult r (λ passes. (passes ≡ false) × (P → ⊥)) (λ e. (e ≡ fault) × P) → TurnsIf r B L h
+pub failed : (r : Result Bool StoreError) (fault : StoreError) (A B P K L : Type 0) (g h : Stored) → FormulaEffectIf (Err fault) A K g → (IsSpent g → IsSpent h) → (A → P → B) → (B → P)
+    → MatchResult r (λ passes. (passes ≡ false) × (P → ⊥)) (λ e. (e ≡ fault) × P) → FormulaEffectIf r B L h
 failed (Ok true) fault A B P K L g h t spent on back m = absurd (let e : true ≡ false = m.0 in cc)
 failed (Ok false) fault A B P K L g h t spent on back m = λ b. m.1 (back b)
-failed (Err e) fault A B P K L g h t spent on back m = subst (λ x. TurnsIf (Err x) B L h) (sym m.0) (go fault t)
+failed (Err e) fault A B P K L g h t spent on back m = subst (λ x. FormulaEffectIf (Err x) B L h) (sym m.0) (go fault t)
   where
-    go : (x : StoreError) → TurnsIf (Err x) A K g → TurnsIf (Err x) B L h
+    go : (x : StoreError) → FormulaEffectIf (Err x) A K g → FormulaEffectIf (Err x) B L h
     go OutOfMemory a = on a m.1
     go CounterEnd a = (on a.0 m.1, spent a.1)
 

@@ -5,7 +5,7 @@ use Rattle.sat_checker.specs.Looks.{total_length}
 use Rattle.sat_checker.specs.Stored.{StoredClause}
 use Rattle.sat_checker.specs.inner.Marks.{IsIncreasing, NoRepeats}
 use Rattle.sat_checker.specs.inner.SlotView.{Slot, is_gone, is_filed, all_lits, live, live_length, bucket_in, bucket_of}
-use Rattle.sat_checker.specs.inner.Room.{RoomStays, HasRoomFor, HasRoomForAll, HasRoomForStored}
+use Rattle.sat_checker.specs.inner.AssumedRoom.{RoomStays, HasClauseRoom, HasClausesRoom, HasStoredRoom}
 use Rattle.sat_checker.proofs.lemmas.sets.Marks.{once}
 use Rattle.sat_checker.proofs.lemmas.sets.Members.{each_weaker}
 use Rattle.sat_checker.proofs.lemmas.propagation.Walking.{over_buckets, roomy_further}
@@ -43,23 +43,23 @@ pub walked_all : (old looks i m : ℕ) (ss : List Slot) → looks ≤ old + i * 
 walked_all old looks i m ss a l = looks_within old looks i m (live_length ss) a l
 
 -- where there is room for what is stored, there is room for a bucket
-pub bucket_roomy : (room : List ℕ) (h : ℕ) (ss : List Slot) → HasRoomForStored room (live ss) → HasRoomForAll room (bucket_in h ss)
+pub bucket_roomy : (room : List ℕ) (h : ℕ) (ss : List Slot) → HasStoredRoom room (live ss) → HasClausesRoom room (bucket_in h ss)
 bucket_roomy room h [] r = tt
 bucket_roomy room h (s ∷ ss) r = go (is_gone s) (eqb s.hash h) r (bucket_roomy room h ss)
   where
-    go : (b d : Bool) → HasRoomForStored room (cond b [] (s.clause ∷ []) ++ live ss) → (HasRoomForStored room (live ss) → HasRoomForAll room (bucket_in h ss))
-        → HasRoomForAll room (all_lits (cond (not b && d) (s ∷ filter (is_filed h) ss) (filter (is_filed h) ss)))
+    go : (b d : Bool) → HasStoredRoom room (cond b [] (s.clause ∷ []) ++ live ss) → (HasStoredRoom room (live ss) → HasClausesRoom room (bucket_in h ss))
+        → HasClausesRoom room (all_lits (cond (not b && d) (s ∷ filter (is_filed h) ss) (filter (is_filed h) ss)))
     go true d k ih = ih k
     go false true k ih = (k.0, ih k.1)
     go false false k ih = ih k.1
 
-pub buckets_roomy : (room : List ℕ) (hashes : List ℕ) (ss : List Slot) → HasRoomForStored room (live ss) → AllByRecursion (HasRoomForAll room) (map (bucket_of ss) hashes)
+pub buckets_roomy : (room : List ℕ) (hashes : List ℕ) (ss : List Slot) → HasStoredRoom room (live ss) → AllByRecursion (HasClausesRoom room) (map (bucket_of ss) hashes)
 buckets_roomy room [] ss r = tt
 buckets_roomy room (h ∷ hs) ss r = (bucket_roomy room h ss r, buckets_roomy room hs ss r)
 
 -- and there still is where more is assumed
-pub stored_further : (old new : List ℕ) (cs : List StoredClause) → RoomStays old new → HasRoomForStored old cs → HasRoomForStored new cs
-stored_further old new cs s = each_weaker (λ c. HasRoomFor old c.literals) (λ c. HasRoomFor new c.literals) (λ c. roomy_further old new c.literals s) cs
+pub stored_further : (old new : List ℕ) (cs : List StoredClause) → RoomStays old new → HasStoredRoom old cs → HasStoredRoom new cs
+stored_further old new cs s = each_weaker (λ c. HasClauseRoom old c.literals) (λ c. HasClauseRoom new c.literals) (λ c. roomy_further old new c.literals s) cs
 
 -- in no clause of a bucket a literal stands twice
 pub buckets_once : (ss : List Slot) (hashes : List ℕ) → AllByRecursion IsIncreasing (all_lits ss) → AllByRecursion (AllByRecursion NoRepeats) (map (bucket_of ss) hashes)

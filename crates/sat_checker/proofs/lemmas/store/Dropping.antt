@@ -8,7 +8,7 @@ use Rattle.sat_checker.specs.LiteralSets.{is_among}
 use Rattle.sat_checker.specs.Stored.{Stored, hash_by}
 use Rattle.sat_checker.specs.Storing.{with_count, without_count}
 use Rattle.sat_checker.specs.inner.Marks.{IsIncreasing}
-use Rattle.sat_checker.specs.inner.IndexView.{Files, pairs_from}
+use Rattle.sat_checker.specs.inner.IndexView.{IndexesSlots, pairs_from}
 use Rattle.sat_checker.specs.inner.PairView.{Indexed, inserted, inserted_all, places_in, mixed}
 use Rattle.sat_checker.specs.inner.OccurrenceView.{times_in, times_stored, SlotsInvariant}
 use Rattle.sat_checker.specs.inner.SlotView.{Slot, unstored, slot_at, stored_slot, is_gone, is_filed, places_from, gone_count, slots_present, MayDrop, live, slot_ids, slot_count, with_count_at, without_count_at, all_hashed_by}
@@ -149,9 +149,9 @@ rising_standing (s ∷ ss) h = go (is_gone s) (rising_standing ss h.1)
     go false ih = (each_standing (λ m. s.clause.id < m) ss h.0, ih)
 
 -- what is kept beside the slots
-pub kept_standing : (ss new : List Slot) (index next : Indexed) (o : Occurrences) → SlotsInvariant ss index o → new ≡ slots_present ss → Files next (slots_present ss) → SlotsInvariant new next o
+pub kept_standing : (ss new : List Slot) (index next : Indexed) (o : Occurrences) → SlotsInvariant ss index o → new ≡ slots_present ss → IndexesSlots next (slots_present ss) → SlotsInvariant new next o
 kept_standing ss new index next o k e f = record {
-  files = subst (Files next) (sym e) f;
+  files = subst (IndexesSlots next) (sym e) f;
   counted = λ l. k.counted l ∙ sym (times_standing l ss) ∙ ap (times_stored l) (sym e);
 }
 
@@ -232,5 +232,5 @@ place_among k (s ∷ ss) (suc i) n l g e = go (is_filed (slot_at ss i).hash s) (
     go true ih = or_right (eqb k n) (is_among (places_from (k + 1) (slot_at ss i).hash ss) n) ih
     go false ih = ih
 
-pub hash_filed : (ss : List Slot) (index : Indexed) (i : ℕ) → Files index ss → i < length ss → is_gone (slot_at ss i) ≡ false → is_among (places_in (mixed (slot_at ss i).hash) index.pairs) i ≡ true
+pub hash_filed : (ss : List Slot) (index : Indexed) (i : ℕ) → IndexesSlots index ss → i < length ss → is_gone (slot_at ss i) ≡ false → is_among (places_in (mixed (slot_at ss i).hash) index.pairs) i ≡ true
 hash_filed ss index i f l g = ap (λ ps. is_among ps i) (f.filed (slot_at ss i).hash) ∙ place_among 0 ss i i l g (let z : 0 + i ≡ i = omega arith in z)

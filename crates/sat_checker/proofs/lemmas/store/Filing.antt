@@ -6,7 +6,7 @@ use Rattle.std.specs.List.{AllByRecursion}
 use Rattle.std.specs.Option.{IfSome}
 use Rattle.sat_checker.specs.LiteralSets.{is_among}
 use Rattle.sat_checker.specs.inner.Marks.{IsIncreasing}
-use Rattle.sat_checker.specs.inner.IndexView.{without_place, pairs_from, pairs_of, Files}
+use Rattle.sat_checker.specs.inner.IndexView.{without_place, pairs_from, pairs_of, IndexesSlots}
 use Rattle.sat_checker.specs.inner.PairView.{Indexed, AreInOrder, is_before, inserted, inserted_all, without_pair, places_in, first_of, places_behind, from_on, mixed}
 use Rattle.sat_checker.specs.inner.SlotView.{Slot, is_gone, is_filed, places_from, places_of}
 use Rattle.sat_checker.specs.declared.store.links.Pair.{Pair}
@@ -111,8 +111,8 @@ filed_places q k (s ∷ ss) = go (is_gone s) (filed_places q (k + 1) ss)
     go false ih = places_before q (record { hash = mixed s.hash; place = k }) (inserted_all (pairs_from (k + 1) ss)) (filed_above k (k + 1) ss (omega arith)) ∙ pick (eqb (mixed s.hash) q) ih
 
 -- an index in which the pairs of all slots were put in
-pub files_all : (ss : List Slot) (index : Indexed) → index ≡ record { pairs = inserted_all (pairs_of ss); places = length ss } → Files index ss
-files_all ss index e = subst (λ x. Files x ss) (sym e) (record {
+pub files_all : (ss : List Slot) (index : Indexed) → index ≡ record { pairs = inserted_all (pairs_of ss); places = length ss } → IndexesSlots index ss
+files_all ss index e = subst (λ x. IndexesSlots x ss) (sym e) (record {
   filed = λ q. filed_places (mixed q) 0 ss ∙ pairs_places q 0 ss;
   places = refl;
   in_order = filed_in_order 0 ss;

@@ -9,7 +9,7 @@ use Rattle.sat_checker.specs.HasherView.{solver_name_of, width_of}
 use Rattle.sat_checker.specs.announcements.Needed.{clauses_named}
 use Rattle.std.specs.Result.{OnErr}
 use Rattle.sat_checker.specs.inner.Reasons.{filed, named}
-use Rattle.sat_checker.specs.inner.Room.{HasRoomForStored}
+use Rattle.sat_checker.specs.inner.AssumedRoom.{HasStoredRoom}
 use Rattle.sat_checker.specs.inner.SlotView.{Slot, is_gone, is_filed, all_lits, live, live_length, bucket_in, bucket_of}
 use Rattle.sat_checker.specs.inner.StoreView.{AreHashed, KeepsClauses}
 use Rattle.sat_checker.specs.declared.store.Store.{Store}
@@ -76,15 +76,15 @@ named_same store f p (k ∷ ks) =
     ∙ ap (λ cs. filter (λ c. eqb (hash_by f.solver_names f.width c.literals) k) f.clauses ++ cs) (named_same store f p ks)
 
 -- there is room for the clauses that are kept
-room_kept : (store : Store) (room : List ℕ) (f : Stored) → KeepsClauses store f → HasRoomForStored room f.clauses → HasRoomForStored room (live store.clauses)
-room_kept store room f k h = subst (HasRoomForStored room) (sym k.clauses) h
+room_kept : (store : Store) (room : List ℕ) (f : Stored) → KeepsClauses store f → HasStoredRoom room f.clauses → HasStoredRoom room (live store.clauses)
+room_kept store room f k h = subst (HasStoredRoom room) (sym k.clauses) h
 
-pub checked : {E : Type 0} (r : Result Bool E) (store : Store) (room units clause hashes : List ℕ) → IfOk r (λ yes'. HasRoomForStored room (live store.clauses) → (yes' ≡ true) ↔ PassesCheck units clause (map (bucket_of store.clauses) hashes))
-    → IfOk r (λ yes'. (f : Stored) → KeepsClauses store f → HasRoomForStored room f.clauses → (yes' ≡ true) ↔ PassesCheck units clause (map (bucket f) hashes))
+pub checked : {E : Type 0} (r : Result Bool E) (store : Store) (room units clause hashes : List ℕ) → IfOk r (λ yes'. HasStoredRoom room (live store.clauses) → (yes' ≡ true) ↔ PassesCheck units clause (map (bucket_of store.clauses) hashes))
+    → IfOk r (λ yes'. (f : Stored) → KeepsClauses store f → HasStoredRoom room f.clauses → (yes' ≡ true) ↔ PassesCheck units clause (map (bucket f) hashes))
 checked (Ok b) store room units clause hashes h = λ f k roomy. subst (λ bs. (b ≡ true) ↔ PassesCheck units clause bs) (buckets_same store f k hashes) (h (room_kept store room f k roomy))
 checked (Err e) store room units clause hashes h = tt
 
-pub short_checked : {E : Type 0} (r : Result Bool E) (store : Store) (room : List ℕ) → OnErr r (HasRoomForStored room (live store.clauses) → ⊥) → OnErr r ((f : Stored) → KeepsClauses store f → HasRoomForStored room f.clauses → ⊥)
+pub short_checked : {E : Type 0} (r : Result Bool E) (store : Store) (room : List ℕ) → OnErr r (HasStoredRoom room (live store.clauses) → ⊥) → OnErr r ((f : Stored) → KeepsClauses store f → HasStoredRoom room f.clauses → ⊥)
 short_checked (Ok b) store room h = tt
 short_checked (Err e) store room h = λ f k roomy. h (room_kept store room f k roomy)
 

@@ -3,7 +3,7 @@ use Rattle.std.proofs.Common.{ℕ, suc, ◌+◌, ◌<◌, ◌≤◌, ◌≡◌, 
 use Rattle.std.proofs.lemmas.Bool.{true≢false}
 use Rattle.std.specs.Result.{is_err}
 use Rattle.std.proofs.lemmas.List.{length-set}
-use Rattle.sat_checker.specs.inner.IndexView.{Files}
+use Rattle.sat_checker.specs.inner.IndexView.{IndexesSlots}
 use Rattle.sat_checker.specs.inner.PairView.{Indexed, places_in, inserted, without_pair, mixed}
 use Rattle.sat_checker.specs.inner.OccurrenceView.{count_at, times_in, times_stored, SlotsInvariant}
 use Rattle.sat_checker.specs.Storing.{with_count, without_count}
@@ -19,7 +19,7 @@ use Rattle.sat_checker.proofs.lemmas.store.Counting.{times_more, times_counted, 
 pub kept_stored : (ss new all : List Slot) (index next : Indexed) (o mid p : Occurrences) (r : Bool) (id hash place : ℕ) (literals : List ℕ) → SlotsInvariant ss index o → ((l : ℕ) → count_at mid l ≡ count_at o l) → place ≡ length ss
     → next ≡ record { pairs = inserted (record { hash = mixed hash; place = index.places }) index.pairs; places = index.places + 1 } → new ≡ ss ++ unstored id hash literals ∷ [] → all ≡ with_count_at r place new → ((l : ℕ) → count_at p l ≡ count_at mid l + times_in l literals) → SlotsInvariant all next p
 kept_stored ss new all index next o mid p r id hash place literals k m is h e s a = record {
-  files = subst (λ x. Files x all) (sym h) (record {
+  files = subst (λ x. IndexesSlots x all) (sym h) (record {
     filed = agrees_stored (λ q. places_in (mixed q) index.pairs) (λ q. places_in (mixed q) (inserted (record { hash = mixed hash; place = index.places }) index.pairs)) r id hash place literals ss new all k.files.filed is
         (λ q. places_inserted (mixed q) (record { hash = mixed hash; place = index.places }) index.pairs k.files.in_order k.files.below ∙ ap (λ b. cond b (places_in (mixed q) index.pairs ++ index.places ∷ []) (places_in (mixed q) index.pairs)) (mixed_same q hash)
         ∙ ap (λ x. cond (eqb q hash) (places_in (mixed q) index.pairs ++ x ∷ []) (places_in (mixed q) index.pairs)) (k.files.places ∙ sym is)) e s;
@@ -77,7 +77,7 @@ module _ (old ss new : List Slot) (index : Indexed) (o : Occurrences) (r : Bool)
   pub kept_removed : (next : Indexed) (p : Occurrences) (literals : List ℕ) → next ≡ record index { pairs = without_pair i index.pairs }
       → literals ≡ literals_at ss i → ((q : ℕ) → count_at p q + times_in q literals ≡ count_at o q) → is_gone (slot_at new i) ≡ true → SlotsInvariant new next p
   kept_removed next p literals w s m g = record {
-    files = subst (λ x. Files x new) (sym w) (record {
+    files = subst (λ x. IndexesSlots x new) (sym w) (record {
       filed = agrees_removed (λ q. places_in (mixed q) index.pairs) r i old ss new is l c k.files.filed e (λ q. places_in (mixed q) (without_pair i index.pairs)) (λ q. places_without (mixed q) i index.pairs) g;
       places = k.files.places ∙ sym length_left;
       in_order = order_filter (λ x. not (eqb x.place i)) index.pairs k.files.in_order;
@@ -97,9 +97,9 @@ pub count_hashed : (names : ℕ → Option ℕ) (width : ℕ) (ss : List Slot) �
 count_hashed names width [] = refl
 count_hashed names width (s ∷ ss) = ap suc (count_hashed names width ss)
 
-pub kept_hashed : (names : ℕ → Option ℕ) (width : ℕ) (old ss new : List Slot) (index next : Indexed) (o : Occurrences) → old ≡ ss → SlotsInvariant old index o → new ≡ all_hashed_by names width ss → Files next (all_hashed_by names width ss) → SlotsInvariant new next o
+pub kept_hashed : (names : ℕ → Option ℕ) (width : ℕ) (old ss new : List Slot) (index next : Indexed) (o : Occurrences) → old ≡ ss → SlotsInvariant old index o → new ≡ all_hashed_by names width ss → IndexesSlots next (all_hashed_by names width ss) → SlotsInvariant new next o
 kept_hashed names width old ss new index next o is k e f = record {
-  files = subst (Files next) (sym e) f;
+  files = subst (IndexesSlots next) (sym e) f;
   counted = λ q. k.counted q ∙ ap (times_stored q) is ∙ sym (times_hashed q names width ss) ∙ ap (times_stored q) (sym e);
 }
 

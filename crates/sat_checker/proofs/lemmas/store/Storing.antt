@@ -7,7 +7,7 @@ use Rattle.sat_checker.specs.Storing.{with_count, new_clause, with_stored_clause
 use Rattle.sat_checker.specs.HasherView.{solver_name_of, width_of}
 use Rattle.sat_checker.specs.inner.SlotView.{Slot, stored_slot, slot_at, slot_count, with_count_at, without_count_at, is_gone, live, live_length, bucket_in, places_from, places_of, is_same_at, found_among}
 use Rattle.sat_checker.specs.Looks.{total_length, literal_count}
-use Rattle.sat_checker.specs.inner.StoreView.{AreHashed, KeepsClauses, Stores, count_in, id_in}
+use Rattle.sat_checker.specs.inner.StoreView.{AreHashed, KeepsClauses, StoreEffect, store_count_in, id_in}
 use Rattle.sat_checker.specs.declared.store.Store.{Store}
 use Rattle.sat_checker.specs.declared.hash.ClauseHasher.{ClauseHasher}
 use Rattle.sat_checker.proofs.lemmas.meaning.Clauses.{same}
@@ -198,18 +198,18 @@ looks_one store hash old new h f k =
     let b : live_length store.clauses ≡ literal_count f = length_same store f k in omega arith
 
 module _ (store : Store) (f : Stored) (k : KeepsClauses store f) (literals : List ℕ) (hash : ℕ) (e : hash ≡ hash_by (solver_name_of store.hasher) (width_of store.hasher) literals) where
-  pub count_there : (p : ℕ) → Some p ≡ found_among store.clauses literals (places_of hash store.clauses) → (r : Bool) → count_in r (clause_with literals f.clauses) ≡ slot_count r (slot_at store.clauses p)
-  count_there p found r = ap (count_in r) (ap (clause_with literals) (sym k.clauses) ∙ (stands_found store.hasher store.clauses literals hash k.hashed e p found).is)
+  pub count_there : (p : ℕ) → Some p ≡ found_among store.clauses literals (places_of hash store.clauses) → (r : Bool) → store_count_in r (clause_with literals f.clauses) ≡ slot_count r (slot_at store.clauses p)
+  count_there p found r = ap (store_count_in r) (ap (clause_with literals) (sym k.clauses) ∙ (stands_found store.hasher store.clauses literals hash k.hashed e p found).is)
 
-  pub count_none : None ≡ found_among store.clauses literals (places_of hash store.clauses) → (r : Bool) → count_in r (clause_with literals f.clauses) ≡ 0
-  count_none found r = ap (count_in r) (ap (clause_with literals) (sym k.clauses) ∙ (stands_none store.hasher store.clauses literals hash k.hashed e found).none) ∙ zero_in r
+  pub count_none : None ≡ found_among store.clauses literals (places_of hash store.clauses) → (r : Bool) → store_count_in r (clause_with literals f.clauses) ≡ 0
+  count_none found r = ap (store_count_in r) (ap (clause_with literals) (sym k.clauses) ∙ (stands_none store.hasher store.clauses literals hash k.hashed e found).none) ∙ zero_in r
     where
-      zero_in : (r : Bool) → count_in r None ≡ 0
+      zero_in : (r : Bool) → store_count_in r None ≡ 0
       zero_in true = refl
       zero_in false = refl
 
   pub stored_again : (p : ℕ) → Some p ≡ found_among store.clauses literals (places_of hash store.clauses) → (r : Bool) (id stored_id : ℕ) (new : List Slot) → new ≡ with_count_at r p store.clauses → stored_id ≡ (slot_at new p).clause.id
-      → Stores (record store { clauses = new }) f id r literals stored_id false
+      → StoreEffect (record store { clauses = new }) f id r literals stored_id false
   stored_again p found r id stored_id new n i =
       let s = stands_found store.hasher store.clauses literals hash k.hashed e p found in
       let was : clause_with literals f.clauses ≡ Some (slot_at store.clauses p).clause = ap (clause_with literals) (sym k.clauses) ∙ s.is in
@@ -236,7 +236,7 @@ module _ (store : Store) (f : Stored) (k : KeepsClauses store f) (literals : Lis
       counted_id false c = refl
 
   pub stored_new : None ≡ found_among store.clauses literals (places_of hash store.clauses) → (r : Bool) (id : ℕ) (new : List Slot) → new ≡ store.clauses ++ stored_slot r id hash literals ∷ []
-      → Stores (record store { clauses = new }) f id r literals id true
+      → StoreEffect (record store { clauses = new }) f id r literals id true
   stored_new found r id new n =
       let s = stands_none store.hasher store.clauses literals hash k.hashed e found in
       let was : clause_with literals f.clauses ≡ None = ap (clause_with literals) (sym k.clauses) ∙ s.none in

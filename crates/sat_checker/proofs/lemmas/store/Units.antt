@@ -16,7 +16,7 @@ use Rattle.sat_checker.proofs.lemmas.propagation.Soundness.{negated-negated}
 use Rattle.sat_checker.specs.Storing.{unit_id}
 use Rattle.sat_checker.proofs.lemmas.sets.Order.{among-append, among-reverse}
 use Rattle.sat_checker.proofs.lemmas.sets.Subsets.{any_true, some_of}
-use Rattle.sat_checker.specs.inner.Room.{HasRoomForStored}
+use Rattle.sat_checker.specs.inner.AssumedRoom.{HasStoredRoom}
 use Rattle.sat_checker.specs.inner.LitNumbers.{number_at, AreTrailPlaces}
 use Rattle.sat_checker.specs.inner.Marks.{NoRepeats}
 use Rattle.sat_checker.specs.inner.UnitView.{UnitsInvariant}
@@ -91,16 +91,16 @@ contradicted_same us ls = same_tests _ _
     any_true (negated_in (map (λ u. u.literal) us)) ls (negated s.literal) s.passes (ap (is_among (map (λ u. u.literal) us)) (negated-negated s.literal) ∙ s.within))
 
 -- the check over what is kept is the definition's, whatever the order in which the units are assumed
-pub short_units : {E : Type 0} (r : Result Bool E) (store : Store) (room roomy : List ℕ) → roomy ≡ room → OnErr r ((f : Stored) → KeepsClauses store f → HasRoomForStored roomy f.clauses → ⊥) → OnErr r ((f : Stored) → KeepsClauses store f → HasRoomForStored room f.clauses → ⊥)
+pub short_units : {E : Type 0} (r : Result Bool E) (store : Store) (room roomy : List ℕ) → roomy ≡ room → OnErr r ((f : Stored) → KeepsClauses store f → HasStoredRoom roomy f.clauses → ⊥) → OnErr r ((f : Stored) → KeepsClauses store f → HasStoredRoom room f.clauses → ⊥)
 short_units (Ok b) store room roomy w h = tt
-short_units (Err e) store room roomy w h = λ f k there. h f k (subst (λ r. HasRoomForStored r f.clauses) (sym w) there)
+short_units (Err e) store room roomy w h = λ f k there. h f k (subst (λ r. HasStoredRoom r f.clauses) (sym w) there)
 
 pub checked_units : {E : Type 0} (r : Result Bool E) (store : Store) (value : List StoredUnit) (room roomy assigned clause hashes : List ℕ) → ((l : ℕ) → is_among assigned l ≡ is_among (map (λ u. u.literal) value) l) → roomy ≡ room
-    → IfOk r (λ b. (f : Stored) → KeepsClauses store f → HasRoomForStored roomy f.clauses → (b ≡ true) ↔ PassesCheck assigned clause (map (bucket f) hashes))
-    → IfOk r (λ b. (f : Stored) → KeepsClauses store f → value ≡ f.units → HasRoomForStored room f.clauses → (b ≡ true) ↔ PassesByHashes f clause hashes)
+    → IfOk r (λ b. (f : Stored) → KeepsClauses store f → HasStoredRoom roomy f.clauses → (b ≡ true) ↔ PassesCheck assigned clause (map (bucket f) hashes))
+    → IfOk r (λ b. (f : Stored) → KeepsClauses store f → value ≡ f.units → HasStoredRoom room f.clauses → (b ≡ true) ↔ PassesByHashes f clause hashes)
 checked_units (Err e) store value room roomy assigned clause hashes same w h = tt
 checked_units (Ok b) store value room roomy assigned clause hashes same w h = λ f k e there.
-    let exact = h f k (subst (λ r. HasRoomForStored r f.clauses) (sym w) there) in
+    let exact = h f k (subst (λ r. HasStoredRoom r f.clauses) (sym w) there) in
     let is : (l : ℕ) → is_among assigned l ≡ is_among (unit_literals f) l = λ l. same l ∙ ap (λ v. is_among (map (λ (u : StoredUnit). u.literal) v) l) e in (
       (λ t. same_passes assigned (unit_literals f) clause (map (bucket f) hashes) is (exact.0 t)),
       (λ p. exact.1 (same_passes (unit_literals f) assigned clause (map (bucket f) hashes) (λ l. sym (is l)) p)),

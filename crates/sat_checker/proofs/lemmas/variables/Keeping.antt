@@ -9,7 +9,7 @@ use Rattle.sat_base.specs.values.Literals.{variable}
 use Rattle.sat_checker.specs.LiteralSets.{is_among}
 use Rattle.sat_checker.specs.Stored.{Stored, Variable, Hide}
 use Rattle.sat_checker.specs.Accepts.{MayGetName}
-use Rattle.sat_checker.specs.inner.VariablesView.{known_if, mode_in, variable_of, variable_at, holder_at, KeepsVariables}
+use Rattle.sat_checker.specs.inner.VariablesView.{known_if, mode_in, variable_of_data, variable_at, holder_at, KeepsVariables}
 use Rattle.sat_checker.specs.declared.variables.Variables.{Variables}
 use Rattle.sat_checker.specs.declared.variables.VarData.{VarData}
 
@@ -41,7 +41,7 @@ module _ (vs : Variables) (f : Stored) (k : KeepsVariables vs f.variables) (v na
   refused_taken None e s h = true≢false (sym s)
   refused_taken (Some w) e s h = h.free w ((k.holders name w).0 (sym e))
 
-  pub refused_named : (d : VarData) → variable_of d ≡ variable_at vs v → is_some d.name ≡ true → MayGetName f v name → ⊥
+  pub refused_named : (d : VarData) → variable_of_data d ≡ variable_at vs v → is_some d.name ≡ true → MayGetName f v name → ⊥
   refused_named d e s h = named d.name refl s
     where
       none : d.name ≡ None
@@ -51,10 +51,10 @@ module _ (vs : Variables) (f : Stored) (k : KeepsVariables vs f.variables) (v na
       named None q s = true≢false (sym s)
       named (Some n) q s = let z : None ≡ Some n = sym none ∙ q in absurd (cc)
 
-  pub refused_hidden : (d : VarData) → variable_of d ≡ variable_at vs v → mode_in d.mode ≡ Hide → MayGetName f v name → ⊥
+  pub refused_hidden : (d : VarData) → variable_of_data d ≡ variable_at vs v → mode_in d.mode ≡ Hide → MayGetName f v name → ⊥
   refused_hidden d e s h = h.not_hidden (ap (λ (x : Variable). x.mode) (sym (k.each v) ∙ sym e) ∙ s)
 
-  pub may_get : (o : Option ℕ) (d : VarData) → o ≡ holder_at vs name → is_some o ≡ false → variable_of d ≡ variable_at vs v → is_some d.name ≡ false → (mode_in d.mode ≡ Hide → ⊥) → MayGetName f v name
+  pub may_get : (o : Option ℕ) (d : VarData) → o ≡ holder_at vs name → is_some o ≡ false → variable_of_data d ≡ variable_at vs v → is_some d.name ≡ false → (mode_in d.mode ≡ Hide → ⊥) → MayGetName f v name
   may_get o d e s q n m = record {
     free = λ w t. taken o e s w ((k.holders name w).1 t);
     nameless = sym (ap (λ (x : Variable). x.name) (k.each v)) ∙ sym (ap (λ (x : Variable). x.name) q) ∙ unnamed d.name n;

@@ -2,7 +2,7 @@ use Rattle.std.proofs.Common.{◌≡◌, ◌↔◌, true, map, refl, ap, subst}
 use Rattle.std.proofs.lemmas.Result.{IfOk-weaker, on_err_weaker}
 use Rattle.sat_checker.specs.Propagation.{PassesCheck}
 use Rattle.sat_checker.specs.inner.WalkNotes.{WalkNotes}
-use Rattle.sat_checker.specs.inner.Room.{signed}
+use Rattle.sat_checker.specs.inner.AssumedRoom.{signed}
 use Rattle.sat_checker.specs.inner.SlotView.{bucket_of, live}
 use Rattle.sat_checker.proofs.lemmas.propagation.Denied.{exact_when_met, exact_when_walked}
 use Rattle.sat_checker.proofs.lemmas.propagation.Walking.{Extends-undone}

@@ -1,6 +1,6 @@
 use Rattle.std.proofs.Common.{◌∙◌, map}
 use Rattle.std.proofs.lemmas.Result.{IfOk-weaker, on_err_weaker}
-use Rattle.sat_checker.specs.inner.Room.{signed}
+use Rattle.sat_checker.specs.inner.AssumedRoom.{signed}
 use Rattle.sat_checker.specs.inner.SlotView.{bucket_of, live}
 use Rattle.sat_checker.proofs.lemmas.propagation.InRoom.{exact_in_room}
 use Rattle.sat_checker.proofs.lemmas.store.Buckets.{buckets_once, buckets_roomy, stored_further}

@@ -1,6 +1,6 @@
 use Rattle.std.proofs.Common.{◌≡◌, drop}
 use Rattle.sat_checker.specs.inner.Look.{AssumesMore}
-use Rattle.sat_checker.specs.inner.Room.{signed}
+use Rattle.sat_checker.specs.inner.AssumedRoom.{signed}
 use Rattle.sat_checker.specs.inner.Walk.{denied_in_turn}
 use Rattle.sat_checker.proofs.rup.deny.Given as goal
 

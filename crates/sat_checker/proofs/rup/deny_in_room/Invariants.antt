@@ -1,6 +1,6 @@
 use Rattle.std.proofs.Common.{◌≡◌, take}
 use Rattle.sat_checker.specs.inner.Look.{AssumesMore}
-use Rattle.sat_checker.specs.inner.Room.{DeniedInRoom, signed}
+use Rattle.sat_checker.specs.inner.AssumedRoom.{DeniedInRoom, signed}
 use Rattle.sat_checker.proofs.rup.deny_in_room.Given as goal
 
 abbrev pub invariant-loop-place : goal.invariant-loop-place

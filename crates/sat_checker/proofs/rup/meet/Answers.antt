@@ -4,7 +4,7 @@ use Rattle.std.proofs.lemmas.Bool.{both_ways}
 use Rattle.sat_checker.specs.inner.Look.{verdict_of}
 use Rattle.sat_checker.specs.inner.WalkNotes.{WalkNotes}
 use Rattle.sat_checker.specs.inner.Reasons.{clause_at, KeepsGround}
-use Rattle.sat_checker.specs.inner.Room.{LiteralsAndRoom}
+use Rattle.sat_checker.specs.inner.AssumedRoom.{LiteralsAndRoom}
 use Rattle.sat_checker.specs.inner.SlotView.{literals_at}
 use Rattle.sat_checker.specs.inner.Walk.{falsified, opens, rests, verdict, walk_on}
 use Rattle.sat_checker.proofs.lemmas.propagation.Walking.{Extends-itself, Extends-assumed, opens_roomy, opens_same}

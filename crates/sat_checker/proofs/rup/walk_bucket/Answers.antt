@@ -5,7 +5,7 @@ use Rattle.sat_checker.specs.LiteralSets.{is_among}
 use Rattle.sat_checker.specs.Looks.{total_length}
 use Rattle.sat_checker.specs.inner.PairView.{first_of, places_behind, from_on}
 use Rattle.sat_checker.specs.inner.Reasons.{clause_at, filed, KeepsGround}
-use Rattle.sat_checker.specs.inner.Room.{HasRoomForAll}
+use Rattle.sat_checker.specs.inner.AssumedRoom.{HasClausesRoom}
 use Rattle.sat_checker.specs.inner.SlotView.{literals_at, places_of}
 use Rattle.sat_checker.specs.inner.Walk.{walk}
 use Rattle.sat_checker.proofs.lemmas.propagation.Walking.{Extends-itself, Extends-further, roomy_at, walk_more, walk_ends, looks_more, looks_ended}
@@ -67,7 +67,7 @@ returns-in_err-meet-clause-short c =
     let among = subst (λ o. IfSome o (λ p. is_among ps p ≡ true)) c.in-Some-next.is c.loop-next.invariant.among in
     let failed = (err_from_is_err_and c.from_residual.result c.from_residual.ensures.1).1 in
     rw failed (λ roomy. c.in_err-meet.ensures.short (roomy_at c.args.assigned.now.room c.loop-next.assigned.room (literals_at ss) ps c.in-Some-next.place c.loop-next.invariant.extends.room among
-    (subst (HasRoomForAll c.args.assigned.now.room) (sym (bucket_literals c.args.hash ss)) roomy)))
+    (subst (HasClausesRoom c.args.assigned.now.room) (sym (bucket_literals c.args.hash ss)) roomy)))
 
 pub returns-in_err-meet-clause-noted : goal.returns-in_err-meet-clause-noted
 returns-in_err-meet-clause-noted c = IfOk-from_err c.from_residual.result _ c.from_residual.ensures.0
@@ -146,7 +146,7 @@ loop-next-preserved c =
           let ps = places_of c.args.hash c.args.clauses.now in
           let among = subst (λ o. IfSome o (λ p. is_among ps p ≡ true)) c.in-Some-next.is c.loop-next.invariant.among in
           c.meet.ensures.same (roomy_at c.args.assigned.now.room c.loop-next.assigned.room (literals_at ss) ps c.in-Some-next.place c.loop-next.invariant.extends.room among
-          (subst (HasRoomForAll c.args.assigned.now.room) (sym (bucket_literals c.args.hash ss)) roomy)) ∙ c.loop-next.invariant.same roomy;
+          (subst (HasClausesRoom c.args.assigned.now.room) (sym (bucket_literals c.args.hash ss)) roomy)) ∙ c.loop-next.invariant.same roomy;
       looks = looks_more (literals_at c.args.clauses.now) (c.in-Some-next.place ∷ more) 0 (omega arith) _ c.loop-next.looks c.meet.new.looks
           (ap (λ qs. c.loop-next.looks + total_length (map (literals_at c.args.clauses.now) qs)) (sym left) ∙ c.loop-next.invariant.looks) c.meet.ensures.looks;
       leads = leads_next c.args.clauses.now c.args.passed.now c.loop-next.passed c.meet.new.passed c.args.assigned.now.literals c.loop-next.assigned.literals c.meet.new.assigned.literals (c.in-Some-next.place ∷ more) 0 (omega arith) _
@@ -169,7 +169,7 @@ returns-in_err-meet-clause-same c = λ roomy.
     let ps = places_of c.args.hash c.args.clauses.now in
     let among = subst (λ o. IfSome o (λ p. is_among ps p ≡ true)) c.in-Some-next.is c.loop-next.invariant.among in
     c.meet.ensures.same (roomy_at c.args.assigned.now.room c.loop-next.assigned.room (literals_at ss) ps c.in-Some-next.place c.loop-next.invariant.extends.room among
-    (subst (HasRoomForAll c.args.assigned.now.room) (sym (bucket_literals c.args.hash ss)) roomy)) ∙ c.loop-next.invariant.same roomy
+    (subst (HasClausesRoom c.args.assigned.now.room) (sym (bucket_literals c.args.hash ss)) roomy)) ∙ c.loop-next.invariant.same roomy
 
 pub returns-then-branch-clause-same : goal.returns-then-branch-clause-same
 returns-then-branch-clause-same c = λ roomy.
@@ -177,7 +177,7 @@ returns-then-branch-clause-same c = λ roomy.
     let ps = places_of c.args.hash c.args.clauses.now in
     let among = subst (λ o. IfSome o (λ p. is_among ps p ≡ true)) c.in-Some-next.is c.loop-next.invariant.among in
     c.meet.ensures.same (roomy_at c.args.assigned.now.room c.loop-next.assigned.room (literals_at ss) ps c.in-Some-next.place c.loop-next.invariant.extends.room among
-    (subst (HasRoomForAll c.args.assigned.now.room) (sym (bucket_literals c.args.hash ss)) roomy)) ∙ c.loop-next.invariant.same roomy
+    (subst (HasClausesRoom c.args.assigned.now.room) (sym (bucket_literals c.args.hash ss)) roomy)) ∙ c.loop-next.invariant.same roomy
 
 pub returns-clause-same : goal.returns-clause-same
 returns-clause-same c = c.loop-next.invariant.same

@@ -5,7 +5,7 @@ use Rattle.sat_checker.specs.Looks.{total_length}
 use Rattle.sat_checker.specs.inner.PairView.{from_on}
 use Rattle.sat_checker.specs.inner.SlotView.{bucket_in, literals_at, places_of}
 use Rattle.sat_checker.specs.inner.Look.{AssumesMore}
-use Rattle.sat_checker.specs.inner.Room.{HasRoomForAll}
+use Rattle.sat_checker.specs.inner.AssumedRoom.{HasClausesRoom}
 use Rattle.sat_checker.specs.inner.Reasons.{clause_at, filed, noted_length, KeepsGround}
 use Rattle.sat_checker.specs.inner.Walk.{walk}
 use Rattle.sat_checker.proofs.rup.walk_bucket.Given as goal
@@ -16,7 +16,7 @@ invariant-loop-next l = let left = from_on l.next (places_of l.hash l.clauses) i
   among : IfSome l.next (λ p. is_among (places_of l.hash l.clauses) p ≡ true);
   walked : walk l.fn.assigned.literals (bucket_in l.hash l.clauses) ≡ walk l.assigned.literals (map (literals_at l.clauses) left);
   extends : AssumesMore l.fn.assigned l.assigned;
-  same : HasRoomForAll l.fn.assigned.room (bucket_in l.hash l.clauses) → l.assigned.room ≡ l.fn.assigned.room;
+  same : HasClausesRoom l.fn.assigned.room (bucket_in l.hash l.clauses) → l.assigned.room ≡ l.fn.assigned.room;
   looks : l.looks + total_length (map (literals_at l.clauses) left) ≡ l.fn.looks + total_length (bucket_in l.hash l.clauses);
   leads : KeepsGround l.clauses l.fn.passed l.fn.assigned.literals (filed l.hash l.clauses) l.passed l.assigned.literals (map (clause_at l.clauses) left);
   read : noted_length l.clauses l.passed + l.fn.looks ≤ noted_length l.clauses l.fn.passed + l.looks;

@@ -1,5 +1,5 @@
 use Rattle.std.proofs.Common.{◌≡◌, ◌+◌, ◌*◌, ◌≤◌, drop, map}
-use Rattle.sat_checker.specs.inner.Room.{HasRoomForStored}
+use Rattle.sat_checker.specs.inner.AssumedRoom.{HasStoredRoom}
 use Rattle.sat_checker.specs.inner.SlotView.{bucket_of, live, live_length}
 use Rattle.sat_checker.specs.inner.Look.{AssumesMore}
 use Rattle.sat_checker.specs.inner.Reasons.{named, noted_length, KeepsGround}
@@ -11,7 +11,7 @@ abbrev pub invariant-loop-hash : goal.invariant-loop-hash
 invariant-loop-hash l = let buckets = map (bucket_of l.clauses) in record {
   walked : walk_buckets l.fn.assigned.literals (buckets l.hashes) ≡ walk_buckets l.assigned.literals (buckets (drop l.hash-index l.hashes));
   extends : AssumesMore l.fn.assigned l.assigned;
-  same : HasRoomForStored l.fn.assigned.room (live l.clauses) → l.assigned.room ≡ l.fn.assigned.room;
+  same : HasStoredRoom l.fn.assigned.room (live l.clauses) → l.assigned.room ≡ l.fn.assigned.room;
   looks : l.looks ≤ l.fn.looks + l.hash-index * live_length l.clauses;
   leads : KeepsGround l.clauses l.fn.passed l.fn.assigned.literals (named l.hashes l.clauses) l.passed l.assigned.literals (named (drop l.hash-index l.hashes) l.clauses);
   read : noted_length l.clauses l.passed + l.fn.looks ≤ noted_length l.clauses l.fn.passed + l.looks;

@@ -1,5 +1,5 @@
 use Rattle.std.proofs.Common.{[], refl}
-use Rattle.sat_checker.specs.telling.Hearing.{hearers}
+use Rattle.sat_checker.specs.listeners.Hearing.{hearers}
 use Rattle.sat_hints.proofs.lemmas.Written.{errs_written, ok_written}
 use Rattle.sat_hints.proofs.converting.write_checked.Goals as goal
 

@@ -1,7 +1,7 @@
 use Rattle.std.proofs.Common.{ℕ, ◌≡◌, ◌<◌, ◌≤◌, ◌^◌, ◌⊎◌, inl, inr, ◌++◌, ◌∷◌, [], length, drop, get_or, suc, refl, sym, ◌∙◌, ap, arith, rules}
 use Rattle.std.proofs.Math.Seq.{drop-cons}
 use Rattle.std.proofs.lemmas.List.{drop_all}
-use Rattle.sat_hints.specs.inner.LineReading.{digits_so_far}
+use Rattle.sat_hints.specs.inner.LineReading.{number_digits_so_far}
 use Rattle.sat_hints.proofs.lemmas.Digits.{grows, one_digit_more, no_number_past}
 use Rattle.sat_hints.proofs.lemmas.Words.{no_number_zero, no_number_stop}
 use Rattle.sat_hints.proofs.numbers.read_number.Goals as goal
@@ -21,7 +21,7 @@ returns-then-byte-lt48 c =
     let i = c.loop-i.i in
     let inside : i < length bytes = omega arith in
     let small : c.loop-i.number < 2 ^ 64 = omega arith in
-    let e : bytes ≡ digits_so_far c.loop-i.number ++ (get_or bytes i 0 ∷ drop (suc i) bytes) = c.loop-i.invariant.digits ∙ ap (λ r. digits_so_far c.loop-i.number ++ r) (drop-cons bytes i 0 inside) in
+    let e : bytes ≡ number_digits_so_far c.loop-i.number ++ (get_or bytes i 0 ∷ drop (suc i) bytes) = c.loop-i.invariant.digits ∙ ap (λ r. number_digits_so_far c.loop-i.number ++ r) (drop-cons bytes i 0 inside) in
     no_number_stop c.args.limit c.ranges.limit.fits c.loop-i.number (get_or bytes i 0) bytes (drop (suc i) bytes) small (outside (get_or bytes i 0) c.then-byte-lt48.either) (rw c.if-ends_number.false at c.ends_number.ensures) e
 
 pub loop-i-preserved : goal.loop-i-preserved
@@ -39,4 +39,4 @@ returns c =
     let bytes = c.args.bytes.now in
     let small : c.loop-i.number < 2 ^ 64 = omega arith in
     let e : drop c.loop-i.i bytes ≡ [] = drop_all c.loop-i.i bytes (omega arith) in
-    no_number_past c.args.limit c.ranges.limit.fits c.loop-i.number bytes small (c.loop-i.invariant.digits ∙ ap (λ r. digits_so_far c.loop-i.number ++ r) e)
+    no_number_past c.args.limit c.ranges.limit.fits c.loop-i.number bytes small (c.loop-i.invariant.digits ∙ ap (λ r. number_digits_so_far c.loop-i.number ++ r) e)

@@ -1,7 +1,7 @@
 use Rattle.std.proofs.Common.{◌<◌, ◌∷◌, length, sym, ap, subst, ◌∙◌, arith}
 use Rattle.sat_base.specs.values.Literals.{negated}
 use Rattle.sat_checker.specs.LiteralSets.{is_among}
-use Rattle.sat_checker.specs.inner.Room.{LiteralsAndRoom, RoomStays, signed}
+use Rattle.sat_checker.specs.inner.AssumedRoom.{LiteralsAndRoom, RoomStays, signed}
 use Rattle.sat_checker.proofs.lemmas.sets.Rooms.{room_stays, stays_further}
 use Rattle.sat_hints.proofs.lemmas.Signs.{lit_at, length-signed, both_met, assumes_none, assumes_same, assumes_more, assumes_all}
 use Rattle.sat_hints.proofs.propagating.assume_all.Goals as goal

@@ -1,4 +1,4 @@
-use Rattle.sat_checker.specs.inner.Room.{RoomStays, signed}
+use Rattle.sat_checker.specs.inner.AssumedRoom.{RoomStays, signed}
 use Rattle.sat_hints.proofs.lemmas.Signs.{AssumesFirst}
 use Rattle.sat_hints.proofs.propagating.assume_all.Given as goal
 

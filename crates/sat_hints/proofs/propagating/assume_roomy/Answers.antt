@@ -1,5 +1,5 @@
 use Rattle.std.proofs.Common.{◌∷◌, refl, sym, subst, ◌∙◌, arith}
-use Rattle.sat_checker.specs.inner.Room.{AgreesOn, signed}
+use Rattle.sat_checker.specs.inner.AssumedRoom.{AgreesOn, signed}
 use Rattle.sat_hints.proofs.lemmas.Signs.{length-signed, agrees_none, before_met, agrees_more, agrees_all}
 use Rattle.sat_hints.proofs.propagating.assume_roomy.Goals as goal
 

@@ -1,5 +1,5 @@
 use Rattle.std.proofs.Common.{◌≡◌}
-use Rattle.sat_checker.specs.inner.Room.{signed}
+use Rattle.sat_checker.specs.inner.AssumedRoom.{signed}
 use Rattle.sat_hints.proofs.lemmas.Signs.{AgreesFirst}
 use Rattle.sat_hints.proofs.propagating.assume_roomy.Given as goal
 

@@ -1,5 +1,5 @@
 use Rattle.std.proofs.Common.{refl}
-use Rattle.sat_checker.specs.inner.Room.{signed}
+use Rattle.sat_checker.specs.inner.AssumedRoom.{signed}
 use Rattle.sat_hints.proofs.lemmas.Finding.{room_still, refuted_by, refuted_both, refuted_unknown}
 use Rattle.sat_hints.proofs.propagating.conflict_under.Goals as goal
 

@@ -1,7 +1,7 @@
 use Rattle.std.proofs.Common.{◌<◌, ◌+◌, ◌≡◌, Some, drop, length, sym, ap, subst, ◌∙◌, arith, inl, inr}
 use Rattle.sat_base.proofs.lemmas.device.Known.{rest_is}
-use Rattle.sat_hints.specs.inner.Judging.{course_of}
-use Rattle.sat_hints.specs.inner.Standing.{clauses_of, HasRoomForPresent}
+use Rattle.sat_hints.specs.inner.Judging.{refutation_failure_of}
+use Rattle.sat_hints.specs.inner.Standing.{standing_clauses, HasRoomForPresent}
 use Rattle.sat_hints.proofs.lemmas.Finding.{opens_in_room, lost, missed, no_turn}
 use Rattle.sat_hints.proofs.lemmas.Signs.{same_default}
 use Rattle.sat_hints.proofs.propagating.follow.Goals as goal
@@ -23,8 +23,8 @@ returns-in-Falsified c =
     let more : i + 1 < length ids = omega (arith, c.loop-turn-test.true, c.if-is_empty.false) in
     let left = rest_is ids (i + 1) in
     let turn = no_turn c.look_at.result assumed clause c.look_at.ensures c.in-Falsified.is in
-    let why : course_of assumed (clauses_of s (drop i ids)) ≡ Some c.not_unit.result = elim c.not_unit.ensures [
-      | inl h ↦ lost s ids i _ inside (same_default ids i 0 _ inside) assumed clause c.in-Some.ensures (sym (ap (clauses_of s) left) ∙ h.0) ∙ ap Some (sym h.1)
-      | inr h ↦ missed s ids i _ inside (same_default ids i 0 _ inside) assumed clause c.in-Some.ensures more turn (λ e. h.0 (ap (clauses_of s) left ∙ e)) ∙ ap Some (sym h.1)
+    let why : refutation_failure_of assumed (standing_clauses s (drop i ids)) ≡ Some c.not_unit.result = elim c.not_unit.ensures [
+      | inl h ↦ lost s ids i _ inside (same_default ids i 0 _ inside) assumed clause c.in-Some.ensures (sym (ap (standing_clauses s) left) ∙ h.0) ∙ ap Some (sym h.1)
+      | inr h ↦ missed s ids i _ inside (same_default ids i 0 _ inside) assumed clause c.in-Some.ensures more turn (λ e. h.0 (ap (standing_clauses s) left ∙ e)) ∙ ap Some (sym h.1)
     ] in
     record { follows = sym (c.loop-turn.invariant.course ∙ why); room = c.loop-turn.invariant.room }

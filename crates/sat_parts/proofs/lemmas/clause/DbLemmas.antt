@@ -10,7 +10,7 @@ use Rattle.sat_store.specs.clause.Header.{Header, index_of}
 use Rattle.sat_store.specs.declared.clause.tier.Tier.{Tier}
 use Rattle.sat_store.specs.declared.clause.tier.Tier.TheVariants.{Irred}
 use Rattle.sat_store.proofs.lemmas.clause.Laying.{same_count, clause_within, kept_below}
-use Rattle.sat_parts.specs.clause.Db.{Db, is_live, live_refs, is_live_of, garbage_of, AreRising, HoldsDb, one_more, one_less, AddsLongClause, PutsHeader, DeletesClause, MovesClause, ShortensClause}
+use Rattle.sat_parts.specs.clause.Db.{Db, is_live, live_refs, is_live_of, garbage_of, AreRising, HoldsDb, tier_count_more, tier_count_less, AddsLongClause, PutsHeader, DeletesClause, MovesClause, ShortensClause}
 use Rattle.sat_parts.proofs.lemmas.prop.BuildLemmas.{live_in, live_same}
 use Rattle.sat_parts.proofs.lemmas.clause.ListLemmas.{rising_push, sum_same, sum_changed, count_less, counted_some, filter_without, filter_same}
 
@@ -102,7 +102,7 @@ long_put words words' refs o h put long p c = elim (cases_eq p o) [
 -- the numbers once the clause at o isn't live any more
 abbrev pub after_delete : List ℕ → ℕ → Db → Db
 after_delete words o db = record db {
-  counts = one_less (header_at words o).tier db.counts;
+  counts = tier_count_less (header_at words o).tier db.counts;
   garbage = min (db.garbage + (length (lits_at words o) + 3)) (2 ^ 64 - 1);
 }
 
@@ -154,7 +154,7 @@ deletes words db words' o h c put =
 
 -- the numbers once the clause at o is of another tier
 abbrev pub after_move : List ℕ → ℕ → Tier → Db → Db
-after_move words o tier db = record db { counts = one_more tier (one_less (header_at words o).tier db.counts) }
+after_move words o tier db = record db { counts = tier_count_more tier (tier_count_less (header_at words o).tier db.counts) }
 
 -- a header that is as deleted as before leaves the live clauses as they are
 pub live_put : (words words' refs : List ℕ) (o : ℕ) (h : Header) → h.deleted ≡ (header_at words o).deleted → PutsHeader words words' refs o h → live_refs words' refs ≡ live_refs words refs
@@ -178,8 +178,8 @@ moves words db words' o tier h c differ put =
     let has : Contains db.refs o = live_in words db.refs o c in
     let live : is_live words o ≡ true = live_is words db.refs o c in
     let live' : is_live words' o ≡ true = ap (λ (x : Header). not x.deleted) put.header_there ∙ live in
-    let less : List ℕ = one_less old db.counts in
-    let size : length (one_less old db.counts) ≡ 4 = length-set db.counts (index_of old) (get_or db.counts (index_of old) 0 - 1) ∙ h.tiers in
+    let less : List ℕ = tier_count_less old db.counts in
+    let size : length (tier_count_less old db.counts) ≡ 4 = length-set db.counts (index_of old) (get_or db.counts (index_of old) 0 - 1) ∙ h.tiers in
     record {
       put = put;
       holds = record {
@@ -224,7 +224,7 @@ moves words db words' o tier h c differ put =
 
 -- the list and the numbers once a clause was added
 abbrev pub after_add : ℕ → Tier → Db → Db
-after_add o tier db = record db { refs = db.refs ++ o ∷ []; counts = one_more tier db.counts }
+after_add o tier db = record db { refs = db.refs ++ o ∷ []; counts = tier_count_more tier db.counts }
 
 -- the clauses of the list are kept by an addition
 added_keeps : (words words' : List ℕ) (db : Db) (o : ℕ) (header : Header) (lits : List ℕ) → HoldsDb words db → AppendsClause words words' o header lits → (p : ℕ) → Contains db.refs p → SameClauseAt words words' p
@@ -279,7 +279,7 @@ live_clause words db o h c = h.laid.clauses o (live_in words db.refs o c)
 
 -- a tier that a live clause isn't of has room for one more
 pub room_in_tier : (words : List ℕ) (db : Db) (o : ℕ) (tier : Tier) → HoldsDb words db → Contains (live_refs words db.refs) o → index_of (header_at words o).tier ≢ index_of tier →
-    get_or (one_less (header_at words o).tier db.counts) (index_of tier) 0 + 1 < 2 ^ 64
+    get_or (tier_count_less (header_at words o).tier db.counts) (index_of tier) 0 + 1 < 2 ^ 64
 room_in_tier words db o tier h c differ =
     let old : Tier = (header_at words o).tier in
     let no : is_live_of words tier o ≡ false = counted_live words tier o old (live_is words db.refs o c) refl ∙ ne_eqb (index_of old) (index_of tier) differ in
@@ -290,21 +290,21 @@ room_in_tier words db o tier h c differ =
 pub deleted_by : (words : List ℕ) (db : Db) (words' : List ℕ) (o : ℕ) → HoldsDb words db → Contains (live_refs words db.refs) o →
     PutsHeader words words' db.refs o (record (header_at words o) { deleted = true }) →
     DeletesClause words db words'
-    (record db { counts = one_less (header_at words o).tier db.counts; garbage = min (db.garbage + ((header_at words o).len + 3)) (2 ^ 64 - 1) }) o
+    (record db { counts = tier_count_less (header_at words o).tier db.counts; garbage = min (db.garbage + ((header_at words o).len + 3)) (2 ^ 64 - 1) }) o
 deleted_by words db words' o h c put =
-    subst (λ (n : ℕ). DeletesClause words db words' (record db { counts = one_less (header_at words o).tier db.counts; garbage = min (db.garbage + (n + 3)) (2 ^ 64 - 1) }) o)
+    subst (λ (n : ℕ). DeletesClause words db words' (record db { counts = tier_count_less (header_at words o).tier db.counts; garbage = min (db.garbage + (n + 3)) (2 ^ 64 - 1) }) o)
     (same_count words o (live_clause words db o h c)) (deletes words db words' o h c put)
 
 -- the same for an addition, in the words of the call
 pub added_by : (words : List ℕ) (db db' inside : Db) (words' items : List ℕ) (tier : Tier) (o : ℕ) (header : Header) (lits : List ℕ) → inside ≡ db →
-    db' ≡ record inside { refs = items; counts = one_more tier inside.counts } → items ≡ inside.refs ++ o ∷ [] → tier ≡ header.tier →
+    db' ≡ record inside { refs = items; counts = tier_count_more tier inside.counts } → items ≡ inside.refs ++ o ∷ [] → tier ≡ header.tier →
     HoldsDb words db → header.deleted ≡ false → 3 ≤ length lits → length items < 2 ^ 64 → AppendsClause words words' o header lits → AddsLongClause words db words' db' o header lits
 added_by words db db' inside words' items tier o header lits same is items_is tier_is h new three few added =
     let refs_is : items ≡ db.refs ++ o ∷ [] = items_is ∙ ap (λ (d : Db). d.refs ++ o ∷ []) same in
     let whole : db' ≡ after_add o header.tier db =
-    is ∙ ap (λ (d : Db). record d { refs = items; counts = one_more tier d.counts }) same
-    ∙ ap (λ (xs : List ℕ). record db { refs = xs; counts = one_more tier db.counts }) refs_is
-    ∙ ap (λ (t : Tier). record db { refs = db.refs ++ o ∷ []; counts = one_more t db.counts }) tier_is in
+    is ∙ ap (λ (d : Db). record d { refs = items; counts = tier_count_more tier d.counts }) same
+    ∙ ap (λ (xs : List ℕ). record db { refs = xs; counts = tier_count_more tier db.counts }) refs_is
+    ∙ ap (λ (t : Tier). record db { refs = db.refs ++ o ∷ []; counts = tier_count_more t db.counts }) tier_is in
     subst (λ (d : Db). AddsLongClause words db words' d o header lits) (sym whole)
     (adds words db words' o header lits h new three (subst (λ (xs : List ℕ). length xs < 2 ^ 64) refs_is few) added)
 

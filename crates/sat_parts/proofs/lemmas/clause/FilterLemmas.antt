@@ -7,7 +7,7 @@ use Rattle.std.specs.List.Retain.{ReturnsInTurn, IsFiltered}
 use Rattle.sat_store.specs.clause.Buffer.{HoldsClauses, SameClauseAt, header_at}
 use Rattle.sat_store.specs.clause.Header.{Header}
 use Rattle.sat_parts.specs.clause.Db.{AreRising, PutsHeader, is_live, live_refs}
-use Rattle.sat_parts.specs.clause.Filtered.{SameClausesAt, Filtering}
+use Rattle.sat_parts.specs.clause.Filtered.{SameClausesAt, FilterInvariant}
 use Rattle.sat_parts.proofs.lemmas.clause.ListLemmas.{place_in, at_place, in_head, in_tail, there, rising_distinct, filter_same}
 use Rattle.sat_parts.proofs.lemmas.clause.DbLemmas.{live_is}
 use Rattle.sat_parts.proofs.lemmas.prop.BuildLemmas.{live_in, live_place, live_next, live_skip}
@@ -21,7 +21,7 @@ keeps_on a b c p x y = record { clause = y.clause; header = y.header ∙ x.heade
 live_kept : (old new : List ℕ) (p : ℕ) → SameClauseAt old new p → is_live old p ≡ is_live new p
 live_kept old new p k = ap (λ (h : Header). not h.deleted) (sym k.header)
 
-pub filtering_none : {F : Type 0} (R : F → ℕ → Bool → F → Type 0) (f : F) (words refs : List ℕ) → HoldsClauses words refs → Filtering R f words words refs 0 f
+pub filtering_none : {F : Type 0} (R : F → ℕ → Bool → F → Type 0) (f : F) (words refs : List ℕ) → HoldsClauses words refs → FilterInvariant R f words words refs 0 f
 filtering_none R f words refs laid = record {
   answers = [];
   size = refl;
@@ -32,8 +32,8 @@ filtering_none R f words refs laid = record {
 }
 
 -- a deleted clause isn't asked for
-pub filtering_skip : {F : Type 0} (R : F → ℕ → Bool → F → Type 0) (f f' : F) (old new refs : List ℕ) (at : ℕ) → Filtering R f old new refs at f' → at < length refs →
-    is_live new (get_or refs at 0) ≡ false → Filtering R f old new refs (at + 1) f'
+pub filtering_skip : {F : Type 0} (R : F → ℕ → Bool → F → Type 0) (f f' : F) (old new refs : List ℕ) (at : ℕ) → FilterInvariant R f old new refs at f' → at < length refs →
+    is_live new (get_or refs at 0) ≡ false → FilterInvariant R f old new refs (at + 1) f'
 filtering_skip R f f' old new refs at h lt dead =
     let before : live_refs old (take (at + 1) refs) ≡ live_refs old (take at refs) =
     live_skip old refs at lt (live_kept old new (get_or refs at 0) (h.rest at (omega arith) lt) ∙ dead) in
@@ -80,17 +80,17 @@ picked_false (true ∷ bs) (x ∷ xs) o e = ap (λ (zs : List ℕ). x ∷ zs) (p
 picked_false (false ∷ bs) (x ∷ xs) o e = picked_false bs xs o (omega arith)
 
 -- a live clause that is next was live before, and is as it was
-pub filtering_kept : {F : Type 0} (R : F → ℕ → Bool → F → Type 0) (f f' : F) (old new refs : List ℕ) (at o : ℕ) → Filtering R f old new refs at f' → at < length refs →
+pub filtering_kept : {F : Type 0} (R : F → ℕ → Bool → F → Type 0) (f f' : F) (old new refs : List ℕ) (at o : ℕ) → FilterInvariant R f old new refs at f' → at < length refs →
     o ≡ get_or refs at 0 → SameClauseAt old new o
 filtering_kept R f f' old new refs at o h lt e = subst (λ p. SameClauseAt old new p) (sym e) (h.rest at (omega arith) lt)
 
-pub filtering_alive : {F : Type 0} (R : F → ℕ → Bool → F → Type 0) (f f' : F) (old new refs : List ℕ) (at o : ℕ) → Filtering R f old new refs at f' → at < length refs →
+pub filtering_alive : {F : Type 0} (R : F → ℕ → Bool → F → Type 0) (f f' : F) (old new refs : List ℕ) (at o : ℕ) → FilterInvariant R f old new refs at f' → at < length refs →
     o ≡ get_or refs at 0 → is_live new o ≡ true → Contains (live_refs old refs) o
 filtering_alive R f f' old new refs at o h lt e alive = live_place old refs at o lt e (live_kept old new o (filtering_kept R f f' old new refs at o h lt e) ∙ alive)
 
 -- the test answers true
-pub filtering_keep : {F : Type 0} (R : F → ℕ → Bool → F → Type 0) (f f' f'' : F) (old new refs : List ℕ) (at p : ℕ) → Filtering R f old new refs at f' → at < length refs →
-    p ≡ get_or refs at 0 → is_live new p ≡ true → R f' p true f'' → Filtering R f old new refs (at + 1) f''
+pub filtering_keep : {F : Type 0} (R : F → ℕ → Bool → F → Type 0) (f f' f'' : F) (old new refs : List ℕ) (at p : ℕ) → FilterInvariant R f old new refs at f' → at < length refs →
+    p ≡ get_or refs at 0 → is_live new p ≡ true → R f' p true f'' → FilterInvariant R f old new refs (at + 1) f''
 filtering_keep R f f' f'' old new refs at p h lt is live asked =
     let o : ℕ = get_or refs at 0 in
     let alive : is_live new (get_or refs at 0) ≡ true = subst (λ z. is_live new z ≡ true) is live in
@@ -111,9 +111,9 @@ filtering_keep R f f' f'' old new refs at p h lt is live asked =
     }
 
 -- the test answers false, and the clause is deleted
-pub filtering_drop : {F : Type 0} (R : F → ℕ → Bool → F → Type 0) (f f' f'' : F) (old new new' refs : List ℕ) (at p : ℕ) → AreRising refs → Filtering R f old new refs at f' → at < length refs →
+pub filtering_drop : {F : Type 0} (R : F → ℕ → Bool → F → Type 0) (f f' f'' : F) (old new new' refs : List ℕ) (at p : ℕ) → AreRising refs → FilterInvariant R f old new refs at f' → at < length refs →
     p ≡ get_or refs at 0 → is_live new p ≡ true → R f' p false f'' → PutsHeader new new' refs p (record (header_at new p) { deleted = true }) →
-    Filtering R f old new' refs (at + 1) f''
+    FilterInvariant R f old new' refs (at + 1) f''
 filtering_drop R f f' f'' old new new' refs at p rising h lt is live asked puts =
     let o : ℕ = get_or refs at 0 in
     let alive : is_live new (get_or refs at 0) ≡ true = subst (λ z. is_live new z ≡ true) is live in
@@ -141,7 +141,7 @@ filtering_drop R f f' f'' old new new' refs at p rising h lt is live asked puts 
       rest = λ k a b. keeps_on old new new' (get_or refs k 0) (h.rest k (omega arith) b) (other k b (omega arith));
     }
 
-pub filtering_all : {F : Type 0} (R : F → ℕ → Bool → F → Type 0) (f f' : F) (old new refs : List ℕ) (at : ℕ) → Filtering R f old new refs at f' → at ≡ length refs →
+pub filtering_all : {F : Type 0} (R : F → ℕ → Bool → F → Type 0) (f f' : F) (old new refs : List ℕ) (at : ℕ) → FilterInvariant R f old new refs at f' → at ≡ length refs →
     IsFiltered R f (live_refs old refs) (live_refs new refs) × SameClausesAt old new (live_refs new refs)
 filtering_all R f f' old new refs at h e =
     let all : take at refs ≡ refs = take_all at refs (omega arith) in (

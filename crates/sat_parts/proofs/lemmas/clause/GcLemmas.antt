@@ -14,7 +14,7 @@ use Rattle.sat_parts.specs.declared.prop.graph.Reason.{Reason}
 use Rattle.sat_parts.specs.declared.prop.graph.Reason.TheVariants.{Unit as NoCause, Binary, Long}
 use Rattle.sat_parts.specs.clause.Db.{Db, is_live, live_refs, is_live_of, garbage_of, AreRising, HoldsDb}
 use Rattle.sat_parts.specs.clause.Stored.{lit_of}
-use Rattle.sat_parts.specs.clause.Collected.{Copies, Copying, words_of, FollowsClause, FollowsFirst, AreFollowed, AreFirsts, Collects, after_collection}
+use Rattle.sat_parts.specs.clause.Collected.{Copies, CopyInvariant, words_of, FollowsClause, FollowsFirst, AreFollowed, AreFirsts, Collects, after_collection}
 use Rattle.sat_parts.specs.prop.Graphs.{node_of, with_node, new_node}
 use Rattle.sat_parts.proofs.lemmas.prop.BuildLemmas.{live_in, live_next, live_skip}
 use Rattle.sat_parts.proofs.lemmas.clause.ListLemmas.{in_head, in_tail, at_place, place_in, rising_push, rising_tail, rising_above}
@@ -64,7 +64,7 @@ packed_more w r w2 c h ls laid packed added =
     let own : length (lits_at w2 c) ≡ length ls = ap (λ (xs : List ℕ). length xs) added.lits_there in
     omega (arith, sum_by_push (λ o. length (lits_at w2 o) + 3) r c, kept, own, packed, added.size)
 
-pub copying_skip : (words refs w r : List ℕ) (i : ℕ) → Copying words refs w r i → i < length refs → is_live words (get_or refs i 0) ≡ false → Copying words refs w r (i + 1)
+pub copying_skip : (words refs w r : List ℕ) (i : ℕ) → CopyInvariant words refs w r i → i < length refs → is_live words (get_or refs i 0) ≡ false → CopyInvariant words refs w r (i + 1)
 copying_skip words refs w r i h lt dead =
     let e : live_refs words (take i refs) ≡ live_refs words (take (i + 1) refs) = sym (live_skip words refs i lt dead) in
     record {
@@ -98,8 +98,8 @@ copies_more words live w r w2 c o h laid clause added =
       ];
     }
 
-pub copying_more : (words refs w r w2 : List ℕ) (i c o : ℕ) → HoldsClauses words refs → AreRising refs → Copying words refs w r i → i < length refs → o ≡ get_or refs i 0 → is_live words o ≡ true →
-    AppendsClause w w2 c (header_at words o) (lits_at words o) → Copying words refs w2 (r ++ c ∷ []) (i + 1)
+pub copying_more : (words refs w r w2 : List ℕ) (i c o : ℕ) → HoldsClauses words refs → AreRising refs → CopyInvariant words refs w r i → i < length refs → o ≡ get_or refs i 0 → is_live words o ≡ true →
+    AppendsClause w w2 c (header_at words o) (lits_at words o) → CopyInvariant words refs w2 (r ++ c ∷ []) (i + 1)
 copying_more words refs w r w2 i c o laid rising h lt o_is live added =
     let live_i : List ℕ = live_refs words (take i refs) in
     let has : Contains refs o = subst (λ z. Contains refs z) (sym o_is) (place_in refs i lt) in
@@ -124,7 +124,7 @@ copying_more words refs w r w2 i c o laid rising h lt o_is live added =
       packed = packed_more w r w2 c (header_at words o) (lits_at words o) h.laid h.packed added;
     }
 
-pub copying_all : (words refs w r : List ℕ) (i : ℕ) → Copying words refs w r i → i ≡ length refs → Copies words (live_refs words refs) w r × ((k : ℕ) → k < length r → get_or r k 0 ≤ get_or (live_refs words refs) k 0)
+pub copying_all : (words refs w r : List ℕ) (i : ℕ) → CopyInvariant words refs w r i → i ≡ length refs → Copies words (live_refs words refs) w r × ((k : ℕ) → k < length r → get_or r k 0 ≤ get_or (live_refs words refs) k 0)
 copying_all words refs w r i h e =
     let all : live_refs words (take i refs) ≡ live_refs words refs = ap (λ (xs : List ℕ). live_refs words xs) (take_all i refs (omega arith)) in
     (subst (λ (xs : List ℕ). Copies words xs w r) all h.copies, subst (λ (xs : List ℕ). (k : ℕ) → k < length r → get_or r k 0 ≤ get_or xs k 0) all h.low)
@@ -301,7 +301,7 @@ copy_live_is words live w r h all x c =
     let lt : c.0 < length live = omega (arith, c.1, h.size) in
     ap (λ z. is_live w z) (sym (at_place r x c)) ∙ ap (λ (y : Header). not y.deleted) (h.headers c.0 lt) ∙ all (get_or live c.0 0) (place_in live c.0 lt)
 
-pub holds_copies : (words w r : List ℕ) (db : Db) (i : ℕ) → HoldsDb words db → Copying words db.refs w r i → i ≡ length db.refs → HoldsDb w (after_collection r db)
+pub holds_copies : (words w r : List ℕ) (db : Db) (i : ℕ) → HoldsDb words db → CopyInvariant words db.refs w r i → i ≡ length db.refs → HoldsDb w (after_collection r db)
 holds_copies words w r db i h x e =
     let c : Copies words (live_refs words db.refs) w r = (copying_all words db.refs w r i x e).0 in
     let live : (p : ℕ) → Contains r p → is_live w p ≡ true = copy_live_is words (live_refs words db.refs) w r c (λ p d. live_is words db.refs p d) in
@@ -325,7 +325,7 @@ holds_copies words w r db i h x e =
           (h.long (get_or (live_refs words db.refs) d.0 0) (live_in words db.refs (get_or (live_refs words db.refs) d.0 0) (place_in (live_refs words db.refs) d.0 lt)));
     }
 
-pub collected : (words w r lits : List ℕ) (db : Db) (i n : ℕ) (nodes nodes' : List ImplNode) → HoldsDb words db → Copying words db.refs w r i → i ≡ length db.refs →
+pub collected : (words w r lits : List ℕ) (db : Db) (i n : ℕ) (nodes nodes' : List ImplNode) → HoldsDb words db → CopyInvariant words db.refs w r i → i ≡ length db.refs →
     AreFirsts words (live_refs words db.refs) lits nodes → AreFollowed (live_refs words db.refs) r lits n nodes nodes' → n ≡ length (live_refs words db.refs) →
     Collects words db nodes lits w (after_collection r db) nodes'
 collected words w r lits db i n nodes nodes' h x e firsts f all =

@@ -3,7 +3,7 @@ use Rattle.std.proofs.Common.{ℕ, ◌+◌, ◌-◌, ◌^◌, ◌≤◌, min, Li
 use Rattle.sat_store.specs.clause.Buffer.{lits_at}
 use Rattle.sat_store.specs.clause.Header.{Header, index_of}
 use Rattle.sat_parts.specs.clause.Db.{Db, HoldsDb, is_live, live_refs, is_live_of, garbage_of}
-use Rattle.sat_parts.specs.clause.Orders.{SameUpToOrder, Reorders}
+use Rattle.sat_parts.specs.clause.Orders.{SameUpToOrder, PermutesClauses}
 use Rattle.sat_parts.proofs.lemmas.clause.ListLemmas.{sum_same}
 use Rattle.sat_parts.proofs.lemmas.prop.BuildLemmas.{live_in}
 
@@ -20,5 +20,5 @@ held_kept old new db h k = record {
   long = λ p c. subst (λ n. 3 ≤ n) (sym (k.lits p c).size) (h.long p c);
 }
 
-pub held_reordered : (old new : List ℕ) (db : Db) → HoldsDb old db → Reorders old new (live_refs old db.refs) → HoldsDb new db
+pub held_reordered : (old new : List ℕ) (db : Db) → HoldsDb old db → PermutesClauses old new (live_refs old db.refs) → HoldsDb new db
 held_reordered old new db h r = held_kept old new db h (r.all db.refs (λ o g. live_in old db.refs o g) h.laid)

@@ -6,7 +6,7 @@ use Rattle.std.proofs.lemmas.List.Edits.{swap_is}
 use Rattle.std.proofs.lemmas.List.Sorted.{IsPermutation-refl, IsPermutation-trans, IsPermutation-swap}
 use Rattle.std.specs.List.{Contains}
 use Rattle.sat_store.specs.clause.Buffer.{IsClause, SameClauseAt, ChangesAt, header_at, lits_at, swapped}
-use Rattle.sat_parts.specs.clause.Orders.{Shuffled, Shuffles, SameUpToOrder, Reorders}
+use Rattle.sat_parts.specs.clause.Orders.{IsReordering, PermutesClause, SameUpToOrder, PermutesClauses}
 use Rattle.sat_parts.specs.clause.Stored.{AreClauses, lit_of, size_of}
 
 -- where the literal at k stood before places i and j were exchanged
@@ -55,7 +55,7 @@ swapped_at ls i j k p q = elim (cases_eq k j) [
 pub swapped_length : (ls : List ℕ) (i j : ℕ) → length (swapped ls i j) ≡ length ls
 swapped_length ls i j = length-set (set ls i (get_or ls j 0)) j (get_or ls i 0) ∙ length-set ls i (get_or ls j 0)
 
-pub shuffled_swapped : (ls : List ℕ) (i j : ℕ) → i < length ls → j < length ls → Shuffled ls (swapped ls i j)
+pub shuffled_swapped : (ls : List ℕ) (i j : ℕ) → i < length ls → j < length ls → IsReordering ls (swapped ls i j)
 shuffled_swapped ls i j p q = record {
   order = IsPermutation-swap ls (swapped ls i j) i j p q (swap_is ls i j 0 p q);
   size = swapped_length ls i j;
@@ -69,7 +69,7 @@ shuffled_swapped ls i j p q = record {
       sym (other_other i j a) ∙ ap (λ y. other i j y) x ∙ other_other i j b;
 }
 
-pub shuffled_refl : (ls : List ℕ) → Shuffled ls ls
+pub shuffled_refl : (ls : List ℕ) → IsReordering ls ls
 shuffled_refl ls = record {
   order = IsPermutation-refl ls;
   size = refl;
@@ -78,7 +78,7 @@ shuffled_refl ls = record {
   apart = λ d. d;
 }
 
-pub shuffled_trans : (ls ms ns : List ℕ) → Shuffled ls ms → Shuffled ms ns → Shuffled ls ns
+pub shuffled_trans : (ls ms ns : List ℕ) → IsReordering ls ms → IsReordering ms ns → IsReordering ls ns
 shuffled_trans ls ms ns a b =
     let e : length ms ≡ length ls = a.size in
     record {
@@ -95,10 +95,10 @@ shuffled_trans ls ms ns a b =
       apart = λ d. b.apart (a.apart d);
     }
 
-pub shuffled_eq : (ls ms : List ℕ) → ms ≡ ls → Shuffled ls ms
-shuffled_eq ls ms e = subst (λ (x : List ℕ). Shuffled ls x) (sym e) (shuffled_refl ls)
+pub shuffled_eq : (ls ms : List ℕ) → ms ≡ ls → IsReordering ls ms
+shuffled_eq ls ms e = subst (λ (x : List ℕ). IsReordering ls x) (sym e) (shuffled_refl ls)
 
-pub shuffles_refl : (words : List ℕ) (o : ℕ) → IsClause words o → Shuffles words words o
+pub shuffles_refl : (words : List ℕ) (o : ℕ) → IsClause words o → PermutesClause words words o
 shuffles_refl words o c = record {
   size = refl;
   clause = c;
@@ -108,7 +108,7 @@ shuffles_refl words o c = record {
   others = λ refs p h l g n. record { clause = l.clauses p g; header = refl; lits = refl };
 }
 
-pub shuffles_trans : (a b c : List ℕ) (o : ℕ) → Shuffles a b o → Shuffles b c o → Shuffles a c o
+pub shuffles_trans : (a b c : List ℕ) (o : ℕ) → PermutesClause a b o → PermutesClause b c o → PermutesClause a c o
 shuffles_trans a b c o x y = record {
   size = y.size ∙ x.size;
   clause = y.clause;
@@ -123,23 +123,23 @@ shuffles_trans a b c o x y = record {
 
 -- what `swap_lits` says
 pub shuffles_swap : (a b : List ℕ) (o i j : ℕ) → i < size_of a o → j < size_of a o →
-    header_at b o ≡ header_at a o → lits_at b o ≡ swapped (lits_at a o) i j → ChangesAt a b o → Shuffles a b o
+    header_at b o ≡ header_at a o → lits_at b o ≡ swapped (lits_at a o) i j → ChangesAt a b o → PermutesClause a b o
 shuffles_swap a b o i j p q e f c = record {
   size = c.size;
   clause = c.clause;
   header = e;
-  lits = subst (λ (x : List ℕ). Shuffled (lits_at a o) x) (sym f) (shuffled_swapped (lits_at a o) i j p q);
+  lits = subst (λ (x : List ℕ). IsReordering (lits_at a o) x) (sym f) (shuffled_swapped (lits_at a o) i j p q);
   laid = λ refs h l. c.laid refs h l;
   others = λ refs p h l g n. c.others p (l.clauses p g) (l.apart o p h g n);
 }
 
-pub reorders_refl : (words live : List ℕ) → Reorders words words live
+pub reorders_refl : (words live : List ℕ) → PermutesClauses words words live
 reorders_refl words live = record {
   size = refl;
   all = λ refs h l. record { laid = l; headers = λ o g. refl; lits = λ o g. shuffled_refl (lits_at words o) };
 }
 
-pub reorders_trans : (a b c live : List ℕ) → Reorders a b live → Reorders b c live → Reorders a c live
+pub reorders_trans : (a b c live : List ℕ) → PermutesClauses a b live → PermutesClauses b c live → PermutesClauses a c live
 reorders_trans a b c live x y = record {
   size = y.size ∙ x.size;
   all = λ refs h l.
@@ -152,7 +152,7 @@ reorders_trans a b c live x y = record {
       };
 }
 
-pub reorders_one : (a b live : List ℕ) (o : ℕ) → Contains live o → Shuffles a b o → Reorders a b live
+pub reorders_one : (a b live : List ℕ) (o : ℕ) → Contains live o → PermutesClause a b o → PermutesClauses a b live
 reorders_one a b live o g s = record {
   size = s.size;
   all = λ refs h l. record {
@@ -162,13 +162,13 @@ reorders_one a b live o g s = record {
       | inr n ↦ (s.others refs p (h o g) l k n).header
     ];
     lits = λ p k. elim (cases_eq o p) [
-      | inl e ↦ subst (λ (x : ℕ). Shuffled (lits_at a x) (lits_at b x)) e s.lits
+      | inl e ↦ subst (λ (x : ℕ). IsReordering (lits_at a x) (lits_at b x)) e s.lits
       | inr n ↦ shuffled_eq (lits_at a p) (lits_at b p) (s.others refs p (h o g) l k n).lits
     ];
   };
 }
 
-pub kept_clauses : (a b live : List ℕ) (count : ℕ) → AreClauses a live count → Reorders a b live → AreClauses b live count
+pub kept_clauses : (a b live : List ℕ) (count : ℕ) → AreClauses a live count → PermutesClauses a b live → AreClauses b live count
 kept_clauses a b live count h r =
     let k : SameUpToOrder a b live = r.all live (λ o g. g) h.laid in
     record {
@@ -181,7 +181,7 @@ kept_clauses a b live count h r =
       distinct = λ o g. (k.lits o g).apart (h.distinct o g);
     }
 
-pub below_shuffled : (a b : List ℕ) (o n : ℕ) → Shuffles a b o → ((k : ℕ) → k < size_of a o → lit_of a o k < n) → (k : ℕ) → k < size_of b o → lit_of b o k < n
+pub below_shuffled : (a b : List ℕ) (o n : ℕ) → PermutesClause a b o → ((k : ℕ) → k < size_of a o → lit_of a o k < n) → (k : ℕ) → k < size_of b o → lit_of b o k < n
 below_shuffled a b o n e h k p =
     let s : size_of b o ≡ size_of a o = e.lits.size in
     let m : (j : ℕ) × ((j < size_of a o) × (lit_of a o j ≡ lit_of b o k)) = e.lits.back k (omega arith) in

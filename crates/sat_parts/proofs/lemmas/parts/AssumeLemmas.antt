@@ -9,15 +9,15 @@ use Rattle.sat_parts.specs.declared.prop.graph.Reason.TheVariants.{Unit as NoCau
 use Rattle.sat_parts.specs.prop.Graphs.{node_at}
 use Rattle.sat_parts.specs.prop.Values.{IsTrueLit, IsOpenLit}
 use Rattle.sat_parts.specs.prop.Trails.{LevelIs, with_level}
-use Rattle.sat_parts.specs.prop.State.{State, node, level, lit_at, Agrees}
+use Rattle.sat_parts.specs.prop.State.{State, node, level, lit_at, StateIsConsistent}
 use Rattle.sat_parts.specs.prop.TrailWord.{IsLevelled, BeginsNoLevel, decided_on}
 use Rattle.sat_parts.proofs.lemmas.prop.StateLemmas.{level_low, lit_last, node_new, true_new}
 use Rattle.sat_parts.proofs.lemmas.clause.ListLemmas.{place_in}
 use Rattle.sat_parts.specs.parts.Frame.{KeepsTo}
-use Rattle.sat_parts.specs.parts.Assumed.{variables, IsPlaced, AreDecided}
+use Rattle.sat_parts.specs.parts.Assumed.{variables_of_lits, IsPlaced, AreDecided}
 
 -- assumptions that are true are passed
-pub placed_passed : (ls below : List ℕ) (place next : ℕ) (s : State) → Agrees s → IsPlaced ls below place s → place ≤ next → next ≤ length ls →
+pub placed_passed : (ls below : List ℕ) (place next : ℕ) (s : State) → StateIsConsistent s → IsPlaced ls below place s → place ≤ next → next ≤ length ls →
     ((k : ℕ) → place ≤ k → k < next → IsTrueLit s.values (get_or ls k 0)) → IsPlaced ls below next s
 placed_passed ls below place next s h x le within holds = elim (cases_lt (length below) (length s.trail.starts)) [
   | inl lt ↦ subst (λ k. IsPlaced ls below k s) (let e : place ≡ next = omega (arith, x.all lt) in e) x
@@ -65,7 +65,7 @@ placed_cut ls below place top s s' x k lt at =
     }
 
 -- a level begins with the assumption that is looked at
-pub placed_next : (ls below : List ℕ) (place l : ℕ) (s : State) → IsPlaced ls below place s → place < length ls → get_or ls place 0 ≡ l → Agrees s → IsOpenLit s.values l → variable l < length s.values →
+pub placed_next : (ls below : List ℕ) (place l : ℕ) (s : State) → IsPlaced ls below place s → place < length ls → get_or ls place 0 ≡ l → StateIsConsistent s → IsOpenLit s.values l → variable l < length s.values →
     KeepsTo (length s.trail.starts) s (decided_on l s) → IsPlaced ls (below ++ place ∷ []) (place + 1) (decided_on l s)
 placed_next ls below place l s x lt is h free there k =
     let s' : State = decided_on l s in
@@ -127,7 +127,7 @@ pub levels_assumed : (ls below : List ℕ) (place : ℕ) (s : State) → IsPlace
 levels_assumed ls below place s x lt = elim (cases_lt (length below) (length s.trail.starts)) [ inl less ↦ absurd (omega (arith, x.all less)) | inr ge ↦ omega (arith, x.levels) ]
 
 -- where all levels are those of assumptions, what no clause makes true above level 0 is an assumption
-pub decided_assumed : (ls below : List ℕ) (place : ℕ) (s : State) → Agrees s → IsLevelled s → IsPlaced ls below place s → place < length ls → AreDecided ls s
+pub decided_assumed : (ls below : List ℕ) (place : ℕ) (s : State) → StateIsConsistent s → IsLevelled s → IsPlaced ls below place s → place < length ls → AreDecided ls s
 decided_assumed ls below place s h levelled x lt i b high unit = elim (begins_or_not s.trail.starts i) [
   | inl y ↦ subst (λ j. Contains ls (lit_at s j)) y.1.1 (x.begun y.0 (elim (cases_lt (length below) (length s.trail.starts)) [ inl less ↦ absurd (omega (arith, x.all less)) | inr ge ↦ omega (arith, y.1.0) ]))
   | inr none ↦
@@ -136,7 +136,7 @@ decided_assumed ls below place s h levelled x lt i b high unit = elim (begins_or
 ]
 
 -- the variable of an assumption is among theirs
-pub among_variables : (ls : List ℕ) (place l : ℕ) → place < length ls → get_or ls place 0 ≡ l → Contains (variables ls) (variable l)
+pub among_variables : (ls : List ℕ) (place l : ℕ) → place < length ls → get_or ls place 0 ≡ l → Contains (variables_of_lits ls) (variable l)
 among_variables ls place l lt is =
     let size : length (map (λ m. variable m) ls) ≡ length ls = length-map ls (λ m. variable m) in
-    subst (λ v. Contains (variables ls) v) (get_or-map (λ m. variable m) ls place 0 0 lt ∙ ap (λ m. variable m) is) (place_in (variables ls) place (omega arith))
+    subst (λ v. Contains (variables_of_lits ls) v) (get_or-map (λ m. variable m) ls place 0 0 lt ∙ ap (λ m. variable m) is) (place_in (variables_of_lits ls) place (omega arith))

@@ -15,7 +15,7 @@ use Rattle.sat_parts.specs.prop.Values.{Values, value_of, made_true, IsTrueLit, 
 use Rattle.sat_parts.specs.prop.Trails.{Trailed, with_lit}
 use Rattle.sat_parts.specs.prop.Graphs.{with_node, node_at}
 use Rattle.sat_parts.specs.prop.WatchLists.{Watching}
-use Rattle.sat_parts.specs.prop.State.{State, level, current_level, lit_at, HasLeftQueue, Agrees, Grows, enqueued}
+use Rattle.sat_parts.specs.prop.State.{State, level, current_level, lit_at, HasLeftQueue, StateIsConsistent, TrailGrows, enqueued}
 use Rattle.sat_parts.specs.prop.Reasons.{Implies, AreInTurn}
 use Rattle.sat_parts.specs.prop.Ready.{state_of}
 use Rattle.sat_parts.specs.prop.Asks.{PropagationInvariant, EnqueuePrecondition, IsOwnBinary}
@@ -143,14 +143,14 @@ sound_binary words db w x a g t q ls h p two =
     let r : Reason = Binary (get_or ls 1 0 ∷ []) in
     let s : State = state_of a g t in
     let y : IsSoundBelow words db w x a g t q (length t.starts + 1) = h.below in
-    let agrees : Agrees (state_of a g t) = y.asks.agrees in
+    let agrees : StateIsConsistent (state_of a g t) = y.asks.agrees in
     let small_c : get_or ls 0 0 < 2 * length a.current = pending_below s q ls p 0 (omega arith) in
     let small_d : get_or ls 1 0 < 2 * length a.current = pending_below s q ls p 1 (omega arith) in
     let first : negated (get_or ls 0 0) < length x.implied = omega (arith, y.asks.ranges.room) in
     let second : negated (get_or ls 1 0) < length x.implied = omega (arith, y.asks.ranges.room) in
     let false_d : IsFalseLit a.current (get_or ls 1 0) = p.rest 1 (omega arith) (omega arith) in
     let new : State = enqueued (get_or ls 0 0) r s in
-    let grown : Grows s new = grows_enqueued s (get_or ls 0 0) r agrees p.open_first p.there (room_for s (get_or ls 0 0) r agrees p.open_first p.there) in
+    let grown : TrailGrows s new = grows_enqueued s (get_or ls 0 0) r agrees p.open_first p.there (room_for s (get_or ls 0 0) r agrees p.open_first p.there) in
     let cause : Implies words (live_refs words db.refs) (with_binary (get_or ls 0 0) (get_or ls 1 0) x).implied (enqueued (get_or ls 0 0) (Binary (get_or ls 1 0 ∷ [])) (state_of a g t)) (length t.lits) (Binary (get_or ls 1 0 ∷ [])) = (
       subst (λ m. Contains (implied_by (with_binary c d x).implied (negated d)) m) (sym (lit_last s (get_or ls 0 0) r)) (binary_new x (get_or ls 0 0) (get_or ls 1 0) first second),
       false_before_forth s new (length t.lits) (get_or ls 1 0) grown (false_at_end s (get_or ls 1 0) agrees false_d),

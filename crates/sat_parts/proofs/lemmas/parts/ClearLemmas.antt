@@ -15,7 +15,7 @@ use Rattle.sat_parts.specs.prop.Values.{Values, value_of, IsTrueLit, IsOpenLit}
 use Rattle.sat_parts.specs.prop.Trails.{Trailed, with_lit, with_cleared}
 use Rattle.sat_parts.specs.prop.Graphs.{with_node, node_at, node_of, removed_node, new_node}
 use Rattle.sat_parts.specs.prop.WatchLists.{Watching}
-use Rattle.sat_parts.specs.prop.State.{State, node, level, lit_at, IsRemoved, HasLeftQueue, Agrees, IsSatisfied, enqueued}
+use Rattle.sat_parts.specs.prop.State.{State, node, level, lit_at, IsRemoved, HasLeftQueue, StateIsConsistent, IsSatisfied, enqueued}
 use Rattle.sat_parts.specs.prop.Reasons.{Implies, AreInTurn}
 use Rattle.sat_parts.specs.prop.Ready.{state_of, AreWatched, AreLists}
 use Rattle.sat_parts.proofs.lemmas.prop.StateLemmas.{level_low, left_true, true_back, true_new, node_new, lit_front, agrees_enqueued, lit_from_parts}
@@ -67,7 +67,7 @@ removed_or (l ∷ ls) g v = elim (removed_or ls (with_node (variable l) removed_
 ]
 
 -- what is true at level 0 is removed once the trail is cleared
-pub all_removed : (a : Values) (g : List ImplNode) (t : Trailed) (l : ℕ) → Agrees (state_of a g t) → IsTrueLit a.current l → IsRemoved (state_of a (removed t.lits g) (with_cleared t)) l
+pub all_removed : (a : Values) (g : List ImplNode) (t : Trailed) (l : ℕ) → StateIsConsistent (state_of a g t) → IsTrueLit a.current l → IsRemoved (state_of a (removed t.lits g) (with_cleared t)) l
 all_removed a g t l h holds =
     let s : State = state_of a g t in
     let there : variable l < length a.current = below_from_value a.current (variable l) _ holds in
@@ -87,7 +87,7 @@ all_removed a g t l h holds =
 no_starts : (t : Trailed) → t.starts ≡ [] → length t.starts ≡ 0
 no_starts t e = ap (λ (xs : List ℕ). length xs) e
 
-agrees_cleared : (a : Values) (g : List ImplNode) (t : Trailed) → Agrees (state_of a g t) → t.starts ≡ [] → Agrees (state_of a (removed t.lits g) (with_cleared t))
+agrees_cleared : (a : Values) (g : List ImplNode) (t : Trailed) → StateIsConsistent (state_of a g t) → t.starts ≡ [] → StateIsConsistent (state_of a (removed t.lits g) (with_cleared t))
 agrees_cleared a g t h e =
     let n : length t.starts ≡ 0 = no_starts t e in
     record {
@@ -112,8 +112,8 @@ pub sound_cleared : (words : List ℕ) (db : Db) (w : Watching) (b : Binaries) (
 sound_cleared words db w b a g t q h e done =
     let s : State = state_of a g t in
     let s' : State = state_of a (removed t.lits g) (with_cleared t) in
-    let old : Agrees (state_of a g t) = h.asks.agrees in
-    let agrees : Agrees (state_of a (removed t.lits g) (with_cleared t)) = agrees_cleared a g t old e in
+    let old : StateIsConsistent (state_of a g t) = h.asks.agrees in
+    let agrees : StateIsConsistent (state_of a (removed t.lits g) (with_cleared t)) = agrees_cleared a g t old e in
     let n : length t.starts ≡ 0 = no_starts t e in
     let low : (l : ℕ) → IsTrueLit a.current l → level s l < length t.starts + 1 = λ l holds. omega (arith, level_low s l old holds) in
     let bottom : (l : ℕ) → IsTrueLit a.current l → level s' l ≡ 0 = λ l holds. (all_removed a g t l old holds).bottom in
@@ -150,12 +150,12 @@ sound_cleared words db w b a g t q h e done =
     }
 
 -- at level 0 the reasons between rounds are those of units
-pub turns_of_units : (words live : List ℕ) (implied : List (List ℕ)) (s : State) → Agrees s → length s.trail.starts ≡ 0 → UnitsAreUncaused s → AreInTurn words live implied s 0
+pub turns_of_units : (words live : List ℕ) (implied : List (List ℕ)) (s : State) → StateIsConsistent s → length s.trail.starts ≡ 0 → UnitsAreUncaused s → AreInTurn words live implied s 0
 turns_of_units words live implied s h n x i le b =
     subst (λ (r : Reason). Implies words live implied s i r) (sym (x i b (omega (arith, (h.levels i b).within)))) tt
 
 -- a true literal whose node says so is a unit taken off the trail
-pub removed_by : (s : State) (l : ℕ) → Agrees s → IsTrueLit s.values l → (node s l).depth ≡ 4294967295 → IsRemoved s l
+pub removed_by : (s : State) (l : ℕ) → StateIsConsistent s → IsTrueLit s.values l → (node s l).depth ≡ 4294967295 → IsRemoved s l
 removed_by s l h holds d = elim (h.known l holds) [
   | inl x ↦
       let e : x.place + 1 ≡ 4294967295 = sym (h.depths x.place x.within) ∙ ap (λ m. (node s m).depth) x.there ∙ d in
@@ -181,12 +181,12 @@ dropped_true s l m below h = elim (cases_eq (variable m) (variable l)) [
 ]
 
 -- a literal of the trail isn't of a removed unit's variable
-pub apart_removed : (s : State) (l i : ℕ) → Agrees s → IsRemoved s l → i < length s.trail.lits → variable (lit_at s i) ≢ variable l
+pub apart_removed : (s : State) (l i : ℕ) → StateIsConsistent s → IsRemoved s l → i < length s.trail.lits → variable (lit_at s i) ≢ variable l
 apart_removed s l i h x b e =
     let d : i + 1 ≡ 4294967295 = sym (h.depths i b) ∙ ap (λ v. (node_of s.nodes v).depth) e ∙ x.depth in
     omega (arith, h.trail.fits, h.trail.small)
 
-pub agrees_dropped : (s : State) (l : ℕ) → Agrees s → IsRemoved s l → Agrees (dropped l s)
+pub agrees_dropped : (s : State) (l : ℕ) → StateIsConsistent s → IsRemoved s l → StateIsConsistent (dropped l s)
 agrees_dropped s l h x =
     let size : length (set s.values (variable l) None) ≡ length s.values = length-set s.values (variable l) None in
     let below : variable l < length s.values = below_from_value s.values (variable l) _ x.holds in
@@ -204,7 +204,7 @@ agrees_dropped s l h x =
     }
 
 -- a unit that is put back: values and levels are as before, and it is in the queue
-pub again_true : (s : State) (l m : ℕ) → Agrees s → IsRemoved s l → IsTrueLit s.values m → IsTrueLit (enqueued l NoCause (dropped l s)).values m
+pub again_true : (s : State) (l m : ℕ) → StateIsConsistent s → IsRemoved s l → IsTrueLit s.values m → IsTrueLit (enqueued l NoCause (dropped l s)).values m
 again_true s l m h x holds =
     let below : variable l < length s.values = below_from_value s.values (variable l) _ x.holds in
     let size : length (set s.values (variable l) None) ≡ length s.values = length-set s.values (variable l) None in
@@ -233,7 +233,7 @@ again_open s l v x none =
       | inr d ↦ sym (get_or-set_other s.values (variable l) v None None d) ∙ sym (get_or-set_other (set s.values (variable l) None) (variable l) v (Some (is_positive l)) None d) ∙ none
     ]
 
-pub again_level : (s : State) (l m : ℕ) → Agrees s → IsRemoved s l → length s.trail.starts ≡ 0 → level (enqueued l NoCause (dropped l s)) m ≡ level s m
+pub again_level : (s : State) (l m : ℕ) → StateIsConsistent s → IsRemoved s l → length s.trail.starts ≡ 0 → level (enqueued l NoCause (dropped l s)) m ≡ level s m
 again_level s l m h x n = elim (cases_eq (variable m) (variable l)) [
   | inl e ↦
       let below : variable l < length s.values = below_from_value s.values (variable l) _ x.holds in
@@ -243,7 +243,7 @@ again_level s l m h x n = elim (cases_eq (variable m) (variable l)) [
 ]
 
 -- what has left the queue had left it before, and isn't the unit
-pub again_left : (s : State) (l m : ℕ) → Agrees s → IsRemoved s l → HasLeftQueue (enqueued l NoCause (dropped l s)) m → HasLeftQueue s m × (m ≢ l)
+pub again_left : (s : State) (l m : ℕ) → StateIsConsistent s → IsRemoved s l → HasLeftQueue (enqueued l NoCause (dropped l s)) m → HasLeftQueue s m × (m ≢ l)
 again_left s l m h x left =
     let t : State = enqueued l NoCause (dropped l s) in
     let below : variable l < length s.values = below_from_value s.values (variable l) _ x.holds in
@@ -274,15 +274,15 @@ sound_again words db w b a g t q l h e x =
     let u : State = dropped l s in
     let s' : State = enqueued l NoCause (dropped l (state_of a g t)) in
     let y : IsSoundBelow words db w b a g t q (length t.starts + 1) = h.below in
-    let old : Agrees (state_of a g t) = y.asks.agrees in
+    let old : StateIsConsistent (state_of a g t) = y.asks.agrees in
     let below : variable l < length a.current = below_from_value a.current (variable l) _ x.holds in
     let one : length (set a.current (variable l) None) ≡ length a.current = length-set a.current (variable l) None in
     let two : length (set (set a.current (variable l) None) (variable l) (Some (is_positive l))) ≡ length (set a.current (variable l) None) = length-set (set a.current (variable l) None) (variable l) (Some (is_positive l)) in
     let size : length (again l a).current ≡ length a.current = two ∙ one in
     let n : length t.starts ≡ 0 = no_starts t e in
     let free : IsOpenLit (dropped l (state_of a g t)).values l = get_or-set_same a.current (variable l) None None below in
-    let mid : Agrees (dropped l (state_of a g t)) = agrees_dropped s l old x in
-    let agrees : Agrees (enqueued l NoCause (dropped l (state_of a g t))) = agrees_enqueued u l NoCause mid free (omega arith) (room_for u l NoCause mid free (omega arith)) in
+    let mid : StateIsConsistent (dropped l (state_of a g t)) = agrees_dropped s l old x in
+    let agrees : StateIsConsistent (enqueued l NoCause (dropped l (state_of a g t))) = agrees_enqueued u l NoCause mid free (omega arith) (room_for u l NoCause mid free (omega arith)) in
     let longer : length (t.lits ++ l ∷ []) ≡ length t.lits + 1 = length_push t.lits l in
     let satisfied : (ls : List ℕ) (bound bound' : ℕ) → bound ≤ bound' → IsSatisfied s ls bound → IsSatisfied s' ls bound' = λ ls bound bound' le z. record {
       place = z.place;

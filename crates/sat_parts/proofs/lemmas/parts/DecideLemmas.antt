@@ -12,7 +12,7 @@ use Rattle.sat_parts.specs.prop.Values.{Values, value_of, made_true, IsOpenLit}
 use Rattle.sat_parts.specs.prop.Trails.{Trailed, with_lit, with_level}
 use Rattle.sat_parts.specs.prop.Graphs.{with_node, node_at}
 use Rattle.sat_parts.specs.prop.WatchLists.{Watching}
-use Rattle.sat_parts.specs.prop.State.{State, Agrees}
+use Rattle.sat_parts.specs.prop.State.{State, StateIsConsistent}
 use Rattle.sat_parts.specs.prop.Ready.{state_of}
 use Rattle.sat_parts.specs.prop.Asks.{PropagationPrecondition}
 use Rattle.sat_parts.specs.prop.TrailWord.{IsLevelled}
@@ -44,7 +44,7 @@ ladder s x zero b = omega arith
 ladder s x (suc k) b = omega (arith, ladder s x k (omega arith), x.strict k (suc k) (omega arith) b)
 
 -- levels are no more than the literals of the trail, and with an open variable there are few enough
-pub few_levels : (s : State) (l : ℕ) → Agrees s → IsLevelled s → IsOpenLit s.values l → variable l < length s.values → length s.trail.starts + 1 < 2 ^ 32
+pub few_levels : (s : State) (l : ℕ) → StateIsConsistent s → IsLevelled s → IsOpenLit s.values l → variable l < length s.values → length s.trail.starts + 1 < 2 ^ 32
 few_levels s l h x n below =
     let reach : (k : ℕ) → k < length s.trail.starts → k ≤ get_or s.trail.starts k 0 = ladder s x in
     let room : length s.trail.lits < s.trail.room = room_for s l NoCause h n below in
@@ -78,7 +78,7 @@ sound_decided words db w b a g t q q' l h done n below keeps size =
     let few : length t.starts + 1 < 2 ^ 32 = few_levels s l x.asks.agrees x.levelled n below in
     let r : State = raised (state_of a g t) in
     let up : PropagationPrecondition words db.refs w b.implied (raised (state_of a g t)) = asks_raised words db.refs w b.implied s few done x.asks in
-    let agrees : Agrees (raised (state_of a g t)) = agrees_raised s x.asks.agrees few in
+    let agrees : StateIsConsistent (raised (state_of a g t)) = agrees_raised s x.asks.agrees few in
     let more : length (t.starts ++ length t.lits ∷ []) ≡ length t.starts + 1 = length_push t.starts (length t.lits) in
     record {
       below = record {

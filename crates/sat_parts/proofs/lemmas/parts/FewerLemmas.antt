@@ -18,7 +18,7 @@ use Rattle.sat_parts.specs.clause.Activity.{PutsHeaders, Scale, StaysBelow, Reac
 use Rattle.sat_parts.specs.clause.Collected.{FollowsClause, Collects, CollectsNothing}
 use Rattle.sat_parts.specs.clause.Stored.{lit_of}
 use Rattle.sat_parts.specs.prop.Binaries.{Binaries, implied_by, open_among, RemovesAssigned}
-use Rattle.sat_parts.specs.prop.Graphs.{is_unit}
+use Rattle.sat_parts.specs.prop.Graphs.{is_unit_reason}
 use Rattle.sat_parts.specs.prop.Values.{Values, is_unset, IsTrueLit}
 use Rattle.sat_parts.specs.prop.Trails.{Trailed}
 use Rattle.sat_parts.specs.prop.WatchLists.{Watching, watches_of, no_watch}
@@ -136,10 +136,10 @@ implies_followed words db s words' db' nodes' implied i (Long o) r' x f h =
           (false_collected words db s words' db' nodes' i (lit_of words o k) x (h.2 k some (subst (λ (ls : List ℕ). k < length ls) same b))),
     )
 
-unit_followed : (live refs' : List ℕ) (r r' : Reason) → FollowsClause live refs' r r' → is_unit r' ≡ is_unit r
-unit_followed live refs' NoCause r' f = ap (λ (z : Reason). is_unit z) f
-unit_followed live refs' (Binary ls) r' f = ap (λ (z : Reason). is_unit z) f
-unit_followed live refs' (Long o) r' f = ap (λ (z : Reason). is_unit z) f.1.2
+unit_followed : (live refs' : List ℕ) (r r' : Reason) → FollowsClause live refs' r r' → is_unit_reason r' ≡ is_unit_reason r
+unit_followed live refs' NoCause r' f = ap (λ (z : Reason). is_unit_reason z) f
+unit_followed live refs' (Binary ls) r' f = ap (λ (z : Reason). is_unit_reason z) f
+unit_followed live refs' (Long o) r' f = ap (λ (z : Reason). is_unit_reason z) f.1.2
 
 levelled_collected : (words : List ℕ) (db : Db) (s : State) (words' : List ℕ) (db' : Db) (nodes' : List ImplNode) → Collects words db s.nodes s.trail.lits words' db' nodes' → IsLevelled s → IsLevelled (with_graph s nodes')
 levelled_collected words db s words' db' nodes' x h = record {

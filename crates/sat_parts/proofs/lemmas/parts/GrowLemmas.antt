@@ -11,18 +11,18 @@ use Rattle.sat_parts.specs.declared.prop.graph.Reason.{Reason}
 use Rattle.sat_parts.specs.declared.prop.watch.Watch.{Watch}
 use Rattle.sat_parts.specs.clause.Db.{Db, live_refs}
 use Rattle.sat_parts.specs.clause.Stored.{lit_of}
-use Rattle.sat_parts.specs.prop.Binaries.{Binaries, implied_by, with_literals}
-use Rattle.sat_parts.specs.prop.Graphs.{with_nodes, new_node, node_of, is_unit}
+use Rattle.sat_parts.specs.prop.Binaries.{Binaries, implied_by, with_binary_lists}
+use Rattle.sat_parts.specs.prop.Graphs.{with_nodes, new_node, node_of, is_unit_reason}
 use Rattle.sat_parts.specs.prop.Trails.{Trailed, LevelIs}
 use Rattle.sat_parts.specs.prop.Values.{Values, value_of, with_var_count, IsTrueLit}
 use Rattle.sat_parts.specs.prop.WatchLists.{Watching, watches_of, no_watch, with_lists}
-use Rattle.sat_parts.specs.prop.State.{State, node, level, lit_at, HasLeftQueue, IsRemoved, Agrees, IsSatisfied}
+use Rattle.sat_parts.specs.prop.State.{State, node, level, lit_at, HasLeftQueue, IsRemoved, StateIsConsistent, IsSatisfied}
 use Rattle.sat_parts.specs.prop.Reasons.{Implies}
-use Rattle.sat_parts.specs.prop.Ready.{state_of, AreWatched, HasWatch, IsGood}
+use Rattle.sat_parts.specs.prop.Ready.{state_of, AreWatched, HasWatch, IsSoundWatch}
 use Rattle.sat_parts.specs.parts.Round.{IsSoundBelow, RoundInvariant}
 use Rattle.sat_parts.specs.declared.parts.Parts.{Parts}
 use Rattle.sat_parts.specs.parts.Whole.{PartsInvariant}
-use Rattle.sat_parts.specs.parts.Frame.{IsUnitLit, KeepsTo, Grown}
+use Rattle.sat_parts.specs.parts.Frame.{IsUnitLit, KeepsTo, AddsVars}
 use Rattle.sat_parts.proofs.lemmas.parts.TurnLemmas.{implies_by}
 
 same_everywhere : {X : Type 0} → (m i : ℕ) (x : X) → get_or (replicate m x) i x ≡ x
@@ -79,7 +79,7 @@ left_shrunk n a g t l le small h = elim h [
   })
 ]
 
-agrees_grown : (n : ℕ) (a : Values) (g : List ImplNode) (t : Trailed) → Agrees (state_of a g t) → length a.current ≤ n → n ≤ var_limit → Agrees (grown n a g t)
+agrees_grown : (n : ℕ) (a : Values) (g : List ImplNode) (t : Trailed) → StateIsConsistent (state_of a g t) → length a.current ≤ n → n ≤ var_limit → StateIsConsistent (grown n a g t)
 agrees_grown n a g t h le top =
     let s : State = state_of a g t in
     let small : length g ≤ n = omega (arith, h.nodes) in
@@ -101,16 +101,16 @@ agrees_grown n a g t h le top =
 -- all parts get more variables
 pub sound_grown : (words : List ℕ) (db : Db) (w : Watching) (b : Binaries) (a : Values) (g : List ImplNode) (t : Trailed) (q : Queue) (n : ℕ) →
     RoundInvariant words db w b a g t q → length a.current ≤ n → n ≤ var_limit →
-    RoundInvariant words db (with_lists (2 * n) w) (with_literals (2 * n) b) (with_var_count n a) (with_nodes n g) (record t { room = max t.room n }) (with_variables n q)
+    RoundInvariant words db (with_lists (2 * n) w) (with_binary_lists (2 * n) b) (with_var_count n a) (with_nodes n g) (record t { room = max t.room n }) (with_variables n q)
 sound_grown words db w b a g t q n h le top =
     let s : State = state_of a g t in
     let s' : State = grown n a g t in
     let y : IsSoundBelow words db w b a g t q (length t.starts + 1) = h.below in
-    let old : Agrees (state_of a g t) = y.asks.agrees in
+    let old : StateIsConsistent (state_of a g t) = y.asks.agrees in
     let small : length g ≤ n = omega (arith, old.nodes) in
     let size : length (with_var_count n a).current ≡ n = grown_length a.current None n le in
     let lists : (l : ℕ) → watches_of (with_lists (2 * n) w).lists l ≡ watches_of w.lists l = λ l. grown_reads w.lists [] (2 * n) l (omega (arith, y.asks.room)) in
-    let implied : (l : ℕ) → implied_by (with_literals (2 * n) b).implied l ≡ implied_by b.implied l = λ l. grown_reads b.implied [] (2 * n) l (omega (arith, y.asks.ranges.room)) in
+    let implied : (l : ℕ) → implied_by (with_binary_lists (2 * n) b).implied l ≡ implied_by b.implied l = λ l. grown_reads b.implied [] (2 * n) l (omega (arith, y.asks.ranges.room)) in
     let node_is : (v : ℕ) → node_of (with_nodes n g) v ≡ node_of g v = λ v. node_same n g v small in
     let same_level : (l : ℕ) → level (grown n a g t) l ≡ level (state_of a g t) l = λ l. ap (λ (z : ImplNode). z.level) (node_is (variable l)) in
     let holds : (l : ℕ) → IsTrueLit a.current l → IsTrueLit (with_var_count n a).current l = λ l x. value_same n a (variable l) le ∙ x in
@@ -133,7 +133,7 @@ sound_grown words db w b a g t q n h le top =
               let z : AreWatched words (live_refs words db.refs) w.lists (length a.current) = y.asks.watches on in
               record {
                 room = grown_length w.lists [] (2 * n) (omega (arith, y.asks.room)) ∙ ap (λ k. 2 * k) (sym size);
-                good = λ l p. subst (λ (xs : List Watch). p < length xs → IsGood words (live_refs words db.refs) (get_or xs p no_watch)) (sym (lists l)) (z.good l p);
+                good = λ l p. subst (λ (xs : List Watch). p < length xs → IsSoundWatch words (live_refs words db.refs) (get_or xs p no_watch)) (sym (lists l)) (z.good l p);
                 both = λ o i c lt. subst (λ (xs : List Watch). HasWatch xs o) (sym (lists (negated (lit_of words o i)))) (z.both o i c lt);
               };
           agrees = agrees_grown n a g t old le top;
@@ -154,8 +154,8 @@ sound_grown words db w b a g t q n h le top =
               (holds (get_or (implied_by b.implied l) k 0) z.0, omega (arith, z.1, same_level l, same_level (get_or (implied_by b.implied l) k 0))));
         };
         turns = λ i p lt.
-            subst (λ (r : Reason). Implies words (live_refs words db.refs) (with_literals (2 * n) b).implied s' i r) (sym (reason_is i))
-            (implies_by words words (live_refs words db.refs) (live_refs words db.refs) b.implied (with_literals (2 * n) b).implied s s' i (node s (lit_at s i)).reason refl
+            subst (λ (r : Reason). Implies words (live_refs words db.refs) (with_binary_lists (2 * n) b).implied s' i r) (sym (reason_is i))
+            (implies_by words words (live_refs words db.refs) (live_refs words db.refs) b.implied (with_binary_lists (2 * n) b).implied s s' i (node s (lit_at s i)).reason refl
             (λ m x. elim x [
               | inl z ↦ inl (record { place = z.place; before = z.before; within = z.within; there = z.there })
               | inr z ↦ inr (removed_grown n a g t (negated m) le small z)
@@ -164,8 +164,8 @@ sound_grown words db w b a g t q n h le top =
         levelled = record {
           strict = y.levelled.strict;
           begun = y.levelled.begun;
-          decided = λ k lt. ap (λ (r : Reason). is_unit r) (reason_is (get_or t.starts k 0)) ∙ y.levelled.decided k lt;
-          caused = λ i k lt p bound none. ap (λ (r : Reason). is_unit r) (reason_is i) ∙ y.levelled.caused i k lt p bound none;
+          decided = λ k lt. ap (λ (r : Reason). is_unit_reason r) (reason_is (get_or t.starts k 0)) ∙ y.levelled.decided k lt;
+          caused = λ i k lt p bound none. ap (λ (r : Reason). is_unit_reason r) (reason_is i) ∙ y.levelled.caused i k lt p bound none;
         };
         queue = queue_size ∙ sym size;
         ready = λ v lt none. elim (cases_lt v (length a.current)) [
@@ -205,7 +205,7 @@ grown_units n a g t l le small h =
         within = x.within;
         there = x.there;
         bottom = sym (ap (λ (z : ImplNode). z.level) same) ∙ x.bottom;
-        none = sym (ap (λ (z : ImplNode). is_unit z.reason) same) ∙ x.none;
+        none = sym (ap (λ (z : ImplNode). is_unit_reason z.reason) same) ∙ x.none;
       })
     ]
 
@@ -219,7 +219,7 @@ pub grown_picks : (n : ℕ) (q : Queue) (v : ℕ) → may_pick (with_variables n
 grown_picks n q v = appended_reads q.available (n - length q.available) false v
 
 pub grown_frame : (p : Parts) (n : ℕ) (w : Watching) → PartsInvariant p → length p.assignment.current ≤ n →
-    Grown p (record p { watchlists = w; binary = with_literals (2 * n) p.binary; assignment = with_var_count n p.assignment; graph = with_nodes n p.graph; trail = record p.trail { room = max p.trail.room n }; vsids = with_variables n p.vsids }) n
+    AddsVars p (record p { watchlists = w; binary = with_binary_lists (2 * n) p.binary; assignment = with_var_count n p.assignment; graph = with_nodes n p.graph; trail = record p.trail { room = max p.trail.room n }; vsids = with_variables n p.vsids }) n
 grown_frame p n w h le =
     let small : length p.graph ≤ n = omega (arith, h.below.asks.agrees.nodes) in
     record {

@@ -15,9 +15,9 @@ use Rattle.sat_parts.specs.declared.prop.graph.Reason.TheVariants.{Unit as NoCau
 use Rattle.sat_parts.specs.clause.Activity.{PutsHeaders, Scale, StaysBelow, ReachesRescale, BumpsOne, BumpsAll, DecaysAll, later_bump, raised, shifted, bumped_shifted, with_activity}
 use Rattle.sat_parts.specs.clause.Collected.{Copies, Collects, FollowsClause, CollectsNothing}
 use Rattle.sat_parts.specs.clause.Db.{Db, live_refs, PutsHeader}
-use Rattle.sat_parts.specs.clause.Orders.{Shuffles, Reorders, SameUpToOrder}
+use Rattle.sat_parts.specs.clause.Orders.{PermutesClause, PermutesClauses, SameUpToOrder}
 use Rattle.sat_parts.specs.clause.Reduced.{reduced}
-use Rattle.sat_parts.specs.prop.Graphs.{is_unit}
+use Rattle.sat_parts.specs.prop.Graphs.{is_unit_reason}
 use Rattle.sat_parts.specs.prop.Values.{Values}
 use Rattle.sat_parts.specs.prop.Trails.{Trailed}
 use Rattle.sat_parts.specs.prop.WatchLists.{Watching}
@@ -28,7 +28,7 @@ use Rattle.sat_parts.proofs.lemmas.prop.BuildLemmas.{live_in}
 use Rattle.sat_parts.proofs.lemmas.prop.BuildLemmas.{live_same}
 use Rattle.sat_parts.specs.declared.parts.Parts.{Parts}
 use Rattle.sat_parts.specs.parts.Whole.{state, PartsInvariant}
-use Rattle.sat_parts.specs.parts.Frame.{AddsNoUnit, KeepsTo, SameSearch, Reordered, Headed, Copied}
+use Rattle.sat_parts.specs.parts.Frame.{AddsNoUnit, KeepsTo, SameSearch, ReordersLits, ChangesHeaders, MovesLongClauses}
 
 -- what stays of clauses whose headers changed
 pub record SidesStay (words words' refs : List ℕ) : Type 0 where
@@ -82,7 +82,7 @@ sides_decayed words words' refs c c' later all = elim (cases_lt (later_bump c) (
   | inr le ↦ sides_all words words' refs (shifted words) (all le).1 (λ p k. refl)
 ]
 
-pub headed_by : (p p' : Parts) → live_refs p'.clauses p'.db.refs ≡ live_refs p.clauses p.db.refs → SidesStay p.clauses p'.clauses p.db.refs → SameSearch p p' → Headed p p'
+pub headed_by : (p p' : Parts) → live_refs p'.clauses p'.db.refs ≡ live_refs p.clauses p.db.refs → SidesStay p.clauses p'.clauses p.db.refs → SameSearch p p' → ChangesHeaders p p'
 headed_by p p' live x same = record {
   live = live;
   lits = λ o c. x.lits o (live_in p.clauses p.db.refs o c);
@@ -92,10 +92,10 @@ headed_by p p' live x same = record {
 
 -- COLLECTION
 
-unit_followed : (live refs' : List ℕ) (r r' : Reason) → FollowsClause live refs' r r' → is_unit r' ≡ is_unit r
-unit_followed live refs' NoCause r' f = ap (λ (z : Reason). is_unit z) f
-unit_followed live refs' (Binary ls) r' f = ap (λ (z : Reason). is_unit z) f
-unit_followed live refs' (Long o) r' f = ap (λ (z : Reason). is_unit z) f.1.2
+unit_followed : (live refs' : List ℕ) (r r' : Reason) → FollowsClause live refs' r r' → is_unit_reason r' ≡ is_unit_reason r
+unit_followed live refs' NoCause r' f = ap (λ (z : Reason). is_unit_reason z) f
+unit_followed live refs' (Binary ls) r' f = ap (λ (z : Reason). is_unit_reason z) f
+unit_followed live refs' (Long o) r' f = ap (λ (z : Reason). is_unit_reason z) f.1.2
 
 copies_refl : (words live : List ℕ) → Copies words live words live
 copies_refl words live = record { size = refl; headers = λ k b. refl; lits = λ k b. refl }
@@ -108,7 +108,7 @@ carries_collected words db a g g' t words' db' x = record {
     | inr b ↦
         let s : State = state_of a g t in
         let s' : State = state_of a g' t in
-        let same : is_unit (node s' l).reason ≡ is_unit (node s l).reason = subst (λ m. is_unit (node s' m).reason ≡ is_unit (node s m).reason) b.there
+        let same : is_unit_reason (node s' l).reason ≡ is_unit_reason (node s l).reason = subst (λ m. is_unit_reason (node s' m).reason ≡ is_unit_reason (node s m).reason) b.there
         (unit_followed (live_refs words db.refs) db'.refs (node s (lit_at s b.place)).reason (node s' (lit_at s b.place)).reason (x.reasons b.place b.within)) in
         inr (record { place = b.place; within = b.within; there = b.there; bottom = sym (x.levels (variable l)) ∙ b.bottom; none = sym same ∙ b.none })
   ];
@@ -125,7 +125,7 @@ keeps_stayed : (top : ℕ) (s : State) → KeepsTo top s s
 keeps_stayed top s = record { low = λ l h b. (h, refl); begun = λ j b lt. (lt, refl) }
 
 -- a collection that is due
-copied_due : (p : Parts) (words' : List ℕ) (db' : Db) (w' : Watching) (g' : List ImplNode) → Collects p.clauses p.db p.graph p.trail.lits words' db' g' → Copied p (record p { clauses = words'; db = db'; watchlists = w'; graph = g' })
+copied_due : (p : Parts) (words' : List ℕ) (db' : Db) (w' : Watching) (g' : List ImplNode) → Collects p.clauses p.db p.graph p.trail.lits words' db' g' → MovesLongClauses p (record p { clauses = words'; db = db'; watchlists = w'; graph = g' })
 copied_due p words' db' w' g' x = record {
   copies = subst (λ (xs : List ℕ). Copies p.clauses (live_refs p.clauses p.db.refs) words' xs) (sym x.live) x.copies;
   binary = refl;
@@ -137,7 +137,7 @@ copied_due p words' db' w' g' x = record {
 }
 
 -- one that isn't, or fails
-copied_none : (p : Parts) (words' : List ℕ) (db' : Db) (w' : Watching) (g' : List ImplNode) → CollectsNothing p.clauses p.db p.graph p.watchlists words' db' g' w' → Copied p (record p { clauses = words'; db = db'; watchlists = w'; graph = g' })
+copied_none : (p : Parts) (words' : List ℕ) (db' : Db) (w' : Watching) (g' : List ImplNode) → CollectsNothing p.clauses p.db p.graph p.watchlists words' db' g' w' → MovesLongClauses p (record p { clauses = words'; db = db'; watchlists = w'; graph = g' })
 copied_none p words' db' w' g' x = rw (x.0, x.1, x.2) record {
   copies = copies_refl p.clauses (live_refs p.clauses p.db.refs);
   binary = refl;
@@ -151,7 +151,7 @@ copied_none p words' db' w' g' x = rw (x.0, x.1, x.2) record {
 pub copied_collect : (p : Parts) (words' : List ℕ) (db' : Db) (w' : Watching) (g' : List ImplNode) (r : Result (Unit {0}) StoreError) →
     (length p.clauses / 2 < p.db.garbage → OnOk r (Collects p.clauses p.db p.graph p.trail.lits words' db' g')) →
     (p.db.garbage ≤ length p.clauses / 2 → CollectsNothing p.clauses p.db p.graph p.watchlists words' db' g' w') → OnErr r (CollectsNothing p.clauses p.db p.graph p.watchlists words' db' g' w') →
-    Copied p (record p { clauses = words'; db = db'; watchlists = w'; graph = g' })
+    MovesLongClauses p (record p { clauses = words'; db = db'; watchlists = w'; graph = g' })
 copied_collect p words' db' w' g' (Ok x) due not_due same = elim (cases_lt (length p.clauses / 2) p.db.garbage) [
   | inl lt ↦ copied_due p words' db' w' g' (due lt)
   | inr le ↦ copied_none p words' db' w' g' (not_due le)
@@ -160,8 +160,8 @@ copied_collect p words' db' w' g' (Err e) due not_due same = copied_none p words
 
 -- ORDER
 
-pub moved_shuffled : (p : Parts) (words' : List ℕ) (o : ℕ) → PartsInvariant p → Contains (live_refs p.clauses p.db.refs) o → Shuffles p.clauses words' o → Reordered p (record p { clauses = words' })
+pub moved_shuffled : (p : Parts) (words' : List ℕ) (o : ℕ) → PartsInvariant p → Contains (live_refs p.clauses p.db.refs) o → PermutesClause p.clauses words' o → ReordersLits p (record p { clauses = words' })
 moved_shuffled p words' o h c x =
-    let r : Reorders p.clauses words' (live_refs p.clauses p.db.refs) = reorders_one p.clauses words' (live_refs p.clauses p.db.refs) o c x in
+    let r : PermutesClauses p.clauses words' (live_refs p.clauses p.db.refs) = reorders_one p.clauses words' (live_refs p.clauses p.db.refs) o c x in
     let k : SameUpToOrder p.clauses words' p.db.refs = r.all p.db.refs (λ q d. live_in p.clauses p.db.refs q d) h.below.asks.laid in
     record { live = live_same p.clauses words' p.db.refs k.headers; kept = r.all (live_refs p.clauses p.db.refs) (λ q d. d) h.below.asks.clauses.laid; binary = refl }

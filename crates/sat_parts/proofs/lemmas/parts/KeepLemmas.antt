@@ -8,7 +8,7 @@ use Rattle.sat_parts.specs.declared.prop.graph.Reason.TheVariants.{Unit as NoCau
 use Rattle.sat_parts.specs.prop.Values.{Values, IsOpenLit}
 use Rattle.sat_parts.specs.prop.Trails.{Trailed, with_level, cut_to}
 use Rattle.sat_parts.specs.prop.Undone.{undone_to}
-use Rattle.sat_parts.specs.prop.State.{State, lit_at, Agrees, Grows, enqueued}
+use Rattle.sat_parts.specs.prop.State.{State, lit_at, StateIsConsistent, TrailGrows, enqueued}
 use Rattle.sat_parts.specs.prop.Ready.{state_of}
 use Rattle.sat_parts.specs.prop.TrailWord.{IsLevelled, decided_on}
 use Rattle.sat_parts.specs.prop.Backtracked.{KeepsLow}
@@ -24,21 +24,21 @@ keeps_trans top a b c x y = record {
 }
 
 -- open literals become true behind the others
-pub keeps_grown : (top : ℕ) (a b : State) → Grows a b → IsLevelled a → KeepsTo top a b
+pub keeps_grown : (top : ℕ) (a b : State) → TrailGrows a b → IsLevelled a → KeepsTo top a b
 keeps_grown top a b g x = record {
   low = λ l t le. (g.kept l t, ap (λ (n : ImplNode). n.level) (g.nodes l t));
   begun = λ j lt c. (subst (λ (xs : List ℕ). j < length xs) (sym g.starts) c, ap (λ (xs : List ℕ). lit_at b (get_or xs j 0)) g.starts ∙ g.front (get_or a.trail.starts j 0) (x.begun j c));
 }
 
-pub keeps_enqueued : (top : ℕ) (s : State) (l : ℕ) (r : Reason) → Agrees s → IsLevelled s → IsOpenLit s.values l → variable l < length s.values → KeepsTo top s (enqueued l r s)
+pub keeps_enqueued : (top : ℕ) (s : State) (l : ℕ) (r : Reason) → StateIsConsistent s → IsLevelled s → IsOpenLit s.values l → variable l < length s.values → KeepsTo top s (enqueued l r s)
 keeps_enqueued top s l r a x free below = keeps_grown top s (enqueued l r s) (grows_enqueued s l r a free below (room_for s l r a free below)) x
 
 -- a level begins with an open literal
-pub keeps_decided : (top : ℕ) (s : State) (l : ℕ) → Agrees (record s { trail = with_level s.trail }) → IsLevelled s → IsOpenLit s.values l → variable l < length s.values → KeepsTo top s (decided_on l s)
+pub keeps_decided : (top : ℕ) (s : State) (l : ℕ) → StateIsConsistent (record s { trail = with_level s.trail }) → IsLevelled s → IsOpenLit s.values l → variable l < length s.values → KeepsTo top s (decided_on l s)
 keeps_decided top s l a x free below =
     let r : State = record s { trail = with_level s.trail } in
     let size : length (s.trail.starts ++ length s.trail.lits ∷ []) ≡ length s.trail.starts + 1 = length_push s.trail.starts (length s.trail.lits) in
-    let g : Grows r (decided_on l s) = grows_enqueued r l NoCause a free below (room_for r l NoCause a free below) in
+    let g : TrailGrows r (decided_on l s) = grows_enqueued r l NoCause a free below (room_for r l NoCause a free below) in
     record {
       low = λ m t le. (g.kept m t, ap (λ (n : ImplNode). n.level) (g.nodes m t));
       begun = λ j lt c. (
@@ -48,7 +48,7 @@ keeps_decided top s l a x free below =
     }
 
 -- levels above it are undone
-pub keeps_undone : (v : ℕ) (a : Values) (g : List ImplNode) (t : Trailed) → Agrees (state_of a g t) → IsLevelled (state_of a g t) → v < length t.starts → KeepsTo v (state_of a g t) (state_of (undone_to v t a) g (cut_to v t))
+pub keeps_undone : (v : ℕ) (a : Values) (g : List ImplNode) (t : Trailed) → StateIsConsistent (state_of a g t) → IsLevelled (state_of a g t) → v < length t.starts → KeepsTo v (state_of a g t) (state_of (undone_to v t a) g (cut_to v t))
 keeps_undone v a g t h x lt =
     let k : KeepsLow v (state_of a g t) (state_of (undone_to v t a) g (cut_to v t)) = keeps_low v a g t h lt in
     let size : length (take v t.starts) ≡ v = length-take-le v t.starts (omega arith) in

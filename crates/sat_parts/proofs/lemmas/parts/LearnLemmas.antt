@@ -16,7 +16,7 @@ use Rattle.sat_parts.specs.prop.Values.{Values, value_of, made_true, IsFalseLit,
 use Rattle.sat_parts.specs.prop.Trails.{Trailed, with_lit}
 use Rattle.sat_parts.specs.prop.Graphs.{with_node, node_at, node_of}
 use Rattle.sat_parts.specs.prop.WatchLists.{Watching, with_firsts}
-use Rattle.sat_parts.specs.prop.State.{State, level, current_level, HasLeftQueue, Agrees, Grows, IsSatisfied, enqueued}
+use Rattle.sat_parts.specs.prop.State.{State, level, current_level, HasLeftQueue, StateIsConsistent, TrailGrows, IsSatisfied, enqueued}
 use Rattle.sat_parts.specs.prop.Reasons.{IsFalseBefore, Implies, AreInTurn}
 use Rattle.sat_parts.specs.prop.Ready.{state_of}
 use Rattle.sat_parts.specs.prop.Asks.{IsOwnLong}
@@ -38,14 +38,14 @@ long_place : (o p : ℕ) → Long o ≡ Long p → o ≡ p
 long_place o p e = cc
 
 -- a false literal is false before the end of the trail
-pub false_at_end : (s : State) (m : ℕ) → Agrees s → IsFalseLit s.values m → IsFalseBefore s (length s.trail.lits) m
+pub false_at_end : (s : State) (m : ℕ) → StateIsConsistent s → IsFalseLit s.values m → IsFalseBefore s (length s.trail.lits) m
 false_at_end s m h f = h.known (negated m) (true_from_false s.values m f)
 
 pub level_same : (s : State) (m : ℕ) → level s (negated m) ≡ level s m
 level_same s m = ap (λ u. (node_of s.nodes u).level) (negated_variable m)
 
 -- an open literal's negation hasn't left the queue
-pub open_not_left : (s : State) (m : ℕ) → Agrees s → IsOpenLit s.values m → HasLeftQueue s (negated m) → ⊥
+pub open_not_left : (s : State) (m : ℕ) → StateIsConsistent s → IsOpenLit s.values m → HasLeftQueue s (negated m) → ⊥
 open_not_left s m h n x = some_none (left_true s (negated m) h x) (ap (λ u. value_of s.values u) (negated_variable m) ∙ n)
 
 pub pending_below : (s : State) (q : Queue) (ls : List ℕ) → IsPending s q ls → (k : ℕ) → k < length ls → get_or ls k 0 < 2 * length s.values
@@ -87,13 +87,13 @@ pending_apart s q ls u x n none k b e = elim (cases_eq k 0) [
   | inr d ↦ not_false s.values u (get_or ls k 0) none e (x.rest k (omega arith) b)
 ]
 
-long_reason : (words words' : List ℕ) (db db' : Db) (o : ℕ) (header : Header) (ls : List ℕ) (implied : List (List ℕ)) (s : State) (q : Queue) → Agrees s → IsPending s q ls →
+long_reason : (words words' : List ℕ) (db db' : Db) (o : ℕ) (header : Header) (ls : List ℕ) (implied : List (List ℕ)) (s : State) (q : Queue) → StateIsConsistent s → IsPending s q ls →
     AddsLongClause words db words' db' o header ls →
     Implies words' (live_refs words' db'.refs) implied (enqueued (get_or ls 0 0) (Long o) s) (length s.trail.lits) (Long o)
 long_reason words words' db db' o header ls implied s q h x added =
     let l : ℕ = get_or ls 0 0 in
     let t : State = enqueued (get_or ls 0 0) (Long o) s in
-    let g : Grows s (enqueued (get_or ls 0 0) (Long o) s) = grows_enqueued s (get_or ls 0 0) (Long o) h x.open_first x.there (room_for s (get_or ls 0 0) (Long o) h x.open_first x.there) in
+    let g : TrailGrows s (enqueued (get_or ls 0 0) (Long o) s) = grows_enqueued s (get_or ls 0 0) (Long o) h x.open_first x.there (room_for s (get_or ls 0 0) (Long o) h x.open_first x.there) in
     let there : lits_at words' o ≡ ls = added.added.lits_there in (
       subst (λ (xs : List ℕ). Contains xs o) (sym added.live) (Contains-push (live_refs words db.refs) o),
       ap (λ (ms : List ℕ). get_or ms 0 0) there ∙ sym (lit_last s (get_or ls 0 0) (Long o)),
@@ -110,7 +110,7 @@ sound_long words words' db db' w b a g t q ls o header h x three added =
     let l : ℕ = get_or ls 0 0 in
     let s : State = state_of a g t in
     let y : IsSoundBelow words db w b a g t q (length t.starts + 1) = h.below in
-    let agrees : Agrees (state_of a g t) = y.asks.agrees in
+    let agrees : StateIsConsistent (state_of a g t) = y.asks.agrees in
     let own : (i : ℕ) → i < 2 → HasLeftQueue s (negated (get_or ls i 0)) → level s (negated (get_or ls i 0)) < length t.starts + 1 →
     IsSatisfied s ls (level s (negated (get_or ls i 0))) ⊎ (IsOwnLong (Long o) o × (current_level s ≤ level s (negated (get_or ls i 0)))) =
     at_two (λ i. HasLeftQueue s (negated (get_or ls i 0)) → level s (negated (get_or ls i 0)) < length t.starts + 1 →
@@ -146,7 +146,7 @@ pub sound_unit : (words : List ℕ) (db : Db) (w : Watching) (b : Binaries) (a :
 sound_unit words db w b a g t q l h bottom n below =
     let s : State = state_of a g t in
     let y : IsSoundBelow words db w b a g t q (length t.starts + 1) = h.below in
-    let agrees : Agrees (state_of a g t) = y.asks.agrees in
+    let agrees : StateIsConsistent (state_of a g t) = y.asks.agrees in
     record {
       below = record {
         held = y.held;

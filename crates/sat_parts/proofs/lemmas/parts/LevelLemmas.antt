@@ -8,13 +8,13 @@ use Rattle.sat_parts.specs.clause.Db.{live_refs}
 use Rattle.sat_parts.specs.clause.Stored.{lit_of, size_of}
 use Rattle.sat_parts.specs.prop.Values.{value_of, IsTrueLit, IsFalseLit}
 use Rattle.sat_parts.specs.prop.WatchLists.{Watching}
-use Rattle.sat_parts.specs.prop.State.{State, level, current_level, HasLeftQueue, Agrees, IsSatisfied}
+use Rattle.sat_parts.specs.prop.State.{State, level, current_level, HasLeftQueue, StateIsConsistent, IsSatisfied}
 use Rattle.sat_parts.specs.prop.Asks.{PropagationInvariant, PropagationPrecondition}
 use Rattle.sat_parts.proofs.lemmas.prop.StateLemmas.{level_low, true_from_false}
 use Rattle.sat_parts.specs.parts.Levels.{IsTrueAt, IsCompleteAt}
 
 -- with nothing in the queue all that is true has left it
-pub left_all : (s : State) (l : ℕ) → Agrees s → s.trail.head ≡ length s.trail.lits → IsTrueLit s.values l → HasLeftQueue s l
+pub left_all : (s : State) (l : ℕ) → StateIsConsistent s → s.trail.head ≡ length s.trail.lits → IsTrueLit s.values l → HasLeftQueue s l
 left_all s l h done x = elim (h.known l x) [
   | inl y ↦ inl (record { place = y.place; before = omega (arith, y.within); within = y.within; there = y.there })
   | inr y ↦ inr y

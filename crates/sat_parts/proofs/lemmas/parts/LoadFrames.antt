@@ -9,15 +9,15 @@ use Rattle.sat_store.specs.clause.Header.{no_header}
 use Rattle.sat_store.specs.heap.Vsids.{with_available}
 use Rattle.sat_parts.specs.clause.Db.{Db, AddsLongClause}
 use Rattle.sat_parts.specs.prop.Binaries.{Binaries, with_binary}
-use Rattle.sat_parts.specs.prop.Graphs.{is_unit, node_at, node_of, new_node}
+use Rattle.sat_parts.specs.prop.Graphs.{is_unit_reason, node_at, node_of, new_node}
 use Rattle.sat_parts.specs.prop.Values.{IsTrueLit, value_of, assigned}
-use Rattle.sat_parts.specs.prop.State.{State, node, lit_at, IsRemoved, Agrees, enqueued}
+use Rattle.sat_parts.specs.prop.State.{State, node, lit_at, IsRemoved, StateIsConsistent, enqueued}
 use Rattle.sat_parts.proofs.lemmas.prop.StateLemmas.{lit_front, lit_last}
 use Rattle.sat_parts.specs.declared.parts.Parts.{Parts}
 use Rattle.sat_parts.specs.declared.parts.load.Loaded.{Loaded}
 use Rattle.sat_parts.specs.declared.parts.load.Loaded.TheVariants.{Stored, Unit as One, Satisfied, Falsified}
 use Rattle.sat_parts.specs.parts.Whole.{state}
-use Rattle.sat_parts.specs.parts.Frame.{AddsNoUnit, SameClauses, SameState, GainsUnit, Freed, AddsOriginalClause, stores_binary, stores_long, IsUnitLit}
+use Rattle.sat_parts.specs.parts.Frame.{AddsNoUnit, SameClauses, SameState, GainsUnit, FreesVar, AddsOriginalClause, stores_binary, stores_long, IsUnitLit}
 use Rattle.sat_parts.specs.parts.Loading.{LoadEffect}
 use Rattle.sat_parts.proofs.lemmas.parts.FrameLemmas.{carries_trans, carries_refl}
 use Rattle.sat_parts.proofs.lemmas.parts.ValueLemmas.{some_none}
@@ -32,7 +32,7 @@ gains_after l a b c x y = record {
 }
 
 -- a unit is put back
-pub carries_again : (s : State) (l : ℕ) → Agrees s → IsRemoved s l → length s.trail.starts ≡ 0 → AddsNoUnit s (enqueued l NoCause (dropped l s))
+pub carries_again : (s : State) (l : ℕ) → StateIsConsistent s → IsRemoved s l → length s.trail.starts ≡ 0 → AddsNoUnit s (enqueued l NoCause (dropped l s))
 carries_again s l a gone bottom =
     let s' : State = enqueued l NoCause (dropped l s) in
     let size : length (s.trail.lits ++ l ∷ []) ≡ length s.trail.lits + 1 = length_push s.trail.lits l in
@@ -59,7 +59,7 @@ carries_again s l a gone bottom =
                   within = lt;
                   there = there;
                   bottom = sym (ap (λ (k : ImplNode). k.level) (other m n)) ∙ b.bottom;
-                  none = sym (ap (λ (k : ImplNode). is_unit k.reason) (other m n)) ∙ b.none;
+                  none = sym (ap (λ (k : ImplNode). is_unit_reason k.reason) (other m n)) ∙ b.none;
                 })
               ]
           | inr ge ↦
@@ -118,7 +118,7 @@ says_units Satisfied p p' ls says l u = inl (says.1.units l u)
 says_units Falsified p p' ls says l u = inl (says.3.units l u)
 
 -- a variable that no clause has loses its value
-pub freed_frame : (p : Parts) (v : ℕ) → p.trail.lits ≡ [] → v < length p.assignment.current → Freed p (record p { assignment = assigned v None p.assignment; vsids = with_available v false p.vsids }) v
+pub freed_frame : (p : Parts) (v : ℕ) → p.trail.lits ≡ [] → v < length p.assignment.current → FreesVar p (record p { assignment = assigned v None p.assignment; vsids = with_available v false p.vsids }) v
 freed_frame p v empty below =
     let none : length p.trail.lits ≡ 0 = ap (λ (xs : List ℕ). length xs) empty in
     record {

@@ -13,7 +13,7 @@ use Rattle.sat_parts.specs.prop.Binaries.{Binaries, implied_by, with_binary}
 use Rattle.sat_parts.specs.prop.Values.{Values, value_of, assigned, IsTrueLit}
 use Rattle.sat_parts.specs.prop.Trails.{Trailed}
 use Rattle.sat_parts.specs.prop.WatchLists.{Watching, with_firsts}
-use Rattle.sat_parts.specs.prop.State.{State, level, HasLeftQueue, Agrees, IsSatisfied}
+use Rattle.sat_parts.specs.prop.State.{State, level, HasLeftQueue, StateIsConsistent, IsSatisfied}
 use Rattle.sat_parts.specs.prop.Ready.{state_of, AreWatched, AreLists}
 use Rattle.sat_parts.proofs.lemmas.prop.CallLemmas.{asks_added, asks_of_unit}
 use Rattle.sat_parts.proofs.lemmas.prop.WordLemmas.{levels_stay}
@@ -102,11 +102,11 @@ sound_freed words db w b a g t q v h bottom empty below unused =
     let s : State = state_of a g t in
     let s' : State = lost_value v (state_of a g t) in
     let y : IsSoundBelow words db w b a g t q (length t.starts + 1) = h.below in
-    let old : Agrees (state_of a g t) = y.asks.agrees in
+    let old : StateIsConsistent (state_of a g t) = y.asks.agrees in
     let none : length t.lits ≡ 0 = ap (λ (xs : List ℕ). length xs) empty in
     let size : length (set a.current v None) ≡ length a.current = length-set a.current v None in
     let kept : (m : ℕ) → variable m ≢ v → IsTrueLit a.current m → IsTrueLit (lost_value v (state_of a g t)).values m = λ m n holds. get_or-set_other a.current v (variable m) None None n ∙ holds in
-    let agrees : Agrees (lost_value v (state_of a g t)) = record {
+    let agrees : StateIsConsistent (lost_value v (state_of a g t)) = record {
       trail = old.trail;
       nodes = old.nodes ∙ sym size;
       room = omega (arith, old.room);

@@ -13,7 +13,7 @@ use Rattle.sat_parts.specs.prop.Binaries.{Binaries}
 use Rattle.sat_parts.specs.prop.Values.{Values, value_of}
 use Rattle.sat_parts.specs.prop.Trails.{Trailed, LevelIs}
 use Rattle.sat_parts.specs.prop.WatchLists.{Watching}
-use Rattle.sat_parts.specs.prop.State.{State, node, level, lit_at, Agrees, Grows}
+use Rattle.sat_parts.specs.prop.State.{State, node, level, lit_at, StateIsConsistent, TrailGrows}
 use Rattle.sat_parts.specs.prop.Reasons.{AreInTurn, PropagatesOn}
 use Rattle.sat_parts.specs.prop.Ready.{state_of, IsConflict}
 use Rattle.sat_parts.specs.prop.Asks.{PropagationInvariant, PropagationResult}
@@ -24,7 +24,7 @@ use Rattle.sat_parts.specs.parts.Round.{AreReady, UnitsAreUncaused, IsBased, IsS
 use Rattle.sat_parts.proofs.lemmas.parts.ValueLemmas.{open_or_true, not_true}
 
 -- what is open after a piece of propagation was open before
-pub open_back : (s s' : State) (v : ℕ) → Grows s s' → value_of s'.values v ≡ None → value_of s.values v ≡ None
+pub open_back : (s s' : State) (v : ℕ) → TrailGrows s s' → value_of s'.values v ≡ None → value_of s.values v ≡ None
 open_back s s' v g none = elim (open_or_true s.values v) [
   | inl e ↦ e
   | inr x ↦ absurd (not_true s'.values v x.0 none x.1.0 (g.kept x.0 x.1.1))
@@ -72,7 +72,7 @@ sound_propagated words words' db w w' b a a' g g' t t' q (Err x) h given = (
   given.outcome.1,
 )
 
-pub agrees_given : (words words' refs : List ℕ) (implied : List (List ℕ)) (s s' : State) (w' : Watching) (r : Result (Unit {0}) Conflict) → PropagationResult refs implied words s words' s' w' r → Agrees s'
+pub agrees_given : (words words' refs : List ℕ) (implied : List (List ℕ)) (s s' : State) (w' : Watching) (r : Result (Unit {0}) Conflict) → PropagationResult refs implied words s words' s' w' r → StateIsConsistent s'
 agrees_given words words' refs implied s s' w' (Ok x) given = given.outcome.0.agrees
 agrees_given words words' refs implied s s' w' (Err x) given = given.outcome.0.agrees
 
@@ -87,7 +87,7 @@ base_given words words' refs implied a a' g g' t t' w' r given some h =
     }
 
 -- above level 0 propagation leaves the literals of level 0 as they are
-pub units_moved : (live : List ℕ) (implied : List (List ℕ)) (words words' : List ℕ) (s s' : State) → Agrees s → Agrees s' → PropagatesOn live implied words s words' s' → 0 < length s.trail.starts → UnitsAreUncaused s → UnitsAreUncaused s'
+pub units_moved : (live : List ℕ) (implied : List (List ℕ)) (words words' : List ℕ) (s s' : State) → StateIsConsistent s → StateIsConsistent s' → PropagatesOn live implied words s words' s' → 0 < length s.trail.starts → UnitsAreUncaused s → UnitsAreUncaused s'
 units_moved live implied words words' s s' h h' m some x i b e = elim (cases_lt i (length s.trail.lits)) [
   | inl lt ↦
       let same : node s' (lit_at s' i) ≡ node s (lit_at s i) = ap (λ l. node s' l) (m.grows.front i lt) ∙ m.grows.nodes (lit_at s i) (h.holds i lt) in

@@ -9,7 +9,7 @@ use Rattle.sat_store.specs.declared.clause.tier.Tier.{Tier}
 use Rattle.sat_store.specs.clause.Header.{index_of}
 use Rattle.sat_store.specs.clause.Buffer.{header_at}
 use Rattle.sat_parts.specs.clause.Db.{live_refs, is_live, is_live_of, AreRising}
-use Rattle.sat_parts.specs.clause.Orders.{AreDistinct, Shuffled}
+use Rattle.sat_parts.specs.clause.Orders.{AreDistinct, IsReordering}
 use Rattle.sat_parts.proofs.lemmas.clause.ListLemmas.{there, in_head, in_tail, place_in, rising_distinct}
 use Rattle.sat_parts.specs.parts.Reducing.{clause_rank, ranked}
 use Rattle.sat_parts.proofs.lemmas.parts.SortLemmas.{shuffled_by}
@@ -80,7 +80,7 @@ distinct_filter p (x ∷ xs) d = elim (cases_Bool (p x)) [
 -- clauses that are listed in whatever order are live, each once
 pub listed_once : (words refs list : List ℕ) (tier : Tier) → AreRising refs → IsPermutation (filter (is_live_of words tier) refs) list → AreDistinct list
 listed_once words refs list tier rising p =
-    let x : Shuffled (filter (is_live_of words tier) refs) list = shuffled_by (filter (is_live_of words tier) refs) list p in
+    let x : IsReordering (filter (is_live_of words tier) refs) list = shuffled_by (filter (is_live_of words tier) refs) list p in
     x.apart (distinct_filter (is_live_of words tier) refs (λ j k a b e. rising_distinct refs j k rising a b e))
 
 pub listed_live : (words refs list : List ℕ) (tier : Tier) → IsPermutation (filter (is_live_of words tier) refs) list → (k : ℕ) → k < length list → Contains (live_refs words refs) (get_or list k 0)

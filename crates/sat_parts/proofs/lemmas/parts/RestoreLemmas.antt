@@ -14,7 +14,7 @@ use Rattle.sat_parts.specs.prop.Graphs.{removed_node, with_node, new_node}
 use Rattle.sat_parts.specs.prop.Values.{Values, made_true, IsTrueLit, IsOpenLit}
 use Rattle.sat_parts.specs.prop.Trails.{Trailed, LevelIs}
 use Rattle.sat_parts.specs.prop.WatchLists.{Watching}
-use Rattle.sat_parts.specs.prop.State.{State, node, level, lit_at, HasLeftQueue, IsRemoved, Agrees, IsSatisfied}
+use Rattle.sat_parts.specs.prop.State.{State, node, level, lit_at, HasLeftQueue, IsRemoved, StateIsConsistent, IsSatisfied}
 use Rattle.sat_parts.specs.prop.Ready.{state_of, AreWatched, AreLists}
 use Rattle.sat_parts.specs.prop.Reasons.{Implies}
 use Rattle.sat_parts.proofs.lemmas.prop.StateLemmas.{left_true, negated_variable, open_other, true_kept, true_back, true_new}
@@ -61,7 +61,7 @@ left_back s l m below h = elim h [
   | inr x ↦ elim (removed_back s l m below x) [ inl e ↦ inl e | inr y ↦ inr (inr y) ]
 ]
 
-agrees_restored : (s : State) (l : ℕ) → Agrees s → IsOpenLit s.values l → variable l < length s.values → Agrees (restored l s)
+agrees_restored : (s : State) (l : ℕ) → StateIsConsistent s → IsOpenLit s.values l → variable l < length s.values → StateIsConsistent (restored l s)
 agrees_restored s l h free below =
     let size : length (set s.values (variable l) (Some (is_positive l))) ≡ length s.values = length-set s.values (variable l) (Some (is_positive l)) in
     let nodes : length (with_node (variable l) removed_node s.nodes) ≡ length s.nodes = length-set s.nodes (variable l) removed_node in
@@ -89,7 +89,7 @@ sound_restored words db w b a g t q l h bottom below free not =
     let s : State = state_of a g t in
     let s' : State = restored l (state_of a g t) in
     let y : IsSoundBelow words db w b a g t q (length t.starts + 1) = h.below in
-    let old : Agrees (state_of a g t) = y.asks.agrees in
+    let old : StateIsConsistent (state_of a g t) = y.asks.agrees in
     let size : length (set a.current (variable l) (Some (is_positive l))) ≡ length a.current = length-set a.current (variable l) (Some (is_positive l)) in
     let unused : IsUnused words (live_refs words db.refs) b.implied (variable l) = elim (y.ready (variable l) below free) [ inl p ↦ absurd (true≢false (sym p ∙ not)) | inr u ↦ u ] in
     let kept : (m : ℕ) → IsTrueLit a.current m → IsTrueLit (restored l (state_of a g t)).values m = λ m x. true_kept s l m NoCause free x in

@@ -11,7 +11,7 @@ use Rattle.sat_parts.specs.declared.prop.graph.ImplNode.{ImplNode}
 use Rattle.sat_parts.specs.declared.prop.graph.Reason.{Reason}
 use Rattle.sat_parts.specs.declared.prop.graph.Reason.TheVariants.{Unit as NoCause, Binary, Long}
 use Rattle.sat_parts.specs.clause.Db.{Db, live_refs, ShortensClause}
-use Rattle.sat_parts.specs.clause.Orders.{AreDistinct, Shuffled, Shuffles, SameUpToOrder, Reorders}
+use Rattle.sat_parts.specs.clause.Orders.{AreDistinct, IsReordering, PermutesClause, SameUpToOrder, PermutesClauses}
 use Rattle.sat_parts.specs.clause.Stored.{AreClauses, lit_of, size_of}
 use Rattle.sat_parts.specs.prop.Binaries.{Binaries}
 use Rattle.sat_parts.specs.prop.Values.{Values, IsTrueLit}
@@ -32,18 +32,18 @@ use Rattle.sat_parts.specs.parts.Round.{IsSoundBelow, RoundInvariant}
 use Rattle.sat_parts.proofs.lemmas.parts.MoveLemmas.{sound_moved}
 
 -- the other literals of one clause change places
-pub asks_shuffled : (words words' refs : List ℕ) (w : Watching) (implied : List (List ℕ)) (s : State) (top o : ℕ) → PropagationInvariant words refs w implied s top → Contains (live_refs words refs) o → Shuffles words words' o →
+pub asks_shuffled : (words words' refs : List ℕ) (w : Watching) (implied : List (List ℕ)) (s : State) (top o : ℕ) → PropagationInvariant words refs w implied s top → Contains (live_refs words refs) o → PermutesClause words words' o →
     lit_of words' o 0 ≡ lit_of words o 0 → lit_of words' o 1 ≡ lit_of words o 1 → PropagationInvariant words' refs w implied s top
 asks_shuffled words words' refs w implied s top o h c x first second =
     let live : List ℕ = live_refs words refs in
-    let r : Reorders words words' (live_refs words refs) = reorders_one words words' (live_refs words refs) o c x in
+    let r : PermutesClauses words words' (live_refs words refs) = reorders_one words words' (live_refs words refs) o c x in
     let k : SameUpToOrder words words' refs = r.all refs (λ p d. live_in words refs p d) h.laid in
     let e : live_refs words' refs ≡ live_refs words refs = live_same words words' refs k.headers in
     let two : (p i : ℕ) → Contains (live_refs words refs) p → i < 2 → lit_of words' p i ≡ lit_of words p i = λ p i d b. elim (cases_eq o p) [
       | inl q ↦ subst (λ z. lit_of words' z i ≡ lit_of words z i) q (at_two (λ j. lit_of words' o j ≡ lit_of words o j) first second i b)
       | inr n ↦ ap (λ (ls : List ℕ). get_or ls i 0) (x.others (live_refs words refs) p c h.clauses.laid d n).lits
     ] in
-    let forth : (p : ℕ) → Contains (live_refs words refs) p → Shuffled (lits_at words p) (lits_at words' p) = λ p d. k.lits p (live_in words refs p d) in
+    let forth : (p : ℕ) → Contains (live_refs words refs) p → IsReordering (lits_at words p) (lits_at words' p) = λ p d. k.lits p (live_in words refs p d) in
     let satisfied : (p bound : ℕ) → Contains (live_refs words refs) p → IsSatisfied s (lits_at words p) bound → IsSatisfied s (lits_at words' p) bound = λ p bound d z.
     let j = (forth p d).forth z.place z.within in
     record {
@@ -82,7 +82,7 @@ asks_shuffled words words' refs w implied s top o h c x first second =
     }
 
 pub sound_shuffled : (words words' : List ℕ) (db : Db) (w : Watching) (b : Binaries) (a : Values) (g : List ImplNode) (t : Trailed) (q : Queue) (o : ℕ) →
-    RoundInvariant words db w b a g t q → Contains (live_refs words db.refs) o → Shuffles words words' o → lit_of words' o 0 ≡ lit_of words o 0 → lit_of words' o 1 ≡ lit_of words o 1 → RoundInvariant words' db w b a g t q
+    RoundInvariant words db w b a g t q → Contains (live_refs words db.refs) o → PermutesClause words words' o → lit_of words' o 0 ≡ lit_of words o 0 → lit_of words' o 1 ≡ lit_of words o 1 → RoundInvariant words' db w b a g t q
 sound_shuffled words words' db w b a g t q o h c x first second =
     let s : State = state_of a g t in
     let y : IsSoundBelow words db w b a g t q (length t.starts + 1) = h.below in

@@ -11,7 +11,7 @@ use Rattle.sat_parts.specs.declared.prop.graph.Reason.TheVariants.{Unit as NoCau
 use Rattle.sat_parts.specs.clause.Stored.{lit_of}
 use Rattle.sat_parts.specs.prop.Values.{IsOpenLit}
 use Rattle.sat_parts.specs.prop.Binaries.{implied_by}
-use Rattle.sat_parts.specs.prop.State.{State, node, level, lit_at, Agrees, Grows, enqueued}
+use Rattle.sat_parts.specs.prop.State.{State, node, level, lit_at, StateIsConsistent, TrailGrows, enqueued}
 use Rattle.sat_parts.specs.prop.Reasons.{IsFalseBefore, Implies, AreInTurn}
 use Rattle.sat_parts.proofs.lemmas.prop.StateLemmas.{grows_enqueued, lit_front, lit_last, node_kept, node_new}
 use Rattle.sat_parts.proofs.lemmas.prop.ReasonLemmas.{implies_forth}
@@ -46,11 +46,11 @@ turns_by words words' live live' implied implied' s long binary h i p b =
     implies_by words words' live live' implied implied' s s i (node s (lit_at s i)).reason refl (λ m x. x) (λ o e. long i o b e) (λ ls e. binary i ls b e) (h i p b)
 
 -- an open literal becomes true by a reason that is unit in turn
-pub turns_enqueued : (words live : List ℕ) (implied : List (List ℕ)) (s : State) (l : ℕ) (r : Reason) → Agrees s → IsOpenLit s.values l → variable l < length s.values →
+pub turns_enqueued : (words live : List ℕ) (implied : List (List ℕ)) (s : State) (l : ℕ) (r : Reason) → StateIsConsistent s → IsOpenLit s.values l → variable l < length s.values →
     Implies words live implied (enqueued l r s) (length s.trail.lits) r → AreInTurn words live implied s 0 → AreInTurn words live implied (enqueued l r s) 0
 turns_enqueued words live implied s l r h n below cause x i p y =
     let t : State = enqueued l r s in
-    let g : Grows s t = grows_enqueued s l r h n below (room_for s l r h n below) in
+    let g : TrailGrows s t = grows_enqueued s l r h n below (room_for s l r h n below) in
     let size : length (s.trail.lits ++ l ∷ []) ≡ length s.trail.lits + 1 = length_push s.trail.lits l in
     elim (cases_eq i (length s.trail.lits)) [
       | inl e ↦
@@ -73,7 +73,7 @@ turns_raised words live implied s h i p b =
     (λ o e c. (c, refl)) (λ ls e c. c) (h i p b)
 
 -- a literal becomes true, at level 0 without a clause as its reason
-pub units_enqueued : (s : State) (l : ℕ) (r : Reason) → Agrees s → IsOpenLit s.values l → variable l < length s.values → (length s.trail.starts ≡ 0 → r ≡ NoCause) → UnitsAreUncaused s → UnitsAreUncaused (enqueued l r s)
+pub units_enqueued : (s : State) (l : ℕ) (r : Reason) → StateIsConsistent s → IsOpenLit s.values l → variable l < length s.values → (length s.trail.starts ≡ 0 → r ≡ NoCause) → UnitsAreUncaused s → UnitsAreUncaused (enqueued l r s)
 units_enqueued s l r h n below bottom x i b e =
     let t : State = enqueued l r s in
     let size : length (s.trail.lits ++ l ∷ []) ≡ length s.trail.lits + 1 = length_push s.trail.lits l in

@@ -12,7 +12,7 @@ use Rattle.sat_parts.specs.prop.Values.{Values, value_of, IsTrueLit, IsFalseLit}
 use Rattle.sat_parts.specs.prop.Trails.{Trailed, LevelIs, cut_to}
 use Rattle.sat_parts.specs.prop.Undone.{undone_to, undone_lits, all_available}
 use Rattle.sat_parts.specs.prop.WatchLists.{Watching}
-use Rattle.sat_parts.specs.prop.State.{State, node, level, lit_at, Agrees}
+use Rattle.sat_parts.specs.prop.State.{State, node, level, lit_at, StateIsConsistent}
 use Rattle.sat_parts.specs.prop.Ready.{state_of}
 use Rattle.sat_parts.specs.prop.Backtracked.{KeepsLow}
 use Rattle.sat_parts.proofs.lemmas.prop.BacktrackLemmas.{asks_after, turns_after, keeps_low, undone_length}
@@ -20,11 +20,11 @@ use Rattle.sat_parts.proofs.lemmas.prop.StateLemmas.{true_from_false, false_from
 use Rattle.sat_parts.proofs.lemmas.prop.RoomLemmas.{below_from_value}
 use Rattle.sat_parts.proofs.lemmas.prop.WordLemmas.{levels_stay}
 use Rattle.sat_parts.specs.parts.Round.{UnitsAreUncaused, IsBased, IsSoundBelow}
-use Rattle.sat_parts.specs.parts.Learned.{IsLearned, IsPending}
+use Rattle.sat_parts.specs.parts.Learned.{IsAnalyzedClause, IsPending}
 use Rattle.sat_parts.proofs.lemmas.parts.ValueLemmas.{open_or_true, not_true, available_kept, available_length, available_there}
 
 -- a literal of a level above is undone, and its variable may be picked
-pub undone_available : (v : ℕ) (a : Values) (g : List ImplNode) (t : Trailed) (q : Queue) (l : ℕ) → Agrees (state_of a g t) → v < length t.starts → length q.available ≡ length a.current →
+pub undone_available : (v : ℕ) (a : Values) (g : List ImplNode) (t : Trailed) (q : Queue) (l : ℕ) → StateIsConsistent (state_of a g t) → v < length t.starts → length q.available ≡ length a.current →
     IsTrueLit a.current l → v < level (state_of a g t) l → may_pick (all_available (undone_lits v t) q) (variable l) ≡ true
 undone_available v a g t q l h lt size holds high =
     let s : State = state_of a g t in
@@ -64,7 +64,7 @@ sound_undone words db w b a g t q top v h lt below =
       ];
     }
 
-pub units_undone : (a : Values) (g : List ImplNode) (t : Trailed) (v : ℕ) → Agrees (state_of a g t) → v < length t.starts → UnitsAreUncaused (state_of a g t) → UnitsAreUncaused (state_of (undone_to v t a) g (cut_to v t))
+pub units_undone : (a : Values) (g : List ImplNode) (t : Trailed) (v : ℕ) → StateIsConsistent (state_of a g t) → v < length t.starts → UnitsAreUncaused (state_of a g t) → UnitsAreUncaused (state_of (undone_to v t a) g (cut_to v t))
 units_undone a g t v h lt x i b e =
     let s : State = state_of a g t in
     let k : KeepsLow v (state_of a g t) (state_of (undone_to v t a) g (cut_to v t)) = keeps_low v a g t h lt in
@@ -83,7 +83,7 @@ level_negated : (s : State) (m : ℕ) → level s (negated m) ≡ level s m
 level_negated s m = ap (λ u. (node_of s.nodes u).level) (negated_variable m)
 
 -- a learned clause once the levels above the one to go back to are undone
-pub pending_undone : (a : Values) (g : List ImplNode) (t : Trailed) (q : Queue) (ls : List ℕ) (v : ℕ) → Agrees (state_of a g t) → length q.available ≡ length a.current → IsLearned (state_of a g t) ls v →
+pub pending_undone : (a : Values) (g : List ImplNode) (t : Trailed) (q : Queue) (ls : List ℕ) (v : ℕ) → StateIsConsistent (state_of a g t) → length q.available ≡ length a.current → IsAnalyzedClause (state_of a g t) ls v →
     IsPending (state_of (undone_to v t a) g (cut_to v t)) (all_available (undone_lits v t) q) ls
 pending_undone a g t q ls v h size x =
     let s : State = state_of a g t in

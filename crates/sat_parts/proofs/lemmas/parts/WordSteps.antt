@@ -23,9 +23,9 @@ use Rattle.sat_parts.specs.clause.Stored.{size_of}
 use Rattle.sat_parts.specs.prop.Binaries.{Binaries}
 use Rattle.sat_parts.specs.prop.WatchLists.{Watching}
 use Rattle.sat_parts.specs.prop.Values.{Values, value_of, assigned, IsTrueLit, IsOpenLit}
-use Rattle.sat_parts.specs.prop.Graphs.{is_unit}
+use Rattle.sat_parts.specs.prop.Graphs.{is_unit_reason}
 use Rattle.sat_parts.specs.prop.Trails.{Trailed, with_lit, with_level, with_cleared, cut_to}
-use Rattle.sat_parts.specs.prop.State.{State, lit_at, Grows, Agrees, enqueued}
+use Rattle.sat_parts.specs.prop.State.{State, lit_at, TrailGrows, StateIsConsistent, enqueued}
 use Rattle.sat_parts.specs.prop.Reasons.{Implies, PropagatesOn}
 use Rattle.sat_parts.specs.prop.Ready.{state_of}
 use Rattle.sat_parts.specs.prop.Undone.{undone_to, undone_lits, all_available}
@@ -91,7 +91,7 @@ letters_count starts [] at = refl
 letters_count starts (x ∷ xs) at = ap (λ n. suc n) (letters_count starts xs (at + 1))
 
 -- more literals of the same levels
-pub standing_grown : (s s' : State) → Grows s s' → Begins (trail_letters s.trail) (trail_letters s'.trail)
+pub standing_grown : (s s' : State) → TrailGrows s s' → Begins (trail_letters s.trail) (trail_letters s'.trail)
 standing_grown s s' g =
     let n : ℕ = length s.trail.lits in
     let starts : List ℕ = s.trail.starts in
@@ -116,7 +116,7 @@ pub standing_learned : (s : State) (l v : ℕ) → IsLevelled s → v < length s
 standing_learned s l v x lt = words_rise.rises (from_now s) l v (levelled_now s x) lt
 
 -- what is gone has no literal on the trail
-gone_off : (am : List ℕ) → (s : State) (q : Queue) (v i : ℕ) → Agrees s → IsGone am s q v → i < length s.trail.lits → variable (lit_at s i) ≢ v
+gone_off : (am : List ℕ) → (s : State) (q : Queue) (v i : ℕ) → StateIsConsistent s → IsGone am s q v → i < length s.trail.lits → variable (lit_at s i) ≢ v
 gone_off am s q v i h x b e = elim x.1 [
   | inl r ↦ apart_removed s r.0 i h r.1.1 b (e ∙ sym r.1.0)
   | inr n ↦ not_true s.values v (lit_at s i) n.0 e (h.holds i b)
@@ -144,7 +144,7 @@ default_free (x ∷ xs) zero d e b = refl
 default_free (x ∷ xs) (suc i) d e b = default_free xs i d e (omega arith)
 
 -- each of them once
-taken_distinct : (am : List ℕ) → (s : State) (q : Queue) (gone : List ℕ) → Agrees s → AreDistinct gone → ((k : ℕ) → k < length gone → IsGone am s q (get_or gone k 0)) → AreDistinct (taken s gone)
+taken_distinct : (am : List ℕ) → (s : State) (q : Queue) (gone : List ℕ) → StateIsConsistent s → AreDistinct gone → ((k : ℕ) → k < length gone → IsGone am s q (get_or gone k 0)) → AreDistinct (taken s gone)
 taken_distinct am s q gone h distinct each i j p r e =
     let n : length (taken s gone) ≡ length s.trail.lits + length gone = taken_length s gone in
     elim (cases_lt i (length s.trail.lits)) [
@@ -160,7 +160,7 @@ taken_distinct am s q gone h distinct each i j p r e =
       ]
     ]
 
-taken_there : (am : List ℕ) → (s : State) (q : Queue) (gone : List ℕ) (i : ℕ) → Agrees s → ((k : ℕ) → k < length gone → IsGone am s q (get_or gone k 0)) → i < length (taken s gone) → get_or (taken s gone) i 0 < length s.values
+taken_there : (am : List ℕ) → (s : State) (q : Queue) (gone : List ℕ) (i : ℕ) → StateIsConsistent s → ((k : ℕ) → k < length gone → IsGone am s q (get_or gone k 0)) → i < length (taken s gone) → get_or (taken s gone) i 0 < length s.values
 taken_there am s q gone i h each b =
     let n : length (taken s gone) ≡ length s.trail.lits + length gone = taken_length s gone in
     elim (cases_lt i (length s.trail.lits)) [
@@ -180,7 +180,7 @@ fits_below xs n distinct below =
     subst (λ (z : ℕ). z < n) (default_free xs c.0 0 q c.1 ∙ c.2) (below c.0 c.1))
 
 -- a word has at most a letter for each variable
-pub word_fits : (am : List ℕ) → (s : State) (q : Queue) (w : List Letter) → Agrees s → IsWord am s q w → length w ≤ length s.values
+pub word_fits : (am : List ℕ) → (s : State) (q : Queue) (w : List Letter) → StateIsConsistent s → IsWord am s q w → length w ≤ length s.values
 word_fits am s q w h x =
     let n : length (taken s x.gone) ≡ length s.trail.lits + length x.gone = taken_length s x.gone in
     let all : length (taken s x.gone) ≤ length s.values = fits_below (taken s x.gone) (length s.values) (taken_distinct am s q x.gone h x.distinct x.each) (λ i b. taken_there am s q x.gone i h x.each b) in
@@ -242,7 +242,7 @@ gone_decided am s q q' l unset picks less =
     }
 
 -- a variable that no clause has isn't made true by a clause
-implied_used : (words live : List ℕ) (implied : List (List ℕ)) (s : State) (i : ℕ) (r : Reason) → is_unit r ≡ false → ((o : ℕ) → Contains live o → 3 ≤ size_of words o) → Implies words live implied s i r →
+implied_used : (words live : List ℕ) (implied : List (List ℕ)) (s : State) (i : ℕ) (r : Reason) → is_unit_reason r ≡ false → ((o : ℕ) → Contains live o → 3 ≤ size_of words o) → Implies words live implied s i r →
     IsUnused words live implied (variable (lit_at s i)) → ⊥
 implied_used words live implied s i NoCause clause sizes h u = true≢false clause
 implied_used words live implied s i (Binary ls) clause sizes h u = (u.binary _ h.0.0 h.0.1).1 (ap (λ l. variable l) (default_free _ h.0.0 0 _ h.0.1 ∙ h.0.2))
@@ -315,7 +315,7 @@ available_other (l ∷ ls) q v h =
     available_other ls (with_available (variable l) true q) v (λ k b. h (suc k) (omega arith)) ∙ get_or-set_other q.available (variable l) v true false (λ e. h 0 (omega arith) (sym e))
 
 -- where levels are undone
-pub gone_undone : (am : List ℕ) → (top : ℕ) (a : Values) (g : List ImplNode) (t : Trailed) (q : Queue) → Agrees (state_of a g t) → top < length t.starts →
+pub gone_undone : (am : List ℕ) → (top : ℕ) (a : Values) (g : List ImplNode) (t : Trailed) (q : Queue) → StateIsConsistent (state_of a g t) → top < length t.starts →
     GoneAndIdleStay am (state_of a g t) q (state_of (undone_to top t a) g (cut_to top t)) (all_available (undone_lits top t) q)
 gone_undone am top a g t q h lt = record {
   size = undone_length (undone_lits top t) a;
@@ -347,7 +347,7 @@ gone_undone am top a g t q h lt = record {
     )
 
 -- where units are taken off the trail
-gone_cleared : (am : List ℕ) → (a : Values) (g : List ImplNode) (t : Trailed) (q : Queue) → Agrees (state_of a g t) → GoneAndIdleStay am (state_of a g t) q (state_of a (removed t.lits g) (with_cleared t)) q
+gone_cleared : (am : List ℕ) → (a : Values) (g : List ImplNode) (t : Trailed) (q : Queue) → StateIsConsistent (state_of a g t) → GoneAndIdleStay am (state_of a g t) q (state_of a (removed t.lits g) (with_cleared t)) q
 gone_cleared am a g t q h = record {
   size = refl;
   gone = λ v x. (
@@ -393,7 +393,7 @@ replicate_sum zero n = ap (λ k. replicate k P) (omega arith)
 replicate_sum (suc m) n = ap (λ k. replicate k P) (let e : suc m + n ≡ suc (m + n) = omega arith in e) ∙ ap (λ (w : List Letter). P ∷ w) (replicate_sum m n)
 
 -- units that are taken off the trail leave the word as it is
-pub word_cleared : (am : List ℕ) → (a : Values) (g : List ImplNode) (t : Trailed) (q : Queue) → Agrees (state_of a g t) → t.starts ≡ [] →
+pub word_cleared : (am : List ℕ) → (a : Values) (g : List ImplNode) (t : Trailed) (q : Queue) → StateIsConsistent (state_of a g t) → t.starts ≡ [] →
     WordExtends am (state_of a g t) q (state_of a (removed t.lits g) (with_cleared t)) q
 word_cleared am a g t q h e = (
   gone_cleared am a g t q h,

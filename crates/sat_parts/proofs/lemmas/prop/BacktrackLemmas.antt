@@ -17,7 +17,7 @@ use Rattle.sat_parts.specs.prop.Undone.{lost, undone, undone_to}
 use Rattle.sat_parts.specs.prop.Binaries.{implied_by}
 use Rattle.sat_parts.specs.prop.WatchLists.{Watching}
 use Rattle.sat_parts.specs.prop.Backtracked.{KeepsLow}
-use Rattle.sat_parts.specs.prop.State.{State, node, level, lit_at, IsRemoved, IsBefore, HasLeftQueue, Agrees, IsQueueCurrent, IsSatisfied}
+use Rattle.sat_parts.specs.prop.State.{State, node, level, lit_at, IsRemoved, IsBefore, HasLeftQueue, StateIsConsistent, IsQueueCurrent, IsSatisfied}
 use Rattle.sat_parts.specs.prop.Reasons.{IsFalseBefore, Implies, AreInTurn}
 use Rattle.sat_parts.specs.prop.Ready.{AreWatched, AreLists}
 use Rattle.sat_parts.specs.prop.Asks.{PropagationInvariant, PropagationPrecondition}
@@ -86,10 +86,10 @@ after level a nodes t = record { values = (undone_to level t a).current; nodes =
 abbrev pub cut_at : ℕ → Trailed → ℕ
 cut_at level t = get_or t.starts level 0
 
-cut_within : (v : ℕ) (a : Values) (nodes : List ImplNode) (t : Trailed) → Agrees (before a nodes t) → v < length t.starts → cut_at v t ≤ length t.lits
+cut_within : (v : ℕ) (a : Values) (nodes : List ImplNode) (t : Trailed) → StateIsConsistent (before a nodes t) → v < length t.starts → cut_at v t ≤ length t.lits
 cut_within v a nodes t h lt = h.trail.levels.within v lt
 
-cut_length : (v : ℕ) (a : Values) (nodes : List ImplNode) (t : Trailed) → Agrees (before a nodes t) → v < length t.starts → length (take (cut_at v t) t.lits) ≡ cut_at v t
+cut_length : (v : ℕ) (a : Values) (nodes : List ImplNode) (t : Trailed) → StateIsConsistent (before a nodes t) → v < length t.starts → length (take (cut_at v t) t.lits) ≡ cut_at v t
 cut_length v a nodes t h lt = length-take-le (cut_at v t) t.lits (cut_within v a nodes t h lt)
 
 cut_lit : (v : ℕ) (a : Values) (nodes : List ImplNode) (t : Trailed) (i : ℕ) → i < cut_at v t → lit_at (after v a nodes t) i ≡ lit_at (before a nodes t) i
@@ -103,7 +103,7 @@ undone_lit v a nodes t k = get_or-drop (cut_at v t) t.lits k 0
 abbrev pub IsKept : ℕ → Values → List ImplNode → Trailed → ℕ → Type 0
 IsKept v a nodes t m = IsBefore (before a nodes t) (cut_at v t) m ⊎ IsRemoved (before a nodes t) m
 
-not_undone : (v : ℕ) (a : Values) (nodes : List ImplNode) (t : Trailed) (m k : ℕ) → Agrees (before a nodes t) → v < length t.starts → IsKept v a nodes t m →
+not_undone : (v : ℕ) (a : Values) (nodes : List ImplNode) (t : Trailed) (m k : ℕ) → StateIsConsistent (before a nodes t) → v < length t.starts → IsKept v a nodes t m →
     k < length (drop (cut_at v t) t.lits) → variable (get_or (drop (cut_at v t) t.lits) k 0) ≢ variable m
 not_undone v a nodes t m k h lt kept b e =
     let n : length (drop (cut_at v t) t.lits) ≡ length t.lits - cut_at v t = length-drop (cut_at v t) t.lits in
@@ -119,11 +119,11 @@ not_undone v a nodes t m k h lt kept b e =
           omega (arith, h.trail.small, h.trail.fits)
     ]
 
-pub kept_true : (v : ℕ) (a : Values) (nodes : List ImplNode) (t : Trailed) (m : ℕ) → Agrees (before a nodes t) → v < length t.starts → IsKept v a nodes t m →
+pub kept_true : (v : ℕ) (a : Values) (nodes : List ImplNode) (t : Trailed) (m : ℕ) → StateIsConsistent (before a nodes t) → v < length t.starts → IsKept v a nodes t m →
     IsTrueLit a.current m → IsTrueLit (after v a nodes t).values m
 kept_true v a nodes t m h lt kept holds = undone_other (drop (cut_at v t) t.lits) a (variable m) (λ k b. not_undone v a nodes t m k h lt kept b) ∙ holds
 
-pub true_kept : (v : ℕ) (a : Values) (nodes : List ImplNode) (t : Trailed) (m : ℕ) → Agrees (before a nodes t) → v < length t.starts →
+pub true_kept : (v : ℕ) (a : Values) (nodes : List ImplNode) (t : Trailed) (m : ℕ) → StateIsConsistent (before a nodes t) → v < length t.starts →
     IsTrueLit (after v a nodes t).values m → IsTrueLit a.current m × IsKept v a nodes t m
 true_kept v a nodes t m h lt holds =
     let s : State = before a nodes t in
@@ -146,19 +146,19 @@ true_kept v a nodes t m h lt holds =
       ],
     )
 
-before_cut : (v : ℕ) (a : Values) (nodes : List ImplNode) (t : Trailed) (bound m : ℕ) → Agrees (before a nodes t) → v < length t.starts → bound ≤ cut_at v t →
+before_cut : (v : ℕ) (a : Values) (nodes : List ImplNode) (t : Trailed) (bound m : ℕ) → StateIsConsistent (before a nodes t) → v < length t.starts → bound ≤ cut_at v t →
     IsBefore (before a nodes t) bound m → IsBefore (after v a nodes t) bound m
 before_cut v a nodes t bound m h lt le x =
     let n : length (take (cut_at v t) t.lits) ≡ cut_at v t = cut_length v a nodes t h lt in
     let b : x.place < cut_at v t = omega (arith, x.before) in
     record { place = x.place; before = x.before; within = omega arith; there = cut_lit v a nodes t x.place b ∙ x.there }
 
-pub removed_cut : (v : ℕ) (a : Values) (nodes : List ImplNode) (t : Trailed) (m : ℕ) → Agrees (before a nodes t) → v < length t.starts →
+pub removed_cut : (v : ℕ) (a : Values) (nodes : List ImplNode) (t : Trailed) (m : ℕ) → StateIsConsistent (before a nodes t) → v < length t.starts →
     IsRemoved (before a nodes t) m → IsRemoved (after v a nodes t) m
 removed_cut v a nodes t m h lt x = record { holds = kept_true v a nodes t m h lt (inr x) x.holds; depth = x.depth; bottom = x.bottom }
 
 -- the level of a literal before the cut
-pub cut_level : (v : ℕ) (a : Values) (nodes : List ImplNode) (t : Trailed) (i : ℕ) → Agrees (before a nodes t) → v < length t.starts → i < cut_at v t →
+pub cut_level : (v : ℕ) (a : Values) (nodes : List ImplNode) (t : Trailed) (i : ℕ) → StateIsConsistent (before a nodes t) → v < length t.starts → i < cut_at v t →
     level (before a nodes t) (lit_at (before a nodes t) i) ≤ v
 cut_level v a nodes t i h lt b =
     let s : State = before a nodes t in
@@ -169,7 +169,7 @@ cut_level v a nodes t i h lt b =
       | inr x ↦ x
     ]
 
-pub kept_level : (v : ℕ) (a : Values) (nodes : List ImplNode) (t : Trailed) (m : ℕ) → Agrees (before a nodes t) → v < length t.starts → IsKept v a nodes t m →
+pub kept_level : (v : ℕ) (a : Values) (nodes : List ImplNode) (t : Trailed) (m : ℕ) → StateIsConsistent (before a nodes t) → v < length t.starts → IsKept v a nodes t m →
     level (before a nodes t) m ≤ v
 kept_level v a nodes t m h lt kept = elim kept [
   | inl x ↦ subst (λ z. level (before a nodes t) z ≤ v) x.there (cut_level v a nodes t x.place h lt x.before)
@@ -177,7 +177,7 @@ kept_level v a nodes t m h lt kept = elim kept [
 ]
 
 -- a true literal of no higher level isn't undone
-pub low_kept : (v : ℕ) (a : Values) (nodes : List ImplNode) (t : Trailed) (m : ℕ) → Agrees (before a nodes t) → v < length t.starts → IsTrueLit a.current m →
+pub low_kept : (v : ℕ) (a : Values) (nodes : List ImplNode) (t : Trailed) (m : ℕ) → StateIsConsistent (before a nodes t) → v < length t.starts → IsTrueLit a.current m →
     level (before a nodes t) m ≤ v → IsKept v a nodes t m
 low_kept v a nodes t m h lt holds low = elim (h.known m holds) [
   | inl x ↦
@@ -188,7 +188,7 @@ low_kept v a nodes t m h lt holds low = elim (h.known m holds) [
   | inr x ↦ inr x
 ]
 
-pub agrees_after : (v : ℕ) (a : Values) (nodes : List ImplNode) (t : Trailed) → Agrees (before a nodes t) → v < length t.starts → Agrees (after v a nodes t)
+pub agrees_after : (v : ℕ) (a : Values) (nodes : List ImplNode) (t : Trailed) → StateIsConsistent (before a nodes t) → v < length t.starts → StateIsConsistent (after v a nodes t)
 agrees_after v a nodes t h lt =
     let w : cut_at v t ≤ length t.lits = cut_within v a nodes t h lt in
     let n : length (take (cut_at v t) t.lits) ≡ cut_at v t = cut_length v a nodes t h lt in
@@ -237,7 +237,7 @@ agrees_after v a nodes t h lt =
     }
 
 -- an undone literal is open
-undone_open : (v : ℕ) (a : Values) (nodes : List ImplNode) (t : Trailed) (m : ℕ) → Agrees (before a nodes t) → v < length t.starts → IsTrueLit a.current m →
+undone_open : (v : ℕ) (a : Values) (nodes : List ImplNode) (t : Trailed) (m : ℕ) → StateIsConsistent (before a nodes t) → v < length t.starts → IsTrueLit a.current m →
     v < level (before a nodes t) m → IsOpenLit (after v a nodes t).values m
 undone_open v a nodes t m h lt holds high = elim (h.known m holds) [
   | inl x ↦ elim (cases_lt x.place (cut_at v t)) [
@@ -255,7 +255,7 @@ undone_open v a nodes t m h lt holds high = elim (h.known m holds) [
 ]
 
 -- what stays where the levels above this one are undone
-pub keeps_low : (v : ℕ) (a : Values) (nodes : List ImplNode) (t : Trailed) → Agrees (before a nodes t) → v < length t.starts → KeepsLow v (before a nodes t) (after v a nodes t)
+pub keeps_low : (v : ℕ) (a : Values) (nodes : List ImplNode) (t : Trailed) → StateIsConsistent (before a nodes t) → v < length t.starts → KeepsLow v (before a nodes t) (after v a nodes t)
 keeps_low v a nodes t h lt =
     let s : State = before a nodes t in
     let n : length (take (cut_at v t) t.lits) ≡ cut_at v t = cut_length v a nodes t h lt in
@@ -275,7 +275,7 @@ keeps_low v a nodes t h lt =
     }
 
 -- all that was undone was in the queue or behind its head
-head_behind : (v : ℕ) (a : Values) (nodes : List ImplNode) (t : Trailed) → Agrees (before a nodes t) → IsQueueCurrent (before a nodes t) → v < length t.starts → cut_at v t ≤ t.head
+head_behind : (v : ℕ) (a : Values) (nodes : List ImplNode) (t : Trailed) → StateIsConsistent (before a nodes t) → IsQueueCurrent (before a nodes t) → v < length t.starts → cut_at v t ≤ t.head
 head_behind v a nodes t h q lt = elim (cases_lt t.head (length t.lits)) [
   | inl b ↦
       let s : State = before a nodes t in
@@ -284,7 +284,7 @@ head_behind v a nodes t h q lt = elim (cases_lt t.head (length t.lits)) [
   | inr le ↦ omega (arith, cut_within v a nodes t h lt)
 ]
 
-left_after : (v : ℕ) (a : Values) (nodes : List ImplNode) (t : Trailed) (m : ℕ) → Agrees (before a nodes t) → IsQueueCurrent (before a nodes t) → v < length t.starts →
+left_after : (v : ℕ) (a : Values) (nodes : List ImplNode) (t : Trailed) (m : ℕ) → StateIsConsistent (before a nodes t) → IsQueueCurrent (before a nodes t) → v < length t.starts →
     HasLeftQueue (after v a nodes t) m → HasLeftQueue (before a nodes t) m × (level (before a nodes t) m ≤ v)
 left_after v a nodes t m h q lt f =
     let x : IsTrueLit a.current m × IsKept v a nodes t m = true_kept v a nodes t m h lt (left_true (after v a nodes t) m (agrees_after v a nodes t h lt) f) in
@@ -296,7 +296,7 @@ left_after v a nodes t m h q lt f =
       kept_level v a nodes t m h lt x.1,
     )
 
-satisfied_after : (v : ℕ) (a : Values) (nodes : List ImplNode) (t : Trailed) (ls : List ℕ) (bound : ℕ) → Agrees (before a nodes t) → v < length t.starts → bound ≤ v →
+satisfied_after : (v : ℕ) (a : Values) (nodes : List ImplNode) (t : Trailed) (ls : List ℕ) (bound : ℕ) → StateIsConsistent (before a nodes t) → v < length t.starts → bound ≤ v →
     IsSatisfied (before a nodes t) ls bound → IsSatisfied (after v a nodes t) ls bound
 satisfied_after v a nodes t ls bound h lt le x = record {
   place = x.place;
@@ -338,14 +338,14 @@ asks_after words refs w implied v a nodes t top h lt below =
           );
     }
 
-false_after : (v : ℕ) (a : Values) (nodes : List ImplNode) (t : Trailed) (i m : ℕ) → Agrees (before a nodes t) → v < length t.starts → i < cut_at v t →
+false_after : (v : ℕ) (a : Values) (nodes : List ImplNode) (t : Trailed) (i m : ℕ) → StateIsConsistent (before a nodes t) → v < length t.starts → i < cut_at v t →
     IsFalseBefore (before a nodes t) i m → IsFalseBefore (after v a nodes t) i m
 false_after v a nodes t i m h lt b x = elim x [
   | inl y ↦ inl (before_cut v a nodes t i (negated m) h lt (omega arith) y)
   | inr y ↦ inr (removed_cut v a nodes t (negated m) h lt y)
 ]
 
-implies_after : (words live : List ℕ) (implied : List (List ℕ)) (v : ℕ) (a : Values) (nodes : List ImplNode) (t : Trailed) (i : ℕ) (r : Reason) → Agrees (before a nodes t) → v < length t.starts →
+implies_after : (words live : List ℕ) (implied : List (List ℕ)) (v : ℕ) (a : Values) (nodes : List ImplNode) (t : Trailed) (i : ℕ) (r : Reason) → StateIsConsistent (before a nodes t) → v < length t.starts →
     i < cut_at v t → Implies words live implied (before a nodes t) i r → Implies words live implied (after v a nodes t) i r
 implies_after words live implied v a nodes t i NoCause h lt b x = tt
 implies_after words live implied v a nodes t i (Binary ls) h lt b x = (
@@ -356,7 +356,7 @@ implies_after words live implied v a nodes t i (Long o) h lt b x =
     (x.0, x.1 ∙ sym (cut_lit v a nodes t i b), λ k y z. false_after v a nodes t i (lit_of words o k) h lt b (x.2 k y z))
 
 -- reasons that are unit in turn stay so
-pub turns_after : (words live : List ℕ) (implied : List (List ℕ)) (v : ℕ) (a : Values) (nodes : List ImplNode) (t : Trailed) (from : ℕ) → Agrees (before a nodes t) → v < length t.starts →
+pub turns_after : (words live : List ℕ) (implied : List (List ℕ)) (v : ℕ) (a : Values) (nodes : List ImplNode) (t : Trailed) (from : ℕ) → StateIsConsistent (before a nodes t) → v < length t.starts →
     AreInTurn words live implied (before a nodes t) from → AreInTurn words live implied (after v a nodes t) from
 turns_after words live implied v a nodes t from h lt x i le b =
     let n : length (take (cut_at v t) t.lits) ≡ cut_at v t = cut_length v a nodes t h lt in

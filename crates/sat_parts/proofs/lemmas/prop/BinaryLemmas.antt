@@ -8,15 +8,15 @@ use Rattle.sat_parts.specs.declared.prop.graph.Reason.{Reason}
 use Rattle.sat_parts.specs.declared.prop.graph.Reason.TheVariants.{Binary}
 use Rattle.sat_parts.specs.prop.Values.{IsTrueLit, IsFalseLit, IsOpenLit, value_of}
 use Rattle.sat_parts.specs.prop.Binaries.{implied_by}
-use Rattle.sat_parts.specs.prop.State.{State, level, current_level, lit_at, IsRemoved, IsBefore, HasLeftQueue, Agrees, IsQueueCurrent, enqueued, Grows}
+use Rattle.sat_parts.specs.prop.State.{State, level, current_level, lit_at, IsRemoved, IsBefore, HasLeftQueue, StateIsConsistent, IsQueueCurrent, enqueued, TrailGrows}
 use Rattle.sat_parts.specs.prop.Reasons.{Implies}
 use Rattle.sat_parts.specs.prop.Ready.{AreLists}
-use Rattle.sat_parts.specs.prop.Walk.{BinaryWalk}
+use Rattle.sat_parts.specs.prop.Walk.{BinaryWalkInvariant}
 use Rattle.sat_parts.proofs.lemmas.prop.StateLemmas.{negated_twice, false_from_true, level_low, left_true, left_forth, level_kept, agrees_enqueued, grows_enqueued, queue_enqueued, true_new, before_forth, removed_forth, lit_last}
 use Rattle.sat_parts.proofs.lemmas.prop.RoomLemmas.{room_for}
 use Rattle.sat_parts.proofs.lemmas.prop.ReasonLemmas.{moves_refl, moves_enqueued, moves_trans}
 
-pub binary_open : (implied : List (List ℕ)) (lit : ℕ) (s : State) → Agrees s → IsQueueCurrent s → HasLeftQueue s lit → level s lit ≡ current_level s → BinaryWalk implied lit s s 0
+pub binary_open : (implied : List (List ℕ)) (lit : ℕ) (s : State) → StateIsConsistent s → IsQueueCurrent s → HasLeftQueue s lit → level s lit ≡ current_level s → BinaryWalkInvariant implied lit s s 0
 binary_open implied lit s a q left top = record {
   agrees = a;
   queue = q;
@@ -28,8 +28,8 @@ binary_open implied lit s a q left top = record {
 }
 
 -- the literal at place at is true already
-pub binary_true : (implied : List (List ℕ)) (lit : ℕ) (s t : State) (at : ℕ) → BinaryWalk implied lit s t at →
-    IsTrueLit t.values (get_or (implied_by implied lit) at 0) → BinaryWalk implied lit s t (at + 1)
+pub binary_true : (implied : List (List ℕ)) (lit : ℕ) (s t : State) (at : ℕ) → BinaryWalkInvariant implied lit s t at →
+    IsTrueLit t.values (get_or (implied_by implied lit) at 0) → BinaryWalkInvariant implied lit s t (at + 1)
 binary_true implied lit s t at h holds = record {
   agrees = h.agrees;
   queue = h.queue;
@@ -53,15 +53,15 @@ so_far s l h = elim h [
 ]
 
 -- the literal at place at is open, and becomes true
-pub binary_enqueued : (implied : List (List ℕ)) (lit : ℕ) (s t : State) (at x f : ℕ) → BinaryWalk implied lit s t at →
+pub binary_enqueued : (implied : List (List ℕ)) (lit : ℕ) (s t : State) (at x f : ℕ) → BinaryWalkInvariant implied lit s t at →
     at < length (implied_by implied lit) → x ≡ get_or (implied_by implied lit) at 0 → f ≡ negated lit → IsOpenLit t.values x → variable x < length t.values →
-    BinaryWalk implied lit s (enqueued x (Binary (f ∷ [])) t) (at + 1)
+    BinaryWalkInvariant implied lit s (enqueued x (Binary (f ∷ [])) t) (at + 1)
 binary_enqueued implied lit s t at x f h lt x_is f_is open_x small =
     let r : Reason = Binary (f ∷ []) in
     let room : length t.trail.lits < t.trail.room = room_for t x (Binary (f ∷ [])) h.agrees open_x small in
     let u : State = enqueued x (Binary (f ∷ [])) t in
-    let g : Grows t (enqueued x (Binary (f ∷ [])) t) = grows_enqueued t x (Binary (f ∷ [])) h.agrees open_x small room in
-    let a : Agrees (enqueued x (Binary (f ∷ [])) t) = agrees_enqueued t x (Binary (f ∷ [])) h.agrees open_x small room in
+    let g : TrailGrows t (enqueued x (Binary (f ∷ [])) t) = grows_enqueued t x (Binary (f ∷ [])) h.agrees open_x small room in
+    let a : StateIsConsistent (enqueued x (Binary (f ∷ [])) t) = agrees_enqueued t x (Binary (f ∷ [])) h.agrees open_x small room in
     let twice : negated f ≡ lit = ap (λ z. negated z) f_is ∙ negated_twice lit in
     let cause : (words live : List ℕ) → Implies words live implied u (length t.trail.lits) r = λ words live. (
       subst (λ (z : ℕ). Contains (implied_by implied z) (lit_at u (length t.trail.lits))) (sym twice)
@@ -93,7 +93,7 @@ binary_enqueued implied lit s t at x f h lt x_is f_is open_x small =
     }
 
 -- the walk ends where a literal is false
-pub binary_stopped : (implied : List (List ℕ)) (lit : ℕ) (s t : State) (at : ℕ) → BinaryWalk implied lit s t at → BinaryWalk implied lit s t 0
+pub binary_stopped : (implied : List (List ℕ)) (lit : ℕ) (s t : State) (at : ℕ) → BinaryWalkInvariant implied lit s t at → BinaryWalkInvariant implied lit s t 0
 binary_stopped implied lit s t at h = record {
   agrees = h.agrees;
   queue = h.queue;
@@ -105,7 +105,7 @@ binary_stopped implied lit s t at h = record {
 }
 
 -- both literals of the clause are false
-pub binary_conflict : (implied : List (List ℕ)) (lit : ℕ) (s t : State) (at x f : ℕ) → BinaryWalk implied lit s t at →
+pub binary_conflict : (implied : List (List ℕ)) (lit : ℕ) (s t : State) (at x f : ℕ) → BinaryWalkInvariant implied lit s t at →
     at < length (implied_by implied lit) → x ≡ get_or (implied_by implied lit) at 0 → f ≡ negated lit → IsFalseLit t.values x →
     Contains (implied_by implied (negated f)) x × IsFalseLit t.values x × IsFalseLit t.values f
 binary_conflict implied lit s t at x f h lt x_is f_is false_x =

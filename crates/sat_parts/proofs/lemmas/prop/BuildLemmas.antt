@@ -11,7 +11,7 @@ use Rattle.sat_parts.specs.declared.prop.watch.Watch.{Watch}
 use Rattle.sat_parts.specs.clause.Db.{is_live, live_refs}
 use Rattle.sat_parts.specs.clause.Stored.{AreClauses, lit_of, size_of}
 use Rattle.sat_parts.specs.prop.WatchLists.{Watching, watch_on, watches_of, more_at, with_watch, with_clause_watches}
-use Rattle.sat_parts.specs.prop.Ready.{IsGood, HasWatch, AreWatched}
+use Rattle.sat_parts.specs.prop.Ready.{IsSoundWatch, HasWatch, AreWatched}
 use Rattle.sat_parts.specs.prop.Building.{AreBuilt}
 use Rattle.sat_parts.proofs.lemmas.prop.WalkLemmas.{more_watch, new_watch, good_lists, at_two}
 
@@ -75,8 +75,8 @@ built_more words refs lists count k c h lt e =
     let two_length : length two ≡ length one = length-set one (negated b) (watches_of one (negated b) ++ y ∷ []) in
     let in_one : negated (lit_of words (get_or refs k 0) 0) < length lists = omega arith in
     let in_two : negated (lit_of words (get_or refs k 0) 1) < length one = omega arith in
-    let good_x : IsGood words (live_refs words refs) x = (ho, (1, (omega arith, refl))) in
-    let good_y : IsGood words (live_refs words refs) y = (ho, (0, (omega arith, refl))) in
+    let good_x : IsSoundWatch words (live_refs words refs) x = (ho, (1, (omega arith, refl))) in
+    let good_y : IsSoundWatch words (live_refs words refs) y = (ho, (0, (omega arith, refl))) in
     let W : ℕ → ℕ → Type 0 = λ p i. HasWatch (watches_of two (negated (lit_of words p i))) p in
     record {
       room = two_length ∙ one_length ∙ h.room;

@@ -19,7 +19,7 @@ use Rattle.sat_parts.specs.prop.Values.{is_unset, IsTrueLit}
 use Rattle.sat_parts.specs.prop.Binaries.{Binaries, implied_by, open_among, RemovesAssigned}
 use Rattle.sat_parts.specs.prop.WatchLists.{Watching, no_watch, watch_on, watches_of, more_at, with_watch, with_clause_watches}
 use Rattle.sat_parts.specs.prop.State.{State, node, level, current_level, lit_at, HasLeftQueue, IsSatisfied}
-use Rattle.sat_parts.specs.prop.Ready.{IsGood, HasWatch, AreWatched}
+use Rattle.sat_parts.specs.prop.Ready.{IsSoundWatch, HasWatch, AreWatched}
 use Rattle.sat_parts.specs.prop.Asks.{PropagationInvariant, EnqueuePrecondition, IsOwnLong}
 use Rattle.sat_parts.proofs.lemmas.clause.ListLemmas.{place_in, at_place}
 use Rattle.sat_parts.proofs.lemmas.clause.FilterLemmas.{filtered_in}
@@ -107,12 +107,12 @@ watched_added words words' db db' o count header lits w x laid three below on h 
     let old_in : (p : ℕ) → Contains live p → Contains (live_refs words' db'.refs) p = λ p c. subst (λ (xs : List ℕ). Contains xs p) (sym x.live) (Contains-append_left live (o ∷ []) p c) in
     let same : (p : ℕ) → Contains live p → lits_at words' p ≡ lits_at words p = λ p c. (x.added.others p (laid.clauses p (live_in words db.refs p c))).lits in
     let there : lits_at words' o ≡ lits = x.added.lits_there in
-    let good_first : IsGood words' (live_refs words' db'.refs) first =
+    let good_first : IsSoundWatch words' (live_refs words' db'.refs) first =
     (new_in, (1, subst (λ (ls : List ℕ). (1 < length ls) × (get_or ls 1 0 ≡ b)) (sym there) (omega arith, refl))) in
-    let good_second : IsGood words' (live_refs words' db'.refs) second =
+    let good_second : IsSoundWatch words' (live_refs words' db'.refs) second =
     (new_in, (0, subst (λ (ls : List ℕ). (0 < length ls) × (get_or ls 0 0 ≡ a)) (sym there) (omega arith, refl))) in
-    let good_old : (l p : ℕ) → p < length (watches_of w.lists l) → IsGood words' (live_refs words' db'.refs) (get_or (watches_of w.lists l) p no_watch) = λ l p lt.
-    let g : IsGood words live (get_or (watches_of w.lists l) p no_watch) = h.good l p lt in
+    let good_old : (l p : ℕ) → p < length (watches_of w.lists l) → IsSoundWatch words' (live_refs words' db'.refs) (get_or (watches_of w.lists l) p no_watch) = λ l p lt.
+    let g : IsSoundWatch words live (get_or (watches_of w.lists l) p no_watch) = h.good l p lt in
     let y : Watch = get_or (watches_of w.lists l) p no_watch in
     (old_in y.cref g.0, (g.1.0, subst (λ (ls : List ℕ). (g.1.0 < length ls) × (get_or ls g.1.0 0 ≡ y.blocking)) (sym (same y.cref g.0)) g.1.1)) in
     let W : ℕ → ℕ → Type 0 = λ p i. HasWatch (watches_of two (negated (lit_of words' p i))) p in

@@ -14,7 +14,7 @@ use Rattle.sat_parts.specs.clause.Collected.{FollowsClause, Collects}
 use Rattle.sat_parts.specs.clause.Stored.{lit_of}
 use Rattle.sat_parts.specs.prop.Trails.{LevelIs}
 use Rattle.sat_parts.specs.prop.WatchLists.{Watching}
-use Rattle.sat_parts.specs.prop.State.{State, node, level, lit_at, IsRemoved, HasLeftQueue, Agrees, IsSatisfied}
+use Rattle.sat_parts.specs.prop.State.{State, node, level, lit_at, IsRemoved, HasLeftQueue, StateIsConsistent, IsSatisfied}
 use Rattle.sat_parts.specs.prop.Asks.{PropagationInvariant}
 use Rattle.sat_parts.proofs.lemmas.prop.BuildLemmas.{live_in}
 use Rattle.sat_parts.proofs.lemmas.clause.ListLemmas.{at_place, place_in}
@@ -39,8 +39,8 @@ left_back words db s words' db' nodes' l x h = elim h [
   | inr r ↦ inr (removed_back words db s words' db' nodes' l x r)
 ]
 
-agrees_collected : (words : List ℕ) (db : Db) (s : State) (words' : List ℕ) (db' : Db) (nodes' : List ImplNode) → Collects words db s.nodes s.trail.lits words' db' nodes' → Agrees s →
-    Agrees (with_graph s nodes')
+agrees_collected : (words : List ℕ) (db : Db) (s : State) (words' : List ℕ) (db' : Db) (nodes' : List ImplNode) → Collects words db s.nodes s.trail.lits words' db' nodes' → StateIsConsistent s →
+    StateIsConsistent (with_graph s nodes')
 agrees_collected words db s words' db' nodes' x h = record {
   trail = h.trail;
   nodes = x.size ∙ h.nodes;

@@ -5,18 +5,18 @@ use Rattle.std.specs.List.{Contains}
 use Rattle.sat_base.specs.values.Literals.{negated}
 use Rattle.sat_store.specs.clause.Buffer.{lits_at}
 use Rattle.sat_parts.specs.declared.prop.watch.Watch.{Watch}
-use Rattle.sat_parts.specs.clause.Orders.{Shuffled, Shuffles}
+use Rattle.sat_parts.specs.clause.Orders.{IsReordering, PermutesClause}
 use Rattle.sat_parts.specs.clause.Stored.{AreClauses, lit_of, size_of}
 use Rattle.sat_parts.specs.prop.Values.{IsTrueLit, IsFalseLit}
 use Rattle.sat_parts.specs.prop.WatchLists.{no_watch, watch_on, more_at}
-use Rattle.sat_parts.specs.prop.State.{State, level, HasLeftQueue, Agrees, IsQueueCurrent, IsSatisfied, Grows}
+use Rattle.sat_parts.specs.prop.State.{State, level, HasLeftQueue, StateIsConsistent, IsQueueCurrent, IsSatisfied, TrailGrows}
 use Rattle.sat_parts.specs.prop.Ready.{HasLit}
-use Rattle.sat_parts.specs.prop.Walk.{HasWatchFrom, AreWalked, Half, IsOther}
+use Rattle.sat_parts.specs.prop.Walk.{HasWatchFrom, AreWalked, WalkInvariant, IsOther}
 use Rattle.sat_parts.proofs.lemmas.clause.OrderLemmas.{kept_clauses, reorders_one}
 use Rattle.sat_parts.proofs.lemmas.prop.StateLemmas.{negated_twice, false_from_true, left_true, left_back, left_forth, level_kept, satisfied_forth}
 use Rattle.sat_parts.proofs.lemmas.prop.WalkLemmas.{same_lits, shuffled_all, first_two, KeepsFirstTwo, at_two, walked_kept, walked_stale, walked_moved, not_watched, first_other}
 
-pub satisfied_order : (s : State) (ls ms : List ℕ) (bound : ℕ) → Shuffled ls ms → IsSatisfied s ls bound → IsSatisfied s ms bound
+pub satisfied_order : (s : State) (ls ms : List ℕ) (bound : ℕ) → IsReordering ls ms → IsSatisfied s ls bound → IsSatisfied s ms bound
 satisfied_order s ls ms bound e h =
     let m : (j : ℕ) × ((j < length ls) × (get_or ms j 0 ≡ get_or ls h.place 0)) = e.forth h.place h.within in
     record {
@@ -28,14 +28,14 @@ satisfied_order s ls ms bound e h =
 
 -- what a watch's place says of its clause
 pub place_live : (w live : List ℕ) (s : State) (lists : List (List Watch)) (list : List Watch) (lit kept at p : ℕ) →
-    Half w live s lists list lit kept at → at < length list → p ≡ (get_or list at no_watch).cref → Contains live p
+    WalkInvariant w live s lists list lit kept at → at < length list → p ≡ (get_or list at no_watch).cref → Contains live p
 place_live w live s lists list lit kept at p h lt at_p = subst (λ (z : ℕ). Contains live z) (sym at_p) (h.walked.mine at lt).0
 
 -- the watch at place at is written to place kept, its clause being satisfied
 pub half_kept : (w v live : List ℕ) (s : State) (lists : List (List Watch)) (list : List Watch) (lit kept at p l : ℕ) →
-    Half w live s lists list lit kept at → at < length list → p ≡ (get_or list at no_watch).cref →
-    Shuffles w v p → KeepsFirstTwo w v p → HasLit v p l → IsSatisfied s (lits_at v p) (level s lit) →
-    Half v live s lists (set list kept (watch_on p l)) lit (kept + 1) (at + 1)
+    WalkInvariant w live s lists list lit kept at → at < length list → p ≡ (get_or list at no_watch).cref →
+    PermutesClause w v p → KeepsFirstTwo w v p → HasLit v p l → IsSatisfied s (lits_at v p) (level s lit) →
+    WalkInvariant v live s lists (set list kept (watch_on p l)) lit (kept + 1) (at + 1)
 half_kept w v live s lists list lit kept at p l h lt at_p e two has sat =
     let hp : Contains live p = place_live w live s lists list lit kept at p h lt at_p in
     let size : length (set list kept (watch_on p l)) ≡ length list = length-set list kept (watch_on p l) in
@@ -66,9 +66,9 @@ half_kept w v live s lists list lit kept at p l h lt at_p e two has sat =
 
 -- the watch at place at goes, its clause not being watched by lit
 pub half_stale : (w live : List ℕ) (s : State) (lists : List (List Watch)) (list : List Watch) (lit kept at p : ℕ) →
-    Half w live s lists list lit kept at → at < length list → p ≡ (get_or list at no_watch).cref →
+    WalkInvariant w live s lists list lit kept at → at < length list → p ≡ (get_or list at no_watch).cref →
     lit_of w p 0 ≢ negated lit → lit_of w p 1 ≢ negated lit →
-    Half w live s lists list lit kept (at + 1)
+    WalkInvariant w live s lists list lit kept (at + 1)
 half_stale w live s lists list lit kept at p h lt at_p n0 n1 = record {
   clauses = h.clauses;
   agrees = h.agrees;
@@ -89,9 +89,9 @@ half_stale w live s lists list lit kept at p h lt at_p n0 n1 = record {
 
 -- the watch at place at goes, and its clause is watched by its new second literal instead, which isn't false
 pub half_moved : (w v live : List ℕ) (s : State) (lists : List (List Watch)) (list : List Watch) (lit kept at p : ℕ) →
-    Half w live s lists list lit kept at → at < length list → p ≡ (get_or list at no_watch).cref →
-    Shuffles w v p → IsOther w v p (negated lit) → (IsFalseLit s.values (lit_of v p 1) → ⊥) →
-    Half v live s (more_at (negated (lit_of v p 1)) (watch_on p (lit_of v p 0)) lists) list lit kept (at + 1)
+    WalkInvariant w live s lists list lit kept at → at < length list → p ≡ (get_or list at no_watch).cref →
+    PermutesClause w v p → IsOther w v p (negated lit) → (IsFalseLit s.values (lit_of v p 1) → ⊥) →
+    WalkInvariant v live s (more_at (negated (lit_of v p 1)) (watch_on p (lit_of v p 0)) lists) list lit kept (at + 1)
 half_moved w v live s lists list lit kept at p h lt at_p e other opened =
     let hp : Contains live p = place_live w live s lists list lit kept at p h lt at_p in
     let c' : AreClauses v live (length s.values) = kept_clauses w v live (length s.values) h.clauses (reorders_one w v live p hp e) in
@@ -132,7 +132,7 @@ half_moved w v live s lists list lit kept at p h lt at_p e other opened =
 
 -- open literals become true
 pub half_grows : (w live : List ℕ) (s t : State) (lists : List (List Watch)) (list : List Watch) (lit kept at : ℕ) →
-    Half w live s lists list lit kept at → Grows s t → t.trail.head ≡ s.trail.head → Agrees t → IsQueueCurrent t → Half w live t lists list lit kept at
+    WalkInvariant w live s lists list lit kept at → TrailGrows s t → t.trail.head ≡ s.trail.head → StateIsConsistent t → IsQueueCurrent t → WalkInvariant w live t lists list lit kept at
 half_grows w live s t lists list lit kept at h g e a q =
     let lt : IsTrueLit s.values lit = left_true s lit h.agrees h.left in
     record {

@@ -6,7 +6,7 @@ use Rattle.std.proofs.lemmas.List.{ext_get_or, get_or_past, get_or-take, get_or-
 use Rattle.std.proofs.lemmas.List.Sums.{sum_by_more}
 use Rattle.std.specs.List.{sum_by}
 use Rattle.sat_parts.specs.declared.binary.Place.{Place}
-use Rattle.sat_parts.specs.prop.Places.{no_place, place_at, part_of, lists_of, Apart, ArePlaces, CopiesPart}
+use Rattle.sat_parts.specs.prop.Places.{no_place, place_at, part_of, lists_of, HaveNoCommonPlace, ArePlaces, CopiesPart}
 
 pub lists_at : (places : List Place) (lits : List ℕ) (l : ℕ) → get_or (lists_of places lits) l [] ≡ part_of lits (place_at places l)
 lists_at places lits l = get_or-map (part_of lits) places l no_place
@@ -46,10 +46,10 @@ places_kept old new size h each = record {
   ];
   apart = λ l m n. elim (each l) [
     | inl e ↦ elim (each m) [
-      | inl d ↦ subst (λ (p : Place). Apart p (place_at new m)) (sym e) (subst (λ (q : Place). Apart (place_at old l) q) (sym d) (h.apart l m n))
-      | inr d ↦ subst (λ (q : Place). Apart (place_at new l) q) (sym d) (inr (omega arith))
+      | inl d ↦ subst (λ (p : Place). HaveNoCommonPlace p (place_at new m)) (sym e) (subst (λ (q : Place). HaveNoCommonPlace (place_at old l) q) (sym d) (h.apart l m n))
+      | inr d ↦ subst (λ (q : Place). HaveNoCommonPlace (place_at new l) q) (sym d) (inr (omega arith))
     ]
-    | inr e ↦ subst (λ (p : Place). Apart p (place_at new m)) (sym e) (inl (omega arith))
+    | inr e ↦ subst (λ (p : Place). HaveNoCommonPlace p (place_at new m)) (sym e) (inl (omega arith))
   ];
 }
 

@@ -11,10 +11,10 @@ use Rattle.sat_parts.specs.declared.prop.watch.Watch.{Watch}
 use Rattle.sat_parts.specs.clause.Stored.{AreClauses, lit_of, size_of}
 use Rattle.sat_parts.specs.prop.Values.{IsTrueLit, IsFalseLit}
 use Rattle.sat_parts.specs.prop.Binaries.{implied_by}
-use Rattle.sat_parts.specs.prop.State.{State, node, level, current_level, lit_at, IsRemoved, IsBefore, HasLeftQueue, Agrees, IsQueueCurrent, IsSatisfied, Grows}
+use Rattle.sat_parts.specs.prop.State.{State, node, level, current_level, lit_at, IsRemoved, IsBefore, HasLeftQueue, StateIsConsistent, IsQueueCurrent, IsSatisfied, TrailGrows}
 use Rattle.sat_parts.specs.prop.Reasons.{HaveFirsts, PropagatesOn}
 use Rattle.sat_parts.specs.prop.Ready.{AreImplied, AreWatched, AreLists, LongReady, ReadyBelow, IsReadyToPropagate, IsUnitFixpoint, IsConflict}
-use Rattle.sat_parts.specs.prop.Walk.{BinaryWalk, Walks, due_after}
+use Rattle.sat_parts.specs.prop.Walk.{BinaryWalkInvariant, WatchWalkEffect, due_after}
 use Rattle.sat_parts.proofs.lemmas.clause.OrderLemmas.{reorders_refl}
 use Rattle.sat_parts.proofs.lemmas.prop.StateLemmas.{true_from_false, not_both, open_other, level_low, left_true, left_back, level_kept, satisfied_forth, before_forth, removed_forth}
 use Rattle.sat_parts.proofs.lemmas.prop.ReasonLemmas.{moves_trans, implies_forth, firsts_moved}
@@ -26,7 +26,7 @@ popped s = record s { trail = record s.trail { head = s.trail.head + 1 } }
 pub popped_removed : (s : State) (l : ℕ) → IsRemoved (popped s) l → IsRemoved s l
 popped_removed s l r = record { holds = r.holds; depth = r.depth; bottom = r.bottom }
 
-pub grows_popped : (s : State) → Grows s (popped s)
+pub grows_popped : (s : State) → TrailGrows s (popped s)
 grows_popped s = record {
   size = refl;
   starts = refl;
@@ -39,7 +39,7 @@ grows_popped s = record {
   removed = λ l r. popped_removed s l r;
 }
 
-pub agrees_popped : (s : State) → Agrees s → s.trail.head < length s.trail.lits → Agrees (popped s)
+pub agrees_popped : (s : State) → StateIsConsistent s → s.trail.head < length s.trail.lits → StateIsConsistent (popped s)
 agrees_popped s h lt = record {
   trail = record { queue = omega arith; levels = h.trail.levels; fits = h.trail.fits; small = h.trail.small; counted = h.trail.counted };
   nodes = h.nodes;
@@ -85,7 +85,7 @@ pub queue_popped : (s : State) → IsQueueCurrent s → IsQueueCurrent (popped s
 queue_popped s q i x y = q i (omega arith) y
 
 -- each literal that has left the queue is due below one more than the current level
-all_due : (s : State) (l : ℕ) → Agrees s → HasLeftQueue s l → level s l < current_level s + 1
+all_due : (s : State) (l : ℕ) → StateIsConsistent s → HasLeftQueue s l → level s l < current_level s + 1
 all_due s l a h = omega (arith, level_low s l a (left_true s l a h))
 
 pub long_popped : (w live : List ℕ) (lists : List (List Watch)) (s : State) (l : ℕ) → LongReady w live lists s (λ m. level s m < current_level s + 1) →
@@ -100,7 +100,7 @@ long_popped w live lists s l h lt e = record {
       satisfied_forth s (popped s) (lits_at w o) (level s (negated (lit_of w o i))) (grows_popped s) (h.settled o i ho hi x (all_due s (negated (lit_of w o i)) h.agrees x));
 }
 
-pub implied_popped : (implied : List (List ℕ)) (s : State) (l : ℕ) → Agrees s → AreImplied implied s (λ m. level s m < current_level s + 1) →
+pub implied_popped : (implied : List (List ℕ)) (s : State) (l : ℕ) → StateIsConsistent s → AreImplied implied s (λ m. level s m < current_level s + 1) →
     lit_at s s.trail.head ≡ l → AreImplied implied (popped s) (λ m. m ≢ l)
 implied_popped implied s l a h e m k f n b =
     let x : HasLeftQueue s m = popped_back s l m e f n in
@@ -108,7 +108,7 @@ implied_popped implied s l a h e m k f n b =
 
 -- open literals become true: what was settled stays so
 pub long_grows : (w live : List ℕ) (lists : List (List Watch)) (s t : State) (due : ℕ → Type 0) → LongReady w live lists s due →
-    Grows s t → t.trail.head ≡ s.trail.head → Agrees t → IsQueueCurrent t → LongReady w live lists t due
+    TrailGrows s t → t.trail.head ≡ s.trail.head → StateIsConsistent t → IsQueueCurrent t → LongReady w live lists t due
 long_grows w live lists s t due h g e a q = record {
   clauses = subst (λ (n : ℕ). AreClauses w live n) (sym g.size) h.clauses;
   watches = subst (λ (n : ℕ). AreWatched w live lists n) (sym g.size) h.watches;
@@ -121,8 +121,8 @@ long_grows w live lists s t due h g e a q = record {
       (subst (λ (n : ℕ). IsSatisfied s (lits_at w o) n) (sym same) (h.settled o i ho hi x d));
 }
 
-pub implied_grows : (implied : List (List ℕ)) (s t : State) (due : ℕ → Type 0) → Agrees s → AreImplied implied s due →
-    Grows s t → t.trail.head ≡ s.trail.head → AreImplied implied t due
+pub implied_grows : (implied : List (List ℕ)) (s t : State) (due : ℕ → Type 0) → StateIsConsistent s → AreImplied implied s due →
+    TrailGrows s t → t.trail.head ≡ s.trail.head → AreImplied implied t due
 implied_grows implied s t due a h g e m k f d b =
     let x : HasLeftQueue s m = left_back s t m g e a.trail f in
     let y : IsTrueLit s.values (get_or (implied_by implied m) k 0) × (level s (get_or (implied_by implied m) k 0) ≤ level s m) = h m k x d b in (
@@ -142,10 +142,10 @@ long_due w live lists s due due' h fewer = record {
 }
 
 -- after the implied literals of l, those of all literals that have left the queue
-pub binary_settled : (implied : List (List ℕ)) (s t : State) (l : ℕ) → Agrees s → AreImplied implied s (λ m. m ≢ l) →
-    BinaryWalk implied l s t (length (implied_by implied l)) → AreImplied implied t (λ m. level t m < current_level t + 1)
+pub binary_settled : (implied : List (List ℕ)) (s t : State) (l : ℕ) → StateIsConsistent s → AreImplied implied s (λ m. m ≢ l) →
+    BinaryWalkInvariant implied l s t (length (implied_by implied l)) → AreImplied implied t (λ m. level t m < current_level t + 1)
 binary_settled implied s t l a h w m k f d b =
-    let g : Grows s t = (w.moves [] []).grows in
+    let g : TrailGrows s t = (w.moves [] []).grows in
     elim (cases_eq m l) [
       | inl e ↦
           let x : IsTrueLit t.values (get_or (implied_by implied l) k 0) × (level t (get_or (implied_by implied l) k 0) ≤ level t l) =
@@ -155,14 +155,14 @@ binary_settled implied s t l a h w m k f d b =
     ]
 
 -- a walk over the clauses of two literals that stopped leaves what is below its level
-pub binary_below : (implied : List (List ℕ)) (s t : State) (l : ℕ) → Agrees s → AreImplied implied s (λ m. m ≢ l) →
-    BinaryWalk implied l s t 0 → AreImplied implied t (λ m. level t m < current_level t)
+pub binary_below : (implied : List (List ℕ)) (s t : State) (l : ℕ) → StateIsConsistent s → AreImplied implied s (λ m. m ≢ l) →
+    BinaryWalkInvariant implied l s t 0 → AreImplied implied t (λ m. level t m < current_level t)
 binary_below implied s t l a h w m k f d b =
     let n : m ≢ l = λ e. (let x : level t m ≡ level t l = ap (λ z. level t z) e in omega (arith, w.top)) in
     implied_grows implied s t (λ z. z ≢ l) a h (w.moves [] []).grows w.head m k f n b
 
 pub binary_long : (w live : List ℕ) (lists : List (List Watch)) (implied : List (List ℕ)) (s t : State) (l at : ℕ) →
-    LongReady w live lists s (λ m. m ≢ l) → BinaryWalk implied l s t at → LongReady w live lists t (λ m. m ≢ l)
+    LongReady w live lists s (λ m. m ≢ l) → BinaryWalkInvariant implied l s t at → LongReady w live lists t (λ m. m ≢ l)
 binary_long w live lists implied s t l at h b = long_grows w live lists s t (λ m. m ≢ l) h (b.moves [] []).grows b.head b.agrees b.queue
 
 pub binary_names : (words live : List ℕ) (implied : List (List ℕ)) (values : List (Option Bool)) (e : Conflict) → IsConflict [] [] implied values e → IsConflict words live implied values e
@@ -172,7 +172,7 @@ binary_names words live implied values (Long o) h = absurd (omega (arith, h.0.1)
 -- the state after one piece of propagation that found a falsified clause of two literals
 pub stopped_binary : (w live : List ℕ) (lists : List (List Watch)) (implied : List (List ℕ)) (s t : State) (l : ℕ) →
     LongReady w live lists s (λ m. m ≢ l) → AreLists implied (length s.values) → AreImplied implied s (λ m. m ≢ l) → HaveFirsts w live s →
-    BinaryWalk implied l s t 0 → ReadyBelow w live lists implied t (current_level t)
+    BinaryWalkInvariant implied l s t 0 → ReadyBelow w live lists implied t (current_level t)
 stopped_binary w live lists implied s t l h ranges i firsts b = record {
   long = long_due w live lists t (λ m. m ≢ l) (λ m. level t m < current_level t) (binary_long w live lists implied s t l 0 h b)
       (λ m f d e. (let x : level t m ≡ level t l = ap (λ z. level t z) e in omega (arith, b.top)));
@@ -183,10 +183,10 @@ stopped_binary w live lists implied s t l h ranges i firsts b = record {
 
 -- the state after one piece of propagation, from one after the clauses of two literals
 pub ready_again : (w v live : List ℕ) (lists : List (List Watch)) (implied : List (List ℕ)) (s t : State) →
-    Agrees s → AreLists implied (length s.values) → AreImplied implied s (λ m. level s m < current_level s + 1) → HaveFirsts w live s →
-    Walks live w s v t lists None → IsReadyToPropagate v live lists implied t
+    StateIsConsistent s → AreLists implied (length s.values) → AreImplied implied s (λ m. level s m < current_level s + 1) → HaveFirsts w live s →
+    WatchWalkEffect live w s v t lists None → IsReadyToPropagate v live lists implied t
 ready_again w v live lists implied s t a ranges i firsts x =
-    let g : Grows s t = (x.moves []).grows in
+    let g : TrailGrows s t = (x.moves []).grows in
     record {
       long = long_due v live lists t (due_after None t) (λ m. level t m < current_level t + 1) x.ready (λ m f d. tt);
       ranges = subst (λ (n : ℕ). AreLists implied n) (sym g.size) ranges;
@@ -195,10 +195,10 @@ ready_again w v live lists implied s t a ranges i firsts x =
     }
 
 pub stopped_long : (w v live : List ℕ) (lists : List (List Watch)) (implied : List (List ℕ)) (s t : State) (o : ℕ) →
-    Agrees s → AreLists implied (length s.values) → AreImplied implied s (λ m. level s m < current_level s + 1) → HaveFirsts w live s →
-    Walks live w s v t lists (Some o) → ReadyBelow v live lists implied t (current_level t)
+    StateIsConsistent s → AreLists implied (length s.values) → AreImplied implied s (λ m. level s m < current_level s + 1) → HaveFirsts w live s →
+    WatchWalkEffect live w s v t lists (Some o) → ReadyBelow v live lists implied t (current_level t)
 stopped_long w v live lists implied s t o a ranges i firsts x =
-    let g : Grows s t = (x.moves []).grows in
+    let g : TrailGrows s t = (x.moves []).grows in
     record {
       long = x.ready;
       ranges = subst (λ (n : ℕ). AreLists implied n) (sym g.size) ranges;
@@ -207,7 +207,7 @@ stopped_long w v live lists implied s t o a ranges i firsts x =
     }
 
 -- with nothing in the queue, each true literal has left it
-all_left : (s : State) (l : ℕ) → Agrees s → s.trail.head ≡ length s.trail.lits → IsTrueLit s.values l → HasLeftQueue s l
+all_left : (s : State) (l : ℕ) → StateIsConsistent s → s.trail.head ≡ length s.trail.lits → IsTrueLit s.values l → HasLeftQueue s l
 all_left s l a e t = elim (a.known l t) [
   | inl b ↦ inl (subst (λ (n : ℕ). IsBefore s n l) (sym e) b)
   | inr r ↦ inr r
@@ -250,7 +250,7 @@ abbrev pub IsNext : State → ℕ → Type 0
 IsNext s l = slice_get s.trail.lits s.trail.head ≡ Some l
 
 -- what propagation over the clauses of two literals asks
-pub next_agrees : (s : State) (l : ℕ) → Agrees s → IsNext s l → Agrees (popped s)
+pub next_agrees : (s : State) (l : ℕ) → StateIsConsistent s → IsNext s l → StateIsConsistent (popped s)
 next_agrees s l a e = agrees_popped s a (next_there s l e).0
 
 pub next_left : (s : State) (l : ℕ) → IsNext s l → HasLeftQueue (popped s) l
@@ -261,25 +261,25 @@ next_top s l q e = ap (λ m. level s m) (sym (next_there s l e).1) ∙ q s.trail
 
 -- what propagation over the long clauses asks
 pub next_long : (w live : List ℕ) (lists : List (List Watch)) (implied : List (List ℕ)) (s t : State) (l : ℕ) →
-    IsReadyToPropagate w live lists implied s → IsNext s l → BinaryWalk implied l (popped s) t (length (implied_by implied l)) →
+    IsReadyToPropagate w live lists implied s → IsNext s l → BinaryWalkInvariant implied l (popped s) t (length (implied_by implied l)) →
     LongReady w live lists t (λ m. m ≢ l)
 next_long w live lists implied s t l h e b =
     binary_long w live lists implied (popped s) t l (length (implied_by implied l)) (long_popped w live lists s l h.long (next_there s l e).0 (next_there s l e).1) b
 
 pub next_stops_binary : (w live : List ℕ) (lists : List (List Watch)) (implied : List (List ℕ)) (s t : State) (l : ℕ) →
-    IsReadyToPropagate w live lists implied s → IsNext s l → BinaryWalk implied l (popped s) t 0 → ReadyBelow w live lists implied t (current_level t)
+    IsReadyToPropagate w live lists implied s → IsNext s l → BinaryWalkInvariant implied l (popped s) t 0 → ReadyBelow w live lists implied t (current_level t)
 next_stops_binary w live lists implied s t l h e b =
     stopped_binary w live lists implied (popped s) t l (long_popped w live lists s l h.long (next_there s l e).0 (next_there s l e).1) h.ranges
     (implied_popped implied s l h.long.agrees h.binary (next_there s l e).1) h.firsts b
 
 -- after the clauses of two literals
-middle_binary : (implied : List (List ℕ)) (s t : State) (l : ℕ) → Agrees s → AreImplied implied s (λ m. level s m < current_level s + 1) → IsNext s l →
-    BinaryWalk implied l (popped s) t (length (implied_by implied l)) → AreImplied implied t (λ m. level t m < current_level t + 1)
+middle_binary : (implied : List (List ℕ)) (s t : State) (l : ℕ) → StateIsConsistent s → AreImplied implied s (λ m. level s m < current_level s + 1) → IsNext s l →
+    BinaryWalkInvariant implied l (popped s) t (length (implied_by implied l)) → AreImplied implied t (λ m. level t m < current_level t + 1)
 middle_binary implied s t l a i e b =
     binary_settled implied (popped s) t l (next_agrees s l a e) (implied_popped implied s l a i (next_there s l e).1) b
 
 pub next_goes_on : (w v live : List ℕ) (lists lists' : List (List Watch)) (implied : List (List ℕ)) (s t u : State) (l : ℕ) →
-    IsReadyToPropagate w live lists implied s → IsNext s l → BinaryWalk implied l (popped s) t (length (implied_by implied l)) → Walks live w t v u lists' None →
+    IsReadyToPropagate w live lists implied s → IsNext s l → BinaryWalkInvariant implied l (popped s) t (length (implied_by implied l)) → WatchWalkEffect live w t v u lists' None →
     IsReadyToPropagate v live lists' implied u
 next_goes_on w v live lists lists' implied s t u l h e b x =
     ready_again w v live lists' implied t u b.agrees
@@ -288,7 +288,7 @@ next_goes_on w v live lists lists' implied s t u l h e b x =
     (firsts_moved live implied w (popped s) w t (next_agrees s l h.long.agrees e) (b.moves w live) h.firsts) x
 
 pub next_stops_long : (w v live : List ℕ) (lists lists' : List (List Watch)) (implied : List (List ℕ)) (s t u : State) (l o : ℕ) →
-    IsReadyToPropagate w live lists implied s → IsNext s l → BinaryWalk implied l (popped s) t (length (implied_by implied l)) → Walks live w t v u lists' (Some o) →
+    IsReadyToPropagate w live lists implied s → IsNext s l → BinaryWalkInvariant implied l (popped s) t (length (implied_by implied l)) → WatchWalkEffect live w t v u lists' (Some o) →
     ReadyBelow v live lists' implied u (current_level u)
 next_stops_long w v live lists lists' implied s t u l o h e b x =
     stopped_long w v live lists' implied t u o b.agrees
@@ -298,18 +298,18 @@ next_stops_long w v live lists lists' implied s t u l o h e b x =
 
 -- the pieces of one turn
 pub next_moves_binary : (live : List ℕ) (implied : List (List ℕ)) (w0 : List ℕ) (s0 : State) (w : List ℕ) (s t : State) (l at : ℕ) →
-    PropagatesOn live implied w0 s0 w s → BinaryWalk implied l (popped s) t at → PropagatesOn live implied w0 s0 w t
+    PropagatesOn live implied w0 s0 w s → BinaryWalkInvariant implied l (popped s) t at → PropagatesOn live implied w0 s0 w t
 next_moves_binary live implied w0 s0 w s t l at m b =
     moves_trans live implied w0 s0 w (popped s) w t (moves_trans live implied w0 s0 w s w (popped s) m (moves_popped live implied w s)) (b.moves w live)
 
 pub next_moves : (live : List ℕ) (implied : List (List ℕ)) (w0 : List ℕ) (s0 : State) (w v : List ℕ) (s t u : State) (lists : List (List Watch)) (found : Option ℕ) (l at : ℕ) →
-    PropagatesOn live implied w0 s0 w s → BinaryWalk implied l (popped s) t at → Walks live w t v u lists found → PropagatesOn live implied w0 s0 v u
+    PropagatesOn live implied w0 s0 w s → BinaryWalkInvariant implied l (popped s) t at → WatchWalkEffect live w t v u lists found → PropagatesOn live implied w0 s0 v u
 next_moves live implied w0 s0 w v s t u lists found l at m b x =
     moves_trans live implied w0 s0 w t v u (next_moves_binary live implied w0 s0 w s t l at m b) (x.moves implied)
 
 -- the queue's head goes on by one
 pub next_smaller : (live w : List ℕ) (implied : List (List ℕ)) (s t u : State) (v : List ℕ) (lists : List (List Watch)) (l at : ℕ) →
-    Agrees s → IsNext s l → BinaryWalk implied l (popped s) t at → Walks live w t v u lists None →
+    StateIsConsistent s → IsNext s l → BinaryWalkInvariant implied l (popped s) t at → WatchWalkEffect live w t v u lists None →
     u.trail.room - u.trail.head < s.trail.room - s.trail.head
 next_smaller live w implied s t u v lists l at a e b x =
     let lt : s.trail.head < length s.trail.lits = (next_there s l e).0 in

@@ -8,22 +8,22 @@ use Rattle.sat_store.specs.clause.Buffer.{lits_at}
 use Rattle.sat_parts.specs.declared.prop.graph.ImplNode.{ImplNode}
 use Rattle.sat_parts.specs.declared.prop.graph.Reason.{Reason}
 use Rattle.sat_parts.specs.declared.prop.graph.Reason.TheVariants.{Unit as NoCause, Binary, Long}
-use Rattle.sat_parts.specs.clause.Orders.{Shuffles}
+use Rattle.sat_parts.specs.clause.Orders.{PermutesClause}
 use Rattle.sat_parts.specs.clause.Stored.{AreClauses, lit_of, size_of}
 use Rattle.sat_parts.specs.prop.Values.{IsTrueLit, IsOpenLit}
-use Rattle.sat_parts.specs.prop.Graphs.{is_unit}
-use Rattle.sat_parts.specs.prop.State.{State, node, lit_at, Agrees, Grows, enqueued}
+use Rattle.sat_parts.specs.prop.Graphs.{is_unit_reason}
+use Rattle.sat_parts.specs.prop.State.{State, node, lit_at, StateIsConsistent, TrailGrows, enqueued}
 use Rattle.sat_parts.specs.prop.Reasons.{HasClauseReason, IsFalseBefore, Implies, AreInTurn, HaveFirsts, PropagatesOn}
 use Rattle.sat_parts.proofs.lemmas.clause.OrderLemmas.{reorders_refl, reorders_trans, reorders_one}
 use Rattle.sat_parts.proofs.lemmas.prop.StateLemmas.{before_forth, removed_forth, grows_refl, grows_trans, grows_enqueued, lit_front, lit_last, node_kept, node_new, true_new}
 
-pub false_before_forth : (a b : State) (bound l : ℕ) → Grows a b → IsFalseBefore a bound l → IsFalseBefore b bound l
+pub false_before_forth : (a b : State) (bound l : ℕ) → TrailGrows a b → IsFalseBefore a bound l → IsFalseBefore b bound l
 false_before_forth a b bound l g h = elim h [
   | inl x ↦ inl (before_forth a b bound (negated l) g x)
   | inr x ↦ inr (removed_forth a b (negated l) g x)
 ]
 
-pub implies_forth : (words live : List ℕ) (implied : List (List ℕ)) (a b : State) (i : ℕ) (r : Reason) → Grows a b → i < length a.trail.lits → Implies words live implied a i r → Implies words live implied b i r
+pub implies_forth : (words live : List ℕ) (implied : List (List ℕ)) (a b : State) (i : ℕ) (r : Reason) → TrailGrows a b → i < length a.trail.lits → Implies words live implied a i r → Implies words live implied b i r
 implies_forth words live implied a b i NoCause g p h = tt
 implies_forth words live implied a b i (Binary ls) g p h =
     (subst (λ (m : ℕ). Contains (get_or implied (negated (get_or ls 0 0)) []) m) (sym (g.front i p)) h.0, false_before_forth a b i (get_or ls 0 0) g h.1)
@@ -31,11 +31,11 @@ implies_forth words live implied a b i (Long o) g p h =
     (h.0, h.1 ∙ sym (g.front i p), λ k x y. false_before_forth a b i (lit_of words o k) g (h.2 k x y))
 
 -- the cause of a literal stays while the trail grows
-pub caused_forth : (a b : State) (i : ℕ) → Grows a b → i < length a.trail.lits → HasClauseReason a i → HasClauseReason b i
+pub caused_forth : (a b : State) (i : ℕ) → TrailGrows a b → i < length a.trail.lits → HasClauseReason a i → HasClauseReason b i
 caused_forth a b i g p h =
     let e : lit_at b i ≡ lit_at a i = g.front i p in (
       subst (λ (m : ℕ). IsTrueLit b.values m) (sym e) (g.kept (lit_at a i) h.0),
-      ap (λ m. is_unit (node b m).reason) e ∙ ap (λ (z : ImplNode). is_unit z.reason) (g.nodes (lit_at a i) h.0) ∙ h.1,
+      ap (λ m. is_unit_reason (node b m).reason) e ∙ ap (λ (z : ImplNode). is_unit_reason z.reason) (g.nodes (lit_at a i) h.0) ∙ h.1,
     )
 
 pub moves_refl : (live : List ℕ) (implied : List (List ℕ)) (words : List ℕ) (s : State) → PropagatesOn live implied words s words s
@@ -63,12 +63,12 @@ moves_trans live implied u a v b w c x y = record {
 
 -- an open literal becomes true by a reason that is unit in turn
 pub moves_enqueued : (live : List ℕ) (implied : List (List ℕ)) (words : List ℕ) (s : State) (l : ℕ) (r : Reason) →
-    Agrees s → IsOpenLit s.values l → variable l < length s.values → length s.trail.lits < s.trail.room →
-    is_unit r ≡ false → Implies words live implied (enqueued l r s) (length s.trail.lits) r →
+    StateIsConsistent s → IsOpenLit s.values l → variable l < length s.values → length s.trail.lits < s.trail.room →
+    is_unit_reason r ≡ false → Implies words live implied (enqueued l r s) (length s.trail.lits) r →
     PropagatesOn live implied words s words (enqueued l r s)
 moves_enqueued live implied words s l r h n below room clause cause =
     let t : State = enqueued l r s in
-    let g : Grows s t = grows_enqueued s l r h n below room in
+    let g : TrailGrows s t = grows_enqueued s l r h n below room in
     let size : length (s.trail.lits ++ l ∷ []) ≡ length s.trail.lits + 1 = length_push s.trail.lits l in
     record {
       grows = g;
@@ -78,7 +78,7 @@ moves_enqueued live implied words s l r h n below room clause cause =
           let e : i ≡ length s.trail.lits = omega arith in
           let there : lit_at t i ≡ l = ap (λ m. lit_at t m) e ∙ lit_last s l r in (
             subst (λ (m : ℕ). IsTrueLit t.values m) (sym there) (true_new s l r below),
-            ap (λ m. is_unit (node t m).reason) there ∙ ap (λ (z : ImplNode). is_unit z.reason) (node_new s l r (omega (arith, h.nodes))) ∙ clause,
+            ap (λ m. is_unit_reason (node t m).reason) there ∙ ap (λ (z : ImplNode). is_unit_reason z.reason) (node_new s l r (omega (arith, h.nodes))) ∙ clause,
           );
       turns = λ from p q i x y. elim (cases_eq i (length s.trail.lits)) [
         | inl e ↦
@@ -93,7 +93,7 @@ moves_enqueued live implied words s l r h n below room clause cause =
 
 -- literals change places in one clause, whose first literal stays where it is true
 pub implies_shuffled : (words words' live : List ℕ) (implied : List (List ℕ)) (s : State) (p i : ℕ) (r : Reason) (count : ℕ) →
-    AreClauses words live count → Contains live p → Shuffles words words' p →
+    AreClauses words live count → Contains live p → PermutesClause words words' p →
     (IsTrueLit s.values (lit_of words p 0) → lit_of words' p 0 ≡ lit_of words p 0) → IsTrueLit s.values (lit_at s i) →
     Implies words live implied s i r → Implies words' live implied s i r
 implies_shuffled words words' live implied s p i NoCause count c g e first holds h = tt
@@ -127,7 +127,7 @@ implies_shuffled words words' live implied s p i (Long o) count c g e first hold
 ]
 
 pub moves_shuffled : (live : List ℕ) (implied : List (List ℕ)) (words : List ℕ) (s : State) (words' : List ℕ) (p count : ℕ) →
-    Agrees s → AreClauses words live count → Contains live p → Shuffles words words' p →
+    StateIsConsistent s → AreClauses words live count → Contains live p → PermutesClause words words' p →
     (IsTrueLit s.values (lit_of words p 0) → lit_of words' p 0 ≡ lit_of words p 0) →
     PropagatesOn live implied words s words' s
 moves_shuffled live implied words s words' p count a c g e first = record {
@@ -148,7 +148,7 @@ from_long words live implied s i o r e h =
 
 -- long reasons have their literals first after a piece of propagation where they had before
 pub firsts_moved : (live : List ℕ) (implied : List (List ℕ)) (words : List ℕ) (s : State) (words' : List ℕ) (s' : State) →
-    Agrees s → PropagatesOn live implied words s words' s' → HaveFirsts words live s → HaveFirsts words' live s'
+    StateIsConsistent s → PropagatesOn live implied words s words' s' → HaveFirsts words live s → HaveFirsts words' live s'
 firsts_moved live implied words s words' s' a m h i o p e = elim (cases_lt i (length s.trail.lits)) [
   | inl lt ↦
       let f : (node s' (lit_at s' i)).reason ≡ (node s (lit_at s i)).reason =

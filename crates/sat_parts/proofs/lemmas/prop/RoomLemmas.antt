@@ -10,7 +10,7 @@ use Rattle.sat_base.specs.values.Literals.{variable, is_positive}
 use Rattle.sat_parts.specs.declared.prop.graph.Reason.{Reason}
 use Rattle.sat_parts.specs.prop.Values.{IsOpenLit, value_of}
 use Rattle.sat_parts.specs.prop.Graphs.{node_of}
-use Rattle.sat_parts.specs.prop.State.{State, lit_at, Agrees, enqueued}
+use Rattle.sat_parts.specs.prop.State.{State, lit_at, StateIsConsistent, enqueued}
 use Rattle.sat_parts.proofs.lemmas.prop.StateLemmas.{open_other, lit_front, lit_last}
 
 -- an assigned variable is there
@@ -38,12 +38,12 @@ variables_last s l r k d e =
     get_or-map (λ m. variable m) (s.trail.lits ++ l ∷ []) k 0 d (omega arith) ∙ ap (λ m. variable m) (ap (λ x. lit_at (enqueued l r s) x) e ∙ lit_last s l r)
 
 -- literals at two places of the trail are of two variables
-pub places_apart : (s : State) (i j : ℕ) → Agrees s → i < length s.trail.lits → j < length s.trail.lits → variable (lit_at s i) ≡ variable (lit_at s j) → i ≡ j
+pub places_apart : (s : State) (i j : ℕ) → StateIsConsistent s → i < length s.trail.lits → j < length s.trail.lits → variable (lit_at s i) ≡ variable (lit_at s j) → i ≡ j
 places_apart s i j h p q e =
     let d : i + 1 ≡ j + 1 = sym (h.depths i p) ∙ ap (λ v. (node_of s.nodes v).depth) e ∙ h.depths j q in
     omega arith
 
-apart : (s : State) (l : ℕ) (r : Reason) (i j d : ℕ) → Agrees s → IsOpenLit s.values l → i < j → j < length (variables s l) → eqb (get_or (variables s l) i d) (get_or (variables s l) j d) ≡ false
+apart : (s : State) (l : ℕ) (r : Reason) (i j d : ℕ) → StateIsConsistent s → IsOpenLit s.values l → i < j → j < length (variables s l) → eqb (get_or (variables s l) i d) (get_or (variables s l) j d) ≡ false
 apart s l r i j d h n lt b =
     let size : length (variables s l) ≡ length s.trail.lits + 1 = variables_length s l in
     let p : i < length s.trail.lits = omega arith in
@@ -57,7 +57,7 @@ apart s l r i j d h n lt b =
           omega arith
     ])
 
-below : (s : State) (l : ℕ) (r : Reason) (q : ℕ) → Agrees s → variable l < length s.values → list_any (eqb q) (variables s l) ≡ true → q < length s.values
+below : (s : State) (l : ℕ) (r : Reason) (q : ℕ) → StateIsConsistent s → variable l < length s.values → list_any (eqb q) (variables s l) ≡ true → q < length s.values
 below s l r q h small any =
     let size : length (variables s l) ≡ length s.trail.lits + 1 = variables_length s l in
     let c : Contains (variables s l) q = Contains-from_any {eq = eqb} (λ x y e. eqb-true x y e) q (variables s l) any in
@@ -70,7 +70,7 @@ below s l r q h small any =
     ]
 
 -- an open literal has room on the trail
-pub room_for : (s : State) (l : ℕ) (r : Reason) → Agrees s → IsOpenLit s.values l → variable l < length s.values → length s.trail.lits < s.trail.room
+pub room_for : (s : State) (l : ℕ) (r : Reason) → StateIsConsistent s → IsOpenLit s.values l → variable l < length s.values → length s.trail.lits < s.trail.room
 room_for s l r h n small =
     let size : length (variables s l) ≡ length s.trail.lits + 1 = variables_length s l in
     let all : length (variables s l) ≤ length s.values =

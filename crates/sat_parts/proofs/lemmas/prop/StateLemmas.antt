@@ -9,7 +9,7 @@ use Rattle.sat_parts.specs.declared.prop.graph.Reason.{Reason}
 use Rattle.sat_parts.specs.prop.Values.{IsTrueLit, IsFalseLit, IsOpenLit, value_of}
 use Rattle.sat_parts.specs.prop.Trails.{IsTrail, LevelIs}
 use Rattle.sat_parts.specs.prop.Graphs.{node_at, new_node}
-use Rattle.sat_parts.specs.prop.State.{State, node, level, current_level, lit_at, IsRemoved, IsBefore, HasLeftQueue, Agrees, IsQueueCurrent, enqueued, Grows, IsSatisfied}
+use Rattle.sat_parts.specs.prop.State.{State, node, level, current_level, lit_at, IsRemoved, IsBefore, HasLeftQueue, StateIsConsistent, IsQueueCurrent, enqueued, TrailGrows, IsSatisfied}
 
 pub negated_variable : (l : ℕ) → variable (negated l) ≡ variable l
 negated_variable l = omega arith
@@ -89,7 +89,7 @@ trail_enqueued s l r t room =
       counted = t.counted;
     }
 
-pub agrees_enqueued : (s : State) (l : ℕ) (r : Reason) → Agrees s → IsOpenLit s.values l → variable l < length s.values → length s.trail.lits < s.trail.room → Agrees (enqueued l r s)
+pub agrees_enqueued : (s : State) (l : ℕ) (r : Reason) → StateIsConsistent s → IsOpenLit s.values l → variable l < length s.values → length s.trail.lits < s.trail.room → StateIsConsistent (enqueued l r s)
 agrees_enqueued s l r h n below room =
     let size : length (s.trail.lits ++ l ∷ []) ≡ length s.trail.lits + 1 = length_push s.trail.lits l in
     let values : length (set s.values (variable l) (Some (is_positive l))) ≡ length s.values = length-set s.values (variable l) (Some (is_positive l)) in
@@ -136,7 +136,7 @@ agrees_enqueued s l r h n below room =
       ];
     }
 
-pub grows_enqueued : (s : State) (l : ℕ) (r : Reason) → Agrees s → IsOpenLit s.values l → variable l < length s.values → length s.trail.lits < s.trail.room → Grows s (enqueued l r s)
+pub grows_enqueued : (s : State) (l : ℕ) (r : Reason) → StateIsConsistent s → IsOpenLit s.values l → variable l < length s.values → length s.trail.lits < s.trail.room → TrailGrows s (enqueued l r s)
 grows_enqueued s l r h n below room =
     let size : length (s.trail.lits ++ l ∷ []) ≡ length s.trail.lits + 1 = length_push s.trail.lits l in
     let in_nodes : variable l < length s.nodes = omega (arith, h.nodes) in
@@ -161,7 +161,7 @@ grows_enqueued s l r h n below room =
       ];
     }
 
-pub grows_refl : (s : State) → Grows s s
+pub grows_refl : (s : State) → TrailGrows s s
 grows_refl s = record {
   size = refl;
   starts = refl;
@@ -174,7 +174,7 @@ grows_refl s = record {
   removed = λ l x. x;
 }
 
-pub grows_trans : (a b c : State) → Grows a b → Grows b c → Grows a c
+pub grows_trans : (a b c : State) → TrailGrows a b → TrailGrows b c → TrailGrows a c
 grows_trans a b c x y = record {
   size = y.size ∙ x.size;
   starts = y.starts ∙ x.starts;
@@ -187,37 +187,37 @@ grows_trans a b c x y = record {
   removed = λ l r. x.removed l (y.removed l r);
 }
 
-pub removed_forth : (a b : State) (l : ℕ) → Grows a b → IsRemoved a l → IsRemoved b l
+pub removed_forth : (a b : State) (l : ℕ) → TrailGrows a b → IsRemoved a l → IsRemoved b l
 removed_forth a b l g r = record {
   holds = g.kept l r.holds;
   depth = ap (λ (y : ImplNode). y.depth) (g.nodes l r.holds) ∙ r.depth;
   bottom = ap (λ (y : ImplNode). y.level) (g.nodes l r.holds) ∙ r.bottom;
 }
 
-pub before_forth : (a b : State) (bound l : ℕ) → Grows a b → IsBefore a bound l → IsBefore b bound l
+pub before_forth : (a b : State) (bound l : ℕ) → TrailGrows a b → IsBefore a bound l → IsBefore b bound l
 before_forth a b bound l g h = record { place = h.place; before = h.before; within = omega (arith, h.within, g.longer); there = g.front h.place h.within ∙ h.there }
 
-pub before_back : (a b : State) (bound l : ℕ) → Grows a b → bound ≤ length a.trail.lits → IsBefore b bound l → IsBefore a bound l
+pub before_back : (a b : State) (bound l : ℕ) → TrailGrows a b → bound ≤ length a.trail.lits → IsBefore b bound l → IsBefore a bound l
 before_back a b bound l g m h =
     let p : h.place < length a.trail.lits = omega (arith, h.before) in
     record { place = h.place; before = h.before; within = p; there = sym (g.front h.place p) ∙ h.there }
 
-pub left_forth : (a b : State) (l : ℕ) → Grows a b → b.trail.head ≡ a.trail.head → HasLeftQueue a l → HasLeftQueue b l
+pub left_forth : (a b : State) (l : ℕ) → TrailGrows a b → b.trail.head ≡ a.trail.head → HasLeftQueue a l → HasLeftQueue b l
 left_forth a b l g e h = elim h [
   | inl x ↦ inl (subst (λ (y : ℕ). IsBefore b y l) (sym e) (before_forth a b a.trail.head l g x))
   | inr x ↦ inr (removed_forth a b l g x)
 ]
 
-pub left_back : (a b : State) (l : ℕ) → Grows a b → b.trail.head ≡ a.trail.head → IsTrail a.trail → HasLeftQueue b l → HasLeftQueue a l
+pub left_back : (a b : State) (l : ℕ) → TrailGrows a b → b.trail.head ≡ a.trail.head → IsTrail a.trail → HasLeftQueue b l → HasLeftQueue a l
 left_back a b l g e t h = elim h [
   | inl x ↦ inl (before_back a b a.trail.head l g t.queue (subst (λ (y : ℕ). IsBefore b y l) e x))
   | inr x ↦ inr (g.removed l x)
 ]
 
-pub level_kept : (a b : State) (l : ℕ) → Grows a b → IsTrueLit a.values l → level b l ≡ level a l
+pub level_kept : (a b : State) (l : ℕ) → TrailGrows a b → IsTrueLit a.values l → level b l ≡ level a l
 level_kept a b l g t = ap (λ (y : ImplNode). y.level) (g.nodes l t)
 
-pub satisfied_forth : (a b : State) (ls : List ℕ) (bound : ℕ) → Grows a b → IsSatisfied a ls bound → IsSatisfied b ls bound
+pub satisfied_forth : (a b : State) (ls : List ℕ) (bound : ℕ) → TrailGrows a b → IsSatisfied a ls bound → IsSatisfied b ls bound
 satisfied_forth a b ls bound g h = record {
   place = h.place;
   within = h.within;
@@ -226,14 +226,14 @@ satisfied_forth a b ls bound g h = record {
 }
 
 -- what has left the queue is true
-pub left_true : (s : State) (l : ℕ) → Agrees s → HasLeftQueue s l → IsTrueLit s.values l
+pub left_true : (s : State) (l : ℕ) → StateIsConsistent s → HasLeftQueue s l → IsTrueLit s.values l
 left_true s l h x = elim x [
   | inl b ↦ subst (λ (m : ℕ). IsTrueLit s.values m) b.there (h.holds b.place b.within)
   | inr r ↦ r.holds
 ]
 
 -- no true literal is of a level above the current one
-pub level_low : (s : State) (l : ℕ) → Agrees s → IsTrueLit s.values l → level s l ≤ current_level s
+pub level_low : (s : State) (l : ℕ) → StateIsConsistent s → IsTrueLit s.values l → level s l ≤ current_level s
 level_low s l h t = elim (h.known l t) [
   | inl b ↦
       let e : level s (lit_at s b.place) ≡ level s l = ap (λ m. level s m) b.there in
@@ -241,7 +241,7 @@ level_low s l h t = elim (h.known l t) [
   | inr r ↦ omega (arith, r.bottom)
 ]
 
-pub queue_enqueued : (s : State) (l : ℕ) (r : Reason) → Agrees s → IsQueueCurrent s → IsOpenLit s.values l → variable l < length s.values → IsQueueCurrent (enqueued l r s)
+pub queue_enqueued : (s : State) (l : ℕ) (r : Reason) → StateIsConsistent s → IsQueueCurrent s → IsOpenLit s.values l → variable l < length s.values → IsQueueCurrent (enqueued l r s)
 queue_enqueued s l r h q n below i p b =
     let size : length (s.trail.lits ++ l ∷ []) ≡ length s.trail.lits + 1 = length_push s.trail.lits l in
     let in_nodes : variable l < length s.nodes = omega (arith, h.nodes) in

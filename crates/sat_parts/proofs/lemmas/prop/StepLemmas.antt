@@ -14,14 +14,14 @@ use Rattle.sat_parts.specs.prop.Values.{IsTrueLit, IsOpenLit}
 use Rattle.sat_parts.specs.prop.Trails.{LevelIs, with_level}
 use Rattle.sat_parts.specs.prop.Binaries.{implied_by}
 use Rattle.sat_parts.specs.prop.WatchLists.{Watching}
-use Rattle.sat_parts.specs.prop.State.{State, node, level, lit_at, IsRemoved, HasLeftQueue, Agrees, IsSatisfied, Grows, enqueued}
+use Rattle.sat_parts.specs.prop.State.{State, node, level, lit_at, IsRemoved, HasLeftQueue, StateIsConsistent, IsSatisfied, TrailGrows, enqueued}
 use Rattle.sat_parts.specs.prop.Reasons.{HaveFirsts}
 use Rattle.sat_parts.specs.prop.Ready.{AreWatched, AreLists}
 use Rattle.sat_parts.specs.prop.Asks.{PropagationInvariant, EnqueuePrecondition, IsOwnLong, IsOwnBinary, PropagationPrecondition}
 use Rattle.sat_parts.proofs.lemmas.prop.StateLemmas.{left_true, left_back, level_kept, level_low, satisfied_forth, agrees_enqueued, grows_enqueued, queue_enqueued, lit_front, lit_last, node_kept, node_new, true_new}
 use Rattle.sat_parts.proofs.lemmas.prop.RoomLemmas.{room_for}
 
-firsts_enqueued : (words live : List ℕ) (s : State) (l : ℕ) (r : Reason) → Agrees s → IsOpenLit s.values l → variable l < length s.values → HaveFirsts words live s →
+firsts_enqueued : (words live : List ℕ) (s : State) (l : ℕ) (r : Reason) → StateIsConsistent s → IsOpenLit s.values l → variable l < length s.values → HaveFirsts words live s →
     ((o : ℕ) → r ≡ Long o → Contains live o × (lit_of words o 0 ≡ l)) → HaveFirsts words live (enqueued l r s)
 firsts_enqueued words live s l r a n below h cause i o b e =
     let t : State = enqueued l r s in
@@ -69,7 +69,7 @@ pub asks_enqueued : (words refs : List ℕ) (w : Watching) (implied : List (List
 asks_enqueued words refs w implied s top l r n below cause h =
     let room : length s.trail.lits < s.trail.room = room_for s l r h.agrees n below in
     let t : State = enqueued l r s in
-    let g : Grows s t = grows_enqueued s l r h.agrees n below room in
+    let g : TrailGrows s t = grows_enqueued s l r h.agrees n below room in
     let level_new : level t l ≡ length s.trail.starts = ap (λ (z : ImplNode). z.level) (node_new s l r (omega (arith, h.agrees.nodes))) in
     record {
       laid = h.laid;
@@ -107,7 +107,7 @@ asks_enqueued words refs w implied s top l r n below cause h =
           ];
     }
 
-pub agrees_by : (s : State) (l : ℕ) (r : Reason) → IsOpenLit s.values l → variable l < length s.values → Agrees s → Agrees (enqueued l r s)
+pub agrees_by : (s : State) (l : ℕ) (r : Reason) → IsOpenLit s.values l → variable l < length s.values → StateIsConsistent s → StateIsConsistent (enqueued l r s)
 agrees_by s l r n below a = agrees_enqueued s l r a n below (room_for s l r a n below)
 
 -- the state with a level more
@@ -117,7 +117,7 @@ raised s = record s { trail = with_level s.trail }
 grows_raised : (s : State) (l : ℕ) → IsRemoved (raised s) l → IsRemoved s l
 grows_raised s l r = record { holds = r.holds; depth = r.depth; bottom = r.bottom }
 
-pub agrees_raised : (s : State) → Agrees s → length s.trail.starts + 1 < 2 ^ 32 → Agrees (raised s)
+pub agrees_raised : (s : State) → StateIsConsistent s → length s.trail.starts + 1 < 2 ^ 32 → StateIsConsistent (raised s)
 agrees_raised s h few =
     let size : length (s.trail.starts ++ length s.trail.lits ∷ []) ≡ length s.trail.starts + 1 = length_push s.trail.starts (length s.trail.lits) in
     let at_end : get_or (s.trail.starts ++ length s.trail.lits ∷ []) (length s.trail.starts) 0 ≡ length s.trail.lits = get_or_push s.trail.starts (length s.trail.lits) 0 (length s.trail.starts) refl in

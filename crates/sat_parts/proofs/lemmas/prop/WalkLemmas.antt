@@ -6,27 +6,27 @@ use Rattle.std.specs.List.{Contains}
 use Rattle.sat_base.specs.values.Literals.{negated}
 use Rattle.sat_store.specs.clause.Buffer.{lits_at}
 use Rattle.sat_parts.specs.declared.prop.watch.Watch.{Watch}
-use Rattle.sat_parts.specs.clause.Orders.{AreDistinct, Shuffled, Shuffles}
+use Rattle.sat_parts.specs.clause.Orders.{AreDistinct, IsReordering, PermutesClause}
 use Rattle.sat_parts.specs.clause.Stored.{AreClauses, lit_of, size_of}
 use Rattle.sat_parts.specs.prop.WatchLists.{no_watch, watch_on, watches_of, more_at}
-use Rattle.sat_parts.specs.prop.Ready.{HasLit, IsGood, HasWatch, AreWatched}
+use Rattle.sat_parts.specs.prop.Ready.{HasLit, IsSoundWatch, HasWatch, AreWatched}
 use Rattle.sat_parts.specs.prop.Walk.{HasWatchOutside, AreWalked, IsOther}
 use Rattle.sat_parts.proofs.lemmas.clause.OrderLemmas.{shuffled_eq}
 use Rattle.sat_parts.proofs.lemmas.prop.StateLemmas.{negated_twice}
 
 -- after a visit of the clause at p, any other live clause has the literals that it had
-pub same_lits : (w v live : List ℕ) (count p o : ℕ) → AreClauses w live count → Contains live p → Shuffles w v p → Contains live o → p ≢ o → lits_at v o ≡ lits_at w o
+pub same_lits : (w v live : List ℕ) (count p o : ℕ) → AreClauses w live count → Contains live p → PermutesClause w v p → Contains live o → p ≢ o → lits_at v o ≡ lits_at w o
 same_lits w v live count p o c hp e ho n = (e.others live o hp c.laid ho n).lits
 
-pub shuffled_all : (w v live : List ℕ) (count p o : ℕ) → AreClauses w live count → Contains live p → Shuffles w v p → Contains live o → Shuffled (lits_at w o) (lits_at v o)
+pub shuffled_all : (w v live : List ℕ) (count p o : ℕ) → AreClauses w live count → Contains live p → PermutesClause w v p → Contains live o → IsReordering (lits_at w o) (lits_at v o)
 shuffled_all w v live count p o c hp e ho = elim (cases_eq p o) [
-  | inl q ↦ subst (λ (x : ℕ). Shuffled (lits_at w x) (lits_at v x)) q e.lits
+  | inl q ↦ subst (λ (x : ℕ). IsReordering (lits_at w x) (lits_at v x)) q e.lits
   | inr n ↦ shuffled_eq (lits_at w o) (lits_at v o) (same_lits w v live count p o c hp e ho n)
 ]
 
-pub good_shuffled : (w v live : List ℕ) (count p : ℕ) (x : Watch) → AreClauses w live count → Contains live p → Shuffles w v p → IsGood w live x → IsGood v live x
+pub good_shuffled : (w v live : List ℕ) (count p : ℕ) (x : Watch) → AreClauses w live count → Contains live p → PermutesClause w v p → IsSoundWatch w live x → IsSoundWatch v live x
 good_shuffled w v live count p x c hp e g =
-    let s : Shuffled (lits_at w x.cref) (lits_at v x.cref) = shuffled_all w v live count p x.cref c hp e g.0 in
+    let s : IsReordering (lits_at w x.cref) (lits_at v x.cref) = shuffled_all w v live count p x.cref c hp e g.0 in
     let m : (j : ℕ) × ((j < size_of w x.cref) × (lit_of v x.cref j ≡ lit_of w x.cref g.1.0)) = s.forth g.1.0 g.1.1.0 in
     (g.0, (m.0, (subst (λ (n : ℕ). m.0 < n) (sym s.size) m.1.0, m.1.1 ∙ g.1.1.1)))
 
@@ -34,7 +34,7 @@ good_shuffled w v live count p x c hp e g =
 abbrev pub KeepsFirstTwo : List ℕ → List ℕ → ℕ → Type 0
 KeepsFirstTwo w v p = (i : ℕ) → i < 2 → (j : ℕ) × ((j < 2) × (lit_of v p i ≡ lit_of w p j))
 
-pub first_two : (w v live : List ℕ) (count p o : ℕ) → AreClauses w live count → Contains live p → Shuffles w v p → Contains live o → KeepsFirstTwo w v p → KeepsFirstTwo w v o
+pub first_two : (w v live : List ℕ) (count p o : ℕ) → AreClauses w live count → Contains live p → PermutesClause w v p → Contains live o → KeepsFirstTwo w v p → KeepsFirstTwo w v o
 first_two w v live count p o c hp e ho f = elim (cases_eq p o) [
   | inl q ↦ subst (λ (x : ℕ). KeepsFirstTwo w v x) q f
   | inr n ↦ λ i hi. (i, (hi, ap (λ (ls : List ℕ). get_or ls i 0) (same_lits w v live count p o c hp e ho n)))
@@ -69,7 +69,7 @@ kept_watch list kept at o x gap lt same h =
 
 pub walked_kept : (w v live : List ℕ) (lists : List (List Watch)) (list : List Watch) (lit kept at count p l : ℕ) →
     AreClauses w live count → AreWalked w live lists list lit kept at count → at < length list → p ≡ (get_or list at no_watch).cref →
-    Shuffles w v p → KeepsFirstTwo w v p → HasLit v p l →
+    PermutesClause w v p → KeepsFirstTwo w v p → HasLit v p l →
     AreWalked v live lists (set list kept (watch_on p l)) lit (kept + 1) (at + 1) count
 walked_kept w v live lists list lit kept at count p l c h lt at_p e two has =
     let hp : Contains live p = subst (λ (z : ℕ). Contains live z) (sym at_p) (h.mine at lt).0 in
@@ -80,8 +80,8 @@ walked_kept w v live lists list lit kept at count p l c h lt at_p e two has =
       room = h.room;
       good = λ m q b. good_shuffled w v live count p (get_or (watches_of lists m) q no_watch) c hp e (h.good m q b);
       mine = λ q b. elim (cases_eq q kept) [
-        | inl r ↦ subst (λ (z : Watch). IsGood v live z) (sym (ap (λ k. get_or (set list kept (watch_on p l)) k no_watch) r ∙ get_or-set_same list kept (watch_on p l) no_watch (omega arith))) (hp, has)
-        | inr n ↦ subst (λ (z : Watch). IsGood v live z) (sym (get_or-set_other list kept q (watch_on p l) no_watch n))
+        | inl r ↦ subst (λ (z : Watch). IsSoundWatch v live z) (sym (ap (λ k. get_or (set list kept (watch_on p l)) k no_watch) r ∙ get_or-set_same list kept (watch_on p l) no_watch (omega arith))) (hp, has)
+        | inr n ↦ subst (λ (z : Watch). IsSoundWatch v live z) (sym (get_or-set_other list kept q (watch_on p l) no_watch n))
             (good_shuffled w v live count p (get_or list q no_watch) c hp e (h.mine q (omega arith)))
       ];
       gap = omega arith;
@@ -142,17 +142,17 @@ new_watch lists m x lt =
 
 -- each watch of the list is good
 abbrev pub AllGood : List ℕ → List ℕ → List Watch → Type 0
-AllGood w live xs = (p : ℕ) → p < length xs → IsGood w live (get_or xs p no_watch)
+AllGood w live xs = (p : ℕ) → p < length xs → IsSoundWatch w live (get_or xs p no_watch)
 
-good_push : (w live : List ℕ) (xs : List Watch) (x : Watch) → AllGood w live xs → IsGood w live x → AllGood w live (xs ++ x ∷ [])
+good_push : (w live : List ℕ) (xs : List Watch) (x : Watch) → AllGood w live xs → IsSoundWatch w live x → AllGood w live (xs ++ x ∷ [])
 good_push w live xs x h g p q = elim (cases_eq p (length xs)) [
-  | inl r ↦ subst (λ (z : Watch). IsGood w live z) (sym (get_or_at xs x [] no_watch p (sym r))) g
+  | inl r ↦ subst (λ (z : Watch). IsSoundWatch w live z) (sym (get_or_at xs x [] no_watch p (sym r))) g
   | inr n ↦
       let b : p < length xs = omega (arith, length-append xs (x ∷ [])) in
-      subst (λ (z : Watch). IsGood w live z) (sym (get_or_append_left xs (x ∷ []) no_watch p b)) (h p b)
+      subst (λ (z : Watch). IsSoundWatch w live z) (sym (get_or_append_left xs (x ∷ []) no_watch p b)) (h p b)
 ]
 
-pub good_lists : (w live : List ℕ) (lists : List (List Watch)) (m : ℕ) (x : Watch) → m < length lists → IsGood w live x →
+pub good_lists : (w live : List ℕ) (lists : List (List Watch)) (m : ℕ) (x : Watch) → m < length lists → IsSoundWatch w live x →
     ((l : ℕ) → AllGood w live (watches_of lists l)) → (l : ℕ) → AllGood w live (watches_of (more_at m x lists) l)
 good_lists w live lists m x lt g h l = elim (cases_eq l m) [
   | inl r ↦ subst (λ (z : ℕ). AllGood w live (watches_of (more_at m x lists) z)) (sym r)
@@ -178,7 +178,7 @@ first_other w v p lit d long other r =
 -- the watch at place at goes, and its clause is watched by its new second literal instead
 pub walked_moved : (w v live : List ℕ) (lists : List (List Watch)) (list : List Watch) (lit kept at count p : ℕ) →
     AreClauses w live count → AreClauses v live count → AreWalked w live lists list lit kept at count → at < length list → p ≡ (get_or list at no_watch).cref →
-    Shuffles w v p → IsOther w v p (negated lit) → negated (lit_of v p 1) ≢ lit →
+    PermutesClause w v p → IsOther w v p (negated lit) → negated (lit_of v p 1) ≢ lit →
     AreWalked v live (more_at (negated (lit_of v p 1)) (watch_on p (lit_of v p 0)) lists) list lit kept (at + 1) count
 walked_moved w v live lists list lit kept at count p c c' h lt at_p e other new =
     let hp : Contains live p = subst (λ (z : ℕ). Contains live z) (sym at_p) (h.mine at lt).0 in
@@ -190,7 +190,7 @@ walked_moved w v live lists list lit kept at count p c c' h lt at_p e other new 
     let m : ℕ = negated (lit_of v p 1) in
     let in_lists : negated (lit_of v p 1) < length lists = omega arith in
     let x : Watch = watch_on p (lit_of v p 0) in
-    let good : IsGood v live (watch_on p (lit_of v p 0)) = (hp, (0, (omega arith, refl))) in
+    let good : IsSoundWatch v live (watch_on p (lit_of v p 0)) = (hp, (0, (omega arith, refl))) in
     let first_ne : negated (lit_of v p 0) ≢ lit = first_other w v p lit (c.distinct p hp) (omega arith) other in
     let lists' : List (List Watch) = more_at (negated (lit_of v p 1)) (watch_on p (lit_of v p 0)) lists in
     let W : ℕ → ℕ → Type 0 = λ o i. ((negated (lit_of v o i) ≡ lit) × HasWatchOutside list kept (at + 1) o) ⊎ ((negated (lit_of v o i) ≢ lit) × HasWatch (watches_of lists' (negated (lit_of v o i))) o) in
@@ -261,10 +261,10 @@ cut_good : (w live : List ℕ) (kept at : ℕ) (list : List Watch) → kept ≤ 
 cut_good w live kept at list gap within g p b =
     let n : length (cut kept at list) ≡ kept + (length list - at) = cut_length kept at list gap within in
     elim (cases_lt p kept) [
-      | inl lt ↦ subst (λ (z : Watch). IsGood w live z) (sym (cut_front kept at list p (omega arith) lt)) (g p (omega arith))
+      | inl lt ↦ subst (λ (z : Watch). IsSoundWatch w live z) (sym (cut_front kept at list p (omega arith) lt)) (g p (omega arith))
       | inr le ↦
           let q : kept + (p - kept) ≡ p = omega arith in
-          subst (λ (z : Watch). IsGood w live z) (sym (ap (λ k. get_or (cut kept at list) k no_watch) (sym q) ∙ cut_back kept at list (p - kept) (omega arith)))
+          subst (λ (z : Watch). IsSoundWatch w live z) (sym (ap (λ k. get_or (cut kept at list) k no_watch) (sym q) ∙ cut_back kept at list (p - kept) (omega arith)))
           (g (at + (p - kept)) (omega arith))
     ]
 

@@ -7,14 +7,14 @@ use Rattle.sat_store.specs.clause.Buffer.{lits_at}
 use Rattle.sat_parts.specs.declared.prop.graph.Reason.{Reason}
 use Rattle.sat_parts.specs.declared.prop.graph.Reason.TheVariants.{Long}
 use Rattle.sat_parts.specs.declared.prop.watch.Watch.{Watch}
-use Rattle.sat_parts.specs.clause.Orders.{Shuffles}
+use Rattle.sat_parts.specs.clause.Orders.{PermutesClause}
 use Rattle.sat_parts.specs.clause.Stored.{AreClauses, lit_of, size_of}
 use Rattle.sat_parts.specs.prop.Values.{IsTrueLit, IsFalseLit, IsOpenLit}
 use Rattle.sat_parts.specs.prop.WatchLists.{no_watch, watch_on, watches_of, more_at}
-use Rattle.sat_parts.specs.prop.State.{State, level, current_level, HasLeftQueue, Agrees, IsQueueCurrent, IsSatisfied, enqueued, Grows}
+use Rattle.sat_parts.specs.prop.State.{State, level, current_level, HasLeftQueue, StateIsConsistent, IsQueueCurrent, IsSatisfied, enqueued, TrailGrows}
 use Rattle.sat_parts.specs.prop.Reasons.{IsFalseBefore, Implies, PropagatesOn}
-use Rattle.sat_parts.specs.prop.Ready.{HasLit, HasWatch, IsGood, LongReady}
-use Rattle.sat_parts.specs.prop.Walk.{Half, IsOther, Oriented, Walks}
+use Rattle.sat_parts.specs.prop.Ready.{HasLit, HasWatch, IsSoundWatch, LongReady}
+use Rattle.sat_parts.specs.prop.Walk.{WalkInvariant, IsOther, WalkInvariantAtClause, WatchWalkEffect}
 use Rattle.sat_parts.proofs.lemmas.clause.OrderLemmas.{shuffles_refl, kept_clauses, reorders_one}
 use Rattle.sat_parts.proofs.lemmas.prop.StateLemmas.{true_from_false, false_from_true, not_both, level_low, left_true, agrees_enqueued, grows_enqueued, queue_enqueued, true_new, before_forth, removed_forth, lit_last}
 use Rattle.sat_parts.proofs.lemmas.prop.RoomLemmas.{room_for, below_from_value}
@@ -24,15 +24,15 @@ use Rattle.sat_parts.proofs.lemmas.prop.HalfLemmas.{satisfied_order, place_live,
 
 -- the parts in the middle of a walk that began with the words w0 and the state s0
 pub record Walking (live w0 : List ℕ) (s0 : State) (w : List ℕ) (s : State) (lists : List (List Watch)) (list : List Watch) (lit kept at : ℕ) : Type 0 where
-  pub half : Half w live s lists list lit kept at
+  pub half : WalkInvariant w live s lists list lit kept at
   pub moves : (implied : List (List ℕ)) → PropagatesOn live implied w0 s0 w s
   pub head : s.trail.head ≡ s0.trail.head
 
 -- the false literal of a visit
-false_lit : (w live : List ℕ) (s : State) (lists : List (List Watch)) (list : List Watch) (lit kept at : ℕ) → Half w live s lists list lit kept at → IsFalseLit s.values (negated lit)
+false_lit : (w live : List ℕ) (s : State) (lists : List (List Watch)) (list : List Watch) (lit kept at : ℕ) → WalkInvariant w live s lists list lit kept at → IsFalseLit s.values (negated lit)
 false_lit w live s lists list lit kept at h = false_from_true s.values lit (left_true s lit h.agrees h.left)
 
-pub lit_false : (w live : List ℕ) (s : State) (lists : List (List Watch)) (list : List Watch) (lit kept at : ℕ) → Half w live s lists list lit kept at → IsFalseLit s.values (negated lit)
+pub lit_false : (w live : List ℕ) (s : State) (lists : List (List Watch)) (list : List Watch) (lit kept at : ℕ) → WalkInvariant w live s lists list lit kept at → IsFalseLit s.values (negated lit)
 lit_false w live s lists list lit kept at h = false_lit w live s lists list lit kept at h
 
 -- a true first literal stays the first
@@ -43,7 +43,7 @@ first_stays w v s p fl f other t = elim other [
 ]
 
 -- a true literal of the clause settles it
-satisfied_by : (s : State) (ls : List ℕ) (lit k : ℕ) → Agrees s → level s lit ≡ current_level s → k < length ls → IsTrueLit s.values (get_or ls k 0) → IsSatisfied s ls (level s lit)
+satisfied_by : (s : State) (ls : List ℕ) (lit k : ℕ) → StateIsConsistent s → level s lit ≡ current_level s → k < length ls → IsTrueLit s.values (get_or ls k 0) → IsSatisfied s ls (level s lit)
 satisfied_by s ls lit k a top lt t = record { place = k; within = lt; holds = t; low = omega (arith, level_low s (get_or ls k 0) a t) }
 
 -- the blocking literal is true
@@ -52,7 +52,7 @@ pub step_blocked : (live w0 : List ℕ) (s0 : State) (w : List ℕ) (s : State) 
     IsTrueLit s.values b →
     Walking live w0 s0 w s lists (set list kept (watch_on p b)) lit (kept + 1) (at + 1)
 step_blocked live w0 s0 w s lists list lit kept at p b h lt at_p at_b t =
-    let half : Half w live s lists list lit kept at = h.half in
+    let half : WalkInvariant w live s lists list lit kept at = h.half in
     let hp : Contains live p = place_live w live s lists list lit kept at p half lt at_p in
     let g : HasLit w p b = subst (λ (z : ℕ). HasLit w z b) (sym at_p) (subst (λ (z : ℕ). HasLit w (get_or list at no_watch).cref z) (sym at_b) (half.walked.mine at lt).1) in
     record {
@@ -75,17 +75,17 @@ step_stale live w0 s0 w s lists list lit kept at p h lt at_p n0 n1 = record {
 -- words change by a visit
 visit_moves : (live w0 : List ℕ) (s0 : State) (w v : List ℕ) (s : State) (lists : List (List Watch)) (list : List Watch) (lit kept at p : ℕ) →
     Walking live w0 s0 w s lists list lit kept at → at < length list → p ≡ (get_or list at no_watch).cref →
-    Shuffles w v p → IsOther w v p (negated lit) →
+    PermutesClause w v p → IsOther w v p (negated lit) →
     (implied : List (List ℕ)) → PropagatesOn live implied w0 s0 v s
 visit_moves live w0 s0 w v s lists list lit kept at p h lt at_p e other implied =
-    let half : Half w live s lists list lit kept at = h.half in
+    let half : WalkInvariant w live s lists list lit kept at = h.half in
     moves_trans live implied w0 s0 w s v s (h.moves implied)
     (moves_shuffled live implied w s v p (length s.values) half.agrees half.clauses (place_live w live s lists list lit kept at p half lt at_p) e
     (first_stays w v s p (negated lit) (lit_false w live s lists list lit kept at half) other))
 
 pub step_moved : (live w0 : List ℕ) (s0 : State) (w v : List ℕ) (s : State) (lists : List (List Watch)) (list : List Watch) (lit kept at p : ℕ) →
     Walking live w0 s0 w s lists list lit kept at → at < length list → p ≡ (get_or list at no_watch).cref →
-    Shuffles w v p → IsOther w v p (negated lit) → (IsFalseLit s.values (lit_of v p 1) → ⊥) →
+    PermutesClause w v p → IsOther w v p (negated lit) → (IsFalseLit s.values (lit_of v p 1) → ⊥) →
     Walking live w0 s0 v s (more_at (negated (lit_of v p 1)) (watch_on p (lit_of v p 0)) lists) list lit kept (at + 1)
 step_moved live w0 s0 w v s lists list lit kept at p h lt at_p e other opened = record {
   half = half_moved w v live s lists list lit kept at p h.half lt at_p e other opened;
@@ -94,7 +94,7 @@ step_moved live w0 s0 w v s lists list lit kept at p h lt at_p e other opened = 
 }
 
 first_there : (w v live : List ℕ) (s : State) (lists : List (List Watch)) (list : List Watch) (lit kept at p : ℕ) →
-    Half w live s lists list lit kept at → Contains live p → Shuffles w v p → 0 < size_of v p
+    WalkInvariant w live s lists list lit kept at → Contains live p → PermutesClause w v p → 0 < size_of v p
 first_there w v live s lists list lit kept at p h hp e =
     let long : 3 ≤ size_of w p = h.clauses.long p hp in
     let size : size_of v p ≡ size_of w p = e.lits.size in
@@ -102,10 +102,10 @@ first_there w v live s lists list lit kept at p h hp e =
 
 pub step_kept : (live w0 : List ℕ) (s0 : State) (w v : List ℕ) (s : State) (lists : List (List Watch)) (list : List Watch) (lit kept at p n : ℕ) →
     Walking live w0 s0 w s lists list lit kept at → at < length list → p ≡ (get_or list at no_watch).cref →
-    Shuffles w v p → Oriented w v p (negated lit) → n ≡ lit_of v p 0 → IsTrueLit s.values (lit_of v p 0) →
+    PermutesClause w v p → WalkInvariantAtClause w v p (negated lit) → n ≡ lit_of v p 0 → IsTrueLit s.values (lit_of v p 0) →
     Walking live w0 s0 v s lists (set list kept (watch_on p n)) lit (kept + 1) (at + 1)
 step_kept live w0 s0 w v s lists list lit kept at p n h lt at_p e o n_is t =
-    let half : Half w live s lists list lit kept at = h.half in
+    let half : WalkInvariant w live s lists list lit kept at = h.half in
     let hp : Contains live p = place_live w live s lists list lit kept at p half lt at_p in
     let b : 0 < size_of v p = first_there w v live s lists list lit kept at p half hp e in
     record {
@@ -117,13 +117,13 @@ step_kept live w0 s0 w v s lists list lit kept at p n h lt at_p e o n_is t =
 
 -- a literal of the clause is in range
 pub lit_below : (w v live : List ℕ) (s : State) (lists : List (List Watch)) (list : List Watch) (lit kept at p k : ℕ) →
-    Half w live s lists list lit kept at → Contains live p → Shuffles w v p → k < size_of v p → variable (lit_of v p k) < length s.values
+    WalkInvariant w live s lists list lit kept at → Contains live p → PermutesClause w v p → k < size_of v p → variable (lit_of v p k) < length s.values
 lit_below w v live s lists list lit kept at p k h hp e b =
     let c : AreClauses v live (length s.values) = kept_clauses w v live (length s.values) h.clauses (reorders_one w v live p hp e) in
     omega (arith, c.below p k hp b)
 
 -- a false literal was false before the next place of the trail
-false_so_far : (s : State) (l n : ℕ) (r : Reason) → Agrees s → Grows s (enqueued n r s) → IsFalseLit s.values l → IsFalseBefore (enqueued n r s) (length s.trail.lits) l
+false_so_far : (s : State) (l n : ℕ) (r : Reason) → StateIsConsistent s → TrailGrows s (enqueued n r s) → IsFalseLit s.values l → IsFalseBefore (enqueued n r s) (length s.trail.lits) l
 false_so_far s l n r a g f = elim (a.known (negated l) (true_from_false s.values l f)) [
   | inl x ↦ inl (before_forth s (enqueued n r s) (length s.trail.lits) (negated l) g x)
   | inr x ↦ inr (removed_forth s (enqueued n r s) (negated l) g x)
@@ -131,20 +131,20 @@ false_so_far s l n r a g f = elim (a.known (negated l) (true_from_false s.values
 
 pub step_propagates : (live w0 : List ℕ) (s0 : State) (w v : List ℕ) (s : State) (lists : List (List Watch)) (list : List Watch) (lit kept at p n : ℕ) →
     Walking live w0 s0 w s lists list lit kept at → at < length list → p ≡ (get_or list at no_watch).cref →
-    Shuffles w v p → Oriented w v p (negated lit) → n ≡ lit_of v p 0 →
+    PermutesClause w v p → WalkInvariantAtClause w v p (negated lit) → n ≡ lit_of v p 0 →
     ((k : ℕ) → 1 ≤ k → k < size_of v p → IsFalseLit s.values (lit_of v p k)) → IsOpenLit s.values n →
     Walking live w0 s0 v (enqueued n (Long p) s) lists (set list kept (watch_on p n)) lit (kept + 1) (at + 1)
 step_propagates live w0 s0 w v s lists list lit kept at p n h lt at_p e o n_is others open_n =
-    let half : Half w live s lists list lit kept at = h.half in
+    let half : WalkInvariant w live s lists list lit kept at = h.half in
     let hp : Contains live p = place_live w live s lists list lit kept at p half lt at_p in
     let b : 0 < size_of v p = first_there w v live s lists list lit kept at p half hp e in
     let small : variable n < length s.values = subst (λ (z : ℕ). variable z < length s.values) (sym n_is) (lit_below w v live s lists list lit kept at p 0 half hp e b) in
     let room : length s.trail.lits < s.trail.room = room_for s n (Long p) half.agrees open_n small in
     let t : State = enqueued n (Long p) s in
-    let g : Grows s (enqueued n (Long p) s) = grows_enqueued s n (Long p) half.agrees open_n small room in
-    let a : Agrees (enqueued n (Long p) s) = agrees_enqueued s n (Long p) half.agrees open_n small room in
+    let g : TrailGrows s (enqueued n (Long p) s) = grows_enqueued s n (Long p) half.agrees open_n small room in
+    let a : StateIsConsistent (enqueued n (Long p) s) = agrees_enqueued s n (Long p) half.agrees open_n small room in
     let q : IsQueueCurrent (enqueued n (Long p) s) = queue_enqueued s n (Long p) half.agrees half.queue open_n small in
-    let grown : Half w live (enqueued n (Long p) s) lists list lit kept at = half_grows w live s t lists list lit kept at half g refl a q in
+    let grown : WalkInvariant w live (enqueued n (Long p) s) lists list lit kept at = half_grows w live s t lists list lit kept at half g refl a q in
     let holds : IsTrueLit t.values (lit_of v p 0) = subst (λ (z : ℕ). IsTrueLit t.values z) n_is (true_new s n (Long p) small) in
     let cause : (implied : List (List ℕ)) → Implies v live implied t (length s.trail.lits) (Long p) =
     λ implied. (hp, sym n_is ∙ sym (lit_last s n (Long p)), λ k x y. false_so_far s (lit_of v p k) n (Long p) half.agrees g (others k x y)) in
@@ -159,11 +159,11 @@ step_propagates live w0 s0 w v s lists list lit kept at p n h lt at_p e o n_is o
 -- the clause is falsified: the walk ends, and what isn't settled is of the current level
 pub walk_falsified : (live w0 : List ℕ) (s0 : State) (w v : List ℕ) (s : State) (lists : List (List Watch)) (list : List Watch) (lit kept at p n : ℕ) →
     Walking live w0 s0 w s lists list lit kept at → at < length list → p ≡ (get_or list at no_watch).cref →
-    Shuffles w v p → Oriented w v p (negated lit) → n ≡ lit_of v p 0 →
+    PermutesClause w v p → WalkInvariantAtClause w v p (negated lit) → n ≡ lit_of v p 0 →
     ((k : ℕ) → k < size_of v p → IsFalseLit s.values (lit_of v p k)) → lit < 2 * length s.values →
-    Walks live w0 s0 v s (set lists lit (cut (kept + 1) (at + 1) (set list kept (watch_on p n)))) (Some p)
+    WatchWalkEffect live w0 s0 v s (set lists lit (cut (kept + 1) (at + 1) (set list kept (watch_on p n)))) (Some p)
 walk_falsified live w0 s0 w v s lists list lit kept at p n h lt at_p e o n_is all small =
-    let half : Half w live s lists list lit kept at = h.half in
+    let half : WalkInvariant w live s lists list lit kept at = h.half in
     let hp : Contains live p = place_live w live s lists list lit kept at p half lt at_p in
     let b : 0 < size_of v p = first_there w v live s lists list lit kept at p half hp e in
     let two = oriented_two w v p (negated lit) o.other o.second in
@@ -193,9 +193,9 @@ walk_falsified live w0 s0 w v s lists list lit kept at p n h lt at_p e o n_is al
 -- nothing is left to look at
 pub walk_done : (live w0 : List ℕ) (s0 : State) (w : List ℕ) (s : State) (lists : List (List Watch)) (list : List Watch) (lit kept at : ℕ) →
     Walking live w0 s0 w s lists list lit kept at → at ≡ length list → lit < 2 * length s.values →
-    Walks live w0 s0 w s (set lists lit (cut kept at list)) None
+    WatchWalkEffect live w0 s0 w s (set lists lit (cut kept at list)) None
 walk_done live w0 s0 w s lists list lit kept at h end small =
-    let half : Half w live s lists list lit kept at = h.half in
+    let half : WalkInvariant w live s lists list lit kept at = h.half in
     record {
       moves = h.moves;
       head = h.head;
@@ -237,25 +237,25 @@ walk_open live w s lists lit h left top small = record {
 
 -- the blocking literal of a watch is in range
 pub blocking_below : (w live : List ℕ) (s : State) (lists : List (List Watch)) (list : List Watch) (lit kept at b : ℕ) →
-    Half w live s lists list lit kept at → at < length list → b ≡ (get_or list at no_watch).blocking → variable b < length s.values
+    WalkInvariant w live s lists list lit kept at → at < length list → b ≡ (get_or list at no_watch).blocking → variable b < length s.values
 blocking_below w live s lists list lit kept at b h lt at_b =
-    let g : IsGood w live (get_or list at no_watch) = h.walked.mine at lt in
+    let g : IsSoundWatch w live (get_or list at no_watch) = h.walked.mine at lt in
     let x : lit_of w (get_or list at no_watch).cref g.1.0 < 2 * length s.values = h.clauses.below (get_or list at no_watch).cref g.1.0 g.0 g.1.1.0 in
     omega (arith, g.1.1.1)
 
 -- a literal that has left the queue is in range
-pub left_below : (s : State) (l : ℕ) → Agrees s → HasLeftQueue s l → l < 2 * length s.values
+pub left_below : (s : State) (l : ℕ) → StateIsConsistent s → HasLeftQueue s l → l < 2 * length s.values
 left_below s l a f =
     let v : variable l < length s.values = below_from_value s.values (variable l) (is_positive l) (left_true s l a f) in
     omega arith
 
 pub walk_small : (w live : List ℕ) (s : State) (lists : List (List Watch)) (list : List Watch) (lit kept at : ℕ) →
-    Half w live s lists list lit kept at → lit < 2 * length s.values
+    WalkInvariant w live s lists list lit kept at → lit < 2 * length s.values
 walk_small w live s lists list lit kept at h = left_below s lit h.agrees h.left
 
 -- the first literal of a visited clause is in range
 pub visited_below : (w v live : List ℕ) (s : State) (lists : List (List Watch)) (list : List Watch) (lit kept at p n : ℕ) →
-    Half w live s lists list lit kept at → at < length list → p ≡ (get_or list at no_watch).cref → Shuffles w v p → n ≡ lit_of v p 0 →
+    WalkInvariant w live s lists list lit kept at → at < length list → p ≡ (get_or list at no_watch).cref → PermutesClause w v p → n ≡ lit_of v p 0 →
     variable n < length s.values
 visited_below w v live s lists list lit kept at p n h lt at_p e n_is =
     let hp : Contains live p = place_live w live s lists list lit kept at p h lt at_p in

@@ -5,11 +5,11 @@ use Rattle.sat_parts.specs.clause.Db.{live_refs}
 use Rattle.sat_solver.specs.session.Session.{MayDerive, session_after}
 use Rattle.sat_solver.specs.proof.ProofView.{steps_of, session_of}
 use Rattle.sat_parts.specs.parts.Whole.{state}
-use Rattle.sat_solver.specs.session.Naming.{global_of}
+use Rattle.sat_solver.specs.session.Naming.{global_of_index}
 use Rattle.sat_solver.specs.session.FitLaws.{named_hashes}
 use Rattle.sat_solver.proofs.lemmas.fits.UnitLemmas.{empty_may}
 use Rattle.sat_solver.proofs.lemmas.fits.StepLemmas.{orderly_from, conflict_clause}
-use Rattle.sat_solver.specs.cdcl.Going.{fault_of}
+use Rattle.sat_solver.specs.cdcl.Going.{proof_fault}
 use Rattle.sat_solver.proofs.lemmas.cdcl.GoingLemmas.{goes_starved, goes_step, goes_broken, goes_behind, goes_then_fails}
 use Rattle.sat_solver.proofs.lemmas.cdcl.RoundLemmas.{refutes_later}
 use Rattle.sat_solver.specs.cdcl.Rounds.{LastRefutes}
@@ -34,7 +34,7 @@ step-requires-clause-may g c =
     let same : c.deref.result.now ≡ named_hashes c.args.parts.now.clauses (state c.args.parts.now) [] c.args.conflict.now =
     c.deref.ensures.value ∙ c.in_ok-name_clauses.ensures in
     subst (λ hs. MayDerive (session_of c.write_units.new.proof) [] hs) (sym same)
-    (empty_may p.clauses (live_refs p.clauses p.db.refs) p.binary.implied (state p) (session_of c.write_units.new.proof) (global_of c.args.globals.now) c.args.conflict.now c.in_ok-write_units.ensures.ends c.requires.refuted.0.asks.agrees c.requires.bottom c.requires.refuted.1)
+    (empty_may p.clauses (live_refs p.clauses p.db.refs) p.binary.implied (state p) (session_of c.write_units.new.proof) (global_of_index c.args.globals.now) c.args.conflict.now c.in_ok-write_units.ensures.ends c.requires.refuted.0.asks.agrees c.requires.bottom c.requires.refuted.1)
 
 pub returns : goal.returns
 returns g c =
@@ -48,5 +48,5 @@ pub returns-in_err-step : goal.returns-in_err-step
 returns-in_err-step g c =
     let p = err_from_is_err_and c.from_residual-in_err-step.result c.from_residual-in_err-step.ensures.1 in
     rw (p.1, p.2)
-    (goes_then_fails g.W.CountedWrite.seen c.in_ok-write_units.field-0 (fault_of c.in_err-step.field-0.0) c.args.proof.now c.write_units.new.proof c.step.new.self _ (λ (_ : Unit {0}) _. Unit {0}) _ c.in_ok-write_units.ensures
+    (goes_then_fails g.W.CountedWrite.seen c.in_ok-write_units.field-0 (proof_fault c.in_err-step.field-0.0) c.args.proof.now c.write_units.new.proof c.step.new.self _ (λ (_ : Unit {0}) _. Unit {0}) _ c.in_ok-write_units.ensures
     (goes_broken g.W.CountedWrite.seen c.in_err-step.field-0.0 c.write_units.new.proof c.step.new.self (AtClause false [] c.deref.result.now) _ tt c.in_err-step.ensures.keeps c.in_err-step.ensures.records))

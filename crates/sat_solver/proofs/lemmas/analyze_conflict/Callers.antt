@@ -14,17 +14,17 @@ use Rattle.sat_parts.specs.prop.Binaries.{implied_by}
 use Rattle.sat_parts.specs.prop.Values.{IsTrueLit, IsFalseLit}
 use Rattle.sat_parts.specs.prop.Causes.{causes, falsified}
 use Rattle.sat_parts.specs.prop.Graphs.{node_of}
-use Rattle.sat_parts.specs.prop.State.{State, node, level, current_level, lit_at, HasLeftQueue, Agrees, IsQueueCurrent, IsSatisfied}
+use Rattle.sat_parts.specs.prop.State.{State, node, level, current_level, lit_at, HasLeftQueue, StateIsConsistent, IsQueueCurrent, IsSatisfied}
 use Rattle.sat_parts.specs.prop.Reasons.{IsFalseBefore, Implies, AreInTurn}
 use Rattle.sat_parts.specs.prop.TrailWord.{IsLevelled}
-use Rattle.sat_parts.specs.prop.Ready.{IsConflict, IsFalsified}
+use Rattle.sat_parts.specs.prop.Ready.{IsConflict, AreAllFalse}
 use Rattle.sat_parts.specs.prop.Asks.{PropagationInvariant}
 use Rattle.sat_parts.proofs.lemmas.clause.ListLemmas.{at_place}
 use Rattle.sat_parts.proofs.lemmas.prop.StateLemmas.{negated_variable, true_from_false, not_both, level_low}
 use Rattle.sat_solver.specs.analyze_conflict.Marks.{CanAnalyze, HasTop}
 
 -- a true literal below the current level has left the queue
-pub low_left : (s : State) (l : ℕ) → Agrees s → IsQueueCurrent s → IsTrueLit s.values l → level s l < current_level s → HasLeftQueue s l
+pub low_left : (s : State) (l : ℕ) → StateIsConsistent s → IsQueueCurrent s → IsTrueLit s.values l → level s l < current_level s → HasLeftQueue s l
 low_left s l a q t low = elim (a.known l t) [
   | inl b ↦ elim (cases_lt b.place s.trail.head) [
     | inl lt ↦ inl (record { place = b.place; before = lt; within = b.within; there = b.there })
@@ -33,7 +33,7 @@ low_left s l a q t low = elim (a.known l t) [
   | inr x ↦ inr x
 ]
 
-false_level : (s : State) (r : ℕ) → Agrees s → IsFalseLit s.values r → level s r ≢ current_level s → level s (negated r) < current_level s
+false_level : (s : State) (r : ℕ) → StateIsConsistent s → IsFalseLit s.values r → level s r ≢ current_level s → level s (negated r) < current_level s
 false_level s r a f n =
     let e : level s (negated r) ≡ level s r = ap (λ v. (node_of s.nodes v).level) (negated_variable r) in
     omega (arith, level_low s (negated r) a (true_from_false s.values r f))
@@ -79,7 +79,7 @@ stands_by words live implied s p o (Long q) count c h e =
     subst (λ z. IsClause words z × (0 < length (lits_at words z))) same (c.laid.clauses q h.0, omega (arith, c.long q h.0))
 
 -- what analysis asks holds where the parts agree, reasons are unit in turn above level 0, and levels begin with decisions
-pub can_analyze : (words live : List ℕ) (implied : List (List ℕ)) (s : State) (count : ℕ) → Agrees s → IsLevelled s → 0 < current_level s → AreClauses words live count →
+pub can_analyze : (words live : List ℕ) (implied : List (List ℕ)) (s : State) (count : ℕ) → StateIsConsistent s → IsLevelled s → 0 < current_level s → AreClauses words live count →
     AreInTurn words live implied s (get_or s.trail.starts 0 0) → CanAnalyze words s
 can_analyze words live implied s count a levelled above clauses t = record {
   agrees = a;
@@ -89,7 +89,7 @@ can_analyze words live implied s count a levelled above clauses t = record {
   stands = λ p o first lt e. stands_by words live implied s p o (node s (lit_at s p)).reason count clauses (t p first lt) e;
 }
 
-pub conflict_fails : (words live : List ℕ) (implied : List (List ℕ)) (values : List (Option Bool)) (e : Conflict) → IsConflict words live implied values e → IsFalsified values (falsified words e)
+pub conflict_fails : (words live : List ℕ) (implied : List (List ℕ)) (values : List (Option Bool)) (e : Conflict) → IsConflict words live implied values e → AreAllFalse values (falsified words e)
 conflict_fails words live implied values (conflicts.Binary ls) c zero lt = c.1
 conflict_fails words live implied values (conflicts.Binary ls) c (suc zero) lt = c.2
 conflict_fails words live implied values (conflicts.Binary ls) c (suc (suc k)) lt = absurd (omega arith)

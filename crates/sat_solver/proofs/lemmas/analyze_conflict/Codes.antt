@@ -9,10 +9,10 @@ use Rattle.sat_store.specs.clause.Buffer.{IsClause, lits_at, swapped}
 use Rattle.sat_parts.specs.declared.prop.graph.ImplNode.{ImplNode}
 use Rattle.sat_parts.specs.declared.prop.graph.Reason.{Reason}
 use Rattle.sat_parts.specs.declared.prop.graph.Reason.TheVariants.{Long}
-use Rattle.sat_parts.specs.clause.Orders.{Shuffled}
+use Rattle.sat_parts.specs.clause.Orders.{IsReordering}
 use Rattle.sat_parts.specs.prop.Values.{IsTrueLit}
 use Rattle.sat_parts.specs.prop.Graphs.{node_of}
-use Rattle.sat_parts.specs.prop.State.{State, node, level, lit_at, Agrees}
+use Rattle.sat_parts.specs.prop.State.{State, node, level, lit_at, StateIsConsistent}
 use Rattle.sat_parts.specs.prop.Reasons.{IsFalseBefore}
 use Rattle.sat_parts.proofs.lemmas.prop.RoomLemmas.{below_from_value}
 use Rattle.sat_parts.proofs.lemmas.clause.OrderLemmas.{other, swapped_at, shuffled_swapped, shuffled_refl, shuffled_trans}
@@ -55,10 +55,10 @@ pub reasoned_nodes : (words : List ℕ) (s : State) (l k : ℕ) (ls : List ℕ) 
 reasoned_nodes words s l k ls can x e lt =
     before_nodes words s x.place k ls can (above_first s x.place l can.agrees x.within x.there x.above can.above) x.within (e ∙ ap (λ z. causes_at words s z) (sym x.there)) lt
 
-pub reasoned_variable : (s : State) (l : ℕ) → Agrees s → IsReasoned s 0 l → variable l < length s.values
+pub reasoned_variable : (s : State) (l : ℕ) → StateIsConsistent s → IsReasoned s 0 l → variable l < length s.values
 reasoned_variable s l a x = true_variable s x.place l a x.within x.there
   where
-    true_variable : (s : State) (p l : ℕ) → Agrees s → p < length s.trail.lits → lit_at s p ≡ l → variable l < length s.values
+    true_variable : (s : State) (p l : ℕ) → StateIsConsistent s → p < length s.trail.lits → lit_at s p ≡ l → variable l < length s.values
     true_variable s p l a within there = below_from_value s.values (variable l) (is_positive l) (subst (λ z. IsTrueLit s.values z) there (a.holds p within))
 
 -- literals of higher levels change places with the second one, one after the other
@@ -66,7 +66,7 @@ abbrev level_in : List ImplNode → ℕ → ℕ
 level_in nodes l = (node_of nodes (variable l)).level
 
 pub record Chained (nodes : List ImplNode) (old ls : List ℕ) (at level : ℕ) : Type 0 where
-  pub lits : Shuffled old ls
+  pub lits : IsReordering old ls
   pub first : get_or ls 0 0 ≡ get_or old 0 0
   pub level_is : level ≡ level_in nodes (get_or ls 1 0)
   pub highest : (k : ℕ) → 0 < k → k < at → level_in nodes (get_or ls k 0) ≤ level
@@ -107,7 +107,7 @@ chained_swaps nodes old ls at level h two within more =
     let is : swapped ls 1 at ≡ swap ls 1 at = swap_is ls 1 at 0 (omega arith) within in
     let at_k : (k : ℕ) → get_or (swap ls 1 at) k 0 ≡ get_or ls (other 1 at k) 0 = λ k. ap (λ (xs : List ℕ). get_or xs k 0) (sym is) ∙ swapped_at ls 1 at k (omega arith) within in
     record {
-      lits = shuffled_trans old ls (swap ls 1 at) h.lits (subst (λ (xs : List ℕ). Shuffled ls xs) is (shuffled_swapped ls 1 at (omega arith) within));
+      lits = shuffled_trans old ls (swap ls 1 at) h.lits (subst (λ (xs : List ℕ). IsReordering ls xs) is (shuffled_swapped ls 1 at (omega arith) within));
       first = at_k 0 ∙ ap (λ z. get_or ls z 0) (other_kept 1 at 0 (λ e. omega (arith, e)) (λ e. omega (arith, e))) ∙ h.first;
       level_is = ap (λ z. level_in nodes z) (sym (at_k 1 ∙ ap (λ z. get_or ls z 0) (other_one 1 at 1 refl (λ e. omega (arith, e)))));
       highest = λ k pos lt. elim (cases_eq k at) [
@@ -120,12 +120,12 @@ chained_swaps nodes old ls at level h two within more =
     }
 
 -- what was shuffled has the same variables
-pub shuffled_nodes : (nodes : List ImplNode) (ls ms : List ℕ) → Shuffled ls ms → ((k : ℕ) → k < length ls → variable (get_or ls k 0) < length nodes) → (k : ℕ) → k < length ms → variable (get_or ms k 0) < length nodes
+pub shuffled_nodes : (nodes : List ImplNode) (ls ms : List ℕ) → IsReordering ls ms → ((k : ℕ) → k < length ls → variable (get_or ls k 0) < length nodes) → (k : ℕ) → k < length ms → variable (get_or ms k 0) < length nodes
 shuffled_nodes nodes ls ms h inside k lt =
     let o : (j : ℕ) × ((j < length ls) × (get_or ls j 0 ≡ get_or ms k 0)) = h.back k (omega (arith, h.size)) in
     omega (arith, inside o.0 o.1.0, ap (λ z. variable z) o.1.1)
 
-pub place_variable : (s : State) (top : ℕ) (w : Work) (at p : ℕ) → Agrees s → MarksWork s top w at → p < at → variable (lit_at s p) < length w.flags
+pub place_variable : (s : State) (top : ℕ) (w : Work) (at p : ℕ) → StateIsConsistent s → MarksWork s top w at → p < at → variable (lit_at s p) < length w.flags
 place_variable s top w at p a m lt =
     let within : p < length s.trail.lits = omega (arith, m.within) in
     omega (arith, m.size, below_from_value s.values (variable (lit_at s p)) (is_positive (lit_at s p)) (a.holds p within))

@@ -9,14 +9,14 @@ use Rattle.sat_parts.specs.declared.prop.graph.Conflict.{Conflict}
 use Rattle.sat_parts.specs.clause.Glue.{AreClear}
 use Rattle.sat_parts.specs.clause.Orders.{AreDistinct}
 use Rattle.sat_parts.specs.prop.Causes.{falsified}
-use Rattle.sat_parts.specs.prop.State.{State, node, level, current_level, lit_at, IsBefore, Agrees}
+use Rattle.sat_parts.specs.prop.State.{State, node, level, current_level, lit_at, IsBefore, StateIsConsistent}
 use Rattle.sat_parts.specs.prop.Reasons.{IsFalseBefore}
 use Rattle.sat_parts.proofs.lemmas.clause.ListLemmas.{at_place, place_in}
 use Rattle.sat_parts.proofs.lemmas.prop.StateLemmas.{negated_variable}
 use Rattle.sat_parts.proofs.lemmas.prop.RoomLemmas.{places_apart}
-use Rattle.sat_solver.specs.analyze_conflict.Work.{Work, with_met_literal, with_literals, long_of, long_falsified, taken_up, begun}
+use Rattle.sat_solver.specs.analyze_conflict.Work.{Work, with_met_literal, with_met_literals, long_of, long_falsified, taken_up, begun}
 use Rattle.sat_solver.specs.analyze_conflict.Marks.{causes_at}
-use Rattle.sat_solver.specs.analyze_conflict.Involved.{HasAbove, IsMetVariable, met_first, met_cause, longs_of, AreListed, AreMet, HasOther, AreNeeded, Collecting, Collected}
+use Rattle.sat_solver.specs.analyze_conflict.Involved.{HasAbove, IsMetVariable, met_first, met_cause, longs_of, AreListed, AreMet, HasOther, AreNeeded, CollectionInvariant, CollectionResult}
 use Rattle.sat_solver.proofs.lemmas.analyze_conflict.Meeting.{OpenPlace, Meets, at_bottom, is_flagged, is_high, is_lower, counted, listed, meets, stands_before, variable_below, flag_kept, flag_cases}
 use Rattle.sat_solver.proofs.lemmas.analyze_conflict.Minimizing.{distinct_push}
 use Rattle.sat_solver.proofs.lemmas.analyze_conflict.Resolution.{IsLastFlagged, at_current}
@@ -38,7 +38,7 @@ push_cases xs x y c = elim (Contains-append_cases xs (x ∷ []) y c) [
 ]
 
 -- a literal that isn't flagged, of one that stands before the place, isn't listed
-not_listed : (s : State) (met : List ℕ) (flags : List Bool) (at r : ℕ) → Agrees s → IsFalseBefore s at r → 0 < level s r → AreListed s met flags at → get_or flags (variable r) false ≡ false → Contains met (variable r) → ⊥
+not_listed : (s : State) (met : List ℕ) (flags : List Bool) (at r : ℕ) → StateIsConsistent s → IsFalseBefore s at r → 0 < level s r → AreListed s met flags at → get_or flags (variable r) false ≡ false → Contains met (variable r) → ⊥
 not_listed s met flags at r a h above l f c = elim (l.passed (variable r) c) [
   | inl t ↦ both_ways (get_or flags (variable r) false) f t
   | inr x ↦
@@ -47,7 +47,7 @@ not_listed s met flags at r a h above l f c = elim (l.passed (variable r) c) [
 ]
 
 -- one that is flagged now is listed
-lists_new : (s : State) (met : List ℕ) (flags : List Bool) (at r : ℕ) → Agrees s → IsFalseBefore s at r → 0 < level s r → length flags ≡ length s.values → AreListed s met flags at → get_or flags (variable r) false ≡ false →
+lists_new : (s : State) (met : List ℕ) (flags : List Bool) (at r : ℕ) → StateIsConsistent s → IsFalseBefore s at r → 0 < level s r → length flags ≡ length s.values → AreListed s met flags at → get_or flags (variable r) false ≡ false →
     AreListed s (met ++ variable r ∷ []) (set flags (variable r) true) at
 lists_new s met flags at r a h above size l f =
     let v : ℕ = variable r in
@@ -85,7 +85,7 @@ lists_same s at r w l f = record {
   only = λ v c. inl c;
 }
 
-lists_pushed : (s : State) (at r : ℕ) (w w' : Work) → Agrees s → IsFalseBefore s at r → 0 < level s r → length w.flags ≡ length s.values → AreListed s w.met w.flags at → get_or w.flags (variable r) false ≡ false →
+lists_pushed : (s : State) (at r : ℕ) (w w' : Work) → StateIsConsistent s → IsFalseBefore s at r → 0 < level s r → length w.flags ≡ length s.values → AreListed s w.met w.flags at → get_or w.flags (variable r) false ≡ false →
     w'.met ≡ w.met ++ variable r ∷ [] → w'.flags ≡ set w.flags (variable r) true → Lists s at (r ∷ []) w w'
 lists_pushed s at r w w' a h above size l f met flags =
     let new : AreListed s (w.met ++ variable r ∷ []) (set w.flags (variable r) true) at = lists_new s w.met w.flags at r a h above size l f in
@@ -100,7 +100,7 @@ lists_pushed s at r w w' a h above size l f met flags =
       ];
     }
 
-lists_one : (s : State) (top at r : ℕ) (w w' : Work) → Agrees s → IsFalseBefore s at r → length w.flags ≡ length s.values → AreListed s w.met w.flags at → Meets s top r w w' → Lists s at (r ∷ []) w w'
+lists_one : (s : State) (top at r : ℕ) (w w' : Work) → StateIsConsistent s → IsFalseBefore s at r → length w.flags ≡ length s.values → AreListed s w.met w.flags at → Meets s top r w w' → Lists s at (r ∷ []) w w'
 lists_one s top at r w w' a h size l (at_bottom z e) = subst (λ x. Lists s at (r ∷ []) w x) (sym e) (lists_same s at r w l (λ lt. absurd (omega arith)))
 lists_one s top at r w w' a h size l (is_flagged f e) = subst (λ x. Lists s at (r ∷ []) w x) (sym e) (lists_same s at r w l (λ lt. f))
 lists_one s top at r w w' a h size l (is_high above f t e) = subst (λ x. Lists s at (r ∷ []) w x) (sym e) (lists_pushed s at r w (counted r w) a h above size l f refl refl)
@@ -116,12 +116,12 @@ above_head s r v rs h = let o = one_above s r v h in (0, (omega arith, o.0, o.1)
 above_tail : (s : State) (r v : ℕ) (rs : List ℕ) → HasAbove s rs v → HasAbove s (r ∷ rs) v
 above_tail s r v rs h = (suc h.0, (omega (arith, h.1.0), h.1.1, h.1.2))
 
-pub lists_all : (s : State) (top at : ℕ) (rs : List ℕ) (w : Work) → Agrees s → ((k : ℕ) → k < length rs → IsFalseBefore s at (get_or rs k 0)) → length w.flags ≡ length s.values → AreListed s w.met w.flags at →
-    Lists s at rs w (with_literals s.nodes top rs w)
+pub lists_all : (s : State) (top at : ℕ) (rs : List ℕ) (w : Work) → StateIsConsistent s → ((k : ℕ) → k < length rs → IsFalseBefore s at (get_or rs k 0)) → length w.flags ≡ length s.values → AreListed s w.met w.flags at →
+    Lists s at rs w (with_met_literals s.nodes top rs w)
 lists_all s top at [] w a h size l = record { listed = l; size = refl; stays = λ v c. c; has = λ v x. absurd (omega (arith, x.1.0)); only = λ v c. inl c }
 lists_all s top at (r ∷ rs) w a h size l =
     let w1 : Work = with_met_literal s.nodes top r w in
-    let w2 : Work = with_literals s.nodes top rs w1 in
+    let w2 : Work = with_met_literals s.nodes top rs w1 in
     let x : Lists s at (r ∷ []) w w1 = lists_one s top at r w w1 a (h 0 (omega arith)) size l (meets s top r w) in
     let y : Lists s at rs w1 w2 = lists_all s top at rs w1 a (λ k lt. h (suc k) (omega arith)) (x.size ∙ size) x.listed in
     record {
@@ -177,20 +177,20 @@ same_one s top r w w' (is_flagged f e) = record { used = ap (λ (x : Work). x.us
 same_one s top r w w' (is_high above f t e) = record { used = ap (λ (x : Work). x.used) e; involved = ap (λ (x : Work). x.involved) e }
 same_one s top r w w' (is_lower above f t e) = record { used = ap (λ (x : Work). x.used) e; involved = ap (λ (x : Work). x.involved) e }
 
-same_all : (s : State) (top : ℕ) (rs : List ℕ) (w : Work) → Same w (with_literals s.nodes top rs w)
+same_all : (s : State) (top : ℕ) (rs : List ℕ) (w : Work) → Same w (with_met_literals s.nodes top rs w)
 same_all s top [] w = record { used = refl; involved = refl }
 same_all s top (r ∷ rs) w =
     let w1 : Work = with_met_literal s.nodes top r w in
     let x : Same w w1 = same_one s top r w w1 (meets s top r w) in
-    let y : Same w1 (with_literals s.nodes top rs w1) = same_all s top rs w1 in
+    let y : Same w1 (with_met_literals s.nodes top rs w1) = same_all s top rs w1 in
     record { used = y.used ∙ x.used; involved = y.involved ∙ x.involved }
 
 -- resolution begins
-pub collecting_began : (words : List ℕ) (s : State) (e : Conflict) (w : Work) → Agrees s → AreClear w.flags → length w.flags ≡ length s.values → ((k : ℕ) → k < length (falsified words e) → IsFalseBefore s (length s.trail.lits) (get_or (falsified words e) k 0)) →
-    Collecting words s e (with_literals s.nodes (current_level s) (falsified words e) (begun e w)) (length s.trail.lits)
+pub collecting_began : (words : List ℕ) (s : State) (e : Conflict) (w : Work) → StateIsConsistent s → AreClear w.flags → length w.flags ≡ length s.values → ((k : ℕ) → k < length (falsified words e) → IsFalseBefore s (length s.trail.lits) (get_or (falsified words e) k 0)) →
+    CollectionInvariant words s e (with_met_literals s.nodes (current_level s) (falsified words e) (begun e w)) (length s.trail.lits)
 collecting_began words s e w a clear size h =
     let w1 : Work = begun e w in
-    let w2 : Work = with_literals s.nodes (current_level s) (falsified words e) w1 in
+    let w2 : Work = with_met_literals s.nodes (current_level s) (falsified words e) w1 in
     let none : AreListed s [] w.flags (length s.trail.lits) = record {
       distinct = λ j k p q i. absurd (omega arith);
       within = λ v c. absurd (omega (arith, c.1));
@@ -214,7 +214,7 @@ collecting_began words s e w a clear size h =
     all_began words s conflict used met v none has (met_cause l c y) = absurd (omega (arith, c.1, ap (λ (xs : List ℕ). length xs) none))
 
 -- the other literal of the current level that is left was met
-other_met : (words : List ℕ) (s : State) (e : Conflict) (w : Work) (p at : ℕ) → Agrees s → Collecting words s e w at → IsLastFlagged s w.flags p at → at ≤ length s.trail.lits →
+other_met : (words : List ℕ) (s : State) (e : Conflict) (w : Work) (p at : ℕ) → StateIsConsistent s → CollectionInvariant words s e w at → IsLastFlagged s w.flags p at → at ≤ length s.trail.lits →
     OpenPlace s (current_level s) (set w.flags (variable (lit_at s p)) false) p → HasOther words s (falsified words e) w.used (lit_at s p)
 other_met words s e w p at a c h le o = record {
   other = lit_at s o.place;
@@ -234,15 +234,15 @@ needed_more words s conflict used l n o k lt = elim (cases_eq k (length used)) [
 ]
 
 -- one literal is resolved
-pub collecting_taken : (words : List ℕ) (s : State) (e : Conflict) (w : Work) (p at : ℕ) → Agrees s → Collecting words s e w at → IsLastFlagged s w.flags p at → at ≤ length s.trail.lits → length w.flags ≡ length s.values →
+pub collecting_taken : (words : List ℕ) (s : State) (e : Conflict) (w : Work) (p at : ℕ) → StateIsConsistent s → CollectionInvariant words s e w at → IsLastFlagged s w.flags p at → at ≤ length s.trail.lits → length w.flags ≡ length s.values →
     ((k : ℕ) → k < length (causes_at words s (lit_at s p)) → IsFalseBefore s p (get_or (causes_at words s (lit_at s p)) k 0)) →
     OpenPlace s (current_level s) (set w.flags (variable (lit_at s p)) false) p →
-    Collecting words s e (with_literals s.nodes (current_level s) (causes_at words s (lit_at s p)) (taken_up (node s (lit_at s p)).reason (lit_at s p) w)) p
+    CollectionInvariant words s e (with_met_literals s.nodes (current_level s) (causes_at words s (lit_at s p)) (taken_up (node s (lit_at s p)).reason (lit_at s p) w)) p
 collecting_taken words s e w p at a c h le size before o =
     let l : ℕ = lit_at s p in
     let rs : List ℕ = causes_at words s l in
     let w1 : Work = taken_up (node s l).reason l w in
-    let w2 : Work = with_literals s.nodes (current_level s) rs w1 in
+    let w2 : Work = with_met_literals s.nodes (current_level s) rs w1 in
     let x : Lists s p rs w1 w2 = lists_all s (current_level s) p rs w1 a before (length-set w.flags (variable l) false ∙ size) (listed_passed s w p at h.before le c.listed) in
     let m : Same w1 w2 = same_all s (current_level s) rs w1 in
     let used : w2.used ≡ w.used ++ l ∷ [] = m.used in
@@ -273,7 +273,7 @@ collecting_taken words s e w p at a c h le size before o =
       | inr i ↦ has v (subst (λ z. HasAbove s (causes_at words s z) v) (sym i) y)
     ]
 
-pub collected : (words : List ℕ) (s : State) (e : Conflict) (w w' : Work) (at : ℕ) → Collecting words s e w at → w'.met ≡ w.met → w'.used ≡ w.used → w'.involved ≡ w.involved → Collected words s e w'
+pub collected : (words : List ℕ) (s : State) (e : Conflict) (w w' : Work) (at : ℕ) → CollectionInvariant words s e w at → w'.met ≡ w.met → w'.used ≡ w.used → w'.involved ≡ w.involved → CollectionResult words s e w'
 collected words s e w w' at c met used involved = record {
   distinct = subst (λ (xs : List ℕ). AreDistinct xs) (sym met) c.listed.distinct;
   within = λ v x. c.listed.within v (subst (λ (xs : List ℕ). Contains xs v) met x);

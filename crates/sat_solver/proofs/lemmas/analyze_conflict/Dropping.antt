@@ -12,7 +12,7 @@ use Rattle.sat_parts.proofs.lemmas.clause.ListLemmas.{at_place, place_in, in_tai
 use Rattle.sat_parts.proofs.lemmas.prop.StateLemmas.{negated_variable, negated_twice}
 use Rattle.sat_solver.specs.analyze_conflict.Work.{Work}
 use Rattle.sat_solver.specs.analyze_conflict.Marks.{IsLower, HasVariable}
-use Rattle.sat_solver.specs.analyze_conflict.Minimal.{IsUse, use_top, use_low, Searching, IsNewUse, MarksMore, used_up, Minimal}
+use Rattle.sat_solver.specs.analyze_conflict.Minimal.{IsUse, use_top, use_low, MinimizationInvariant, IsNewUse, MarksMore, used_up, Minimal}
 use Rattle.sat_solver.proofs.lemmas.analyze_conflict.Minimizing.{front_at}
 
 -- a list without one in the middle
@@ -78,7 +78,7 @@ lower_kept s w w' r m h = record { fails = h.fails; above = h.above; below = h.b
 
 -- after a search that succeeded the literal is dropped
 pub dropped : (words : List ℕ) (s : State) (conflict : List ℕ) (first low c : ℕ) (xs ys : List ℕ) (w w' : Work) → Minimal words s conflict first low (xs ++ c ∷ ys) w → c ≢ first →
-    MarksMore (used_up (negated c) w) w' → Searching words s conflict first low w' (length w'.used) → Minimal words s conflict first low (xs ++ ys) w'
+    MarksMore (used_up (negated c) w) w' → MinimizationInvariant words s conflict first low w' (length w'.used) → Minimal words s conflict first low (xs ++ ys) w'
 dropped words s conflict first low c xs ys w w' h other m x =
     let w1 : Work = used_up (negated c) w in
     let n : length w1.used ≡ length w.used + 1 = length_push w.used (negated c) in

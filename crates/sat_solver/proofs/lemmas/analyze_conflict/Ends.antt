@@ -12,17 +12,17 @@ use Rattle.sat_base.specs.values.Literals.{variable, negated}
 use Rattle.sat_store.specs.clause.Buffer.{swapped}
 use Rattle.sat_parts.specs.declared.prop.graph.Conflict.{Conflict}
 use Rattle.sat_parts.specs.clause.Glue.{AreClear}
-use Rattle.sat_parts.specs.clause.Orders.{AreDistinct, Shuffled}
+use Rattle.sat_parts.specs.clause.Orders.{AreDistinct, IsReordering}
 use Rattle.sat_parts.specs.prop.Values.{IsFalseLit}
-use Rattle.sat_parts.specs.prop.Ready.{IsFalsified}
-use Rattle.sat_parts.specs.prop.State.{State, level, current_level, lit_at, Agrees}
+use Rattle.sat_parts.specs.prop.Ready.{AreAllFalse}
+use Rattle.sat_parts.specs.prop.State.{State, level, current_level, lit_at, StateIsConsistent}
 use Rattle.sat_parts.proofs.lemmas.clause.ListLemmas.{at_place, place_in}
 use Rattle.sat_parts.proofs.lemmas.clause.OrderLemmas.{other, swapped_at, shuffled_swapped}
 use Rattle.sat_parts.proofs.lemmas.prop.StateLemmas.{negated_variable, negated_twice, false_from_true, true_from_false}
 use Rattle.sat_parts.proofs.lemmas.prop.RoomLemmas.{places_apart}
-use Rattle.sat_solver.specs.analyze_conflict.Work.{Work, with_literals, passed_by, begun, with_first}
-use Rattle.sat_solver.specs.analyze_conflict.Marks.{causes_at, CanAnalyze, open_below, MarksWork, IsWaiting, IsCovered, covered_unit, covered_clause, covered_reason, covered_core, covered_open, IsReasoned, depth, Resolving, HasTop}
-use Rattle.sat_solver.specs.analyze_conflict.Derivation.{IsGrounded, grounded_unit, grounded_clause, grounded_reason, AreGrounded, AreGrounds, IsAsserting, Resolved}
+use Rattle.sat_solver.specs.analyze_conflict.Work.{Work, with_met_literals, passed_by, begun, with_first}
+use Rattle.sat_solver.specs.analyze_conflict.Marks.{causes_at, CanAnalyze, open_below, MarksWork, IsWaiting, IsCovered, covered_unit, covered_clause, covered_reason, covered_core, covered_open, IsReasoned, depth, ResolutionInvariant, HasTop}
+use Rattle.sat_solver.specs.analyze_conflict.Derivation.{HasKnownCause, grounded_unit, grounded_clause, grounded_reason, HaveKnownCauses, IsUnorderedDerivation, IsAsserting, ResolutionResult}
 use Rattle.sat_solver.proofs.lemmas.analyze_conflict.Meeting.{level_by_variable, open_same, open_some, open_no, Met, met_all}
 use Rattle.sat_solver.proofs.lemmas.analyze_conflict.Minimizing.{distinct_push}
 use Rattle.sat_solver.proofs.lemmas.analyze_conflict.Resolution.{IsLastFlagged, last_high, at_current, marks_passed, passed_waiting}
@@ -56,11 +56,11 @@ waiting_counts s top w at r m x = elim (cases_eq w.pending 0) [
   | inr n ↦ omega arith
 ]
 
-pub began : (words : List ℕ) (s : State) (conflict : List ℕ) (e : Conflict) (w : Work) → CanAnalyze words s → AreClear w.flags → length w.flags ≡ length s.values → IsFalsified s.values conflict → HasTop s conflict →
-    Resolving words s conflict (with_literals s.nodes (current_level s) conflict (begun e w)) (length s.trail.lits)
+pub began : (words : List ℕ) (s : State) (conflict : List ℕ) (e : Conflict) (w : Work) → CanAnalyze words s → AreClear w.flags → length w.flags ≡ length s.values → AreAllFalse s.values conflict → HasTop s conflict →
+    ResolutionInvariant words s conflict (with_met_literals s.nodes (current_level s) conflict (begun e w)) (length s.trail.lits)
 began words s conflict e w can clear size fails top =
     let n : ℕ = length s.trail.lits in
-    let w2 : Work = with_literals s.nodes (current_level s) conflict (begun e w) in
+    let w2 : Work = with_met_literals s.nodes (current_level s) conflict (begun e w) in
     let m : Met s (current_level s) n conflict (begun e w) w2 =
     met_all s (current_level s) n conflict (begun e w) can.agrees (λ k lt. can.agrees.known (negated (get_or conflict k 0)) (true_from_false s.values (get_or conflict k 0) (fails k lt))) (begun_marks s (current_level s) (begun e w) (length s.trail.lits) (omega arith) clear size refl refl) in
     let x : IsWaiting s (current_level s) w2.flags n (get_or conflict top.0 0) = top_waits s w2 n (get_or conflict top.0 0) m.marks m.used m.core can.above top.1.1 (m.covered top.0 top.1.0) in
@@ -79,7 +79,7 @@ began words s conflict e w can clear size fails top =
 
 -- a literal is added to a clause, and changes places with the first one
 pub record Joined (xs : List ℕ) (r : ℕ) (ys : List ℕ) : Type 0 where
-  pub lits : Shuffled (xs ++ r ∷ []) ys
+  pub lits : IsReordering (xs ++ r ∷ []) ys
   pub first : get_or ys 0 0 ≡ r
 
 other_end : (n : ℕ) → other 0 n 0 ≡ n
@@ -90,7 +90,7 @@ joined xs r =
     let n : length (xs ++ r ∷ []) ≡ length xs + 1 = length_push xs r in
     let is : swapped (xs ++ r ∷ []) 0 (length xs) ≡ swap (xs ++ r ∷ []) 0 (length xs) = swap_is (xs ++ r ∷ []) 0 (length xs) 0 (omega arith) (omega arith) in
     record {
-      lits = subst (λ (ys : List ℕ). Shuffled (xs ++ r ∷ []) ys) is (shuffled_swapped (xs ++ r ∷ []) 0 (length xs) (omega arith) (omega arith));
+      lits = subst (λ (ys : List ℕ). IsReordering (xs ++ r ∷ []) ys) is (shuffled_swapped (xs ++ r ∷ []) 0 (length xs) (omega arith) (omega arith));
       first = ap (λ (ys : List ℕ). get_or ys 0 0) (sym is) ∙ swapped_at (xs ++ r ∷ []) 0 (length xs) 0 (omega arith) (omega arith) ∙ ap (λ k. get_or (xs ++ r ∷ []) k 0) (other_end (length xs)) ∙ get_or_push xs r 0 (length xs) refl;
     }
 
@@ -127,8 +127,8 @@ old_in : (xs : List ℕ) (r : ℕ) (ys : List ℕ) (x : ℕ) → Joined xs r ys 
 old_in xs r ys x h c = Contains-permutation (xs ++ r ∷ []) ys x h.lits.order (Contains-append_left xs (r ∷ []) x c)
 
 -- once the last one is passed by, what was still to be resolved is its negation
-last_grounded : (s : State) (w : Work) (p at r : ℕ) (ys : List ℕ) → Agrees s → at ≤ length s.trail.lits → IsLastFlagged s w.flags p at → open_below s (current_level s) (set w.flags (variable (lit_at s p)) false) p ≡ 0 →
-    w.core ≡ [] → Joined w.clause (negated (lit_at s p)) ys → IsCovered s (current_level s) w at r → IsGrounded s ys w.used r
+last_grounded : (s : State) (w : Work) (p at r : ℕ) (ys : List ℕ) → StateIsConsistent s → at ≤ length s.trail.lits → IsLastFlagged s w.flags p at → open_below s (current_level s) (set w.flags (variable (lit_at s p)) false) p ≡ 0 →
+    w.core ≡ [] → Joined w.clause (negated (lit_at s p)) ys → IsCovered s (current_level s) w at r → HasKnownCause s ys w.used r
 last_grounded s w p at r ys a le h none bare j (covered_unit z) = grounded_unit z
 last_grounded s w p at r ys a le h none bare j (covered_clause c) = grounded_clause (old_in w.clause (negated (lit_at s p)) ys r j c)
 last_grounded s w p at r ys a le h none bare j (covered_reason c) = grounded_reason c
@@ -146,7 +146,7 @@ last_grounded s w p at r ys a le h none bare j (covered_open x) = elim (passed_w
 not_lower : (s : State) (w : Work) (p k : ℕ) → level s (lit_at s p) ≡ current_level s → MarksWork s (current_level s) (passed_by (lit_at s p) w) p → k < length w.clause → get_or w.clause k 0 ≡ negated (lit_at s p) → ⊥
 not_lower s w p k top m lt e = omega (arith, (m.lower k lt).below, ap (λ z. level s z) e, level_by_variable s (negated (lit_at s p)) (lit_at s p) (negated_variable (lit_at s p)))
 
-asserting_first : (s : State) (w : Work) (p : ℕ) (ys : List ℕ) → Agrees s → p < length s.trail.lits → level s (lit_at s p) ≡ current_level s → MarksWork s (current_level s) (passed_by (lit_at s p) w) p →
+asserting_first : (s : State) (w : Work) (p : ℕ) (ys : List ℕ) → StateIsConsistent s → p < length s.trail.lits → level s (lit_at s p) ≡ current_level s → MarksWork s (current_level s) (passed_by (lit_at s p) w) p →
     Joined w.clause (negated (lit_at s p)) ys → AreDistinct ys → IsAsserting s ys
 asserting_first s w p ys a within top m j d =
     let n : length (w.clause ++ negated (lit_at s p) ∷ []) ≡ length w.clause + 1 = length_push w.clause (negated (lit_at s p)) in
@@ -172,10 +172,10 @@ distinct_by_depth s xs f j k p q e = elim (cases_eq j k) [
   ]
 ]
 
-pub finished : (words : List ℕ) (s : State) (conflict : List ℕ) (w : Work) (p at : ℕ) → CanAnalyze words s → Resolving words s conflict w at → w.pending ≡ 1 → IsLastFlagged s w.flags p at → variable (lit_at s p) < length w.flags →
-    Resolved words s conflict (with_first (negated (lit_at s p)) (passed_by (lit_at s p) w))
+pub finished : (words : List ℕ) (s : State) (conflict : List ℕ) (w : Work) (p at : ℕ) → CanAnalyze words s → ResolutionInvariant words s conflict w at → w.pending ≡ 1 → IsLastFlagged s w.flags p at → variable (lit_at s p) < length w.flags →
+    ResolutionResult words s conflict (with_first (negated (lit_at s p)) (passed_by (lit_at s p) w))
 finished words s conflict w p at can r one h b =
-    let a : Agrees s = can.agrees in
+    let a : StateIsConsistent s = can.agrees in
     let l : ℕ = lit_at s p in
     let t : ℕ = current_level s in
     let ys : List ℕ = swap (w.clause ++ negated l ∷ []) 0 (length w.clause) in
@@ -186,7 +186,7 @@ finished words s conflict w p at can r one h b =
     let m : MarksWork s (current_level s) (passed_by l w) p = marks_passed s t w p at a r.marks h high b in
     let none : open_below s (current_level s) (set w.flags (variable l) false) p ≡ 0 = omega (arith, m.counted) in
     let d : AreDistinct ys = joined_distinct w.clause (negated l) ys j m.distinct (λ k lt e. not_lower s w p k top m lt e) in
-    let ground : (q : ℕ) → IsCovered s (current_level s) w at q → IsGrounded s ys w.used q = λ q c. last_grounded s w p at q ys a r.marks.within h none r.none j c in
+    let ground : (q : ℕ) → IsCovered s (current_level s) w at q → HasKnownCause s ys w.used q = λ q c. last_grounded s w p at q ys a r.marks.within h none r.none j c in
     let tops : (k : ℕ) → k < length w.used → level s (get_or w.used k 0) ≡ current_level s = λ k lt.
     let x : IsReasoned s at (get_or w.used k 0) = (r.uses.reasons k lt).0 in
     let up : current_level s ≤ level s (lit_at s x.place) = omega (arith, (r.uses.reasons k lt).1, ap (λ z. level s z) x.there) in
@@ -198,7 +198,7 @@ finished words s conflict w p at can r one h b =
         reasons = λ q c.
             let x : IsReasoned s at q = subst (λ z. IsReasoned s at z) (at_place w.used q c) (r.uses.reasons c.0 c.1).0 in
             record { place = x.place; from = omega arith; within = x.within; there = x.there; above = x.above; caused = x.caused };
-        causes = λ q c. subst (λ z. AreGrounded s ys w.used (causes_at words s z)) (at_place w.used q c)
+        causes = λ q c. subst (λ z. HaveKnownCauses s ys w.used (causes_at words s z)) (at_place w.used q c)
             (λ i lt. ground (get_or (causes_at words s (get_or w.used c.0 0)) i 0) (r.uses.causes c.0 c.1 i lt));
         start = λ i lt. ground (get_or conflict i 0) (r.start i lt);
         apart = λ q c e.
@@ -234,10 +234,10 @@ finished words s conflict w p at can r one h b =
     ]
 
 -- the parts of a derivation in another order
-pub grounds_permuted : (words : List ℕ) (s : State) (conflict learned used used' : List ℕ) → IsPermutation used used' → AreDistinct used' → AreGrounds words s conflict learned used → AreGrounds words s conflict learned used'
+pub grounds_permuted : (words : List ℕ) (s : State) (conflict learned used used' : List ℕ) → IsPermutation used used' → AreDistinct used' → IsUnorderedDerivation words s conflict learned used → IsUnorderedDerivation words s conflict learned used'
 grounds_permuted words s conflict learned used used' p d g =
     let back : (l : ℕ) → Contains used' l → Contains used l = λ l c. Contains-permutation used' used l (IsPermutation-sym used used' p) c in
-    let forth : (r : ℕ) → IsGrounded s learned used r → IsGrounded s learned used' r = λ r x. moved s learned used used' r p x in
+    let forth : (r : ℕ) → HasKnownCause s learned used r → HasKnownCause s learned used' r = λ r x. moved s learned used used' r p x in
     record {
       reasons = λ l c. g.reasons l (back l c);
       causes = λ l c i lt. forth (get_or (causes_at words s l) i 0) (g.causes l (back l c) i lt);
@@ -246,7 +246,7 @@ grounds_permuted words s conflict learned used used' p d g =
       distinct = d;
     }
   where
-    moved : (s : State) (learned used used' : List ℕ) (r : ℕ) → IsPermutation used used' → IsGrounded s learned used r → IsGrounded s learned used' r
+    moved : (s : State) (learned used used' : List ℕ) (r : ℕ) → IsPermutation used used' → HasKnownCause s learned used r → HasKnownCause s learned used' r
     moved s learned used used' r p (grounded_unit z) = grounded_unit z
     moved s learned used used' r p (grounded_clause c) = grounded_clause c
     moved s learned used used' r p (grounded_reason c) = grounded_reason (Contains-permutation used used' (negated r) p c)

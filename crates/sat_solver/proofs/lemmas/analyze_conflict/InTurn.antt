@@ -8,12 +8,12 @@ use Rattle.sat_checker.specs.Propagation.{IsFalsified, IsUnit, UnitInTurn}
 use Rattle.sat_checker.proofs.lemmas.sets.Order.{among-append}
 use Rattle.sat_parts.specs.prop.Values.{IsTrueLit, IsFalseLit}
 use Rattle.sat_parts.specs.prop.Graphs.{node_of}
-use Rattle.sat_parts.specs.prop.State.{State, level, current_level, lit_at, Agrees}
+use Rattle.sat_parts.specs.prop.State.{State, level, current_level, lit_at, StateIsConsistent}
 use Rattle.sat_parts.specs.prop.Reasons.{IsFalseBefore}
 use Rattle.sat_parts.proofs.lemmas.clause.ListLemmas.{at_place, place_in, in_tail, in_head, there}
 use Rattle.sat_parts.proofs.lemmas.prop.StateLemmas.{negated_variable, negated_twice, false_from_true, true_from_false, not_both}
 use Rattle.sat_solver.specs.analyze_conflict.Marks.{causes_at, CanAnalyze, IsReasoned, depth}
-use Rattle.sat_solver.specs.analyze_conflict.Derivation.{clause_of, AreLevelZeroLits, IsGrounded, IsDerivation, IsAcceptable, grounded_unit, grounded_clause, grounded_reason}
+use Rattle.sat_solver.specs.analyze_conflict.Derivation.{clause_of, AreLevelZeroLits, HasKnownCause, IsDerivation, IsAcceptable, grounded_unit, grounded_clause, grounded_reason}
 
 -- the literal is assumed, or given by an entry of smaller depth
 abbrev pub Given : (s : State) (known es : List ℕ) (d m : ℕ) → Type 0
@@ -114,19 +114,19 @@ negated_among (l ∷ ls) r c = elim (cases_eq l r) [
 ]
 
 -- what was false before a place: its negation is true, of smaller depth, or of level 0
-pub negation_true : (s : State) (p r : ℕ) → Agrees s → IsFalseBefore s p r → IsTrueLit s.values (negated r)
+pub negation_true : (s : State) (p r : ℕ) → StateIsConsistent s → IsFalseBefore s p r → IsTrueLit s.values (negated r)
 negation_true s p r a h = elim h [
   | inl b ↦ subst (λ z. IsTrueLit s.values z) b.there (a.holds b.place b.within)
   | inr x ↦ x.holds
 ]
 
-negation_depth : (s : State) (p r : ℕ) → Agrees s → IsFalseBefore s p r → 0 < level s (negated r) → depth s (negated r) < p + 1
+negation_depth : (s : State) (p r : ℕ) → StateIsConsistent s → IsFalseBefore s p r → 0 < level s (negated r) → depth s (negated r) < p + 1
 negation_depth s p r a h above = elim h [
   | inl b ↦ omega (arith, b.before, a.depths b.place b.within, ap (λ z. depth s z) b.there)
   | inr x ↦ absurd (omega (arith, x.bottom))
 ]
 
-pub above_first : (s : State) (p l : ℕ) → Agrees s → p < length s.trail.lits → lit_at s p ≡ l → 0 < level s l → 0 < current_level s → get_or s.trail.starts 0 0 ≤ p
+pub above_first : (s : State) (p l : ℕ) → StateIsConsistent s → p < length s.trail.lits → lit_at s p ≡ l → 0 < level s l → 0 < current_level s → get_or s.trail.starts 0 0 ≤ p
 above_first s p l a within there above c =
     let e : level s (lit_at s p) ≡ level s l = ap (λ z. level s z) there in
     (a.levels p within).begun 0 (omega arith)
@@ -138,8 +138,8 @@ causes_before words s p l i can within there first b =
     (can.before p i first within (subst (λ z. i < length (causes_at words s z)) (sym there) b))
 
 -- a literal that was false before, and is accounted for, is given
-pub given_one : (words : List ℕ) (s : State) (learned used units : List ℕ) (p r : ℕ) → Agrees s → AreLevelZeroLits s units →
-    ((k : ℕ) → k < length used → IsReasoned s 0 (get_or used k 0)) → IsFalseBefore s p r → IsGrounded s learned used r →
+pub given_one : (words : List ℕ) (s : State) (learned used units : List ℕ) (p r : ℕ) → StateIsConsistent s → AreLevelZeroLits s units →
+    ((k : ℕ) → k < length used → IsReasoned s 0 (get_or used k 0)) → IsFalseBefore s p r → HasKnownCause s learned used r →
     Given s (map negated learned ++ units) used (p + 1) (negated r)
 given_one words s learned used units p r a u reasons before (grounded_unit z) =
     let zero_level : level s (negated r) ≡ 0 = ap (λ v. (node_of s.nodes v).level) (negated_variable r) ∙ z in
@@ -154,7 +154,7 @@ given_one words s learned used units p r a u reasons before (grounded_reason c) 
     inr (c, negation_depth s p r a before (omega (arith, x.above, ap (λ z. level s z) e)))
 
 -- the same for a literal of the clause that was found false
-given_start : (s : State) (learned used units : List ℕ) (r : ℕ) → AreLevelZeroLits s units → IsFalseLit s.values r → IsGrounded s learned used r →
+given_start : (s : State) (learned used units : List ℕ) (r : ℕ) → AreLevelZeroLits s units → IsFalseLit s.values r → HasKnownCause s learned used r →
     (is_among (map negated learned ++ units) (negated r) ≡ true) ⊎ Contains used (negated r)
 given_start s learned used units r u fails (grounded_unit z) =
     let zero_level : level s (negated r) ≡ 0 = ap (λ v. (node_of s.nodes v).level) (negated_variable r) ∙ z in

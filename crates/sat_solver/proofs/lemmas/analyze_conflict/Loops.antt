@@ -10,7 +10,7 @@ use Rattle.sat_solver.specs.analyze_conflict.Work.{Work, worked}
 use Rattle.sat_solver.specs.analyze_conflict.Marks.{causes_at, IsLower, HasVariable}
 use Rattle.sat_solver.specs.analyze_conflict.Derivation.{IsAsserting, FlagsAmong}
 use Rattle.sat_solver.specs.analyze_conflict.Involved.{KeepsFront}
-use Rattle.sat_solver.specs.analyze_conflict.Minimal.{IsUse, use_top, use_low, IsMarked, marked_unit, marked_first, marked_flag, marked_reason, Searching, MarksMore, used_up, SameWork, Minimal}
+use Rattle.sat_solver.specs.analyze_conflict.Minimal.{IsUse, use_top, use_low, IsMarked, marked_unit, marked_first, marked_flag, marked_reason, MinimizationInvariant, MarksMore, used_up, SameWork, Minimal}
 use Rattle.sat_solver.proofs.lemmas.analyze_conflict.Dropping.{dropped}
 
 -- works of the same fields are one
@@ -150,7 +150,7 @@ goes_kept words s conflict first low kept at old w w1 w2 f h same e =
     })
 
 pub goes_dropped : (words : List ℕ) (s : State) (conflict : List ℕ) (first low kept at : ℕ) (old w w' : Work) → KeepsFront old w → HasAccepted words s conflict first low kept at w.clause w →
-    MarksMore (used_up (negated (get_or w.clause at 0)) w) w' → Searching words s conflict first low w' (length w'.used) → Goes words s conflict first low kept (at + 1) (length w.clause) old w'
+    MarksMore (used_up (negated (get_or w.clause at 0)) w) w' → MinimizationInvariant words s conflict first low w' (length w'.used) → Goes words s conflict first low kept (at + 1) (length w.clause) old w'
 goes_dropped words s conflict first low kept at old w w' f h m x =
     let c : ℕ = get_or w.clause at 0 in
     record {

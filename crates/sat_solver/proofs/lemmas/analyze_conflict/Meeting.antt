@@ -6,11 +6,11 @@ use Rattle.std.proofs.lemmas.List.Elements.{Contains-append_left}
 use Rattle.sat_base.specs.values.Literals.{variable, negated, is_positive}
 use Rattle.sat_parts.specs.prop.Values.{IsTrueLit, IsFalseLit, value_of}
 use Rattle.sat_parts.specs.prop.Graphs.{node_of}
-use Rattle.sat_parts.specs.prop.State.{State, level, lit_at, IsBefore, Agrees}
+use Rattle.sat_parts.specs.prop.State.{State, level, lit_at, IsBefore, StateIsConsistent}
 use Rattle.sat_parts.specs.prop.Reasons.{IsFalseBefore}
 use Rattle.sat_parts.proofs.lemmas.prop.StateLemmas.{negated_variable, negated_twice, false_from_true, true_from_false, lit_from_parts}
 use Rattle.sat_parts.proofs.lemmas.prop.RoomLemmas.{places_apart, below_from_value}
-use Rattle.sat_solver.specs.analyze_conflict.Work.{Work, with_met_literal, with_literals}
+use Rattle.sat_solver.specs.analyze_conflict.Work.{Work, with_met_literal, with_met_literals}
 use Rattle.sat_solver.specs.analyze_conflict.Marks.{is_open_flagged, open_below, HasVariable, IsOpenAt, IsLower, AreFlagsAt, MarksWork, IsCovered, covered_unit, covered_clause, covered_reason, covered_core, covered_open, AreCovered}
 use Rattle.sat_solver.proofs.lemmas.analyze_conflict.InTurn.{negation_true}
 
@@ -30,7 +30,7 @@ same_false s l m t u e =
     sym (negated_twice l) ∙ ap (λ z. negated z) n ∙ negated_twice m
 
 -- levels don't fall along the trail
-pub levels_rise : (s : State) (i j : ℕ) → Agrees s → i ≤ j → j < length s.trail.lits → level s (lit_at s i) ≤ level s (lit_at s j)
+pub levels_rise : (s : State) (i j : ℕ) → StateIsConsistent s → i ≤ j → j < length s.trail.lits → level s (lit_at s i) ≤ level s (lit_at s j)
 levels_rise s i j a le lt = elim (cases_lt (level s (lit_at s j)) (level s (lit_at s i))) [
   | inl h ↦ absurd (omega (
     arith,
@@ -119,7 +119,7 @@ open_kept s top flags v b (suc n) h =
     omega arith
 
 -- a flag that is set where a literal of these levels stands counts once
-pub open_more : (s : State) (top : ℕ) (flags : List Bool) (p n : ℕ) → Agrees s → p < n → n ≤ length s.trail.lits → top ≤ level s (lit_at s p) →
+pub open_more : (s : State) (top : ℕ) (flags : List Bool) (p n : ℕ) → StateIsConsistent s → p < n → n ≤ length s.trail.lits → top ≤ level s (lit_at s p) →
     get_or flags (variable (lit_at s p)) false ≡ false → variable (lit_at s p) < length flags →
     open_below s top (set flags (variable (lit_at s p)) true) n ≡ open_below s top flags n + 1
 open_more s top flags p zero a lt le t f b = absurd (omega arith)
@@ -180,10 +180,10 @@ stands_before s at r h above = elim h [
   | inr x ↦ absurd (omega (arith, x.bottom, level_by_variable s (negated r) r (negated_variable r)))
 ]
 
-pub false_before : (s : State) (at r : ℕ) → Agrees s → IsFalseBefore s at r → IsFalseLit s.values r
+pub false_before : (s : State) (at r : ℕ) → StateIsConsistent s → IsFalseBefore s at r → IsFalseLit s.values r
 false_before s at r a h = subst (λ z. IsFalseLit s.values z) (negated_twice r) (false_from_true s.values (negated r) (negation_true s at r a h))
 
-pub variable_below : (s : State) (at r : ℕ) → Agrees s → IsFalseBefore s at r → variable r < length s.values
+pub variable_below : (s : State) (at r : ℕ) → StateIsConsistent s → IsFalseBefore s at r → variable r < length s.values
 variable_below s at r a h = below_from_value s.values (variable r) (not (is_positive r)) (false_before s at r a h)
 
 -- the marks stay
@@ -204,7 +204,7 @@ flag_kept flags v u lt e = elim (cases_eq u v) [
 lower_kept : (s : State) (top : ℕ) (flags : List Bool) (v r : ℕ) → v < length flags → IsLower s top flags r → IsLower s top (set flags v true) r
 lower_kept s top flags v r lt h = record { fails = h.fails; above = h.above; below = h.below; flagged = flag_kept flags v (variable r) lt h.flagged }
 
-marks_high : (s : State) (top : ℕ) (w : Work) (at r : ℕ) → Agrees s → IsFalseBefore s at r → 0 < level s r → get_or w.flags (variable r) false ≡ false → top ≤ level s r → MarksWork s top w at →
+marks_high : (s : State) (top : ℕ) (w : Work) (at r : ℕ) → StateIsConsistent s → IsFalseBefore s at r → 0 < level s r → get_or w.flags (variable r) false ≡ false → top ≤ level s r → MarksWork s top w at →
     AreFlagsAt s top w.clause (set w.flags (variable r) true) (min (w.pending + 1) (2 ^ 64 - 1)) at
 marks_high s top w at r a h above f t m =
     let b : IsBefore s at (negated r) = stands_before s at r h above in
@@ -227,7 +227,7 @@ marks_high s top w at r a h above f t m =
           omega (arith, m.counted, open_at_most s top (set w.flags (variable r) true) at, m.within, a.trail.fits, a.trail.small);
     }
 
-marks_lower : (s : State) (top : ℕ) (w : Work) (at r : ℕ) → Agrees s → IsFalseBefore s at r → 0 < level s r → get_or w.flags (variable r) false ≡ false → level s r < top → MarksWork s top w at →
+marks_lower : (s : State) (top : ℕ) (w : Work) (at r : ℕ) → StateIsConsistent s → IsFalseBefore s at r → 0 < level s r → get_or w.flags (variable r) false ≡ false → level s r < top → MarksWork s top w at →
     AreFlagsAt s top (w.clause ++ r ∷ []) (set w.flags (variable r) true) w.pending at
 marks_lower s top w at r a h above f t m =
     let n : length (w.clause ++ r ∷ []) ≡ length w.clause + 1 = length_push w.clause r in
@@ -282,7 +282,7 @@ pub record Met (s : State) (top at : ℕ) (rs : List ℕ) (w w' : Work) : Type 0
   pub kept : (q : ℕ) → IsCovered s top w at q → IsCovered s top w' at q
   pub covered : AreCovered s top w' at rs
 
-covered_flagged : (s : State) (top : ℕ) (w : Work) (at r : ℕ) → Agrees s → IsFalseBefore s at r → MarksWork s top w at → get_or w.flags (variable r) false ≡ true → IsCovered s top w at r
+covered_flagged : (s : State) (top : ℕ) (w : Work) (at r : ℕ) → StateIsConsistent s → IsFalseBefore s at r → MarksWork s top w at → get_or w.flags (variable r) false ≡ true → IsCovered s top w at r
 covered_flagged s top w at r a h m f = elim (m.flagged (variable r) f) [
   | inl x ↦ covered_clause (x.0, x.1.0, at_any w.clause x.0 r x.1.0 (same_false s (get_or w.clause x.0 0) r (m.lower x.0 x.1.0).fails (false_before s at r a h) x.1.1))
   | inr x ↦
@@ -319,7 +319,7 @@ kept_lower s top w at r q lt (covered_open x) = covered_open (record { flagged =
 met_same : (s : State) (top at r : ℕ) (w : Work) → MarksWork s top w at → IsCovered s top w at r → Met s top at (r ∷ []) w w
 met_same s top at r w m c = record { marks = m; used = refl; core = refl; involved = refl; pending = omega arith; kept = λ q x. x; covered = one_covered s top w at r c }
 
-met_by : (s : State) (top at r : ℕ) (w w' : Work) → Agrees s → IsFalseBefore s at r → MarksWork s top w at → Meets s top r w w' → Met s top at (r ∷ []) w w'
+met_by : (s : State) (top at r : ℕ) (w w' : Work) → StateIsConsistent s → IsFalseBefore s at r → MarksWork s top w at → Meets s top r w w' → Met s top at (r ∷ []) w w'
 met_by s top at r w w' a h m (at_bottom z e) = subst (λ x. Met s top at (r ∷ []) w x) (sym e) (met_same s top at r w m (covered_unit z))
 met_by s top at r w w' a h m (is_flagged f e) = subst (λ x. Met s top at (r ∷ []) w x) (sym e) (met_same s top at r w m (covered_flagged s top w at r a h m f))
 met_by s top at r w w' a h m (is_high above f t e) =
@@ -352,13 +352,13 @@ covered_cons s top w at r rs h t zero lt = h
 covered_cons s top w at r rs h t (suc k) lt = t k (omega arith)
 
 -- after one literal after the other was met
-pub met_all : (s : State) (top at : ℕ) (rs : List ℕ) (w : Work) → Agrees s → ((k : ℕ) → k < length rs → IsFalseBefore s at (get_or rs k 0)) → MarksWork s top w at →
-    Met s top at rs w (with_literals s.nodes top rs w)
+pub met_all : (s : State) (top at : ℕ) (rs : List ℕ) (w : Work) → StateIsConsistent s → ((k : ℕ) → k < length rs → IsFalseBefore s at (get_or rs k 0)) → MarksWork s top w at →
+    Met s top at rs w (with_met_literals s.nodes top rs w)
 met_all s top at [] w a h m = record { marks = m; used = refl; core = refl; involved = refl; pending = omega arith; kept = λ q x. x; covered = λ k lt. absurd (omega arith) }
 met_all s top at (r ∷ rs) w a h m =
     let w1 : Work = with_met_literal s.nodes top r w in
     let x : Met s top at (r ∷ []) w w1 = met_by s top at r w w1 a (h 0 (omega arith)) m (meets s top r w) in
-    let y : Met s top at rs w1 (with_literals s.nodes top rs w1) = met_all s top at rs w1 a (λ k lt. h (suc k) (omega arith)) x.marks in
+    let y : Met s top at rs w1 (with_met_literals s.nodes top rs w1) = met_all s top at rs w1 a (λ k lt. h (suc k) (omega arith)) x.marks in
     record {
       marks = y.marks;
       used = y.used ∙ x.used;
@@ -366,5 +366,5 @@ met_all s top at (r ∷ rs) w a h m =
       involved = y.involved ∙ x.involved;
       pending = omega (arith, x.pending, y.pending);
       kept = λ q c. y.kept q (x.kept q c);
-      covered = covered_cons s top (with_literals s.nodes top rs w1) at r rs (y.kept r (x.covered 0 (omega arith))) y.covered;
+      covered = covered_cons s top (with_met_literals s.nodes top rs w1) at r rs (y.kept r (x.covered 0 (omega arith))) y.covered;
     }

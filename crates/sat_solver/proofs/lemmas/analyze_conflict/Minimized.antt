@@ -4,21 +4,21 @@ use Rattle.std.proofs.lemmas.Bool.{cases_eq}
 use Rattle.std.specs.List.{Contains}
 use Rattle.sat_base.specs.values.Literals.{variable, negated, is_positive}
 use Rattle.sat_parts.specs.prop.Values.{IsTrueLit, IsFalseLit}
-use Rattle.sat_parts.specs.prop.Ready.{IsFalsified}
-use Rattle.sat_parts.specs.prop.Graphs.{is_unit, node_of}
-use Rattle.sat_parts.specs.prop.State.{State, node, level, current_level, Agrees}
+use Rattle.sat_parts.specs.prop.Ready.{AreAllFalse}
+use Rattle.sat_parts.specs.prop.Graphs.{is_unit_reason, node_of}
+use Rattle.sat_parts.specs.prop.State.{State, node, level, current_level, StateIsConsistent}
 use Rattle.sat_parts.proofs.lemmas.clause.ListLemmas.{at_place, place_in}
 use Rattle.sat_parts.proofs.lemmas.prop.StateLemmas.{negated_variable, negated_twice, true_from_false}
 use Rattle.sat_parts.proofs.lemmas.prop.RoomLemmas.{below_from_value}
 use Rattle.sat_solver.specs.analyze_conflict.Work.{Work}
 use Rattle.sat_solver.specs.analyze_conflict.Marks.{causes_at, CanAnalyze, IsReasoned, IsLower}
-use Rattle.sat_solver.specs.analyze_conflict.Derivation.{IsGrounded, grounded_unit, grounded_clause, grounded_reason, AreGrounded, AreGrounds, Resolved}
+use Rattle.sat_solver.specs.analyze_conflict.Derivation.{HasKnownCause, grounded_unit, grounded_clause, grounded_reason, HaveKnownCauses, IsUnorderedDerivation, ResolutionResult}
 use Rattle.sat_solver.specs.analyze_conflict.Minimal.{IsMarked, marked_unit, marked_first, marked_flag, marked_reason, use_top, Minimal, MayStart}
 use Rattle.sat_solver.proofs.lemmas.analyze_conflict.InTurn.{above_first, causes_before}
 use Rattle.sat_solver.proofs.lemmas.analyze_conflict.Meeting.{level_by_variable, same_true, same_false, false_before}
 
 -- what is accounted for after resolution is so in the terms of the search
-pub marked_from_grounded : (words : List ℕ) (s : State) (conflict : List ℕ) (w : Work) (r : ℕ) → Resolved words s conflict w → IsGrounded s w.clause w.used r → IsMarked s (get_or w.clause 0 0) w r
+pub marked_from_grounded : (words : List ℕ) (s : State) (conflict : List ℕ) (w : Work) (r : ℕ) → ResolutionResult words s conflict w → HasKnownCause s w.clause w.used r → IsMarked s (get_or w.clause 0 0) w r
 marked_from_grounded words s conflict w r h (grounded_unit z) = marked_unit z
 marked_from_grounded words s conflict w r h (grounded_clause c) = elim (cases_eq c.0 0) [
   | inl e ↦ marked_first (ap (λ z. get_or w.clause z 0) (sym e) ∙ at_place w.clause r c)
@@ -26,7 +26,7 @@ marked_from_grounded words s conflict w r h (grounded_clause c) = elim (cases_eq
 ]
 marked_from_grounded words s conflict w r h (grounded_reason c) = marked_reason c
 
-pub minimal_start : (words : List ℕ) (s : State) (conflict : List ℕ) (w : Work) → Resolved words s conflict w → Minimal words s conflict (get_or w.clause 0 0) (length w.used) w.clause w
+pub minimal_start : (words : List ℕ) (s : State) (conflict : List ℕ) (w : Work) → ResolutionResult words s conflict w → Minimal words s conflict (get_or w.clause 0 0) (length w.used) w.clause w
 minimal_start words s conflict w h = record {
   searching = record {
     size = h.size;
@@ -55,8 +55,8 @@ minimal_start words s conflict w h = record {
 }
 
 -- a literal of the clause that isn't a decision may be looked at
-pub may_start : (words : List ℕ) (s : State) (conflict : List ℕ) (first low : ℕ) (rest : List ℕ) (w : Work) (c : ℕ) → Agrees s → Minimal words s conflict first low rest w → Contains rest c → c ≢ first →
-    is_unit (node s c).reason ≡ false → MayStart s w c
+pub may_start : (words : List ℕ) (s : State) (conflict : List ℕ) (first low : ℕ) (rest : List ℕ) (w : Work) (c : ℕ) → StateIsConsistent s → Minimal words s conflict first low rest w → Contains rest c → c ≢ first →
+    is_unit_reason (node s c).reason ≡ false → MayStart s w c
 may_start words s conflict first low rest w c a h in_rest other caused = elim (h.lower c in_rest) [
   | inl e ↦ absurd (other e)
   | inr x ↦
@@ -71,7 +71,7 @@ may_start words s conflict first low rest w c a h in_rest other caused = elim (h
             within = b.within;
             there = b.there;
             above = omega (arith, x.above);
-            caused = ap (λ v. is_unit (node_of s.nodes v).reason) (negated_variable c) ∙ caused;
+            caused = ap (λ v. is_unit_reason (node_of s.nodes v).reason) (negated_variable c) ∙ caused;
           }
           | inr y ↦ absurd (omega (arith, y.bottom, x.above))
         ];
@@ -81,8 +81,8 @@ may_start words s conflict first low rest w c a h in_rest other caused = elim (h
 ]
 
 -- at the end what is flagged is in the clause, or used
-ground : (words : List ℕ) (s : State) (conflict : List ℕ) (first low : ℕ) (rest : List ℕ) (w : Work) (r : ℕ) → Agrees s → IsFalseLit s.values first → Minimal words s conflict first low rest w → IsFalseLit s.values r →
-    IsMarked s first w r → IsGrounded s rest w.used r
+ground : (words : List ℕ) (s : State) (conflict : List ℕ) (first low : ℕ) (rest : List ℕ) (w : Work) (r : ℕ) → StateIsConsistent s → IsFalseLit s.values first → Minimal words s conflict first low rest w → IsFalseLit s.values r →
+    IsMarked s first w r → HasKnownCause s rest w.used r
 ground words s conflict first low rest w r a ff h f (marked_unit z) = grounded_unit z
 ground words s conflict first low rest w r a ff h f (marked_first e) = grounded_clause (subst (λ z. Contains rest z) e h.has_first)
 ground words s conflict first low rest w r a ff h f (marked_reason c) = grounded_reason c
@@ -100,11 +100,11 @@ ground words s conflict first low rest w r a ff h f (marked_flag g) = elim (h.on
       grounded_reason (subst (λ z. Contains w.used z) e (place_in w.used x.place x.within))
 ]
 
-pub minimal_grounds : (words : List ℕ) (s : State) (conflict : List ℕ) (first low : ℕ) (rest : List ℕ) (w : Work) → CanAnalyze words s → IsFalsified s.values conflict → IsFalseLit s.values first →
-    Minimal words s conflict first low rest w → AreGrounds words s conflict rest w.used
+pub minimal_grounds : (words : List ℕ) (s : State) (conflict : List ℕ) (first low : ℕ) (rest : List ℕ) (w : Work) → CanAnalyze words s → AreAllFalse s.values conflict → IsFalseLit s.values first →
+    Minimal words s conflict first low rest w → IsUnorderedDerivation words s conflict rest w.used
 minimal_grounds words s conflict first low rest w can fails ff h = record {
   reasons = λ l c. subst (λ z. IsReasoned s 0 z) (at_place w.used l c) (h.searching.reasons c.0 c.1);
-  causes = λ l c. subst (λ z. AreGrounded s rest w.used (causes_at words s z)) (at_place w.used l c) (λ i b.
+  causes = λ l c. subst (λ z. HaveKnownCauses s rest w.used (causes_at words s z)) (at_place w.used l c) (λ i b.
       let q : ℕ = get_or w.used c.0 0 in
       let x : IsReasoned s 0 q = h.searching.reasons c.0 c.1 in
       let place : get_or s.trail.starts 0 0 ≤ x.place = above_first s x.place q can.agrees x.within x.there x.above can.above in

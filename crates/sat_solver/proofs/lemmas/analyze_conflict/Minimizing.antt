@@ -5,16 +5,16 @@ use Rattle.std.proofs.lemmas.List.{length_push, get_or_append_left, get_or_push,
 use Rattle.std.proofs.lemmas.List.Elements.{Contains-append_left}
 use Rattle.std.specs.List.{Contains}
 use Rattle.sat_base.specs.values.Literals.{variable, negated}
-use Rattle.sat_store.specs.levels.Levels.{passes}
+use Rattle.sat_store.specs.levels.Levels.{level_passes}
 use Rattle.sat_parts.specs.clause.Orders.{AreDistinct}
-use Rattle.sat_parts.specs.prop.Graphs.{is_unit, node_of}
-use Rattle.sat_parts.specs.prop.State.{State, node, level, current_level, lit_at, IsBefore, Agrees}
+use Rattle.sat_parts.specs.prop.Graphs.{is_unit_reason, node_of}
+use Rattle.sat_parts.specs.prop.State.{State, node, level, current_level, lit_at, IsBefore, StateIsConsistent}
 use Rattle.sat_parts.specs.prop.Reasons.{IsFalseBefore}
 use Rattle.sat_parts.proofs.lemmas.clause.ListLemmas.{place_in}
 use Rattle.sat_parts.proofs.lemmas.prop.StateLemmas.{negated_variable}
 use Rattle.sat_solver.specs.analyze_conflict.Work.{Work}
 use Rattle.sat_solver.specs.analyze_conflict.Marks.{causes_at, CanAnalyze, IsReasoned}
-use Rattle.sat_solver.specs.analyze_conflict.Minimal.{IsMarked, marked_unit, marked_first, marked_flag, marked_reason, AreMarked, IsUse, use_top, use_low, Searching, MarksMore, marked, used_up, MayStart, Followed, can_follow, is_settled, followed}
+use Rattle.sat_solver.specs.analyze_conflict.Minimal.{IsMarked, marked_unit, marked_first, marked_flag, marked_reason, AreMarked, IsUse, use_top, use_low, MinimizationInvariant, MarksMore, marked, used_up, MayStart, Followed, can_follow, is_settled, followed}
 use Rattle.sat_solver.proofs.lemmas.analyze_conflict.InTurn.{above_first, causes_before}
 use Rattle.sat_solver.proofs.lemmas.analyze_conflict.Meeting.{level_by_variable, levels_rise, stands_before, variable_below, flag_kept}
 
@@ -102,7 +102,7 @@ record CanMark (s : State) (r : ℕ) : Type 0 where
   below : level s (negated r) < current_level s
   inside : variable r < length s.values
 
-not_used : (words : List ℕ) (s : State) (conflict : List ℕ) (first low : ℕ) (w : Work) (at r : ℕ) → Searching words s conflict first low w at → get_or w.flags (variable r) false ≡ false →
+not_used : (words : List ℕ) (s : State) (conflict : List ℕ) (first low : ℕ) (w : Work) (at r : ℕ) → MinimizationInvariant words s conflict first low w at → get_or w.flags (variable r) false ≡ false →
     level s (negated r) < current_level s → (k : ℕ) → k < length w.used → get_or w.used k 0 ≡ negated r → ⊥
 not_used words s conflict first low w at r h f below k lt e =
     no_use s low w.flags k (get_or w.used k 0) r (h.uses k lt) e f below
@@ -135,8 +135,8 @@ distinct_push xs x d other j k p q e =
           ]
     ]
 
-searching_mark : (words : List ℕ) (s : State) (conflict : List ℕ) (first low : ℕ) (w : Work) (at r : ℕ) → Searching words s conflict first low w at → get_or w.flags (variable r) false ≡ false → CanMark s r →
-    Searching words s conflict first low (marked r w) at
+searching_mark : (words : List ℕ) (s : State) (conflict : List ℕ) (first low : ℕ) (w : Work) (at r : ℕ) → MinimizationInvariant words s conflict first low w at → get_or w.flags (variable r) false ≡ false → CanMark s r →
+    MinimizationInvariant words s conflict first low (marked r w) at
 searching_mark words s conflict first low w at r h f c =
     let lt : variable r < length w.flags = omega (arith, c.inside, h.size) in
     let m : MarksMore w (marked r w) = more_one r w lt f in
@@ -169,7 +169,7 @@ searching_mark words s conflict first low w at r h f c =
 
 -- what following the literals of a reason gives
 pub record Follows (words : List ℕ) (s : State) (conflict : List ℕ) (first low at : ℕ) (w : Work) (rs : List ℕ) (f : Followed) : Type 0 where
-  pub searching : Searching words s conflict first low f.work at
+  pub searching : MinimizationInvariant words s conflict first low f.work at
   pub more : MarksMore w f.work
   pub whole : f.whole ≡ true → AreMarked s first f.work rs
 
@@ -184,12 +184,12 @@ settled_marked s first r w e = elim (or_cases (eqb (level s r) 0) (get_or w.flag
 ]
 
 -- a cause of a literal below the current level may be marked
-can_mark : (s : State) (filter p r : ℕ) → Agrees s → p < length s.trail.lits → level s (lit_at s p) < current_level s → IsFalseBefore s p r → level s r ≢ 0 → can_follow s.nodes filter r ≡ true → CanMark s r
+can_mark : (s : State) (filter p r : ℕ) → StateIsConsistent s → p < length s.trail.lits → level s (lit_at s p) < current_level s → IsFalseBefore s p r → level s r ≢ 0 → can_follow s.nodes filter r ≡ true → CanMark s r
 can_mark s filter p r a within low h above e =
     let b : IsBefore s p (negated r) = stands_before s p r h (omega arith) in
     let same : level s (negated r) ≡ level s r = level_by_variable s (negated r) r (negated_variable r) in
-    let parts = and_parts (not (is_unit (node s r).reason)) (passes filter (level s r)) e in
-    let caused : is_unit (node s r).reason ≡ false = not-true (is_unit (node s r).reason) parts.0 in
+    let parts = and_parts (not (is_unit_reason (node s r).reason)) (level_passes filter (level s r)) e in
+    let caused : is_unit_reason (node s r).reason ≡ false = not-true (is_unit_reason (node s r).reason) parts.0 in
     record {
       reasoned = record {
         place = b.place;
@@ -197,14 +197,14 @@ can_mark s filter p r a within low h above e =
         within = b.within;
         there = b.there;
         above = omega arith;
-        caused = ap (λ v. is_unit (node_of s.nodes v).reason) (negated_variable r) ∙ caused;
+        caused = ap (λ v. is_unit_reason (node_of s.nodes v).reason) (negated_variable r) ∙ caused;
       };
       below = omega (arith, levels_rise s b.place p a (omega (arith, b.before)) within, ap (λ z. level s z) b.there);
       inside = variable_below s p r a h;
     }
 
-pub follows : (words : List ℕ) (s : State) (conflict : List ℕ) (first low at filter p : ℕ) (rs : List ℕ) (w : Work) → Agrees s → p < length s.trail.lits → level s (lit_at s p) < current_level s →
-    ((k : ℕ) → k < length rs → IsFalseBefore s p (get_or rs k 0)) → Searching words s conflict first low w at → Follows words s conflict first low at w rs (followed s.nodes filter rs w)
+pub follows : (words : List ℕ) (s : State) (conflict : List ℕ) (first low at filter p : ℕ) (rs : List ℕ) (w : Work) → StateIsConsistent s → p < length s.trail.lits → level s (lit_at s p) < current_level s →
+    ((k : ℕ) → k < length rs → IsFalseBefore s p (get_or rs k 0)) → MinimizationInvariant words s conflict first low w at → Follows words s conflict first low at w rs (followed s.nodes filter rs w)
 follows words s conflict first low at filter p [] w a within below h x = record { searching = x; more = more_refl w; whole = λ e k lt. absurd (omega arith) }
 follows words s conflict first low at filter p (r ∷ rs) w a within below h x =
     let rest : (k : ℕ) → k < length rs → IsFalseBefore s p (get_or rs k 0) = λ k lt. h (suc k) (omega arith) in
@@ -245,8 +245,8 @@ follows words s conflict first low at filter p (r ∷ rs) w a within below h x =
     ]
 
 -- the next used literal's causes are accounted for
-pub searching_next : (words : List ℕ) (s : State) (conflict : List ℕ) (first low : ℕ) (w : Work) (at : ℕ) → Searching words s conflict first low w at → at < length w.used →
-    AreMarked s first w (causes_at words s (get_or w.used at 0)) → Searching words s conflict first low w (at + 1)
+pub searching_next : (words : List ℕ) (s : State) (conflict : List ℕ) (first low : ℕ) (w : Work) (at : ℕ) → MinimizationInvariant words s conflict first low w at → at < length w.used →
+    AreMarked s first w (causes_at words s (get_or w.used at 0)) → MinimizationInvariant words s conflict first low w (at + 1)
 searching_next words s conflict first low w at h lt m = record {
   size = h.size;
   within = omega arith;
@@ -262,7 +262,7 @@ searching_next words s conflict first low w at h lt m = record {
 }
 
 -- one step of the search, at a literal that was used while it went on
-pub search_step : (words : List ℕ) (s : State) (conflict : List ℕ) (first low at filter : ℕ) (w : Work) → CanAnalyze words s → Searching words s conflict first low w at → at < length w.used →
+pub search_step : (words : List ℕ) (s : State) (conflict : List ℕ) (first low at filter : ℕ) (w : Work) → CanAnalyze words s → MinimizationInvariant words s conflict first low w at → at < length w.used →
     Follows words s conflict first low at w (causes_at words s (get_or w.used at 0)) (followed s.nodes filter (causes_at words s (get_or w.used at 0)) w)
 search_step words s conflict first low at filter w can h lt =
     let l : ℕ = get_or w.used at 0 in
@@ -277,8 +277,8 @@ search_step words s conflict first low at filter w can h lt =
     low_use s low flags k l (use_low b t g) le = t
 
 -- a search begins
-pub searching_start : (words : List ℕ) (s : State) (conflict : List ℕ) (first low : ℕ) (w : Work) (c : ℕ) → Searching words s conflict first low w (length w.used) → MayStart s w c →
-    Searching words s conflict first low (used_up (negated c) w) (length w.used)
+pub searching_start : (words : List ℕ) (s : State) (conflict : List ℕ) (first low : ℕ) (w : Work) (c : ℕ) → MinimizationInvariant words s conflict first low w (length w.used) → MayStart s w c →
+    MinimizationInvariant words s conflict first low (used_up (negated c) w) (length w.used)
 searching_start words s conflict first low w c h m =
     let n : length (w.used ++ negated c ∷ []) ≡ length w.used + 1 = length_push w.used (negated c) in
     let last : (k : ℕ) → k ≡ length w.used → get_or (w.used ++ negated c ∷ []) k 0 ≡ negated c = λ k e. get_or_push w.used (negated c) 0 k (sym e) in

@@ -17,7 +17,7 @@ use Rattle.sat_parts.proofs.lemmas.prop.StateLemmas.{negated_twice, false_from_t
 use Rattle.sat_solver.specs.analyze_conflict.Work.{Work}
 use Rattle.sat_solver.specs.analyze_conflict.Marks.{causes_at, CanAnalyze, IsReasoned, depth}
 use Rattle.sat_solver.specs.analyze_conflict.Derivation.{clause_of, AreLevelZeroLits, IsDerivation}
-use Rattle.sat_solver.specs.assumptions.Failing.{IsChosen, IsDistinctCore, IsRefutation, Traced}
+use Rattle.sat_solver.specs.assumptions.Failing.{IsChosen, IsDistinctCore, IsRefutation, TraceResult}
 use Rattle.sat_solver.proofs.lemmas.analyze_conflict.InTurn.{Given, turns, above_first, causes_before, given_one, negation_of, negated_among, not_assumed}
 use Rattle.sat_solver.proofs.lemmas.analyze_conflict.Ends.{grounds_permuted}
 use Rattle.sat_solver.proofs.lemmas.analyze_conflict.Ordered.{distinct_permuted}
@@ -142,7 +142,7 @@ turns_to_failure words s failed core used units last can u h =
         ]
 
 -- nothing is flagged, and what was used is turned round
-pub refuted : (words : List ℕ) (s : State) (failed : ℕ) (w : Work) → CanAnalyze words s → IsFalseLit s.values failed → Traced words s failed w → IsRefutation words s failed w.core (reverse w.used)
+pub refuted : (words : List ℕ) (s : State) (failed : ℕ) (w : Work) → CanAnalyze words s → IsFalseLit s.values failed → TraceResult words s failed w → IsRefutation words s failed w.core (reverse w.used)
 refuted words s failed w can f t =
     let used : List ℕ = reverse w.used in
     let n : length (reverse w.used) ≡ length w.used = length-reverse w.used in

@@ -6,12 +6,12 @@ use Rattle.std.proofs.lemmas.List.Elements.{Contains-append_left, Contains-push}
 use Rattle.std.specs.List.{Contains}
 use Rattle.sat_base.specs.values.Literals.{variable, negated}
 use Rattle.sat_parts.specs.declared.prop.graph.Reason.{Reason}
-use Rattle.sat_parts.specs.prop.Graphs.{is_unit}
-use Rattle.sat_parts.specs.prop.State.{State, node, level, current_level, lit_at, Agrees}
+use Rattle.sat_parts.specs.prop.Graphs.{is_unit_reason}
+use Rattle.sat_parts.specs.prop.State.{State, node, level, current_level, lit_at, StateIsConsistent}
 use Rattle.sat_parts.proofs.lemmas.prop.StateLemmas.{negated_variable, level_low}
 use Rattle.sat_parts.proofs.lemmas.prop.RoomLemmas.{places_apart}
-use Rattle.sat_solver.specs.analyze_conflict.Work.{Work, with_literals, passed_by, taken_up}
-use Rattle.sat_solver.specs.analyze_conflict.Marks.{causes_at, CanAnalyze, open_below, IsLower, MarksWork, IsWaiting, IsCovered, covered_unit, covered_clause, covered_reason, covered_core, covered_open, AreCovered, IsReasoned, depth, AreUsed, Resolving}
+use Rattle.sat_solver.specs.analyze_conflict.Work.{Work, with_met_literals, passed_by, taken_up}
+use Rattle.sat_solver.specs.analyze_conflict.Marks.{causes_at, CanAnalyze, open_below, IsLower, MarksWork, IsWaiting, IsCovered, covered_unit, covered_clause, covered_reason, covered_core, covered_open, AreCovered, IsReasoned, depth, AreUsed, ResolutionInvariant}
 use Rattle.sat_solver.proofs.lemmas.analyze_conflict.InTurn.{above_first}
 use Rattle.sat_solver.proofs.lemmas.analyze_conflict.Meeting.{level_by_variable, levels_rise, OpenPlace, open_same, open_last, open_some, open_kept, Met, met_all}
 
@@ -22,7 +22,7 @@ pub record IsLastFlagged (s : State) (flags : List Bool) (p at : ℕ) : Type 0 w
   pub others : (q : ℕ) → p < q → q < at → get_or flags (variable (lit_at s q)) false ≡ false
 
 -- it is of a level from which literals are resolved, if some flagged one is
-pub last_high : (s : State) (top : ℕ) (flags : List Bool) (p at : ℕ) → Agrees s → at ≤ length s.trail.lits → IsLastFlagged s flags p at → OpenPlace s top flags at → top ≤ level s (lit_at s p)
+pub last_high : (s : State) (top : ℕ) (flags : List Bool) (p at : ℕ) → StateIsConsistent s → at ≤ length s.trail.lits → IsLastFlagged s flags p at → OpenPlace s top flags at → top ≤ level s (lit_at s p)
 last_high s top flags p at a le h x =
     let in_trail : p < length s.trail.lits = omega (arith, h.before) in
     let behind : x.place ≤ p = elim (cases_lt p x.place) [
@@ -32,7 +32,7 @@ last_high s top flags p at a le h x =
     omega (arith, levels_rise s x.place p a behind in_trail, x.high)
 
 -- that of the current level is just this one
-pub at_current : (s : State) (p : ℕ) → Agrees s → p < length s.trail.lits → current_level s ≤ level s (lit_at s p) → level s (lit_at s p) ≡ current_level s
+pub at_current : (s : State) (p : ℕ) → StateIsConsistent s → p < length s.trail.lits → current_level s ≤ level s (lit_at s p) → level s (lit_at s p) ≡ current_level s
 at_current s p a lt le = omega (arith, level_low s (lit_at s p) a (a.holds p lt))
 
 unset_cases : (flags : List Bool) (v u : ℕ) → v < length flags → get_or (set flags v false) u false ≡ true → (u ≢ v) × (get_or flags u false ≡ true)
@@ -42,7 +42,7 @@ unset_cases flags v u lt e = elim (cases_eq u v) [
 ]
 
 -- the marks once it isn't to be resolved any more
-pub marks_passed : (s : State) (top : ℕ) (w : Work) (p at : ℕ) → Agrees s → MarksWork s top w at → IsLastFlagged s w.flags p at → top ≤ level s (lit_at s p) → variable (lit_at s p) < length w.flags →
+pub marks_passed : (s : State) (top : ℕ) (w : Work) (p at : ℕ) → StateIsConsistent s → MarksWork s top w at → IsLastFlagged s w.flags p at → top ≤ level s (lit_at s p) → variable (lit_at s p) < length w.flags →
     MarksWork s top (passed_by (lit_at s p) w) p
 marks_passed s top w p at a m h high b =
     let v : ℕ = variable (lit_at s p) in
@@ -80,7 +80,7 @@ marks_passed s top w p at a m h high b =
     }
 
 -- what was still to be resolved is that, or it is the negation of the literal that was passed by
-pub passed_waiting : (s : State) (top : ℕ) (w : Work) (p at r : ℕ) → Agrees s → at ≤ length s.trail.lits → IsLastFlagged s w.flags p at → IsWaiting s top w.flags at r →
+pub passed_waiting : (s : State) (top : ℕ) (w : Work) (p at r : ℕ) → StateIsConsistent s → at ≤ length s.trail.lits → IsLastFlagged s w.flags p at → IsWaiting s top w.flags at r →
     IsWaiting s top (set w.flags (variable (lit_at s p)) false) p r ⊎ (lit_at s p ≡ negated r)
 passed_waiting s top w p at r a le h x =
     let v_is : variable (lit_at s x.before.place) ≡ variable r = ap (λ z. variable z) x.before.there ∙ negated_variable r in
@@ -99,7 +99,7 @@ passed_waiting s top w p at r a le h x =
     ]
 
 -- the literals that were accounted for still are
-pub taken_covered : (s : State) (top : ℕ) (w : Work) (n : Reason) (p at r : ℕ) → Agrees s → at ≤ length s.trail.lits → IsLastFlagged s w.flags p at → IsCovered s top w at r → IsCovered s top (taken_up n (lit_at s p) w) p r
+pub taken_covered : (s : State) (top : ℕ) (w : Work) (n : Reason) (p at r : ℕ) → StateIsConsistent s → at ≤ length s.trail.lits → IsLastFlagged s w.flags p at → IsCovered s top w at r → IsCovered s top (taken_up n (lit_at s p) w) p r
 taken_covered s top w n p at r a le h (covered_unit z) = covered_unit z
 taken_covered s top w n p at r a le h (covered_clause c) = covered_clause c
 taken_covered s top w n p at r a le h (covered_reason c) = covered_reason (Contains-append_left w.used (lit_at s p ∷ []) (negated r) c)
@@ -110,7 +110,7 @@ taken_covered s top w n p at r a le h (covered_open x) = elim (passed_waiting s 
 ]
 
 -- a literal of the current level behind another one isn't a decision
-not_decided : (words : List ℕ) (s : State) (q p : ℕ) → CanAnalyze words s → q < p → p < length s.trail.lits → level s (lit_at s q) ≡ current_level s → is_unit (node s (lit_at s p)).reason ≡ false
+not_decided : (words : List ℕ) (s : State) (q p : ℕ) → CanAnalyze words s → q < p → p < length s.trail.lits → level s (lit_at s q) ≡ current_level s → is_unit_reason (node s (lit_at s p)).reason ≡ false
 not_decided words s q p can lt within top =
     let in_trail : q < length s.trail.lits = omega arith in
     let begun : (k : ℕ) → k < length s.trail.starts → get_or s.trail.starts k 0 ≤ q = λ k b. (can.agrees.levels q in_trail).begun k (omega arith) in
@@ -120,7 +120,7 @@ not_decided words s q p can lt within top =
 pub uses_next : (words : List ℕ) (s : State) (top : ℕ) (w w1 w2 : Work) (p at : ℕ) → CanAnalyze words s → AreUsed words s top w at → p < at → p < length s.trail.lits →
     w1.used ≡ w.used ++ lit_at s p ∷ [] → Met s top p (causes_at words s (lit_at s p)) w1 w2 →
     ((r : ℕ) → IsCovered s top w at r → IsCovered s top w1 p r) →
-    0 < top → top ≤ level s (lit_at s p) → is_unit (node s (lit_at s p)).reason ≡ false → AreUsed words s top w2 p
+    0 < top → top ≤ level s (lit_at s p) → is_unit_reason (node s (lit_at s p)).reason ≡ false → AreUsed words s top w2 p
 uses_next words s top w w1 w2 p at can u before within used_is m forth some high caused =
     let l : ℕ = lit_at s p in
     let list : w2.used ≡ w.used ++ l ∷ [] = m.used ∙ used_is in
@@ -169,7 +169,7 @@ uses_next words s top w w1 w2 p at can u before within used_is m forth some high
 pub record Taken (words : List ℕ) (s : State) (w : Work) (p at : ℕ) : Type 0 where
   pub within : p < length s.trail.lits
   pub top : level s (lit_at s p) ≡ current_level s
-  pub caused : is_unit (node s (lit_at s p)).reason ≡ false
+  pub caused : is_unit_reason (node s (lit_at s p)).reason ≡ false
   pub first : get_or s.trail.starts 0 0 ≤ p
   pub marks : MarksWork s (current_level s) (taken_up (node s (lit_at s p)).reason (lit_at s p) w) p
   pub other : OpenPlace s (current_level s) (set w.flags (variable (lit_at s p)) false) p
@@ -190,21 +190,21 @@ taken words s w p at can m two h b =
       other = other;
     }
 
-pub resolved : (words : List ℕ) (s : State) (start : List ℕ) (w : Work) (p at : ℕ) → CanAnalyze words s → Resolving words s start w at → 1 < w.pending →
+pub resolved : (words : List ℕ) (s : State) (start : List ℕ) (w : Work) (p at : ℕ) → CanAnalyze words s → ResolutionInvariant words s start w at → 1 < w.pending →
     IsLastFlagged s w.flags p at → variable (lit_at s p) < length w.flags →
-    Resolving words s start (with_literals s.nodes (current_level s) (causes_at words s (lit_at s p)) (taken_up (node s (lit_at s p)).reason (lit_at s p) w)) p
+    ResolutionInvariant words s start (with_met_literals s.nodes (current_level s) (causes_at words s (lit_at s p)) (taken_up (node s (lit_at s p)).reason (lit_at s p) w)) p
 resolved words s start w p at can r two h b =
     let l : ℕ = lit_at s p in
     let t : Taken words s w p at = taken words s w p at can r.marks two h b in
     let w1 : Work = taken_up (node s l).reason l w in
     let rs : List ℕ = causes_at words s l in
-    let m : Met s (current_level s) p rs w1 (with_literals s.nodes (current_level s) rs w1) =
+    let m : Met s (current_level s) p rs w1 (with_met_literals s.nodes (current_level s) rs w1) =
     met_all s (current_level s) p rs w1 can.agrees (λ k lt. can.before p k t.first t.within lt) t.marks in
     let forth : (q : ℕ) → IsCovered s (current_level s) w at q → IsCovered s (current_level s) w1 p q = λ q c. taken_covered s (current_level s) w (node s l).reason p at q can.agrees r.marks.within h c in
     record {
       marks = m.marks;
       some = omega (arith, m.pending);
       none = m.core ∙ r.none;
-      uses = uses_next words s (current_level s) w w1 (with_literals s.nodes (current_level s) rs w1) p at can r.uses h.before t.within refl m forth can.above (omega (arith, t.top)) t.caused;
+      uses = uses_next words s (current_level s) w w1 (with_met_literals s.nodes (current_level s) rs w1) p at can r.uses h.before t.within refl m forth can.above (omega (arith, t.top)) t.caused;
       start = λ k lt. m.kept (get_or start k 0) (forth (get_or start k 0) (r.start k lt));
     }

@@ -8,31 +8,31 @@ use Rattle.sat_base.specs.values.Literals.{variable, negated}
 use Rattle.sat_parts.specs.clause.Glue.{AreClear}
 use Rattle.sat_parts.specs.clause.Orders.{AreDistinct}
 use Rattle.sat_parts.specs.prop.Causes.{causes}
-use Rattle.sat_parts.specs.prop.Graphs.{is_unit, node_of}
+use Rattle.sat_parts.specs.prop.Graphs.{is_unit_reason, node_of}
 use Rattle.sat_parts.specs.prop.Reasons.{IsFalseBefore}
 use Rattle.sat_parts.specs.prop.Values.{IsTrueLit, IsFalseLit}
-use Rattle.sat_parts.specs.prop.State.{State, node, level, current_level, lit_at, IsBefore, Agrees}
+use Rattle.sat_parts.specs.prop.State.{State, node, level, current_level, lit_at, IsBefore, StateIsConsistent}
 use Rattle.sat_parts.proofs.lemmas.clause.ListLemmas.{at_place, place_in, in_head, in_tail, there}
 use Rattle.sat_parts.proofs.lemmas.prop.StateLemmas.{negated_variable, negated_twice, true_from_false, not_both, level_low}
-use Rattle.sat_solver.specs.analyze_conflict.Work.{Work, with_literals, passed_by, taken_up, with_chosen, begun_core}
+use Rattle.sat_solver.specs.analyze_conflict.Work.{Work, with_met_literals, passed_by, taken_up, with_chosen, begun_core}
 use Rattle.sat_solver.specs.analyze_conflict.Marks.{causes_at, CanAnalyze, MarksWork, IsCovered, covered_unit, covered_clause, covered_reason, covered_core, covered_open, IsReasoned, depth}
-use Rattle.sat_solver.specs.analyze_conflict.Derivation.{clause_of, IsGrounded, grounded_unit, grounded_clause, grounded_reason}
+use Rattle.sat_solver.specs.analyze_conflict.Derivation.{clause_of, HasKnownCause, grounded_unit, grounded_clause, grounded_reason}
 use Rattle.sat_solver.specs.analyze_conflict.Minimal.{used_up}
-use Rattle.sat_solver.specs.assumptions.Failing.{IsChosen, IsCoreFrom, Tracing, Traced}
+use Rattle.sat_solver.specs.assumptions.Failing.{IsChosen, IsCoreFrom, TraceInvariant, TraceResult}
 use Rattle.sat_solver.proofs.lemmas.analyze_conflict.InTurn.{above_first}
 use Rattle.sat_solver.proofs.lemmas.analyze_conflict.Meeting.{level_by_variable, open_some, open_no, Met, met_all}
 use Rattle.sat_solver.proofs.lemmas.analyze_conflict.Resolution.{IsLastFlagged, last_high, marks_passed, passed_waiting, taken_covered, uses_next}
 use Rattle.sat_solver.proofs.lemmas.analyze_conflict.Ends.{begun_marks, distinct_by_depth}
 
 -- where the negation of a false literal above level 0 stands
-pub negation_before : (s : State) (l : ℕ) → Agrees s → IsFalseLit s.values l → 0 < level s l → IsBefore s (length s.trail.lits) (negated l)
+pub negation_before : (s : State) (l : ℕ) → StateIsConsistent s → IsFalseLit s.values l → 0 < level s l → IsBefore s (length s.trail.lits) (negated l)
 negation_before s l a f above = elim (a.known (negated l) (true_from_false s.values l f)) [
   | inl b ↦ b
   | inr x ↦ absurd (omega (arith, x.bottom, level_by_variable s (negated l) l (negated_variable l)))
 ]
 
 -- its place, by its depth
-pub place_by_depth : (s : State) (l : ℕ) → Agrees s → IsFalseLit s.values l → 0 < level s l → (b : IsBefore s (length s.trail.lits) (negated l)) → b.place ≡ depth s l - 1
+pub place_by_depth : (s : State) (l : ℕ) → StateIsConsistent s → IsFalseLit s.values l → 0 < level s l → (b : IsBefore s (length s.trail.lits) (negated l)) → b.place ≡ depth s l - 1
 place_by_depth s l a f above b =
     omega (arith, a.depths b.place b.within, ap (λ z. depth s z) b.there, ap (λ v. (node_of s.nodes v).depth) (negated_variable l))
 
@@ -50,11 +50,11 @@ before_here words s p rs can first within e k lt =
 
 -- the first clause is taken up
 pub traced_first : (words : List ℕ) (s : State) (failed p : ℕ) (w : Work) → CanAnalyze words s → AreClear w.flags → length w.flags ≡ length s.values → p < length s.trail.lits → lit_at s p ≡ negated failed → 0 < level s failed →
-    is_unit (node s failed).reason ≡ false → Tracing words s failed (with_literals s.nodes 1 (causes_at words s failed) (used_up (negated failed) (begun_core failed w))) p
+    is_unit_reason (node s failed).reason ≡ false → TraceInvariant words s failed (with_met_literals s.nodes 1 (causes_at words s failed) (used_up (negated failed) (begun_core failed w))) p
 traced_first words s failed p w can clear size within there above caused =
     let w1 : Work = used_up (negated failed) (begun_core failed w) in
     let rs : List ℕ = causes_at words s failed in
-    let w2 : Work = with_literals s.nodes 1 rs w1 in
+    let w2 : Work = with_met_literals s.nodes 1 rs w1 in
     let v_is : variable (lit_at s p) ≡ variable failed = ap (λ z. variable z) there ∙ negated_variable failed in
     let up : level s (lit_at s p) ≡ level s failed = level_by_variable s (lit_at s p) failed v_is in
     let first : get_or s.trail.starts 0 0 ≤ p = above_first s p (lit_at s p) can.agrees within refl (omega (arith, up)) can.above in
@@ -70,7 +70,7 @@ traced_first words s failed p w can clear size within there above caused =
             let e : k ≡ 0 = omega arith in
             let is : get_or w2.used k 0 ≡ negated failed = ap (λ z. get_or w2.used z 0) e ∙ head in
             subst (λ z. IsReasoned s p z × (1 ≤ level s z)) (there ∙ sym is)
-            (record { place = p; from = omega arith; within = within; there = refl; above = omega (arith, up); caused = ap (λ v. is_unit (node_of s.nodes v).reason) v_is ∙ caused }, omega (arith, up));
+            (record { place = p; from = omega arith; within = within; there = refl; above = omega (arith, up); caused = ap (λ v. is_unit_reason (node_of s.nodes v).reason) v_is ∙ caused }, omega (arith, up));
         falling = λ j k a lt. absurd (omega arith);
         causes = λ k lt.
             let e : k ≡ 0 = omega arith in
@@ -119,15 +119,15 @@ head_kept : (xs : List ℕ) (x h : ℕ) → 0 < length xs → get_or xs 0 0 ≡ 
 head_kept xs x h lt e = get_or_append_left xs (x ∷ []) 0 0 lt ∙ e
 
 -- its clause is used
-pub traced_used : (words : List ℕ) (s : State) (failed : ℕ) (w : Work) (p at : ℕ) → CanAnalyze words s → Tracing words s failed w at → 0 < w.pending → IsLastFlagged s w.flags p at → variable (lit_at s p) < length w.flags →
-    is_unit (node s (lit_at s p)).reason ≡ false →
-    Tracing words s failed (with_literals s.nodes 1 (causes_at words s (lit_at s p)) (taken_up (node s (lit_at s p)).reason (lit_at s p) w)) p
+pub traced_used : (words : List ℕ) (s : State) (failed : ℕ) (w : Work) (p at : ℕ) → CanAnalyze words s → TraceInvariant words s failed w at → 0 < w.pending → IsLastFlagged s w.flags p at → variable (lit_at s p) < length w.flags →
+    is_unit_reason (node s (lit_at s p)).reason ≡ false →
+    TraceInvariant words s failed (with_met_literals s.nodes 1 (causes_at words s (lit_at s p)) (taken_up (node s (lit_at s p)).reason (lit_at s p) w)) p
 traced_used words s failed w p at can h some last b caused =
     let l : ℕ = lit_at s p in
     let t : Reached words s w p at = reached words s w p at can h.marks some last b in
     let w1 : Work = taken_up (node s l).reason l w in
     let rs : List ℕ = causes_at words s l in
-    let w2 : Work = with_literals s.nodes 1 rs w1 in
+    let w2 : Work = with_met_literals s.nodes 1 rs w1 in
     let marks : MarksWork s 1 w1 p = record { size = t.marks.size; within = t.marks.within; flagged = t.marks.flagged; lower = t.marks.lower; distinct = t.marks.distinct; counted = t.marks.counted } in
     let m : Met s 1 p rs w1 w2 = met_all s 1 p rs w1 can.agrees (λ k lt. can.before p k t.first t.within lt) marks in
     let forth : (q : ℕ) → IsCovered s 1 w at q → IsCovered s 1 w1 p q = λ q c. taken_covered s 1 w (node s l).reason p at q can.agrees h.marks.within last c in
@@ -140,7 +140,7 @@ traced_used words s failed w p at can h some last b caused =
       head = ap (λ (xs : List ℕ). get_or xs 0 0) m.used ∙ head_kept w.used l (negated failed) h.some h.head;
     }
 
-chosen_covered : (s : State) (w : Work) (p at r : ℕ) → Agrees s → at ≤ length s.trail.lits → IsLastFlagged s w.flags p at → IsCovered s 1 w at r → IsCovered s 1 (with_chosen (lit_at s p) w) p r
+chosen_covered : (s : State) (w : Work) (p at r : ℕ) → StateIsConsistent s → at ≤ length s.trail.lits → IsLastFlagged s w.flags p at → IsCovered s 1 w at r → IsCovered s 1 (with_chosen (lit_at s p) w) p r
 chosen_covered s w p at r a le h (covered_unit z) = covered_unit z
 chosen_covered s w p at r a le h (covered_clause c) = covered_clause c
 chosen_covered s w p at r a le h (covered_reason c) = covered_reason c
@@ -151,8 +151,8 @@ chosen_covered s w p at r a le h (covered_open x) = elim (passed_waiting s 1 w p
 ]
 
 -- it is one of the core
-pub traced_chosen : (words : List ℕ) (s : State) (failed : ℕ) (w : Work) (p at : ℕ) → CanAnalyze words s → Tracing words s failed w at → 0 < w.pending → IsLastFlagged s w.flags p at → variable (lit_at s p) < length w.flags →
-    is_unit (node s (lit_at s p)).reason ≡ true → Tracing words s failed (with_chosen (lit_at s p) w) p
+pub traced_chosen : (words : List ℕ) (s : State) (failed : ℕ) (w : Work) (p at : ℕ) → CanAnalyze words s → TraceInvariant words s failed w at → 0 < w.pending → IsLastFlagged s w.flags p at → variable (lit_at s p) < length w.flags →
+    is_unit_reason (node s (lit_at s p)).reason ≡ true → TraceInvariant words s failed (with_chosen (lit_at s p) w) p
 traced_chosen words s failed w p at can h some last b free =
     let l : ℕ = lit_at s p in
     let t : Reached words s w p at = reached words s w p at can h.marks some last b in
@@ -207,7 +207,7 @@ negation_out (x ∷ xs) r c = elim (cases_eq (negated x) r) [
   | inr n ↦ in_tail x xs (negated r) (negation_out xs r (there (negated x) (map negated xs) r n c))
 ]
 
-core_distinct : (s : State) (failed : ℕ) (core : List ℕ) → Agrees s → IsFalseLit s.values failed → IsCoreFrom s failed core 0 → AreDistinct core
+core_distinct : (s : State) (failed : ℕ) (core : List ℕ) → StateIsConsistent s → IsFalseLit s.values failed → IsCoreFrom s failed core 0 → AreDistinct core
 core_distinct s failed core a f h j k p q e = elim (cases_eq j k) [
   | inl x ↦ x
   | inr n ↦ elim (cases_eq j 0) [
@@ -228,12 +228,12 @@ core_distinct s failed core a f h j k p q e = elim (cases_eq j k) [
         not_both s.values failed (subst (λ z. IsTrueLit s.values z) (x.there ∙ is) (a.holds x.place x.within)) f
 
 -- nothing is flagged any more
-pub traced_end : (words : List ℕ) (s : State) (failed : ℕ) (w : Work) (at : ℕ) → CanAnalyze words s → IsFalseLit s.values failed → Tracing words s failed w at → w.pending ≡ 0 → Traced words s failed w
+pub traced_end : (words : List ℕ) (s : State) (failed : ℕ) (w : Work) (at : ℕ) → CanAnalyze words s → IsFalseLit s.values failed → TraceInvariant words s failed w at → w.pending ≡ 0 → TraceResult words s failed w
 traced_end words s failed w at can f h done =
-    let a : Agrees s = can.agrees in
+    let a : StateIsConsistent s = can.agrees in
     let lits : IsCoreFrom s failed w.core 0 = from_earlier s failed w.core 0 at (omega arith) h.lits in
     let in_core : Contains w.core failed = subst (λ z. Contains w.core z) h.lits.first (place_in w.core 0 h.lits.some) in
-    let ground : (q : ℕ) → IsCovered s 1 w at q → IsGrounded s (map negated w.core) w.used q = λ q c. end_grounded s w at q h.marks done c in
+    let ground : (q : ℕ) → IsCovered s 1 w at q → HasKnownCause s (map negated w.core) w.used q = λ q c. end_grounded s w at q h.marks done c in
     let reason : (l : ℕ) → Contains w.used l → IsReasoned s 0 l = λ l c.
     let x : IsReasoned s at l = subst (λ z. IsReasoned s at z) (at_place w.used l c) (h.uses.reasons c.0 c.1).0 in
     record { place = x.place; from = omega arith; within = x.within; there = x.there; above = x.above; caused = x.caused } in
@@ -249,7 +249,7 @@ traced_end words s failed w at can f h done =
       core = record { lits = lits; distinct = core_distinct s failed w.core a f lits };
       grounds = record {
         reasons = reason;
-        causes = λ l c. subst (λ z. (i : ℕ) → i < length (causes_at words s z) → IsGrounded s (map negated w.core) w.used (get_or (causes_at words s z) i 0)) (at_place w.used l c)
+        causes = λ l c. subst (λ z. (i : ℕ) → i < length (causes_at words s z) → HasKnownCause s (map negated w.core) w.used (get_or (causes_at words s z) i 0)) (at_place w.used l c)
             (λ i lt. ground (get_or (causes_at words s (get_or w.used c.0 0)) i 0) (h.uses.causes c.0 c.1 i lt));
         start = λ i lt. start_ground words s failed w at h ground in_core i lt;
         apart = λ l c d.
@@ -270,7 +270,7 @@ traced_end words s failed w at can f h done =
       head = h.head;
     }
   where
-    end_grounded : (s : State) (w : Work) (at r : ℕ) → MarksWork s 1 w at → w.pending ≡ 0 → IsCovered s 1 w at r → IsGrounded s (map negated w.core) w.used r
+    end_grounded : (s : State) (w : Work) (at r : ℕ) → MarksWork s 1 w at → w.pending ≡ 0 → IsCovered s 1 w at r → HasKnownCause s (map negated w.core) w.used r
     end_grounded s w at r m done (covered_unit z) = grounded_unit z
     end_grounded s w at r m done (covered_clause c) = absurd (omega (arith, c.1, no_clause s w at m))
     end_grounded s w at r m done (covered_reason c) = grounded_reason c
@@ -279,8 +279,8 @@ traced_end words s failed w at can f h done =
         let v_is : variable (lit_at s x.before.place) ≡ variable r = ap (λ z. variable z) x.before.there ∙ negated_variable r in
         absurd (open_no s 1 w.flags at x.before.place (sym m.counted ∙ done) x.before.before (ap (λ z. get_or w.flags z false) v_is ∙ x.flagged) (omega (arith, level_by_variable s (lit_at s x.before.place) r v_is, x.high)))
 
-    start_ground : (words : List ℕ) (s : State) (failed : ℕ) (w : Work) (at : ℕ) → Tracing words s failed w at → ((q : ℕ) → IsCovered s 1 w at q → IsGrounded s (map negated w.core) w.used q) → Contains w.core failed →
-        (i : ℕ) → i < length (clause_of words s (negated failed)) → IsGrounded s (map negated w.core) w.used (get_or (clause_of words s (negated failed)) i 0)
+    start_ground : (words : List ℕ) (s : State) (failed : ℕ) (w : Work) (at : ℕ) → TraceInvariant words s failed w at → ((q : ℕ) → IsCovered s 1 w at q → HasKnownCause s (map negated w.core) w.used q) → Contains w.core failed →
+        (i : ℕ) → i < length (clause_of words s (negated failed)) → HasKnownCause s (map negated w.core) w.used (get_or (clause_of words s (negated failed)) i 0)
     start_ground words s failed w at h ground in_core zero lt = grounded_clause (negation_in w.core (negated failed) (subst (λ z. Contains w.core z) (sym (negated_twice failed)) in_core))
     start_ground words s failed w at h ground in_core (suc i) lt =
         ground (get_or (causes_at words s (negated failed)) i 0)
@@ -306,5 +306,5 @@ found words s failed can f above =
     })
 
 -- a false literal above level 0 has a level that is open
-pub some_level : (s : State) (l : ℕ) → Agrees s → IsFalseLit s.values l → 0 < level s l → 0 < current_level s
+pub some_level : (s : State) (l : ℕ) → StateIsConsistent s → IsFalseLit s.values l → 0 < level s l → 0 < current_level s
 some_level s l a f above = omega (arith, level_low s (negated l) a (true_from_false s.values l f), level_by_variable s (negated l) l (negated_variable l))

@@ -7,7 +7,7 @@ use Rattle.sat_base.specs.values.Hashes.{hash_of, literal_hash}
 use Rattle.sat_base.specs.values.Literals.{variable}
 use Rattle.sat_parts.specs.clause.Glue.{HaveNodes}
 use Rattle.sat_parts.specs.declared.prop.graph.ImplNode.{ImplNode}
-use Rattle.sat_solver.specs.analyze_conflict.Work.{Work, with_literals, with_met_literal}
+use Rattle.sat_solver.specs.analyze_conflict.Work.{Work, with_met_literals, with_met_literal}
 use Rattle.sat_solver.specs.analyze_conflict.Minimal.{Followed, followed, is_settled, can_follow, marked}
 
 pub nodes_first : (nodes : List ImplNode) (xs ys : List ℕ) → HaveNodes nodes (xs ++ ys) → HaveNodes nodes xs
@@ -23,7 +23,7 @@ nodes_second nodes xs ys h k lt =
     let b = h (length xs + k) (omega (arith, length-append xs ys)) in
     omega (arith, same, b)
 
-pub with_both : (nodes : List ImplNode) (top : ℕ) (xs ys : List ℕ) (w : Work) → with_literals nodes top (xs ++ ys) w ≡ with_literals nodes top ys (with_literals nodes top xs w)
+pub with_both : (nodes : List ImplNode) (top : ℕ) (xs ys : List ℕ) (w : Work) → with_met_literals nodes top (xs ++ ys) w ≡ with_met_literals nodes top ys (with_met_literals nodes top xs w)
 with_both nodes top [] ys w = refl
 with_both nodes top (x ∷ xs) ys w = with_both nodes top xs ys (with_met_literal nodes top x w)
 

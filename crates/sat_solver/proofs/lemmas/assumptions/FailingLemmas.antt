@@ -27,8 +27,8 @@ use Rattle.sat_parts.specs.parts.Assumed.{AreDecided}
 use Rattle.sat_solver.proofs.lemmas.fits.AnswerParts.{parts_rests}
 use Rattle.sat_solver.specs.declared.error.SolverError.TheVariants as errors
 use Rattle.sat_solver.specs.declared.context.Search.{Search}
-use Rattle.sat_solver.specs.assumptions.Core.{causes_hashes, AreFailed, TellsCore}
-use Rattle.sat_solver.specs.cdcl.Going.{fault_of}
+use Rattle.sat_solver.specs.assumptions.Core.{causes_hashes, AreFailed, WritesCoreStep}
+use Rattle.sat_solver.specs.cdcl.Going.{proof_fault}
 use Rattle.sat_solver.specs.cdcl.Joint.{global_in, IsFree, IsSearch, SameVarsAndAssumptions, assumed_in}
 use Rattle.sat_solver.specs.cdcl.Turns.{IsFailing}
 use Rattle.sat_solver.proofs.lemmas.cdcl.TurnLemmas.{ready_moved}
@@ -100,20 +100,20 @@ module _ (p : Parts) (assumed : List ℕ) (failed : ℕ) (holds : PartsInvariant
 
 module _ {W L : Type 0} {G : Ghosts L} (seen : W → Writer) (a b : Proof W L G) (c c' : Search) where
   -- no memory was left before anything was written
-  pub tells_starved : HasAllowedSteps a → TellsCore seen (Err errors.OutOfMemory) a a c c'
-  tells_starved keeps = record { steps = []; went = adds_none seen a; core = tt; keeps = keeps; kept = tt; loss = inl refl; ends = tt }
+  pub reports_starved : HasAllowedSteps a → WritesCoreStep seen (Err errors.OutOfMemory) a a c c'
+  reports_starved keeps = record { steps = []; went = adds_none seen a; core = tt; keeps = keeps; kept = tt; loss = inl refl; ends = tt }
 
   -- the target failed
-  pub tells_broken : (e : ProofError) (core hashes : List ℕ) → HasAllowedSteps b → EmitsAsAnswered {T = Unit {0}} seen (Err e) (FailedAssumptions core hashes ∷ []) a b → TellsCore seen (Err (fault_of e)) a b c c'
-  tells_broken (Write cause) core hashes keeps fails = record { steps = FailedAssumptions core hashes ∷ []; went = fails.0; core = (refl, tt); keeps = keeps; kept = fails.1; loss = tt; ends = tt }
-  tells_broken OutOfMemory core hashes keeps gains = record { steps = []; went = gains_adds seen [] a b gains; core = tt; keeps = keeps; kept = tt; loss = inl gains.taking; ends = tt }
-  tells_broken (Check fault) core hashes keeps fails = record { steps = FailedAssumptions core hashes ∷ []; went = went_checked seen (Unit {0}) fault (FailedAssumptions core hashes ∷ []) a b fails.0; core = (refl, tt); keeps = keeps; kept = complaint_kept fault b fails.1; loss = check_loss fault a b fails.0.why; ends = fault_checked _ fault }
+  pub reports_broken : (e : ProofError) (core hashes : List ℕ) → HasAllowedSteps b → EmitsAsAnswered {T = Unit {0}} seen (Err e) (FailedAssumptions core hashes ∷ []) a b → WritesCoreStep seen (Err (proof_fault e)) a b c c'
+  reports_broken (Write cause) core hashes keeps fails = record { steps = FailedAssumptions core hashes ∷ []; went = fails.0; core = (refl, tt); keeps = keeps; kept = fails.1; loss = tt; ends = tt }
+  reports_broken OutOfMemory core hashes keeps gains = record { steps = []; went = gains_adds seen [] a b gains; core = tt; keeps = keeps; kept = tt; loss = inl gains.taking; ends = tt }
+  reports_broken (Check fault) core hashes keeps fails = record { steps = FailedAssumptions core hashes ∷ []; went = went_checked seen (Unit {0}) fault (FailedAssumptions core hashes ∷ []) a b fails.0; core = (refl, tt); keeps = keeps; kept = complaint_kept fault b fails.1; loss = check_loss fault a b fails.0.why; ends = fault_checked _ fault }
 
   -- what is told stands
-  pub tells_core : HasAllowedSteps b → (core : List ℕ) → core ≡ map (with_var (global_in c)) c'.analysis.core → (hashes : List ℕ) → hashes ≡ causes_hashes c.parts c'.analysis.used → EmitsChecked seen (FailedAssumptions core hashes ∷ []) a b →
+  pub reports_core : HasAllowedSteps b → (core : List ℕ) → core ≡ map (with_var (global_in c)) c'.analysis.core → (hashes : List ℕ) → hashes ≡ causes_hashes c.parts c'.analysis.used → EmitsChecked seen (FailedAssumptions core hashes ∷ []) a b →
       IsSearch (session_of a) c → IsFailing c.assumptions.lits.items c.parts c.failed → IsFailedAssumption c.parts.clauses (state c.parts) c.failed c'.analysis.core c'.analysis.used → IsFree c' →
-      c'.parts ≡ c.parts → c'.globals ≡ c.globals → c'.assumptions ≡ c.assumptions → TellsCore seen (Ok tt) a b c c'
-  tells_core keeps core core_is hashes hashes_is adds search failing f free parts globals assumptions = record {
+      c'.parts ≡ c.parts → c'.globals ≡ c.globals → c'.assumptions ≡ c.assumptions → WritesCoreStep seen (Ok tt) a b c c'
+  reports_core keeps core core_is hashes hashes_is adds search failing f free parts globals assumptions = record {
     steps = FailedAssumptions core hashes ∷ [];
     went = adds;
     core = (refl, tt);

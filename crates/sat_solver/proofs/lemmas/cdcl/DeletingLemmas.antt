@@ -11,10 +11,10 @@ use Rattle.sat_parts.specs.clause.Db.{live_refs, is_live_of}
 use Rattle.sat_parts.proofs.lemmas.clause.ListLemmas.{at_place, in_without}
 use Rattle.sat_parts.proofs.lemmas.prop.BuildLemmas.{live_in}
 use Rattle.sat_parts.specs.declared.parts.Parts.{Parts}
-use Rattle.sat_parts.specs.parts.Frame.{SameSearch, Dropped}
+use Rattle.sat_parts.specs.parts.Frame.{SameSearch, DropsLongClause}
 use Rattle.sat_parts.specs.parts.Reducing.{clause_rank}
 use Rattle.sat_parts.proofs.lemmas.parts.FewerLemmas.{without_there}
-use Rattle.sat_solver.specs.clause.Reduced.{IsReason, Tried, AreFirstFree, DeletesJustThese, HalvesLocals}
+use Rattle.sat_solver.specs.clause.Reduced.{IsReason, DeletesUnlessReason, AreFirstFree, DeletesJustThese, HalvesLocals}
 
 abbrev live : Parts → List ℕ
 live p = live_refs p.clauses p.db.refs
@@ -32,7 +32,7 @@ deletes_none p keeps = record {
 }
 
 -- one clause more
-module _ (p q r : Parts) (gone : List ℕ) (o : ℕ) (x : DeletesJustThese p q gone) (here : Contains (live q) o) (d : Dropped q r o) where
+module _ (p q r : Parts) (gone : List ℕ) (o : ℕ) (x : DeletesJustThese p q gone) (here : Contains (live q) o) (d : DropsLongClause q r o) where
   left_alone : (u : ℕ) → Contains (live r) u → Contains (live q) u × (u ≢ o)
   left_alone u c = in_without o u (live q) (subst (λ os. Contains os u) d.deletes.live c)
 
@@ -82,7 +82,7 @@ pub record Halving (p q : Parts) (list rest : List ℕ) (left : ℕ) : Type 0 wh
 pub halving_none : (p : Parts) (list : List ℕ) (left : ℕ) → left ≡ length list / 2 → ((o : ℕ) → Contains (live p) o → SameClauseAt p.clauses p.clauses o) → Halving p p list list left
 halving_none p list left e keeps = record { gone = []; first = λ free h. rw e at h; deletes = deletes_none p keeps }
 
-pub halving_next : (p q r : Parts) (list rest : List ℕ) (o n left : ℕ) (b : Bool) → Halving p q list (o ∷ rest) (suc n) → Contains (live q) o → Tried b o q r → left ≡ cond b n (suc n) → Halving p r list rest left
+pub halving_next : (p q r : Parts) (list rest : List ℕ) (o n left : ℕ) (b : Bool) → Halving p q list (o ∷ rest) (suc n) → Contains (live q) o → DeletesUnlessReason b o q r → left ≡ cond b n (suc n) → Halving p r list rest left
 halving_next p q r list rest o n left true h here t e = record {
   gone = h.gone ++ o ∷ [];
   first = λ free k. subst (λ us. AreFirstFree p list (length list / 2) us) (sym (append_assoc h.gone (o ∷ []) free)) (h.first (o ∷ free) (inr (free_before p q h.gone o h.deletes here t.0, free, refl, rw e at k)));
@@ -118,7 +118,7 @@ module _ (p q : Parts) (list : List ℕ) (all : IsPermutation (filter (is_live_o
   halved_all rest left e h = done rest left (rw e refl) h
 
 -- one clause more of the list was looked at
-pub halving_step : (p q r : Parts) (list : List ℕ) (at o left later : ℕ) (b : Bool) → Halving p q list (drop at list) left → at < length list → o ≡ get_or list at 0 → 0 < left → Contains (live q) o → Tried b o q r → later ≡ cond b (left - 1) left →
+pub halving_step : (p q r : Parts) (list : List ℕ) (at o left later : ℕ) (b : Bool) → Halving p q list (drop at list) left → at < length list → o ≡ get_or list at 0 → 0 < left → Contains (live q) o → DeletesUnlessReason b o q r → later ≡ cond b (left - 1) left →
     Halving p r list (drop (at + 1) list) later
 halving_step p q r list at o zero later b h lt here some c t e = absurd (omega arith)
 halving_step p q r list at o (suc n) later b h lt here some c t e =

@@ -28,7 +28,7 @@ use Rattle.sat_solver.specs.variables.Shared.{SharesIndices}
 use Rattle.sat_solver.proofs.lemmas.cdcl.GoingLemmas.{goes_failing}
 use Rattle.sat_solver.proofs.lemmas.cdcl.RoundLemmas.{round_from}
 use Rattle.sat_solver.proofs.lemmas.solver.BehindLemmas.{nothing_behind}
-use Rattle.sat_solver.proofs.lemmas.solver.TellingLemmas.{shares_moved}
+use Rattle.sat_solver.proofs.lemmas.solver.ReportingLemmas.{shares_moved}
 use Rattle.sat_solver.specs.unit_simplify.Freed.{KeepsAsked}
 use Rattle.sat_solver.specs.unit_simplify.Passes.{StandTogether, PassesQuietly, FindsFalseClause}
 use Rattle.sat_solver.proofs.lemmas.unit_simplify.FreedLemmas.{asked_refl}

@@ -14,14 +14,14 @@ use Rattle.sat_solver.specs.declared.proof.ProofError.TheVariants.{Write, OutOfM
 use Rattle.sat_solver.proofs.lemmas.session.ProofLemmas.{adds_none, adds_more, gains_none, gains_adds, gains_more, fails_later, check_later}
 use Rattle.sat_store.specs.declared.clause.alloc.StoreError.{StoreError}
 use Rattle.sat_store.specs.declared.clause.alloc.StoreError.TheVariants as stores
-use Rattle.sat_solver.specs.Recovery.{failure_of}
+use Rattle.sat_solver.specs.Recovery.{buffer_failure}
 use Rattle.sat_solver.specs.proof.Complaints.{IsComplaint}
 use Rattle.sat_solver.specs.cdcl.Faults.{IsKept, NamesLoss}
 use Rattle.sat_solver.specs.declared.error.SolverError.{SolverError}
 use Rattle.sat_solver.specs.declared.error.SolverError.TheVariants as errors
 use Rattle.sat_solver.specs.session.Quiet.{is_quiet, AreQuiet}
 use Rattle.sat_solver.proofs.lemmas.fits.QuietLemmas.{quiet_both}
-use Rattle.sat_solver.specs.cdcl.Going.{AreSearched, IsSearched, AreQuietUnless, check_fault_of, fault_of, IsFault, IsFaultOr, EmitsUpToFault, EmitsSteps, EmitsStepsOr, EmitsStepsWith}
+use Rattle.sat_solver.specs.cdcl.Going.{AreSearched, IsSearched, AreQuietUnless, check_fault_of, proof_fault, IsFault, IsFaultOr, EmitsUpToFault, EmitsSteps, EmitsStepsOr, EmitsStepsWith}
 use Rattle.sat_solver.proofs.lemmas.cdcl.AskedLemmas.{names_behind}
 
 both : (names : ℕ → Option ℕ) (ys xs : List Step) → AreSearched names ys → AreSearched names xs → AreSearched names (ys ++ xs)
@@ -117,13 +117,13 @@ module _ {W L : Type 0} {G : Ghosts L} (seen : W → Writer) where
   goes_learned x p q step P s keeps gains h = record { steps = step ∷ []; went = gains; searched = (s, tt); quiet = tt; keeps = keeps; kept = tt; loss = tt; ends = h }
 
   -- a step was made, and the target failed at it, or no memory was left for it
-  pub goes_broken : {A full : Type 0} {learns : Bool} (e : ProofError) (p q : Proof W L G) (step : Step) (P : A → List Step → Type 0) → IsSearched (session_of p).solver_names step → HasAllowedSteps q → EmitsAsAnswered {T = Unit {0}} seen (Err e) (step ∷ []) p q → EmitsStepsWith full learns seen (Err (fault_of e)) p q P
+  pub goes_broken : {A full : Type 0} {learns : Bool} (e : ProofError) (p q : Proof W L G) (step : Step) (P : A → List Step → Type 0) → IsSearched (session_of p).solver_names step → HasAllowedSteps q → EmitsAsAnswered {T = Unit {0}} seen (Err e) (step ∷ []) p q → EmitsStepsWith full learns seen (Err (proof_fault e)) p q P
   goes_broken (Write cause) p q step P s keeps fails = record { steps = step ∷ []; went = fails.0; searched = (s, tt); quiet = tt; keeps = keeps; kept = fails.1; loss = tt; ends = tt }
   goes_broken OutOfMemory p q step P s keeps gains = record { steps = []; went = gains_adds seen [] p q gains; searched = tt; quiet = tt; keeps = keeps; kept = tt; loss = inl gains.taking; ends = tt }
   goes_broken {A = A} {full} (Check fault) p q step P s keeps fails = record { steps = step ∷ []; went = went_checked A fault (step ∷ []) p q fails.0; searched = (s, tt); quiet = tt; keeps = keeps; kept = complaint_kept fault q fails.1; loss = check_loss fault p q fails.0.why; ends = fault_checked full fault }
 
   -- a step was made, and then the clause buffer refused
-  pub goes_refused : {A full : Type 0} {learns : Bool} (s : StoreError) (p q : Proof W L G) (step : Step) (P : A → List Step → Type 0) → IsSearched (session_of p).solver_names step → HasAllowedSteps q → EmitsChecked seen (step ∷ []) p q → (s ≡ stores.StoreFull → full) → EmitsStepsWith full learns seen (Err (failure_of s)) p q P
+  pub goes_refused : {A full : Type 0} {learns : Bool} (s : StoreError) (p q : Proof W L G) (step : Step) (P : A → List Step → Type 0) → IsSearched (session_of p).solver_names step → HasAllowedSteps q → EmitsChecked seen (step ∷ []) p q → (s ≡ stores.StoreFull → full) → EmitsStepsWith full learns seen (Err (buffer_failure s)) p q P
   goes_refused stores.StoreFull p q step P s keeps gains f = record { steps = step ∷ []; went = gains_adds seen (step ∷ []) p q gains; searched = (s, tt); quiet = tt; keeps = keeps; kept = tt; loss = gains.taking; ends = f refl }
   goes_refused stores.OutOfMemory p q step P s keeps gains f = record { steps = step ∷ []; went = gains_adds seen (step ∷ []) p q gains; searched = (s, tt); quiet = tt; keeps = keeps; kept = tt; loss = inl gains.taking; ends = tt }
 

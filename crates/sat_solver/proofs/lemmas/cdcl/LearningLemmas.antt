@@ -21,7 +21,7 @@ use Rattle.sat_solver.proofs.lemmas.session.UnitLemmas.{units_consistent}
 use Rattle.sat_parts.specs.declared.prop.graph.Reason.{Reason}
 use Rattle.sat_parts.specs.prop.State.{State, enqueued}
 use Rattle.sat_parts.specs.parts.Assumed.{ArePlaced}
-use Rattle.sat_parts.specs.parts.Frame.{Learnt, learnt_unit, learnt_binary, learnt_long, KeepsTo}
+use Rattle.sat_parts.specs.parts.Frame.{AddsLearnedClause, learnt_unit, learnt_binary, learnt_long, KeepsTo}
 use Rattle.sat_parts.specs.parts.Learned.{IsPending}
 use Rattle.sat_parts.proofs.lemmas.parts.KeepLemmas.{keeps_enqueued}
 use Rattle.sat_solver.specs.declared.context.Search.{Search}
@@ -84,12 +84,12 @@ module _ (p q : Parts) (header : Header) (ls : List ℕ) (top : ℕ) (h : PartsI
   enqueued_by : (r : Reason) → state q ≡ enqueued (get_or ls 0 0) r (state p) → KeepsTo top (state p) (state q)
   enqueued_by r e = subst (λ s. KeepsTo top (state p) s) (sym e) (keeps_enqueued top (state p) (get_or ls 0 0) r h.below.asks.agrees h.below.levelled pending.open_first pending.there)
 
-  pub keeps_learnt : Learnt p q header ls → KeepsTo top (state p) (state q)
+  pub keeps_learnt : AddsLearnedClause p q header ls → KeepsTo top (state p) (state q)
   keeps_learnt (learnt_unit n same r caused e) = enqueued_by r e
   keeps_learnt (learnt_binary n cs db b r caused e) = enqueued_by r e
   keeps_learnt (learnt_long n o adds b r caused e) = enqueued_by r e
 
-pub starts_learnt : (p q : Parts) (header : Header) (ls : List ℕ) → Learnt p q header ls → q.trail.starts ≡ p.trail.starts
+pub starts_learnt : (p q : Parts) (header : Header) (ls : List ℕ) → AddsLearnedClause p q header ls → q.trail.starts ≡ p.trail.starts
 starts_learnt p q header ls (learnt_unit n same r caused e) = ap (λ (s : State). s.trail.starts) e
 starts_learnt p q header ls (learnt_binary n cs db b r caused e) = ap (λ (s : State). s.trail.starts) e
 starts_learnt p q header ls (learnt_long n o adds b r caused e) = ap (λ (s : State). s.trail.starts) e

@@ -7,7 +7,7 @@ use Rattle.sat_parts.specs.parts.Round.{UnitsAreUncaused, IsBased}
 use Rattle.sat_parts.specs.prop.State.{State}
 use Rattle.sat_parts.specs.parts.Assumed.{IsPlaced}
 use Rattle.sat_parts.specs.parts.Whole.{state, PartsInvariant, HoldsBelow, IsFullyPropagated}
-use Rattle.sat_parts.specs.parts.Frame.{SameClauses, Clears}
+use Rattle.sat_parts.specs.parts.Frame.{SameClauses, TakesOffUnits}
 use Rattle.sat_parts.specs.parts.Words.{TrailWordExtends}
 use Rattle.sat_parts.proofs.lemmas.parts.WordSteps.{extends_refl}
 use Rattle.sat_solver.specs.session.Session.{Session, after}
@@ -46,7 +46,7 @@ module _ (p : Parts) (s : Session) (global : ℕ → ℕ) (orderly : IsOrderly p
       fits_quiet p.clauses (live_refs p.clauses p.db.refs) p.binary.implied p s global (subst (λ us. AllUnits p (after (UnitClauses us) s) global) none units_step)
 
 -- what was looked at at level 0 stays so
-placed_cleared : (ls below : List ℕ) (place : ℕ) (s s' : State) → length s.trail.starts ≡ 0 → s'.trail.starts ≡ [] → Clears s s' → IsPlaced ls below place s → IsPlaced ls below place s'
+placed_cleared : (ls below : List ℕ) (place : ℕ) (s s' : State) → length s.trail.starts ≡ 0 → s'.trail.starts ≡ [] → TakesOffUnits s s' → IsPlaced ls below place s → IsPlaced ls below place s'
 placed_cleared ls below place s s' bottom none clears x =
     let flat : length s'.trail.starts ≡ 0 = ap (λ (xs : List ℕ). length xs) none in
     record {
@@ -72,7 +72,7 @@ settled_above p s global above h done units fits = record {
 }
 
 -- at level 0 units were taken off the trail
-pub settled_bottom : (p q : Parts) (s : Session) (global : ℕ → ℕ) → AllUnits p s global → length p.trail.starts ≡ 0 → PartsInvariant q → IsFullyPropagated q → q.trail.starts ≡ [] → q.trail.lits ≡ [] → SameClauses p q → Clears (state p) (state q) → TrailWordExtends p q → TakesUnitsOff p q s global
+pub settled_bottom : (p q : Parts) (s : Session) (global : ℕ → ℕ) → AllUnits p s global → length p.trail.starts ≡ 0 → PartsInvariant q → IsFullyPropagated q → q.trail.starts ≡ [] → q.trail.lits ≡ [] → SameClauses p q → TakesOffUnits (state p) (state q) → TrailWordExtends p q → TakesUnitsOff p q s global
 settled_bottom p q s global all bottom holds done none empty same clears word = record {
   stands = record { holds = holds; fits = rw (same.0, same.1, same.2) (fits_cleared p.clauses (live_refs p.clauses p.db.refs) p.binary.implied (state p) (state q) s global clears all) };
   done = done;

@@ -4,7 +4,7 @@ use Rattle.sat_base.specs.values.Literals.{variable, negated}
 use Rattle.sat_base.specs.values.Hashes.{hash_of}
 use Rattle.sat_parts.specs.declared.prop.graph.Conflict.{Conflict}
 use Rattle.sat_parts.specs.prop.Causes.{falsified}
-use Rattle.sat_parts.specs.prop.Graphs.{is_unit}
+use Rattle.sat_parts.specs.prop.Graphs.{is_unit_reason}
 use Rattle.sat_parts.specs.prop.State.{State, node}
 use Rattle.sat_parts.proofs.lemmas.prop.StateLemmas.{negated_variable, true_from_false}
 use Rattle.sat_solver.specs.session.LiveClauses.{with_var}
@@ -32,7 +32,7 @@ module _ (names : ℕ → Option ℕ) (global : ℕ → ℕ) where
     -- and those that are written as units
     pub written_named : (ls : List ℕ) → ((k : ℕ) → k < length ls → names (global (variable (get_or ls k 0))) ≡ Some (variable (get_or ls k 0))) → HaveSolverNames names (map (λ u. u.0) (written_units words st width global ls))
     written_named [] h = tt
-    written_named (l ∷ ls) h = more (written_units words st width global ls) (hash_of (reason_clause words l (node st l).reason) / 2 ^ (64 - width)) (is_unit (node st l).reason) (one l (h 0 (omega arith))) (written_named ls (λ k lt. h (suc k) (omega arith)))
+    written_named (l ∷ ls) h = more (written_units words st width global ls) (hash_of (reason_clause words l (node st l).reason) / 2 ^ (64 - width)) (is_unit_reason (node st l).reason) (one l (h 0 (omega arith))) (written_named ls (λ k lt. h (suc k) (omega arith)))
       where
         more : (us : List (ℕ × ℕ)) (n : ℕ) (b : Bool) → (x : ℕ) × (names (variable (with_var global l)) ≡ Some x) → HaveSolverNames names (map (λ u. u.0) us) → HaveSolverNames names (map (λ u. u.0) (cond b us ((with_var global l, n) ∷ us)))
         more us n true x h = h

@@ -9,23 +9,23 @@ use Rattle.sat_parts.specs.prop.TrailWord.{IsLevelled}
 use Rattle.sat_store.specs.heap.Vsids.{Queue}
 use Rattle.sat_solver.specs.analyze_conflict.Work.{Work}
 use Rattle.sat_parts.specs.declared.parts.Parts.{Parts}
-use Rattle.sat_parts.specs.parts.Frame.{SameClauses, AddsNoUnit, KeepsTo, Learnt, Headed}
-use Rattle.sat_parts.specs.parts.Learned.{IsLearned, IsPending}
+use Rattle.sat_parts.specs.parts.Frame.{SameClauses, AddsNoUnit, KeepsTo, AddsLearnedClause, ChangesHeaders}
+use Rattle.sat_parts.specs.parts.Learned.{IsAnalyzedClause, IsPending}
 use Rattle.sat_parts.specs.parts.Whole.{state, PartsInvariant}
 use Rattle.sat_parts.specs.parts.Words.{GoneAndIdleStay, TrailWordStays}
 use Rattle.sat_parts.proofs.lemmas.parts.KeepLemmas.{keeps_trans}
 use Rattle.sat_parts.proofs.lemmas.parts.WordSteps.{rises_taken}
 use Rattle.sat_solver.proofs.lemmas.fits.FramedParts.{fits_headed}
 use Rattle.sat_solver.proofs.lemmas.fits.LearnedLemmas.{size_learnt, fits_learnt, fits_undone, false_signs}
-use Rattle.sat_solver.specs.clause.Assessed.{levels_in, TakePart, AreInvolved}
+use Rattle.sat_solver.specs.clause.Assessed.{levels_in, BumpsClauses, AreInvolved}
 use Rattle.sat_solver.specs.declared.context.Search.{Search}
 use Rattle.sat_solver.specs.cdcl.Joint.{IsFree, SameVarsAndAssumptions}
-use Rattle.sat_solver.specs.cdcl.Learning.{UndoesAndLearns, Rated}
+use Rattle.sat_solver.specs.cdcl.Learning.{UndoesAndLearns, BumpsInvolved}
 use Rattle.sat_solver.proofs.lemmas.cdcl.LearningLemmas.{keeps_learnt, starts_learnt}
 
-module _ (p mid q n : Parts) (header : Header) (ls : List ℕ) (top : ℕ) (levelled : IsLevelled (state p)) (learned : IsLearned (state p) ls top)
+module _ (p mid q n : Parts) (header : Header) (ls : List ℕ) (top : ℕ) (levelled : IsLevelled (state p)) (learned : IsAnalyzedClause (state p) ls top)
     (trail : mid.trail ≡ cut_to top p.trail) (starts : length mid.trail.starts ≡ top) (same : SameClauses p mid) (carries : AddsNoUnit (state p) (state mid)) (keeps : KeepsTo top (state p) (state mid)) (stay : TrailWordStays p mid)
-    (pending : IsPending (state mid) mid.vsids ls) (headed : Headed mid q) (holds : PartsInvariant q) where
+    (pending : IsPending (state mid) mid.vsids ls) (headed : ChangesHeaders mid q) (holds : PartsInvariant q) where
   same_state : state q ≡ state mid
   same_state = rw (headed.same.0.0, headed.same.0.1, headed.same.0.2) (refl {a = state mid})
 
@@ -35,7 +35,7 @@ module _ (p mid q n : Parts) (header : Header) (ls : List ℕ) (top : ℕ) (leve
   stay_before : TrailWordStays q n → TrailWordStays mid n
   stay_before x am = subst (λ (v : Queue). GoneAndIdleStay am (state mid) v (state n) n.vsids) headed.same.2 (subst (λ (s : State). GoneAndIdleStay am s q.vsids (state n) n.vsids) same_state (x am))
 
-  taken : PartsInvariant n → n.trail ≡ with_lit (get_or ls 0 0) q.trail → Learnt q n header ls → TrailWordStays q n → UndoesAndLearns p n header ls top
+  taken : PartsInvariant n → n.trail ≡ with_lit (get_or ls 0 0) q.trail → AddsLearnedClause q n header ls → TrailWordStays q n → UndoesAndLearns p n header ls top
   taken after last learnt more = record {
     holds = after;
     fits = λ s global hashes flag flags names fits.
@@ -46,7 +46,7 @@ module _ (p mid q n : Parts) (header : Header) (ls : List ℕ) (top : ℕ) (leve
     starts = ap (λ (xs : List ℕ). length xs) (starts_learnt q n header ls learnt) ∙ ap (λ (t : Trailed). length t.starts) headed.same.0.2 ∙ starts;
   }
 
-  pub taken_ok : {E : Type 0} (r : Result (Unit {0}) E) → OnOk r (PartsInvariant n) → OnOk r (n.trail ≡ with_lit (get_or ls 0 0) q.trail) → OnOk r (Learnt q n header ls) → OnOk r (TrailWordStays q n) → OnOk r (UndoesAndLearns p n header ls top)
+  pub taken_ok : {E : Type 0} (r : Result (Unit {0}) E) → OnOk r (PartsInvariant n) → OnOk r (n.trail ≡ with_lit (get_or ls 0 0) q.trail) → OnOk r (AddsLearnedClause q n header ls) → OnOk r (TrailWordStays q n) → OnOk r (UndoesAndLearns p n header ls top)
   taken_ok (Ok x) a b c d = taken a b c d
   taken_ok (Err e) a b c d = tt
 
@@ -61,7 +61,7 @@ module _ (p mid : Parts) (same : SameClauses p mid) (graph : mid.graph ≡ p.gra
 
   module _ (q n : Parts) (s s' : Scale) (w : Work) (header : Header) where
     -- what became of the clauses that took part, and of the learned one
-    pub rated_ok : {E : Type 0} → q.db.refs ≡ mid.db.refs → TakePart (levels_in mid) mid.db.refs w.involved mid.clauses s q.clauses s' → (r : Result (Unit {0}) E) → OnOk r (Learnt q n header w.clause) → OnOk r (Rated p s w header n s')
+    pub rated_ok : {E : Type 0} → q.db.refs ≡ mid.db.refs → BumpsClauses (levels_in mid) mid.db.refs w.involved mid.clauses s q.clauses s' → (r : Result (Unit {0}) E) → OnOk r (AddsLearnedClause q n header w.clause) → OnOk r (BumpsInvolved p s w header n s')
     rated_ok refs take (Ok x) learnt = record {
       between = q;
       take = rw (same.0, same.1, graph) at take;

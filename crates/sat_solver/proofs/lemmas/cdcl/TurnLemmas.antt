@@ -7,7 +7,7 @@ use Rattle.sat_parts.specs.clause.Db.{live_refs}
 use Rattle.sat_parts.specs.prop.Ready.{IsConflict}
 use Rattle.sat_parts.specs.declared.parts.Parts.{Parts}
 use Rattle.sat_parts.specs.parts.Assumed.{ArePlaced}
-use Rattle.sat_parts.specs.parts.Frame.{Reordered, AddsNoUnit, KeepsTo}
+use Rattle.sat_parts.specs.parts.Frame.{ReordersLits, AddsNoUnit, KeepsTo}
 use Rattle.sat_parts.specs.parts.Round.{UnitsAreUncaused, IsBased}
 use Rattle.sat_parts.specs.parts.Whole.{state, HoldsBelow, IsFullyPropagated}
 use Rattle.sat_parts.specs.parts.Words.{TrailWordExtends, TrailWordExtendsFor, GoneAndIdleStay}
@@ -16,7 +16,7 @@ use Rattle.sat_parts.proofs.lemmas.parts.WordSteps.{extends_after}
 use Rattle.sat_solver.specs.proof.ProofView.{steps_of, session_of}
 use Rattle.sat_solver.specs.declared.proof.Proof.{Proof}
 use Rattle.sat_solver.specs.session.Session.{Session, session_after}
-use Rattle.sat_solver.specs.session.Naming.{global_of}
+use Rattle.sat_solver.specs.session.Naming.{global_of_index}
 use Rattle.sat_solver.specs.session.Fits.{SessionMatchesParts, TrueLitsHaveNames}
 use Rattle.sat_solver.proofs.lemmas.fits.LearnedLemmas.{fits_undone}
 use Rattle.sat_solver.proofs.lemmas.fits.StepLemmas.{fits_propagated}
@@ -83,7 +83,7 @@ pub record Propagation (s : Session) (c d : Search) : Type 0 where
   pub starts : d.parts.trail.starts ≡ c.parts.trail.starts
 
 module _ (s : Session) (c c' : Search) (search : IsSearch s c) (globals : c'.globals ≡ c.globals) (assumptions : c'.assumptions ≡ c.assumptions) (analysis : c'.analysis ≡ c.analysis) (flags : c'.flags ≡ c.flags)
-    (starts : c'.parts.trail.starts ≡ c.parts.trail.starts) (moved : Reordered c.parts c'.parts) (carries : AddsNoUnit (state c.parts) (state c'.parts)) (word : TrailWordExtends c.parts c'.parts) (keeps : (top : ℕ) → KeepsTo top (state c.parts) (state c'.parts)) where
+    (starts : c'.parts.trail.starts ≡ c.parts.trail.starts) (moved : ReordersLits c.parts c'.parts) (carries : AddsNoUnit (state c.parts) (state c'.parts)) (word : TrailWordExtends c.parts c'.parts) (keeps : (top : ℕ) → KeepsTo top (state c.parts) (state c'.parts)) where
   pub propagated_moved : SameVarsAndAssumptions c c'
   propagated_moved = record { globals = globals; lits = ap (λ a. a.lits) assumptions; size = carries.size }
 
@@ -180,9 +180,9 @@ module _ (s s' : Session) (c c' : Search) (mid : Parts) (propagated : IsPropagat
 
 -- what was propagated, units that were written, and a level that began, or none
 module _ {W L : Type 0} {G : Ghosts L} (seen : W → Writer) (p q : Proof W L G) (c d e : Search) (mid : Parts) (went : Propagation (session_of p) c d) (gs : List ℕ) (same : gs ≡ d.globals.items)
-    (settles : EmitsSteps {A = Unit {0}} seen (Ok tt) p q (λ _ _. TakesUnitsOff d.parts mid (session_of q) (global_of gs))) (globals : e.globals ≡ d.globals) (analysis : e.analysis ≡ d.analysis) (flags : e.flags ≡ d.flags) where
+    (settles : EmitsSteps {A = Unit {0}} seen (Ok tt) p q (λ _ _. TakesUnitsOff d.parts mid (session_of q) (global_of_index gs))) (globals : e.globals ≡ d.globals) (analysis : e.analysis ≡ d.analysis) (flags : e.flags ≡ d.flags) where
   pub turned : (found : Option FoundConflict) → GoesDeeper found d.assumptions e.assumptions mid e.parts → TakesTurn found (session_of q) c e
   turned found deeper =
       let leaves : SameAssumedAndNames (session_of p) (session_of q) = subst (λ ss. SameAssumedAndNames (session_of p) (session_after ss)) (sym settles.went.history) (leaves_after settles.steps (steps_of p) (kinds_of (session_of p).solver_names settles.steps settles.searched)) in
-      let settled : TakesUnitsOff d.parts mid (session_of q) (global_in d) = subst (λ hs. TakesUnitsOff d.parts mid (session_of q) (global_of hs)) same settles.ends in
+      let settled : TakesUnitsOff d.parts mid (session_of q) (global_in d) = subst (λ hs. TakesUnitsOff d.parts mid (session_of q) (global_of_index hs)) same settles.ends in
       turned_from found (session_of q) c d e went.moved went.word (ap (λ ss. length ss) went.starts) (gone_on (session_of p) (session_of q) d e mid went.whole leaves settled globals analysis flags found deeper)

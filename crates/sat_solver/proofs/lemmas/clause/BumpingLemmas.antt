@@ -12,7 +12,7 @@ use Rattle.sat_parts.specs.parts.Words.{TrailWordExtends, TrailWordRises}
 use Rattle.sat_parts.proofs.lemmas.parts.LoadFrames.{carries_same}
 use Rattle.sat_solver.proofs.lemmas.fits.LearnedLemmas.{fits_undone}
 use Rattle.sat_solver.specs.declared.context.Search.{Search}
-use Rattle.sat_solver.specs.clause.Activity.{all_bumped, Bumped}
+use Rattle.sat_solver.specs.clause.Activity.{all_bumped, BumpEffect}
 use Rattle.sat_solver.specs.cdcl.Joint.{global_in, IsSearch}
 use Rattle.sat_solver.specs.cdcl.Learning.{LearnsAndRises}
 use Rattle.sat_solver.specs.unit_simplify.Left.{SameSize}
@@ -24,7 +24,7 @@ same_state : (p p' : Parts) → SameState p p' → state p' ≡ state p
 same_state p p' x = rw (x.0, x.1, x.2) refl
 
 pub bumped_same : (s : Session) (c c' : Search) → IsSearch s c → c'.globals ≡ c.globals → c'.assumptions ≡ c.assumptions → c'.analysis ≡ c.analysis → c'.flags ≡ c.flags →
-    PartsInvariant c'.parts → SameClauses c.parts c'.parts → SameState c.parts c'.parts → TrailWordExtends c.parts c'.parts → Bumped s c c'
+    PartsInvariant c'.parts → SameClauses c.parts c'.parts → SameState c.parts c'.parts → TrailWordExtends c.parts c'.parts → BumpEffect s c c'
 bumped_same s c c' search globals assumptions analysis flags holds clauses states word =
     let size : SameSize c.parts c'.parts = ap (λ a. length a.current) states.0 in
     record {
@@ -50,7 +50,7 @@ rises_on p q r x y = λ am. (
 )
 
 -- a learned clause stands when activities were raised
-pub learned_on : (earlier steps : List Step) (s : Session) (a b c : Search) → LearnsAndRises earlier steps s a b → Bumped s b c → LearnsAndRises earlier steps s a c
+pub learned_on : (earlier steps : List Step) (s : Session) (a b c : Search) → LearnsAndRises earlier steps s a b → BumpEffect s b c → LearnsAndRises earlier steps s a c
 learned_on earlier steps s a b c x y = record {
   search = y.search;
   moved = moved_trans a b c x.moved y.moved;

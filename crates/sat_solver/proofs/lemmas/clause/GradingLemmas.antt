@@ -11,10 +11,10 @@ use Rattle.sat_parts.specs.clause.Db.{live_refs, PutsHeader}
 use Rattle.sat_parts.specs.clause.Glue.{HaveNodes, HaveFlags}
 use Rattle.sat_parts.specs.clause.Stored.{lit_of}
 use Rattle.sat_parts.specs.declared.parts.Parts.{Parts}
-use Rattle.sat_parts.specs.parts.Frame.{Headed}
+use Rattle.sat_parts.specs.parts.Frame.{ChangesHeaders}
 use Rattle.sat_parts.specs.parts.Whole.{PartsInvariant}
 use Rattle.sat_parts.proofs.lemmas.parts.WordSteps.{extends_refl, extends_trans}
-use Rattle.sat_solver.specs.clause.Assessed.{with_glue, improved, levels_in, TakesPart, DecaysActivities, TakePart, Rates, AreInvolved}
+use Rattle.sat_solver.specs.clause.Assessed.{with_glue, improved, levels_in, BumpsClause, DecaysActivities, BumpsClauses, ChangesOnlyHeaders, AreInvolved}
 
 -- the header of a clause was put twice
 pub puts_twice : (a b c refs : List ℕ) (o : ℕ) (h k : Header) → PutsHeader a b refs o h → PutsHeader b c refs o k → PutsHeader a c refs o k
@@ -28,10 +28,10 @@ puts_twice a b c refs o h k x y = record {
 
 -- FRAMES
 
-headed_refl : (p : Parts) → Headed p p
+headed_refl : (p : Parts) → ChangesHeaders p p
 headed_refl p = record { live = refl; lits = λ o c. refl; sides = λ o c. refl; same = ((refl, refl, refl), refl, refl) }
 
-headed_trans : (p q r : Parts) → Headed p q → Headed q r → Headed p r
+headed_trans : (p q r : Parts) → ChangesHeaders p q → ChangesHeaders q r → ChangesHeaders p r
 headed_trans p q r x y = record {
   live = y.live ∙ x.live;
   lits = λ o c. y.lits o (subst (λ os. Contains os o) (sym x.live) c) ∙ x.lits o c;
@@ -39,10 +39,10 @@ headed_trans p q r x y = record {
   same = ((y.same.0.0 ∙ x.same.0.0, y.same.0.1 ∙ x.same.0.1, y.same.0.2 ∙ x.same.0.2), y.same.1 ∙ x.same.1, y.same.2 ∙ x.same.2);
 }
 
-pub rates_refl : (p : Parts) → PartsInvariant p → Rates p p
+pub rates_refl : (p : Parts) → PartsInvariant p → ChangesOnlyHeaders p p
 rates_refl p holds = record { holds = holds; headed = headed_refl p; refs = refl; word = extends_refl p }
 
-pub rates_trans : (p q r : Parts) → Rates p q → Rates q r → Rates p r
+pub rates_trans : (p q r : Parts) → ChangesOnlyHeaders p q → ChangesOnlyHeaders q r → ChangesOnlyHeaders p r
 rates_trans p q r x y = record {
   holds = y.holds;
   headed = headed_trans p q r x.headed y.headed;
@@ -56,7 +56,7 @@ rates_trans p q r x y = record {
 pub clause_nodes : (p : Parts) (o : ℕ) → PartsInvariant p → Contains (live_refs p.clauses p.db.refs) o → HaveNodes p.graph (lits_at p.clauses o)
 clause_nodes p o h live k lt = (let b : lit_of p.clauses o k < 2 * length p.assignment.current = h.below.asks.clauses.below o k live lt in omega (arith, b, h.below.asks.agrees.nodes))
 
-module _ (p q : Parts) (h : Headed p q) (o : ℕ) (live : Contains (live_refs p.clauses p.db.refs) o) where
+module _ (p q : Parts) (h : ChangesHeaders p q) (o : ℕ) (live : Contains (live_refs p.clauses p.db.refs) o) where
   pub live_kept : Contains (live_refs q.clauses q.db.refs) o
   live_kept = subst (λ os. Contains os o) (sym h.live) live
 
@@ -67,7 +67,7 @@ module _ (p q : Parts) (h : Headed p q) (o : ℕ) (live : Contains (live_refs p.
   levels_kept = rw (h.same.0.1, h.lits o live) (refl {a = levels_in p o})
 
 -- what is asked of clauses that took part holds still, as headers change
-pub involved_kept : (p q : Parts) (flags : List Bool) (os : List ℕ) → Headed p q → AreInvolved p flags os → AreInvolved q flags os
+pub involved_kept : (p q : Parts) (flags : List Bool) (os : List ℕ) → ChangesHeaders p q → AreInvolved p flags os → AreInvolved q flags os
 involved_kept p q flags os h x = record {
   live = λ o c. live_kept p q h o (x.live o c);
   levels = λ o c. flags_kept p q h o (x.live o c) flags (x.levels o c);
@@ -77,10 +77,10 @@ involved_kept p q flags os h x = record {
 -- ONE AFTER ANOTHER
 
 -- one clause more took part, and the others are left
-pub takes_next : (levels : ℕ → ℕ) (refs os : List ℕ) (i o : ℕ) (words mid words' : List ℕ) (s t s' : Scale) → i < length os → o ≡ get_or os i 0 → TakesPart (levels o) words mid refs o s t → TakePart levels refs (drop (i + 1) os) mid t words' s' →
-    TakePart levels refs (drop i os) words s words' s'
+pub takes_next : (levels : ℕ → ℕ) (refs os : List ℕ) (i o : ℕ) (words mid words' : List ℕ) (s t s' : Scale) → i < length os → o ≡ get_or os i 0 → BumpsClause (levels o) words mid refs o s t → BumpsClauses levels refs (drop (i + 1) os) mid t words' s' →
+    BumpsClauses levels refs (drop i os) words s words' s'
 takes_next levels refs os i o words mid words' s t s' lt at one rest =
-    subst (λ ps. TakePart levels refs ps words s words' s') (sym (drop_more os i 0 lt ∙ ap (λ z. z ∷ drop (i + 1) os) (sym at))) (mid, t, one, rest)
+    subst (λ ps. BumpsClauses levels refs ps words s words' s') (sym (drop_more os i 0 lt ∙ ap (λ z. z ∷ drop (i + 1) os) (sym at))) (mid, t, one, rest)
 
 -- HEADERS
 
@@ -94,8 +94,8 @@ drop_all (o ∷ os) zero le = absurd (omega arith)
 drop_all (o ∷ os) (suc n) le = drop_all os n (omega arith)
 
 -- and when none is left, activities decay
-pub takes_last : (levels : ℕ → ℕ) (refs os : List ℕ) (n : ℕ) (words words' : List ℕ) (s s' : Scale) → length os ≤ n → DecaysActivities words words' refs s s' → TakePart levels refs (drop n os) words s words' s'
-takes_last levels refs os n words words' s s' le h = subst (λ ps. TakePart levels refs ps words s words' s') (sym (drop_all os n le)) h
+pub takes_last : (levels : ℕ → ℕ) (refs os : List ℕ) (n : ℕ) (words words' : List ℕ) (s s' : Scale) → length os ≤ n → DecaysActivities words words' refs s s' → BumpsClauses levels refs (drop n os) words s words' s'
+takes_last levels refs os n words words' s s' le h = subst (λ ps. BumpsClauses levels refs ps words s words' s') (sym (drop_all os n le)) h
 
 -- WHAT MAY BE IMPROVED
 

@@ -15,7 +15,7 @@ use Rattle.sat_parts.specs.prop.Causes.{falsified}
 use Rattle.sat_parts.specs.prop.Graphs.{node_of}
 use Rattle.sat_parts.specs.prop.Ready.{IsConflict}
 use Rattle.sat_parts.specs.prop.Reasons.{IsFalseBefore, Implies}
-use Rattle.sat_parts.specs.prop.State.{State, node, level, current_level, lit_at, Agrees}
+use Rattle.sat_parts.specs.prop.State.{State, node, level, current_level, lit_at, StateIsConsistent}
 use Rattle.sat_parts.specs.prop.Values.{IsTrueLit}
 use Rattle.sat_parts.proofs.lemmas.clause.ListLemmas.{at_place, in_head, in_tail}
 use Rattle.sat_parts.proofs.lemmas.prop.RoomLemmas.{below_from_value}
@@ -29,7 +29,7 @@ use Rattle.sat_parts.specs.parts.Whole.{state, IsRefuted}
 use Rattle.sat_solver.specs.clause.Assessed.{AreInvolved}
 use Rattle.sat_solver.proofs.lemmas.clause.GlueLemmas.{levels_below}
 
-module _ (words live : List ℕ) (implied : List (List ℕ)) (s : State) (agrees : Agrees s) where
+module _ (words live : List ℕ) (implied : List (List ℕ)) (s : State) (agrees : StateIsConsistent s) where
   -- no literal of the clause is of a level above the current one
   abbrev AreLow : ℕ → Type 0
   AreLow o = (k : ℕ) → k < length (lits_at words o) → level s (lit_of words o k) ≤ current_level s

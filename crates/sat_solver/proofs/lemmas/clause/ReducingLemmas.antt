@@ -16,7 +16,7 @@ use Rattle.sat_solver.specs.session.LiveClauses.{with_var}
 use Rattle.sat_solver.specs.session.Session.{Session, May, after}
 use Rattle.sat_parts.specs.declared.parts.Parts.{Parts}
 use Rattle.sat_parts.specs.parts.Assumed.{ArePlaced}
-use Rattle.sat_parts.specs.parts.Frame.{SameState, Headed, Dropped, Copied}
+use Rattle.sat_parts.specs.parts.Frame.{SameState, ChangesHeaders, DropsLongClause, MovesLongClauses}
 use Rattle.sat_parts.specs.parts.Whole.{state, PartsInvariant}
 use Rattle.sat_parts.specs.parts.Words.{TrailWordExtends}
 use Rattle.sat_parts.proofs.lemmas.parts.AssumeLemmas.{placed_kept}
@@ -27,7 +27,7 @@ use Rattle.sat_solver.proofs.lemmas.fits.FramedParts.{fits_headed, fits_copied, 
 use Rattle.sat_solver.specs.declared.context.Search.{Search}
 use Rattle.sat_solver.specs.cdcl.Joint.{global_in, assumed_in, IsSearch, SameVarsAndAssumptions, SameAssumedAndNames}
 use Rattle.sat_solver.specs.unit_simplify.Left.{SameSize}
-use Rattle.sat_solver.specs.clause.Reduced.{IsLearnt, IsReason, Deleted, Reduced}
+use Rattle.sat_solver.specs.clause.Reduced.{IsLearnedLong, IsReason, DeletesIf, ReductionEffect}
 use Rattle.sat_solver.proofs.lemmas.cdcl.TurnLemmas.{moved_refl, moved_trans, ready_moved, free_moved, leaves_refl}
 
 same_state : (p p' : Parts) → SameState p p' → state p' ≡ state p
@@ -48,7 +48,7 @@ second_true false b e = absurd cc
 
 -- clauses of tier Local are learned ones
 pub locals_learned : (p : Parts) (list : List ℕ) → IsPermutation (filter (is_live_of p.clauses Local) p.db.refs) list →
-    ((k : ℕ) → k < length list → Contains (live_refs p.clauses p.db.refs) (get_or list k 0)) → (k : ℕ) → k < length list → IsLearnt p (get_or list k 0)
+    ((k : ℕ) → k < length list → Contains (live_refs p.clauses p.db.refs) (get_or list k 0)) → (k : ℕ) → k < length list → IsLearnedLong p (get_or list k 0)
 locals_learned p list perm live k lt =
     let there : Contains (filter (is_live_of p.clauses Local) p.db.refs) (get_or list k 0) =
     Contains-permutation list (filter (is_live_of p.clauses Local) p.db.refs) (get_or list k 0) (IsPermutation-sym (filter (is_live_of p.clauses Local) p.db.refs) list perm) (place_in list k lt) in
@@ -60,17 +60,17 @@ locals_learned p list perm live k lt =
 
 -- WHAT IS SEARCHED
 
-pub reduced_refl : (s : Session) (c : Search) → IsSearch s c → Reduced s c c
+pub reduced_refl : (s : Session) (c : Search) → IsSearch s c → ReductionEffect s c c
 reduced_refl s c search = record { search = search; moved = moved_refl c; word = extends_refl c.parts (assumed_in c) }
 
-pub reduced_trans : (s s' : Session) (a b c : Search) → Reduced s a b → Reduced s' b c → Reduced s' a c
+pub reduced_trans : (s s' : Session) (a b c : Search) → ReductionEffect s a b → ReductionEffect s' b c → ReductionEffect s' a c
 reduced_trans s s' a b c x y = record {
   search = y.search;
   moved = moved_trans a b c x.moved y.moved;
   word = extends_after (assumed_in a) a.parts b.parts c.parts x.word (rw x.moved.lits at y.word);
 }
 
-pub reduced_deleted : (b : Bool) (o : ℕ) (s : Session) (c c' : Search) → Deleted b o s c c' → Reduced s c c'
+pub reduced_deleted : (b : Bool) (o : ℕ) (s : Session) (c c' : Search) → DeletesIf b o s c c' → ReductionEffect s c c'
 reduced_deleted b o s c c' d = record { search = d.search; moved = d.moved; word = d.word (assumed_in c) }
 
 module _ (s s' : Session) (c c' : Search) (search : IsSearch s c) (globals : c'.globals ≡ c.globals) (assumptions : c'.assumptions ≡ c.assumptions) (analysis : c'.analysis ≡ c.analysis) (flags : c'.flags ≡ c.flags) where
@@ -85,7 +85,7 @@ module _ (s s' : Session) (c c' : Search) (search : IsSearch s c) (globals : c'.
 
 module _ (s : Session) (c c' : Search) (search : IsSearch s c) (globals : c'.globals ≡ c.globals) (assumptions : c'.assumptions ≡ c.assumptions) (analysis : c'.analysis ≡ c.analysis) (flags : c'.flags ≡ c.flags) where
   -- headers changed
-  pub reduced_headed : PartsInvariant c'.parts → Headed c.parts c'.parts → TrailWordExtends c.parts c'.parts → Reduced s c c'
+  pub reduced_headed : PartsInvariant c'.parts → ChangesHeaders c.parts c'.parts → TrailWordExtends c.parts c'.parts → ReductionEffect s c c'
   reduced_headed holds h word =
       let size : SameSize c.parts c'.parts = ap (λ a. length a.current) h.same.0.0 in
       record {
@@ -95,7 +95,7 @@ module _ (s : Session) (c c' : Search) (search : IsSearch s c) (globals : c'.glo
       }
 
   -- clauses are at other places
-  pub reduced_copied : PartsInvariant c'.parts → Copied c.parts c'.parts → TrailWordExtends c.parts c'.parts → Reduced s c c'
+  pub reduced_copied : PartsInvariant c'.parts → MovesLongClauses c.parts c'.parts → TrailWordExtends c.parts c'.parts → ReductionEffect s c c'
   reduced_copied holds h word =
       let a = search.ready.placed in
       let size : SameSize c.parts c'.parts = ap (λ a. length a.current) h.values in
@@ -107,7 +107,7 @@ module _ (s : Session) (c c' : Search) (search : IsSearch s c) (globals : c'.glo
       }
 
   -- nothing was deleted
-  pub deleted_none : (o : ℕ) → IsReason c.parts o → c'.parts ≡ c.parts → Deleted false o s c c'
+  pub deleted_none : (o : ℕ) → IsReason c.parts o → c'.parts ≡ c.parts → DeletesIf false o s c c'
   deleted_none o reason parts =
       let size : SameSize c.parts c'.parts = ap (λ p. length p.assignment.current) parts in
       record {
@@ -118,7 +118,7 @@ module _ (s : Session) (c c' : Search) (search : IsSearch s c) (globals : c'.glo
         tried = (reason, parts);
       }
 
-  module _ (o : ℕ) (learnt : IsLearnt c.parts o) (dropped : Dropped c.parts c'.parts o) where
+  module _ (o : ℕ) (learnt : IsLearnedLong c.parts o) (dropped : DropsLongClause c.parts c'.parts o) where
     abbrev step : Step
     step = DeleteClause (map (with_var (global_in c)) (lits_at c.parts.clauses o)) Redundant
 
@@ -132,7 +132,7 @@ module _ (s : Session) (c c' : Search) (search : IsSearch s c) (globals : c'.glo
 
     -- and leaves what is searched
     pub deleted_one : (s' : Session) (clause : List ℕ) → clause ≡ map (with_var (global_in c)) (lits_at c.parts.clauses o) → s' ≡ after (DeleteClause clause Redundant) s → PartsInvariant c'.parts → TrailWordExtends c.parts c'.parts →
-        ((p : ℕ) → p ≢ o → Contains (live_refs c.parts.clauses c.parts.db.refs) p → Contains (live_refs c'.parts.clauses c'.parts.db.refs) p) → (IsReason c.parts o → ⊥) → Deleted true o s' c c'
+        ((p : ℕ) → p ≢ o → Contains (live_refs c.parts.clauses c.parts.db.refs) p → Contains (live_refs c'.parts.clauses c'.parts.db.refs) p) → (IsReason c.parts o → ⊥) → DeletesIf true o s' c c'
     deleted_one s' clause e its holds word others free =
         let size : SameSize c.parts c'.parts = ap (λ a. length a.current) dropped.same.0.0 in
         record {

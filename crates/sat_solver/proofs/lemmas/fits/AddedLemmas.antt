@@ -8,18 +8,18 @@ use Rattle.sat_checker.specs.LiteralSets.{is_among, is_tautology, canonical}
 use Rattle.sat_checker.proofs.lemmas.sets.Canonical.{same_tautology}
 use Rattle.sat_parts.specs.declared.prop.graph.Reason.{Reason}
 use Rattle.sat_parts.specs.clause.Db.{Db, HoldsDb, live_refs, AddsLongClause}
-use Rattle.sat_parts.specs.clause.Orders.{AreDistinct, Shuffled}
+use Rattle.sat_parts.specs.clause.Orders.{AreDistinct, IsReordering}
 use Rattle.sat_parts.specs.prop.Binaries.{Binaries, with_binary}
-use Rattle.sat_parts.specs.prop.Graphs.{is_unit}
+use Rattle.sat_parts.specs.prop.Graphs.{is_unit_reason}
 use Rattle.sat_parts.specs.prop.Values.{IsTrueLit, IsFalseLit}
-use Rattle.sat_parts.specs.prop.State.{State, node, level, lit_at, Agrees}
+use Rattle.sat_parts.specs.prop.State.{State, node, level, lit_at, StateIsConsistent}
 use Rattle.sat_parts.proofs.lemmas.clause.OrderLemmas.{shuffled_trans}
 use Rattle.sat_parts.proofs.lemmas.prop.StateLemmas.{negated_variable, negated_twice, false_from_true, not_both}
 use Rattle.sat_solver.specs.session.Session.{Session, with_fact, with_live_clause, with_sorted, knowing_literals, after, May}
 use Rattle.sat_solver.specs.session.LiveClauses.{LiveClause, with_var, AreMapped}
 use Rattle.sat_solver.proofs.lemmas.session.Mapped.{negated_mapped, apart}
 use Rattle.sat_solver.proofs.lemmas.session.StepsOfClauses.{short_leaves}
-use Rattle.sat_solver.specs.session.SolverClauses.{solver_clauses, Inserted}
+use Rattle.sat_solver.specs.session.SolverClauses.{solver_clauses, InsertsClause}
 use Rattle.sat_solver.proofs.lemmas.trail.UnitLemmas.{fact_keeps, fact_only, fact_names, fact_width}
 use Rattle.sat_solver.proofs.lemmas.trail.InsertedLemmas.{inserted_first}
 use Rattle.sat_parts.specs.parts.Round.{UnitsAreUncaused as AreBare}
@@ -32,20 +32,20 @@ use Rattle.sat_solver.proofs.lemmas.fits.ListedLemmas.{listed, fits_listed, list
 use Rattle.sat_solver.proofs.lemmas.fits.ChangedLemmas.{added_there, two_came}
 
 -- a unit is a true literal of level 0
-pub unit_true : (st : State) (l : ℕ) → Agrees st → IsUnitLit st l → IsTrueLit st.values l × (level st l ≡ 0)
+pub unit_true : (st : State) (l : ℕ) → StateIsConsistent st → IsUnitLit st l → IsTrueLit st.values l × (level st l ≡ 0)
 unit_true st l agrees (inl r) = (r.holds, r.bottom)
 unit_true st l agrees (inr b) = (subst (λ m. IsTrueLit st.values m) b.there (agrees.holds b.place b.within), b.bottom)
 
 -- and each such literal is one, where no clause of the trail makes any true
-pub true_unit : (st : State) (l : ℕ) → Agrees st → AreBare st → IsTrueLit st.values l → level st l ≡ 0 → IsUnitLit st l
+pub true_unit : (st : State) (l : ℕ) → StateIsConsistent st → AreBare st → IsTrueLit st.values l → level st l ≡ 0 → IsUnitLit st l
 true_unit st l agrees bare t z = elim (agrees.known l t) [
   | inl b ↦
       let low : level st (lit_at st b.place) ≡ 0 = ap (λ m. level st m) b.there ∙ z in
-      inr (record { place = b.place; within = b.within; there = b.there; bottom = z; none = ap (λ m. is_unit (node st m).reason) (sym b.there) ∙ ap (λ (r : Reason). is_unit r) (bare b.place b.within low) })
+      inr (record { place = b.place; within = b.within; there = b.there; bottom = z; none = ap (λ m. is_unit_reason (node st m).reason) (sym b.there) ∙ ap (λ (r : Reason). is_unit_reason r) (bare b.place b.within low) })
   | inr r ↦ inl r
 ]
 
-module _ (words live : List ℕ) (implied : List (List ℕ)) (st : State) (s : Session) (global : ℕ → ℕ) (agrees : Agrees st) (fits : SessionMatches words live implied st s global) where
+module _ (words live : List ℕ) (implied : List (List ℕ)) (st : State) (s : Session) (global : ℕ → ℕ) (agrees : StateIsConsistent st) (fits : SessionMatches words live implied st s global) where
   abbrev all : List LiveClause
   all = solver_clauses (is_redundant words) words live implied
 
@@ -111,36 +111,36 @@ module _ (words live : List ℕ) (implied : List (List ℕ)) (st : State) (s : S
 
   -- TWO LITERALS OR MORE: the step has them as ls, the parts store them as ms
 
-  module _ (ls ms : List ℕ) (order : Shuffled ls ms) (differ : AreDistinct ls) (names : AreMapped global s.solver_names ms) (two : 2 ≤ length ms) (taut : is_tautology ms ≡ false) where
+  module _ (ls ms : List ℕ) (order : IsReordering ls ms) (differ : AreDistinct ls) (names : AreMapped global s.solver_names ms) (two : 2 ≤ length ms) (taut : is_tautology ms ≡ false) where
     pub come : MayCome s.solver_names global ls ms
     come = record { order = order; mapped = names; once = once_shuffled ls ms order differ; long = omega arith; plain = taut_mapped global s.solver_names ms names taut }
 
     -- a list of clauses that has it beside the others
-    pub listed_added : (new : List LiveClause) → Inserted all new (record { redundant = false; literals = ms }) → FitsList new st (after (AddClause (map (with_var global) ls)) s) global
+    pub listed_added : (new : List LiveClause) → InsertsClause all new (record { redundant = false; literals = ms }) → FitsList new st (after (AddClause (map (with_var global) ls)) s) global
     listed_added new i = listed_by new st s global (map (with_var global) ls) [] fits.consistent (listed_derived s global ls ms come st all new false i its [])
 
     -- true by a unit: it comes in and goes at once, its literals in whatever order both times
-    pub satisfied_at_once : (ns : List ℕ) (l : ℕ) → Shuffled ns ms → is_among ns l ≡ true → IsUnitLit st l →
+    pub satisfied_at_once : (ns : List ℕ) (l : ℕ) → IsReordering ns ms → is_among ns l ≡ true → IsUnitLit st l →
         May (after (AddClause (map (with_var global) ls)) s) (DeleteClause (map (with_var global) ns) Satisfied)
         × SessionMatches words live implied st (after (DeleteClause (map (with_var global) ns) Satisfied) (after (AddClause (map (with_var global) ls)) s)) global
     satisfied_at_once ns l again there unit =
         let t : Session = after (AddClause (map (with_var global) ls)) s in
         let c : LiveClause = record { redundant = false; literals = ms } in
-        let i : Inserted all (c ∷ all) c = inserted_first all c in
+        let i : InsertsClause all (c ∷ all) c = inserted_first all c in
         let h : FitsList (c ∷ all) st t global = listed_added (c ∷ all) i in
         let x = listed_satisfied t global st (c ∷ all) all false ns ms again i h refl (some_unit t global st (c ∷ all) all false ns ms again i h l there (h.known l unit)) in
         (x.0, fits_listed words live implied st (after (DeleteClause (map (with_var global) ns) Satisfied) t) global x.1 fits.paired)
 
 -- a clause of two literals
-pub fits_added_binary : (words live : List ℕ) (x : Binaries) (st : State) (s : Session) (global : ℕ → ℕ) → Agrees st → SessionMatches words live x.implied st s global →
-    (ls : List ℕ) (a b : ℕ) → Shuffled ls (a ∷ b ∷ []) → AreDistinct ls → a < 2 * length st.values → b < 2 * length st.values → AreMapped global s.solver_names (a ∷ b ∷ []) → length x.implied ≡ 2 * length st.values → is_tautology ls ≡ false →
+pub fits_added_binary : (words live : List ℕ) (x : Binaries) (st : State) (s : Session) (global : ℕ → ℕ) → StateIsConsistent st → SessionMatches words live x.implied st s global →
+    (ls : List ℕ) (a b : ℕ) → IsReordering ls (a ∷ b ∷ []) → AreDistinct ls → a < 2 * length st.values → b < 2 * length st.values → AreMapped global s.solver_names (a ∷ b ∷ []) → length x.implied ≡ 2 * length st.values → is_tautology ls ≡ false →
     SessionMatches words live (with_binary a b x).implied st (after (AddClause (map (with_var global) ls)) s) global
 fits_added_binary words live x st s global agrees fits ls a b order differ small_a small_b names room taut =
     let first : negated a < length x.implied = omega arith in
     let second : negated b < length x.implied = omega arith in
     let apart_ab : a ≢ b = λ e. true≢false (ap (λ i. eqb 0 i) (order.apart differ 0 1 (omega arith) (omega arith) e)) in
     let came = two_came (is_redundant words) words live x a b first second apart_ab in
-    let kept : Shuffled ls came.lits = shuffled_trans ls (a ∷ b ∷ []) came.lits order came.order in
+    let kept : IsReordering ls came.lits = shuffled_trans ls (a ∷ b ∷ []) came.lits order came.order in
     let size : length came.lits ≡ 2 = came.order.size in
     let these : AreMapped global s.solver_names came.lits = mapped_shuffled global s.solver_names (a ∷ b ∷ []) came.lits came.order names in
     fits_listed words live (with_binary a b x).implied st (after (AddClause (map (with_var global) ls)) s) global
@@ -149,8 +149,8 @@ fits_added_binary words live x st s global agrees fits ls a b order differ small
     (paired_binary x a b first second apart_ab fits.paired)
 
 -- a long one
-pub fits_added_long_as : (words words' : List ℕ) (db db' : Db) (implied : List (List ℕ)) (st : State) (s : Session) (global : ℕ → ℕ) → Agrees st → SessionMatches words (live_refs words db.refs) implied st s global →
-    (ls ms : List ℕ) (o : ℕ) (header : Header) → HoldsDb words db → AddsLongClause words db words' db' o header ms → is_learned header.tier ≡ false → Shuffled ls ms → AreDistinct ls → 3 ≤ length ms →
+pub fits_added_long_as : (words words' : List ℕ) (db db' : Db) (implied : List (List ℕ)) (st : State) (s : Session) (global : ℕ → ℕ) → StateIsConsistent st → SessionMatches words (live_refs words db.refs) implied st s global →
+    (ls ms : List ℕ) (o : ℕ) (header : Header) → HoldsDb words db → AddsLongClause words db words' db' o header ms → is_learned header.tier ≡ false → IsReordering ls ms → AreDistinct ls → 3 ≤ length ms →
     AreMapped global s.solver_names ms → is_tautology ls ≡ false →
     SessionMatches words' (live_refs words' db'.refs) implied st (after (AddClause (map (with_var global) ls)) s) global
 fits_added_long_as words words' db db' implied st s global agrees fits ls ms o header held adds side order differ three names taut =

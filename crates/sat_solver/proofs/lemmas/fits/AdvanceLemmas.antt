@@ -15,7 +15,7 @@ use Rattle.sat_parts.specs.prop.Graphs.{node_of}
 use Rattle.sat_parts.specs.prop.State.{level}
 use Rattle.sat_parts.proofs.lemmas.clause.ListLemmas.{place_in}
 use Rattle.sat_parts.proofs.lemmas.prop.StateLemmas.{negated_variable, negated_twice, true_from_false, false_from_true, not_both}
-use Rattle.sat_solver.specs.session.Session.{Session, IsLive, denied}
+use Rattle.sat_solver.specs.session.Session.{Session, IsLive, denied_in}
 use Rattle.sat_solver.specs.session.LiveClauses.{LiveClause, IsIn, with_var, mapped, AreMapped}
 use Rattle.sat_solver.proofs.lemmas.session.Lists.{counts_in}
 use Rattle.sat_solver.proofs.lemmas.session.Mapped.{negated_mapped, among_mapped, apart}
@@ -115,7 +115,7 @@ module _ (p : Parts) (e : Conflict) (w : Work) (back : ℕ) (s : Session) (globa
         | inr k ↦ low l m k
       ]) h.1.3
 
-  at_first : LowIn (denied s (map (with_var global) (drop 1 w.clause)))
+  at_first : LowIn (denied_in s (map (with_var global) (drop 1 w.clause)))
   at_first l n t = elim (or_cases (is_among (map negated (map (with_var global) (drop 1 w.clause))) (with_var global l)) (s.units (with_var global l)) t) [
     | inl a ↦
         let x = among_back negated (map (with_var global) (drop 1 w.clause)) (with_var global l) a in
@@ -159,27 +159,27 @@ module _ (p : Parts) (e : Conflict) (w : Work) (back : ℕ) (s : Session) (globa
       }
 
   -- it and its negation don't both hold
-  one_of : (l : ℕ) → Denied l → denied s (map (with_var global) (drop 1 w.clause)) l ≡ true → denied s (map (with_var global) (drop 1 w.clause)) (negated l) ≡ true → ⊥
+  one_of : (l : ℕ) → Denied l → denied_in s (map (with_var global) (drop 1 w.clause)) l ≡ true → denied_in s (map (with_var global) (drop 1 w.clause)) (negated l) ≡ true → ⊥
   one_of l d t u =
       let q : ℕ = d.literal in
-      let holds : IsLow (state p) back d.literal = at_first q d.named (subst (λ z. denied s (map (with_var global) (drop 1 w.clause)) z ≡ true) (sym d.same) t) in
-      let other : IsLow (state p) back (negated d.literal) = at_first (negated q) (other_named q d.named) (subst (λ z. denied s (map (with_var global) (drop 1 w.clause)) z ≡ true) (sym (negated_mapped global q ∙ ap negated d.same)) u) in
+      let holds : IsLow (state p) back d.literal = at_first q d.named (subst (λ z. denied_in s (map (with_var global) (drop 1 w.clause)) z ≡ true) (sym d.same) t) in
+      let other : IsLow (state p) back (negated d.literal) = at_first (negated q) (other_named q d.named) (subst (λ z. denied_in s (map (with_var global) (drop 1 w.clause)) z ≡ true) (sym (negated_mapped global q ∙ ap negated d.same)) u) in
       not_both p.assignment.current (negated q) other.holds (false_from_true p.assignment.current q holds.holds)
 
-  pub agrees : AreConsistent s.units → AreConsistent (denied s (map (with_var global) (drop 1 w.clause)))
-  agrees consistent l t = false_from_ne_true (denied s (map (with_var global) (drop 1 w.clause)) (negated l)) (λ u.
+  pub agrees : AreConsistent s.units → AreConsistent (denied_in s (map (with_var global) (drop 1 w.clause)))
+  agrees consistent l t = false_from_ne_true (denied_in s (map (with_var global) (drop 1 w.clause)) (negated l)) (λ u.
       elim (or_cases (is_among (map negated (map (with_var global) (drop 1 w.clause))) l) (s.units l) t) [
         | inl a ↦ one_of l (denied_by l a) t u
         | inr x ↦ elim (or_cases (is_among (map negated (map (with_var global) (drop 1 w.clause))) (negated l)) (s.units (negated l)) u) [
-          | inl b ↦ one_of (negated l) (denied_by (negated l) b) u (subst (λ z. denied s (map (with_var global) (drop 1 w.clause)) z ≡ true) (sym (negated_twice l)) t)
+          | inl b ↦ one_of (negated l) (denied_by (negated l) b) u (subst (λ z. denied_in s (map (with_var global) (drop 1 w.clause)) z ≡ true) (sym (negated_twice l)) t)
           | inr y ↦ true≢false (sym y ∙ consistent l x)
         ]
       ])
 
-  pub advances : (picked : List (List ℕ)) (reached : ℕ → Bool) → LeadsOn s (denied s (map (with_var global) (drop 1 w.clause))) picked reached → StaysNew s (with_var global (get_or w.clause 0 0)) reached
+  pub advances : (picked : List (List ℕ)) (reached : ℕ → Bool) → LeadsOn s (denied_in s (map (with_var global) (drop 1 w.clause))) picked reached → StaysNew s (with_var global (get_or w.clause 0 0)) reached
   advances picked reached h =
       let l : ℕ = get_or w.clause 0 0 in
-      let low : LowIn reached = goes_on picked (denied s (map (with_var global) (drop 1 w.clause))) reached at_first h in
+      let low : LowIn reached = goes_on picked (denied_in s (map (with_var global) (drop 1 w.clause))) reached at_first h in
       record {
         not_true = false_from_ne_true (reached (with_var global l)) (λ t. not_low l refl (low l top_named t));
         not_false = false_from_ne_true (reached (negated (with_var global l))) (λ t.
@@ -200,9 +200,9 @@ learned_advances_in p e w back s global picked reached refuted fits names learns
 pub learned_clause_advances : (p : Parts) (e : Conflict) (w : Work) (back : ℕ) (s : Session) (global : ℕ → ℕ) → AreConsistent s.units → IsRefuted p e → SessionMatchesParts p s global → TrueLitsHaveNames p.assignment.current s global → Learns p.clauses (state p) (falsified p.clauses e) w back → Advances s (map (with_var global) w.clause)
 learned_clause_advances p e w back s global consistent refuted fits names learns = record {
   some = subst (λ n. 0 < n) (sym (length-map w.clause (with_var global))) learns.asserting.some;
-  agree = subst (λ ls. AreConsistent (denied s ls)) (sym (rest_of (with_var global) w.clause)) (agrees p e w back s global refuted fits names learns consistent);
+  agree = subst (λ ls. AreConsistent (denied_in s ls)) (sym (rest_of (with_var global) w.clause)) (agrees p e w back s global refuted fits names learns consistent);
   stays = λ picked reached h. subst (λ l. StaysNew s l reached) (sym (first_of (with_var global) w.clause learns.asserting.some))
-      (advances p e w back s global refuted fits names learns picked reached (subst (λ ls. LeadsOn s (denied s ls) picked reached) (rest_of (with_var global) w.clause) h));
+      (advances p e w back s global refuted fits names learns picked reached (subst (λ ls. LeadsOn s (denied_in s ls) picked reached) (rest_of (with_var global) w.clause) h));
 }
   where
     first_of : (f : ℕ → ℕ) (ls : List ℕ) → 0 < length ls → get_or (map f ls) 0 0 ≡ f (get_or ls 0 0)

@@ -6,13 +6,13 @@ use Rattle.sat_base.specs.values.Literals.{negated}
 use Rattle.sat_store.specs.clause.Buffer.{lits_at}
 use Rattle.sat_store.specs.clause.Header.{Header, is_learned}
 use Rattle.sat_parts.specs.clause.Db.{Db, HoldsDb, AreRising, is_live, live_refs, without, AddsLongClause, DeletesClause}
-use Rattle.sat_parts.specs.clause.Orders.{AreDistinct, Shuffled}
+use Rattle.sat_parts.specs.clause.Orders.{AreDistinct, IsReordering}
 use Rattle.sat_parts.specs.prop.Binaries.{Binaries, with_binary}
 use Rattle.sat_parts.proofs.lemmas.clause.ListLemmas.{rising_tail, rising_above, rising_distinct, place_in, in_without}
 use Rattle.sat_parts.proofs.lemmas.clause.OrderLemmas.{shuffled_refl, shuffled_swapped}
 use Rattle.sat_parts.proofs.lemmas.prop.BuildLemmas.{live_in}
 use Rattle.sat_solver.specs.session.LiveClauses.{LiveClause}
-use Rattle.sat_solver.specs.session.SolverClauses.{pair, binaries, longs, solver_clauses, Inserted}
+use Rattle.sat_solver.specs.session.SolverClauses.{pair, binaries, longs, solver_clauses, InsertsClause}
 use Rattle.sat_solver.proofs.lemmas.trail.ClauseLemmas.{binary_comes, binary_comes_turned}
 use Rattle.sat_solver.proofs.lemmas.trail.InsertedLemmas.{inserted_behind, inserted_before, long_goes, long_comes}
 use Rattle.sat_solver.specs.session.Fits.{is_redundant}
@@ -45,7 +45,7 @@ module _ (words words' : List ℕ) (db db' : Db) (implied : List (List ℕ)) whe
 
   -- a long clause that came
   pub added_there : (o : ℕ) (header : Header) (ls : List ℕ) (r : Bool) → HoldsDb words db → AddsLongClause words db words' db' o header ls → is_learned header.tier ≡ r →
-      Inserted (solver_clauses (is_redundant words) words live implied) (solver_clauses (is_redundant words') words' live' implied) (record { redundant = r; literals = ls })
+      InsertsClause (solver_clauses (is_redundant words) words live implied) (solver_clauses (is_redundant words') words' live' implied) (record { redundant = r; literals = ls })
   added_there o header ls r held adds side =
       let its : longs (is_redundant words') words' live ≡ longs (is_redundant words) words live =
       longs_same (is_redundant words) (is_redundant words') words words' live (λ p k.
@@ -54,13 +54,13 @@ module _ (words words' : List ℕ) (db db' : Db) (implied : List (List ℕ)) whe
       let new : LiveClause = record { redundant = r; literals = ls } in
       let same : c ≡ new = ap (λ b. record { redundant = b; literals = lits_at words' o }) (ap (λ (h : Header). is_learned h.tier) adds.added.header_there ∙ side) ∙ ap (λ ms. record { redundant = r; literals = ms }) adds.added.lits_there in
       inserted_behind (binaries implied) (longs (is_redundant words) words live) (longs (is_redundant words') words' live') new
-      (subst (λ ds. Inserted ds (longs (is_redundant words') words' live') new) its
-      (subst (λ os. Inserted (longs (is_redundant words') words' live) (longs (is_redundant words') words' os) new) (sym adds.live)
-      (subst (λ d. Inserted (longs (is_redundant words') words' live) (longs (is_redundant words') words' (live ++ o ∷ [])) d) same (long_comes (is_redundant words') words' live o))))
+      (subst (λ ds. InsertsClause ds (longs (is_redundant words') words' live') new) its
+      (subst (λ os. InsertsClause (longs (is_redundant words') words' live) (longs (is_redundant words') words' os) new) (sym adds.live)
+      (subst (λ d. InsertsClause (longs (is_redundant words') words' live) (longs (is_redundant words') words' (live ++ o ∷ [])) d) same (long_comes (is_redundant words') words' live o))))
 
   -- and one that went
   pub deleted_there : (o : ℕ) → HoldsDb words db → Contains live o → DeletesClause words db words' db' o →
-      Inserted (solver_clauses (is_redundant words') words' live' implied) (solver_clauses (is_redundant words) words live implied) (record { redundant = is_redundant words o; literals = lits_at words o })
+      InsertsClause (solver_clauses (is_redundant words') words' live' implied) (solver_clauses (is_redundant words) words live implied) (record { redundant = is_redundant words o; literals = lits_at words o })
   deleted_there o held there d =
       let its : longs (is_redundant words') words' (without o live) ≡ longs (is_redundant words) words (without o live) =
       longs_same (is_redundant words) (is_redundant words') words words' (without o live) (λ p k.
@@ -68,14 +68,14 @@ module _ (words words' : List ℕ) (db db' : Db) (implied : List (List ℕ)) whe
       let kept = d.put.others p (live_in words db.refs p x.0) x.1 in (ap (λ (h : Header). is_learned h.tier) kept.header, kept.lits)) in
       let c : LiveClause = record { redundant = is_redundant words o; literals = lits_at words o } in
       inserted_behind (binaries implied) (longs (is_redundant words') words' live') (longs (is_redundant words) words live) c
-      (subst (λ os. Inserted (longs (is_redundant words') words' os) (longs (is_redundant words) words live) c) (sym d.live)
-      (subst (λ ds. Inserted ds (longs (is_redundant words) words live) c) (sym its) (long_goes (is_redundant words) words live o (live_distinct words db held) there)))
+      (subst (λ os. InsertsClause (longs (is_redundant words') words' os) (longs (is_redundant words) words live) c) (sym d.live)
+      (subst (λ ds. InsertsClause ds (longs (is_redundant words) words live) c) (sym its) (long_goes (is_redundant words) words live o (live_distinct words db held) there)))
 
 -- a clause of two literals that came, the lower one first
 pub record CameTwo (old new : List LiveClause) (a b : ℕ) : Type 0 where
   pub lits : List ℕ
-  pub order : Shuffled (a ∷ b ∷ []) lits
-  pub inserted : Inserted old new (record { redundant = false; literals = lits })
+  pub order : IsReordering (a ∷ b ∷ []) lits
+  pub inserted : InsertsClause old new (record { redundant = false; literals = lits })
 
 pub two_came : (redundant : ℕ → Bool) (words live : List ℕ) (x : Binaries) (a b : ℕ) → negated a < length x.implied → negated b < length x.implied → a ≢ b →
     CameTwo (solver_clauses redundant words live x.implied) (solver_clauses redundant words live (with_binary a b x).implied) a b

@@ -3,7 +3,7 @@ use Rattle.std.proofs.Common.{ℕ, suc, ◌+◌, ◌-◌, ◌*◌, ◌/◌, ◌%
 use Rattle.std.proofs.lemmas.Bool.{cases_eq}
 use Rattle.sat_base.specs.values.Literals.{variable, is_positive, coded}
 use Rattle.sat_base.specs.values.Hashes.{hash_of}
-use Rattle.sat_parts.specs.prop.Graphs.{is_unit}
+use Rattle.sat_parts.specs.prop.Graphs.{is_unit_reason}
 use Rattle.sat_parts.specs.prop.State.{State, node}
 use Rattle.sat_solver.specs.session.LiveClauses.{with_var}
 use Rattle.sat_solver.specs.session.TrailEntries.{reason_clause}
@@ -22,7 +22,7 @@ coded_by global l = elim (cases_eq (l % 2) 0) [
   | inr n ↦ (let e : l % 2 ≡ 1 = omega arith in ap (λ b. 2 * global (variable l) + cond b 0 1) (ap (λ r. eqb r 0) e) ∙ ap (λ r. 2 * global (variable l) + r) (sym e))
 ]
 
-pub units_push : (words : List ℕ) (st : State) (global : ℕ → ℕ) (i hash : ℕ) (items : List (ℕ × ℕ)) (lits : List ℕ) → i < length lits → is_unit (node st (get_or lits i 0)).reason ≡ false →
+pub units_push : (words : List ℕ) (st : State) (global : ℕ → ℕ) (i hash : ℕ) (items : List (ℕ × ℕ)) (lits : List ℕ) → i < length lits → is_unit_reason (node st (get_or lits i 0)).reason ≡ false →
     hash ≡ hash_of (reason_clause words (get_or lits i 0) (node st (get_or lits i 0)).reason) →
     (items ++ (with_var global (get_or lits i 0), hash) ∷ []) ++ written_units words st 64 global (drop (i + 1) lits) ≡ items ++ written_units words st 64 global (drop i lits)
 units_push words st global i hash items lits n u h =

@@ -9,13 +9,13 @@ use Rattle.sat_checker.specs.Propagation.{UnitInTurn}
 use Rattle.sat_checker.proofs.lemmas.sets.Order.{among-append}
 use Rattle.sat_checker.proofs.lemmas.sets.Canonical.{tautology_from, both_signs}
 use Rattle.sat_parts.specs.clause.Stored.{AreClauses}
-use Rattle.sat_parts.specs.prop.Graphs.{is_unit, node_of}
-use Rattle.sat_parts.specs.prop.State.{State, node, level, Agrees}
+use Rattle.sat_parts.specs.prop.Graphs.{is_unit_reason, node_of}
+use Rattle.sat_parts.specs.prop.State.{State, node, level, StateIsConsistent}
 use Rattle.sat_parts.specs.prop.Reasons.{AreInTurn}
 use Rattle.sat_parts.specs.prop.Values.{IsFalseLit}
 use Rattle.sat_parts.proofs.lemmas.prop.StateLemmas.{negated_twice, negated_variable, true_from_false}
 use Rattle.sat_checker.specs.Leading.{LeadsToConflict}
-use Rattle.sat_solver.specs.session.Session.{Session, May, MayDerive, AreLiveByHash, denied, by_clauses, by_derivation, by_signs, by_unit}
+use Rattle.sat_solver.specs.session.Session.{Session, May, MayDerive, AreLiveByHash, denied_in, by_clauses, by_derivation, by_signs, by_unit}
 use Rattle.sat_solver.specs.session.LiveClauses.{with_var}
 use Rattle.sat_solver.proofs.lemmas.session.Mapped.{negated_mapped, among_mapped, leads_mapped, Carries}
 use Rattle.sat_solver.specs.session.TrailUnits.{IsUsable}
@@ -38,12 +38,12 @@ one_part : (l : ℕ) (ls : List ℕ) → is_among ls l ≡ true → is_part (l �
 one_part l ls t = rw t refl
 
 -- by the clauses of used literals, the last of which is falsified where the core is true
-module _ (words live : List ℕ) (implied : List (List ℕ)) (st : State) (s : Session) (global : ℕ → ℕ) (fits : SessionMatches words live implied st s global) (agrees : Agrees st) (clauses : AreClauses words live (length st.values)) (bare : AreBare st) (turns : AreInTurn words live implied st 0) where
+module _ (words live : List ℕ) (implied : List (List ℕ)) (st : State) (s : Session) (global : ℕ → ℕ) (fits : SessionMatches words live implied st s global) (agrees : StateIsConsistent st) (clauses : AreClauses words live (length st.values)) (bare : AreBare st) (turns : AreInTurn words live implied st 0) where
   all_usable : (used : List ℕ) → ((k : ℕ) → k < length used → IsReasoned st 0 (get_or used k 0)) → AllUsable s global (map (clause_of words st) used)
   all_usable [] r = tt
   all_usable (l ∷ ls) r =
       let x : IsReasoned st 0 l = r 0 (omega arith) in (
-        subst (λ m. IsUsable s global (clause_of words st m)) x.there (place_usable words live implied st s global fits clauses turns x.place x.within (ap (λ m. is_unit (node st m).reason) x.there ∙ x.caused)),
+        subst (λ m. IsUsable s global (clause_of words st m)) x.there (place_usable words live implied st s global fits clauses turns x.place x.within (ap (λ m. is_unit_reason (node st m).reason) x.there ∙ x.caused)),
         all_usable ls (λ k lt. r (suc k) (omega arith)),
       )
 
@@ -56,12 +56,12 @@ module _ (words live : List ℕ) (implied : List (List ℕ)) (st : State) (s : S
       let leads : LeadsToConflict known (map (clause_of words st) used) =
       leads_from_turns cs known (core ++ bottom st) (λ l k. sym (among-append core (bottom st) l) ∙ k) (acceptable (bottom st) units) in
       let ks : List ℕ = map negated (map (with_var global) core) in
-      let carries : Carries global known (denied s ks) = λ l k. elim (or_cases (is_among core l) (is_among (bottom st) l) k) [
+      let carries : Carries global known (denied_in s ks) = λ l k. elim (or_cases (is_among core l) (is_among (bottom st) l) k) [
         | inl t ↦ or_left (is_among (map negated ks) (with_var global l)) (s.units (with_var global l)) (subst (λ ms. is_among ms (with_var global l) ≡ true) (sym (twice (map (with_var global) core))) (among_mapped (with_var global) core l t))
         | inr t ↦ or_right (is_among (map negated ks) (with_var global l)) (s.units (with_var global l)) (let o = units.only l t in bottom_known words live implied st s global fits clauses turns agrees bare l o.0 o.1)
       ] in
       by_clauses (map (map (with_var global)) cs) (subst (AreLiveByHash s (map (map (with_var global)) cs)) (hashes_of (clause_of words st) used) (named_by s global cs fits.width (all_usable used reasons)))
-      (leads_mapped global cs known (denied s ks) carries leads)
+      (leads_mapped global cs known (denied_in s ks) carries leads)
 
   pub core_may : (core used assumed : List ℕ) → s.assumed ≡ map (with_var global) assumed → is_part core assumed ≡ true → ((k : ℕ) → k < length used → IsReasoned st 0 (get_or used k 0)) →
       ((units : List ℕ) → AreLevelZeroLits st units → UnitInTurn (core ++ units) (map (clause_of words st) used)) →

@@ -5,11 +5,11 @@ use Rattle.sat_base.specs.steps.Steps.{DeleteClause, Redundant, Satisfied}
 use Rattle.sat_store.specs.clause.Buffer.{lits_at}
 use Rattle.sat_checker.specs.LiteralSets.{is_among}
 use Rattle.sat_parts.specs.clause.Db.{Db, HoldsDb, live_refs, DeletesClause}
-use Rattle.sat_parts.specs.clause.Orders.{Shuffled}
+use Rattle.sat_parts.specs.clause.Orders.{IsReordering}
 use Rattle.sat_parts.specs.prop.State.{State}
 use Rattle.sat_solver.specs.session.Session.{Session, after, May}
 use Rattle.sat_solver.specs.session.LiveClauses.{LiveClause, with_var}
-use Rattle.sat_solver.specs.session.SolverClauses.{solver_clauses, Inserted}
+use Rattle.sat_solver.specs.session.SolverClauses.{solver_clauses, InsertsClause}
 use Rattle.sat_parts.specs.parts.Frame.{IsUnitLit}
 use Rattle.sat_solver.specs.session.Fits.{is_redundant, SessionMatches}
 use Rattle.sat_solver.specs.session.Listed.{FitsList}
@@ -17,7 +17,7 @@ use Rattle.sat_solver.proofs.lemmas.fits.ListedLemmas.{listed, fits_listed, list
 use Rattle.sat_solver.proofs.lemmas.fits.ChangedLemmas.{deleted_there}
 
 -- the step has the literals ls, those of the clause in whatever order
-module _ (words words' : List ℕ) (db db' : Db) (implied : List (List ℕ)) (st : State) (s : Session) (global : ℕ → ℕ) (fits : SessionMatches words (live_refs words db.refs) implied st s global) (held : HoldsDb words db) (o : ℕ) (there : Contains (live_refs words db.refs) o) (gone : DeletesClause words db words' db' o) (ls : List ℕ) (order : Shuffled ls (lits_at words o)) where
+module _ (words words' : List ℕ) (db db' : Db) (implied : List (List ℕ)) (st : State) (s : Session) (global : ℕ → ℕ) (fits : SessionMatches words (live_refs words db.refs) implied st s global) (held : HoldsDb words db) (o : ℕ) (there : Contains (live_refs words db.refs) o) (gone : DeletesClause words db words' db' o) (ls : List ℕ) (order : IsReordering ls (lits_at words o)) where
   abbrev old : List LiveClause
   old = solver_clauses (is_redundant words) words (live_refs words db.refs) implied
 
@@ -27,7 +27,7 @@ module _ (words words' : List ℕ) (db db' : Db) (implied : List (List ℕ)) (st
   its : FitsList old st s global
   its = listed words (live_refs words db.refs) implied st s global fits
 
-  inserted : Inserted new old (record { redundant = is_redundant words o; literals = lits_at words o })
+  inserted : InsertsClause new old (record { redundant = is_redundant words o; literals = lits_at words o })
   inserted = deleted_there words words' db db' implied o held there gone
 
   pub fits_deleted_redundant : is_redundant words o ≡ true →

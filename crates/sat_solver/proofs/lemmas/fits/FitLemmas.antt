@@ -12,12 +12,12 @@ use Rattle.sat_checker.specs.SortedSets.{NoRepeats}
 use Rattle.sat_checker.proofs.lemmas.sets.Canonical.{canonical_among, canonical_increasing, same_increasing}
 use Rattle.sat_parts.specs.declared.prop.graph.ImplNode.{ImplNode}
 use Rattle.sat_parts.specs.declared.prop.graph.Reason.{Reason}
-use Rattle.sat_parts.specs.clause.Orders.{Shuffled, SameUpToOrder}
+use Rattle.sat_parts.specs.clause.Orders.{IsReordering, SameUpToOrder}
 use Rattle.sat_parts.specs.clause.Stored.{AreClauses}
-use Rattle.sat_parts.specs.prop.Graphs.{is_unit}
+use Rattle.sat_parts.specs.prop.Graphs.{is_unit_reason}
 use Rattle.sat_parts.specs.prop.Binaries.{Binaries, implied_by, with_implied, with_binary}
 use Rattle.sat_parts.specs.prop.Values.{value_of, IsTrueLit, IsOpenLit}
-use Rattle.sat_parts.specs.prop.State.{State, node, level, lit_at, Agrees, Grows, enqueued}
+use Rattle.sat_parts.specs.prop.State.{State, node, level, lit_at, StateIsConsistent, TrailGrows, enqueued}
 use Rattle.sat_parts.proofs.lemmas.clause.ListLemmas.{at_place, place_in}
 use Rattle.sat_parts.proofs.lemmas.prop.StateLemmas.{negated_twice, negated_variable, grows_enqueued, lit_last, node_new, true_new}
 use Rattle.sat_parts.proofs.lemmas.prop.RoomLemmas.{room_for}
@@ -71,7 +71,7 @@ among_shuffled f ls ms forth y t =
     subst (λ z. is_among (map f ms) z ≡ true) p.1.1 (among_mapped f ms p.0 (forth p.0 p.1.0))
 
 -- the sorted set is the same
-pub canonical_shuffled : (f : ℕ → ℕ) (ls ms : List ℕ) → Shuffled ls ms → canonical (map f ls) ≡ canonical (map f ms)
+pub canonical_shuffled : (f : ℕ → ℕ) (ls ms : List ℕ) → IsReordering ls ms → canonical (map f ls) ≡ canonical (map f ms)
 canonical_shuffled f ls ms h =
     let forth : (m : ℕ) → is_among ls m ≡ true → is_among ms m ≡ true = λ m t.
     let p = among_place ls m t in let j = h.forth p.0 p.1.0 in
@@ -110,7 +110,7 @@ counts_front : (f : LiveClause → LiveClause) (xs ys zs : List LiveClause) (r :
 counts_front f [] ys zs r set e = e
 counts_front f (x ∷ xs) ys zs r set e = ap (more_if (same_side (f x).redundant r && same_literals (canonical (f x).literals) set)) (counts_front f xs ys zs r set e)
 
-counts_kept : (global : ℕ → ℕ) (a b : ℕ → Bool) (words words' os : List ℕ) (r : Bool) (set : List ℕ) → ((o : ℕ) → Contains os o → (b o ≡ a o) × Shuffled (lits_at words o) (lits_at words' o)) →
+counts_kept : (global : ℕ → ℕ) (a b : ℕ → Bool) (words words' os : List ℕ) (r : Bool) (set : List ℕ) → ((o : ℕ) → Contains os o → (b o ≡ a o) × IsReordering (lits_at words o) (lits_at words' o)) →
     live_count_of (map (mapped global) (longs a words os)) r set ≡ live_count_of (map (mapped global) (longs b words' os)) r set
 counts_kept global a b words words' [] r set h = refl
 counts_kept global a b words words' (o ∷ os) r set h =
@@ -128,7 +128,7 @@ mapped_at global names (l ∷ ls) zero h lt = h.0
 mapped_at global names (l ∷ ls) (suc k) h lt = mapped_at global names ls k h.1 (omega arith)
 
 -- in whatever order
-pub mapped_shuffled : (global : ℕ → ℕ) (names : ℕ → Option ℕ) (ls ms : List ℕ) → Shuffled ls ms → AreMapped global names ls → AreMapped global names ms
+pub mapped_shuffled : (global : ℕ → ℕ) (names : ℕ → Option ℕ) (ls ms : List ℕ) → IsReordering ls ms → AreMapped global names ls → AreMapped global names ms
 mapped_shuffled global names ls ms order h = all_at (λ l. names (global (variable l)) ≡ Some (variable l)) ms (λ k lt.
     let j = order.back k (omega (arith, order.size)) in
     subst (λ l. names (global (variable l)) ≡ Some (variable l)) j.1.1 (mapped_at global names ls j.0 h j.1.0))
@@ -194,10 +194,10 @@ paired_binary x a b first second differ h =
 -- A CLAUSE THAT IS LEARNED
 
 -- the units where a literal more is enqueued
-pub units_enqueued : (s : State) (l : ℕ) (r : Reason) → Agrees s → IsOpenLit s.values l → variable l < length s.values → (m : ℕ) → IsUnitLit (enqueued l r s) m → IsUnitLit s m ⊎ ((m ≡ l) × (is_unit r ≡ true))
+pub units_enqueued : (s : State) (l : ℕ) (r : Reason) → StateIsConsistent s → IsOpenLit s.values l → variable l < length s.values → (m : ℕ) → IsUnitLit (enqueued l r s) m → IsUnitLit s m ⊎ ((m ≡ l) × (is_unit_reason r ≡ true))
 units_enqueued s l r a free below m (inl x) = inl (inl ((grows_enqueued s l r a free below (room_for s l r a free below)).removed m x))
 units_enqueued s l r a free below m (inr b) =
-    let g : Grows s (enqueued l r s) = grows_enqueued s l r a free below (room_for s l r a free below) in
+    let g : TrailGrows s (enqueued l r s) = grows_enqueued s l r a free below (room_for s l r a free below) in
     let size : length (s.trail.lits ++ l ∷ []) ≡ length s.trail.lits + 1 = length_push s.trail.lits l in
     elim (cases_lt b.place (length s.trail.lits)) [
       | inl lt ↦
@@ -208,12 +208,12 @@ units_enqueued s l r a free below m (inr b) =
             within = lt;
             there = there;
             bottom = ap (λ (n : ImplNode). n.level) (sym same) ∙ b.bottom;
-            none = ap (λ (n : ImplNode). is_unit n.reason) (sym same) ∙ b.none;
+            none = ap (λ (n : ImplNode). is_unit_reason n.reason) (sym same) ∙ b.none;
           }))
       | inr ge ↦
           let last : b.place ≡ length s.trail.lits = omega (arith, b.within) in
           let at : m ≡ l = sym b.there ∙ ap (λ k. lit_at (enqueued l r s) k) last ∙ lit_last s l r in
-          inr (at, ap (λ (n : ImplNode). is_unit n.reason) (sym (ap (λ z. node (enqueued l r s) z) at ∙ node_new s l r (omega (arith, a.nodes)))) ∙ b.none)
+          inr (at, ap (λ (n : ImplNode). is_unit_reason n.reason) (sym (ap (λ z. node (enqueued l r s) z) at ∙ node_new s l r (omega (arith, a.nodes)))) ∙ b.none)
     ]
 
 pub alone : (ls : List ℕ) → length ls ≡ 1 → ls ≡ get_or ls 0 0 ∷ []
@@ -235,12 +235,12 @@ fact_unsat l s n = go (s.units l) (s.units (negated l)) n
     go false true e = absurd (true≢false e)
     go false false e = refl
 
-module _ (words live : List ℕ) (implied : List (List ℕ)) (st : State) (s : Session) (global : ℕ → ℕ) (agrees : Agrees st) (fits : SessionMatches words live implied st s global) where
+module _ (words live : List ℕ) (implied : List (List ℕ)) (st : State) (s : Session) (global : ℕ → ℕ) (agrees : StateIsConsistent st) (fits : SessionMatches words live implied st s global) where
   -- a unit, at level 0
   pub fits_unit : (l : ℕ) (r : Reason) (flag : Bool) (hashes : List ℕ) → s.solver_names (global (variable l)) ≡ Some (variable l) → IsOpenLit st.values l → variable l < length st.values → st.trail.starts ≡ [] →
       SessionMatches words live implied (enqueued l r st) (after (AtClause flag (with_var global l ∷ []) hashes) s) global
   fits_unit l r flag hashes its free below bottom =
-      let g : Grows st (enqueued l r st) = grows_enqueued st l r agrees free below (room_for st l r agrees free below) in
+      let g : TrailGrows st (enqueued l r st) = grows_enqueued st l r agrees free below (room_for st l r agrees free below) in
       let known : Session = knowing_literals (with_var global l ∷ []) s in
       let none : s.units (negated (with_var global l)) ≡ false = false_from_ne_true (s.units (negated (with_var global l))) (λ u.
       let x = fits.sound (negated l) (subst (λ v. s.solver_names (global v) ≡ Some v) (sym (negated_variable l)) its) (subst (λ z. s.units z ≡ true) (sym (negated_mapped global l)) u) in
@@ -267,11 +267,11 @@ module _ (words live : List ℕ) (implied : List (List ℕ)) (st : State) (s : S
       }
 
   -- a longer one, where the clauses came to be these
-  pub fits_long_by : (words' live' : List ℕ) (implied' : List (List ℕ)) (l : ℕ) (r : Reason) (flag : Bool) (c hashes : List ℕ) → IsOpenLit st.values l → variable l < length st.values → is_unit r ≡ false →
+  pub fits_long_by : (words' live' : List ℕ) (implied' : List (List ℕ)) (l : ℕ) (r : Reason) (flag : Bool) (c hashes : List ℕ) → IsOpenLit st.values l → variable l < length st.values → is_unit_reason r ≡ false →
       NoRepeats c → 1 < length c → is_tautology c ≡ false → ArePaired implied' → AreOf (after (AtClause flag c hashes) s) global (solver_clauses (is_redundant words') words' live' implied') →
       SessionMatches words' live' implied' (enqueued l r st) (after (AtClause flag c hashes) s) global
   fits_long_by words' live' implied' l r flag c hashes free below caused once long taut paired clauses =
-      let g : Grows st (enqueued l r st) = grows_enqueued st l r agrees free below (room_for st l r agrees free below) in
+      let g : TrailGrows st (enqueued l r st) = grows_enqueued st l r agrees free below (room_for st l r agrees free below) in
       let known : Session = knowing_literals c s in
       let same : with_live_clause flag c (knowing_literals c s) ≡ with_live flag (canonical c) (knowing_literals c s) = clause_long flag c known once long taut in
       record {

@@ -7,11 +7,11 @@ use Rattle.sat_base.specs.steps.Steps.{Step, SolverVarName, AtClause, DeleteClau
 use Rattle.sat_store.specs.clause.Buffer.{lits_at}
 use Rattle.sat_checker.specs.LiteralSets.{is_among}
 use Rattle.sat_parts.specs.clause.Db.{Db, live_refs, DeletesClause}
-use Rattle.sat_parts.specs.clause.Orders.{AreDistinct, Shuffled}
+use Rattle.sat_parts.specs.clause.Orders.{AreDistinct, IsReordering}
 use Rattle.sat_parts.specs.clause.Stored.{lit_of, size_of}
 use Rattle.sat_parts.specs.prop.Binaries.{Binaries, with_binary}
 use Rattle.sat_parts.specs.prop.Values.{IsTrueLit}
-use Rattle.sat_parts.specs.prop.State.{level, current_level, Agrees}
+use Rattle.sat_parts.specs.prop.State.{level, current_level, StateIsConsistent}
 use Rattle.sat_parts.proofs.lemmas.clause.OrderLemmas.{shuffled_eq}
 use Rattle.sat_parts.proofs.lemmas.prop.StateLemmas.{level_low}
 use Rattle.sat_solver.specs.session.Session.{Session, after, May}
@@ -20,7 +20,7 @@ use Rattle.sat_solver.specs.session.SolverClauses.{longs, solver_clauses}
 use Rattle.sat_parts.specs.declared.parts.Parts.{Parts}
 use Rattle.sat_parts.specs.parts.Round.{IsUnused}
 use Rattle.sat_parts.specs.parts.Whole.{state, PartsInvariant}
-use Rattle.sat_parts.specs.parts.Frame.{AddsNoUnit, SameState, Headed, Dropped, Shortened, Copied, Removed, Grown, Freed, AddsOriginalClause, stores_binary, stores_long, IsUnitLit}
+use Rattle.sat_parts.specs.parts.Frame.{AddsNoUnit, SameState, ChangesHeaders, DropsLongClause, ShortensLongClause, MovesLongClauses, RemovesBinaries, AddsVars, FreesVar, AddsOriginalClause, stores_binary, stores_long, IsUnitLit}
 use Rattle.sat_solver.specs.session.Fits.{ArePaired, is_redundant, SessionMatchesParts}
 use Rattle.sat_solver.specs.session.Listed.{LeftParts, ArePlain}
 use Rattle.sat_solver.proofs.lemmas.fits.FitLemmas.{longs_same, fits_carried, two_of}
@@ -46,7 +46,7 @@ pub record BothParts (p p' : Parts) (s : Session) (global : ℕ → ℕ) (first 
 -- at level 0 what is true is a unit
 pub bottom_unit : (p : Parts) (l : ℕ) → PartsInvariant p → p.trail.starts ≡ [] → IsTrueLit p.assignment.current l → IsUnitLit (state p) l
 bottom_unit p l holds bottom t =
-    let agrees : Agrees (state p) = holds.below.asks.agrees in
+    let agrees : StateIsConsistent (state p) = holds.below.asks.agrees in
     let none : length p.trail.starts ≡ 0 = ap (λ (xs : List ℕ). length xs) bottom in
     true_unit (state p) l agrees holds.units t (let z : level (state p) l ≤ current_level (state p) = level_low (state p) l agrees t in omega arith)
 
@@ -61,32 +61,32 @@ module _ (p p' : Parts) (s : Session) (global : ℕ → ℕ) (fits : SessionMatc
   live' = live_refs p'.clauses p'.db.refs
 
   -- headers of the same side
-  pub fits_headed : Headed p p' → SessionMatchesParts p' s global
+  pub fits_headed : ChangesHeaders p p' → SessionMatchesParts p' s global
   fits_headed h =
       rw (same_state p p' h.same.0, h.same.1)
       (fits_longs p.clauses p'.clauses live live' p.binary.implied (state p) s global
       (ap (longs (is_redundant p'.clauses) p'.clauses) h.live ∙ longs_same (is_redundant p.clauses) (is_redundant p'.clauses) p.clauses p'.clauses live (λ o c. (h.sides o c, h.lits o c))) fits)
 
   -- other places
-  pub fits_copied : Copied p p' → SessionMatchesParts p' s global
+  pub fits_copied : MovesLongClauses p p' → SessionMatchesParts p' s global
   fits_copied h =
       rw h.binary
       (fits_carried p'.clauses live' p.binary.implied (state p) (state p') s global h.carries
       (fits_longs p.clauses p'.clauses live live' p.binary.implied (state p) s global (longs_copied p.clauses live p'.clauses live' h.copies) fits))
 
-  module _ (holds : PartsInvariant p) (o : ℕ) (there : Contains live o) (ls : List ℕ) (order : Shuffled ls (lits_at p.clauses o)) where
+  module _ (holds : PartsInvariant p) (o : ℕ) (there : Contains live o) (ls : List ℕ) (order : IsReordering ls (lits_at p.clauses o)) where
     -- a long clause goes
-    pub fits_dropped_redundant : Dropped p p' o → is_redundant p.clauses o ≡ true →
+    pub fits_dropped_redundant : DropsLongClause p p' o → is_redundant p.clauses o ≡ true →
         May s (DeleteClause (map (with_var global) ls) Redundant) × SessionMatchesParts p' (after (DeleteClause (map (with_var global) ls) Redundant) s) global
     fits_dropped_redundant d side = rw (same_state p p' d.same.0, d.same.1) (fits_deleted_redundant p.clauses p'.clauses p.db p'.db p.binary.implied (state p) s global fits holds.below.held o there d.deletes ls order side)
 
-    pub fits_dropped_satisfied : Dropped p p' o → is_redundant p.clauses o ≡ false → (l : ℕ) → is_among ls l ≡ true → IsUnitLit (state p) l →
+    pub fits_dropped_satisfied : DropsLongClause p p' o → is_redundant p.clauses o ≡ false → (l : ℕ) → is_among ls l ≡ true → IsUnitLit (state p) l →
         May s (DeleteClause (map (with_var global) ls) Satisfied) × SessionMatchesParts p' (after (DeleteClause (map (with_var global) ls) Satisfied) s) global
     fits_dropped_satisfied d side l t unit = rw (same_state p p' d.same.0, d.same.1) (fits_deleted_satisfied p.clauses p'.clauses p.db p'.db p.binary.implied (state p) s global fits holds.below.held o there d.deletes ls order side l t unit)
 
     -- a part of it takes its place, named by the hash of its literals in the order hs
-    module _ (plain : ArePlain s) (part hs : List ℕ) (hash : ℕ) (hash_order : Shuffled hs (lits_at p.clauses o)) (hash_distinct : AreDistinct hs) (its : hash ≡ hash_of hs) where
-      module _ (len : ℕ) (short : Shortened p p' o len) (long : 3 ≤ len) (fewer : len < size_of p.clauses o) (false_by : (k : ℕ) → len ≤ k → k < size_of p.clauses o → IsUnitLit (state p) (negated (lit_of p.clauses o k))) (part_order : Shuffled part (take len (lits_at p.clauses o))) where
+    module _ (plain : ArePlain s) (part hs : List ℕ) (hash : ℕ) (hash_order : IsReordering hs (lits_at p.clauses o)) (hash_distinct : AreDistinct hs) (its : hash ≡ hash_of hs) where
+      module _ (len : ℕ) (short : ShortensLongClause p p' o len) (long : 3 ≤ len) (fewer : len < size_of p.clauses o) (false_by : (k : ℕ) → len ≤ k → k < size_of p.clauses o → IsUnitLit (state p) (negated (lit_of p.clauses o k))) (part_order : IsReordering part (take len (lits_at p.clauses o))) where
         pub fits_short : is_redundant p.clauses o ≡ false → BothParts p p' s global (AtClause false (map (with_var global) part) (hash ∷ [])) (DeleteClause (map (with_var global) ls) Simplified)
         fits_short side =
             let x = fits_shortened p.clauses p'.clauses p.db p.binary.implied (state p) s global holds.below.asks.agrees fits holds.below.held holds.below.asks.clauses plain o len there short.shortens long fewer false_by ls part order part_order hs hash_order hash_distinct hash its side in
@@ -98,14 +98,14 @@ module _ (p p' : Parts) (s : Session) (global : ℕ → ℕ) (fits : SessionMatc
             record { derive = x.derive; delete = x.delete; fits = rw (same_state p p' short.same.0, short.same.1, short.db) x.fits }
 
       -- the part has two literals: it is stored, and then the clause goes
-      module _ (pm : Parts) (two : length part ≡ 2) (stores : AddsOriginalClause p pm part) (drops : Dropped pm p' o) (are : AreTwo (state p) (lits_at p.clauses o) (get_or part 0 0) (get_or part 1 0)) where
+      module _ (pm : Parts) (two : length part ≡ 2) (stores : AddsOriginalClause p pm part) (drops : DropsLongClause pm p' o) (are : AreTwo (state p) (lits_at p.clauses o) (get_or part 0 0) (get_or part 1 0)) where
         abbrev a : ℕ
         a = get_or part 0 0
 
         abbrev b : ℕ
         b = get_or part 1 0
 
-        part_order : Shuffled part (a ∷ b ∷ [])
+        part_order : IsReordering part (a ∷ b ∷ [])
         part_order = shuffled_eq part (a ∷ b ∷ []) (sym (two_of part two))
 
         record Between : Type 0 where
@@ -136,11 +136,11 @@ module _ (p p' : Parts) (s : Session) (global : ℕ → ℕ) (fits : SessionMatc
             record { derive = x.derive; delete = x.delete; fits = rw m.pairs (fits_carried p'.clauses live' (with_binary a b p.binary).implied (state p) (state p') t global m.carries x.fits) }
 
 -- the clauses of two literals that went with their steps
-pub fits_removed : (p p' : Parts) (s : Session) (global : ℕ → ℕ) → PartsInvariant p → ArePaired p.binary.implied → p.trail.starts ≡ [] → p.trail.lits ≡ [] → LeftParts p s global (length p.binary.implied) 0 → Removed p p' → SessionMatchesParts p' s global
+pub fits_removed : (p p' : Parts) (s : Session) (global : ℕ → ℕ) → PartsInvariant p → ArePaired p.binary.implied → p.trail.starts ≡ [] → p.trail.lits ≡ [] → LeftParts p s global (length p.binary.implied) 0 → RemovesBinaries p p' → SessionMatchesParts p' s global
 fits_removed p p' s global holds paired bottom empty h r = parts_removal_ends p global holds paired bottom empty p' s h r.removes r.clauses r.db (same_state p p' r.state)
 
 -- more variables
-pub fits_grown : (p p' : Parts) (count : ℕ) (s : Session) (global : ℕ → ℕ) → PartsInvariant p → length p.assignment.current ≤ count → Grown p p' count → SessionMatchesParts p s global → SessionMatchesParts p' s global
+pub fits_grown : (p p' : Parts) (count : ℕ) (s : Session) (global : ℕ → ℕ) → PartsInvariant p → length p.assignment.current ≤ count → AddsVars p p' count → SessionMatchesParts p s global → SessionMatchesParts p' s global
 fits_grown p p' count s global holds more g h =
     let room : length p.binary.implied ≡ 2 * length p.assignment.current = holds.below.asks.ranges.room in
     let fewer : length p.binary.implied ≤ 2 * count = omega arith in
@@ -157,7 +157,7 @@ fits_grown p p' count s global holds more g h =
     }
 
 -- a variable that no clause has loses its name and its value
-pub fits_freed : (p p' : Parts) (s : Session) (global : ℕ → ℕ) (w x : ℕ) → SessionMatchesParts p s global → Freed p p' x → IsUnused p.clauses (live_refs p.clauses p.db.refs) p.binary.implied x → s.solver_names w ≡ Some x → global x ≡ w →
+pub fits_freed : (p p' : Parts) (s : Session) (global : ℕ → ℕ) (w x : ℕ) → SessionMatchesParts p s global → FreesVar p p' x → IsUnused p.clauses (live_refs p.clauses p.db.refs) p.binary.implied x → s.solver_names w ≡ Some x → global x ≡ w →
     SessionMatchesParts p' (after (SolverVarName w None) s) global
 fits_freed p p' s global w x fits f unused its there =
     let live : List ℕ = live_refs p.clauses p.db.refs in

@@ -6,7 +6,7 @@ use Rattle.sat_base.specs.steps.Steps.{AddClause, AtClause, DeleteClause, Redund
 use Rattle.sat_checker.specs.LiteralSets.{is_among, is_tautology, canonical}
 use Rattle.sat_checker.specs.SortedSets.{NoRepeats}
 use Rattle.sat_checker.proofs.lemmas.sets.Subsets.{any_true}
-use Rattle.sat_parts.specs.clause.Orders.{Shuffled}
+use Rattle.sat_parts.specs.clause.Orders.{IsReordering}
 use Rattle.sat_parts.specs.prop.State.{State}
 use Rattle.sat_solver.specs.session.Session.{Session, with_live_clause, with_live, without_live, knowing_literals, after, May, MayReplace}
 use Rattle.sat_solver.specs.session.LiveClauses.{LiveClause, IsIn, with_var, mapped, AreMapped, AreOf}
@@ -14,7 +14,7 @@ use Rattle.sat_solver.proofs.lemmas.session.Lists.{in_counts}
 use Rattle.sat_solver.proofs.lemmas.session.Mapped.{once_mapped, among_mapped}
 use Rattle.sat_solver.proofs.lemmas.session.Represented.{comes_in, goes, still_of}
 use Rattle.sat_solver.proofs.lemmas.session.StepsOfClauses.{length_sorted, length_mapped}
-use Rattle.sat_solver.specs.session.SolverClauses.{solver_clauses, Inserted}
+use Rattle.sat_solver.specs.session.SolverClauses.{solver_clauses, InsertsClause}
 use Rattle.sat_solver.specs.session.Fits.{ArePaired, is_redundant, SessionMatches}
 use Rattle.sat_solver.specs.session.Listed.{FitsList, SameFacts}
 use Rattle.sat_solver.proofs.lemmas.fits.SetLemmas.{set_shuffled, taut_shuffled, clause_of_set}
@@ -46,7 +46,7 @@ listed_stays cs st s t global h f n e = listed_as cs st s global h t cs f (still
 
 -- a clause that comes in: two or more literals, the step's in whatever order
 pub record MayCome (names : ℕ → Option ℕ) (global : ℕ → ℕ) (ls ms : List ℕ) : Type 0 where
-  pub order : Shuffled ls ms
+  pub order : IsReordering ls ms
   pub mapped : AreMapped global names ms
   pub once : NoRepeats ms
   pub long : 1 < length ms
@@ -68,7 +68,7 @@ module _ (s : Session) (global : ℕ → ℕ) (ls ms : List ℕ) (c : MayCome s.
       let n : 1 < length ms = c.long in omega arith)
       (taut_shuffled (with_var global) ls ms c.order ∙ c.plain)
 
-  module _ (st : State) (old new : List LiveClause) (r : Bool) (i : Inserted old new (record { redundant = r; literals = ms })) (h : FitsList old st s global) where
+  module _ (st : State) (old new : List LiveClause) (r : Bool) (i : InsertsClause old new (record { redundant = r; literals = ms })) (h : FitsList old st s global) where
     pub listed_derived : (hashes : List ℕ) → FitsList new st (after (AtClause r ks hashes) s) global
     listed_derived hashes =
         let d : LiveClause = record { redundant = r; literals = ms } in
@@ -104,7 +104,7 @@ in_mapped_middle : (global : ℕ → ℕ) (xs ys : List LiveClause) (c : LiveCla
 in_mapped_middle global [] ys c = inl refl
 in_mapped_middle global (x ∷ xs) ys c = inr (in_mapped_middle global xs ys c)
 
-module _ (s : Session) (global : ℕ → ℕ) (st : State) (old new : List LiveClause) (r : Bool) (ls ms : List ℕ) (order : Shuffled ls ms) (i : Inserted new old (record { redundant = r; literals = ms })) (h : FitsList old st s global) where
+module _ (s : Session) (global : ℕ → ℕ) (st : State) (old new : List LiveClause) (r : Bool) (ls ms : List ℕ) (order : IsReordering ls ms) (i : InsertsClause new old (record { redundant = r; literals = ms })) (h : FitsList old st s global) where
   abbrev d : LiveClause
   d = record { redundant = r; literals = ms }
 

@@ -7,10 +7,10 @@ use Rattle.sat_store.specs.clause.Header.{no_header}
 use Rattle.sat_checker.specs.LiteralSets.{is_tautology}
 use Rattle.sat_checker.proofs.lemmas.sets.Canonical.{same_tautology}
 use Rattle.sat_parts.specs.clause.Db.{live_refs}
-use Rattle.sat_parts.specs.clause.Orders.{AreDistinct, Shuffled}
+use Rattle.sat_parts.specs.clause.Orders.{AreDistinct, IsReordering}
 use Rattle.sat_parts.specs.prop.Binaries.{with_binary}
 use Rattle.sat_parts.specs.prop.Values.{value_of, IsTrueLit, IsOpenLit}
-use Rattle.sat_parts.specs.prop.State.{State, level, current_level, Agrees}
+use Rattle.sat_parts.specs.prop.State.{State, level, current_level, StateIsConsistent}
 use Rattle.sat_parts.proofs.lemmas.clause.OrderLemmas.{shuffled_refl}
 use Rattle.sat_parts.proofs.lemmas.prop.StateLemmas.{negated_variable, true_from_false, level_low}
 use Rattle.sat_solver.specs.session.Session.{Session, with_fact, knowing_literals, after}
@@ -67,7 +67,7 @@ no_more [] e = refl
 no_more (l ∷ ls) e = absurd (omega arith)
 
 -- what stands alone is the same in any order
-alone_shuffled : (ls ms : List ℕ) → Shuffled ls ms → length ms ≡ 1 → ls ≡ get_or ms 0 0 ∷ []
+alone_shuffled : (ls ms : List ℕ) → IsReordering ls ms → length ms ≡ 1 → ls ≡ get_or ms 0 0 ∷ []
 alone_shuffled ls ms h one =
     let n : length ls ≡ 1 = sym h.size ∙ one in
     let j = h.forth 0 (omega arith) in
@@ -75,11 +75,11 @@ alone_shuffled ls ms h one =
     alone ls n ∙ ap (λ l. l ∷ []) (sym j.1.1 ∙ ap (λ k. get_or ms k 0) z)
 
 -- as it was given, and as it is stored
-module _ (p p' : Parts) (s : Session) (global : ℕ → ℕ) (holds : PartsInvariant p) (fits : SessionMatchesParts p s global) (bottom : p.trail.starts ≡ []) (given ls : List ℕ) (order : Shuffled given ls) (differ : AreDistinct given) (small : (k : ℕ) → k < length given → get_or given k 0 < 2 * length p.assignment.current) (plain : is_tautology given ≡ false) (names : AreMapped global s.solver_names given) where
+module _ (p p' : Parts) (s : Session) (global : ℕ → ℕ) (holds : PartsInvariant p) (fits : SessionMatchesParts p s global) (bottom : p.trail.starts ≡ []) (given ls : List ℕ) (order : IsReordering given ls) (differ : AreDistinct given) (small : (k : ℕ) → k < length given → get_or given k 0 < 2 * length p.assignment.current) (plain : is_tautology given ≡ false) (names : AreMapped global s.solver_names given) where
   abbrev live : List ℕ
   live = live_refs p.clauses p.db.refs
 
-  agrees : Agrees (state p)
+  agrees : StateIsConsistent (state p)
   agrees = holds.below.asks.agrees
 
   small_too : (k : ℕ) → k < length ls → get_or ls k 0 < 2 * length p.assignment.current
@@ -101,7 +101,7 @@ module _ (p p' : Parts) (s : Session) (global : ℕ → ℕ) (holds : PartsInvar
 
   pub fits_stored : AddsOriginalClause p p' ls → SessionMatchesParts p' added global
   fits_stored (stores_binary two words list pairs carries) =
-      let is : Shuffled given (get_or ls 0 0 ∷ get_or ls 1 0 ∷ []) = subst (λ ms. Shuffled given ms) (two_of ls two) order in
+      let is : IsReordering given (get_or ls 0 0 ∷ get_or ls 1 0 ∷ []) = subst (λ ms. IsReordering given ms) (two_of ls two) order in
       rw (words, list, pairs)
       (fits_carried p.clauses live (with_binary (get_or ls 0 0) (get_or ls 1 0) p.binary).implied (state p) (state p') added global carries
       (fits_added_binary p.clauses live p.binary (state p) s global agrees fits given (get_or ls 0 0) (get_or ls 1 0) is differ (small_too 0 (omega arith)) (small_too 1 (omega arith)) (subst (λ ms. AreMapped global s.solver_names ms) (two_of ls two) names_too) holds.below.asks.ranges.room plain))

@@ -10,13 +10,13 @@ use Rattle.sat_checker.proofs.lemmas.sets.Order.{among-append}
 use Rattle.sat_parts.specs.declared.prop.graph.Reason.{Reason}
 use Rattle.sat_parts.specs.clause.Stored.{AreClauses}
 use Rattle.sat_parts.specs.prop.Causes.{falsified}
-use Rattle.sat_parts.specs.prop.Graphs.{is_unit}
+use Rattle.sat_parts.specs.prop.Graphs.{is_unit_reason}
 use Rattle.sat_parts.specs.prop.Values.{IsTrueLit}
-use Rattle.sat_parts.specs.prop.State.{State, node, level, lit_at, Agrees}
+use Rattle.sat_parts.specs.prop.State.{State, node, level, lit_at, StateIsConsistent}
 use Rattle.sat_parts.specs.prop.Reasons.{AreInTurn}
 use Rattle.sat_parts.proofs.lemmas.prop.RoomLemmas.{below_from_value}
 use Rattle.sat_checker.specs.Leading.{LeadsToConflict}
-use Rattle.sat_solver.specs.session.Session.{Session, AreLiveByHash, denied, by_clauses}
+use Rattle.sat_solver.specs.session.Session.{Session, AreLiveByHash, denied_in, by_clauses}
 use Rattle.sat_solver.specs.session.LiveClauses.{with_var}
 use Rattle.sat_solver.proofs.lemmas.session.Mapped.{leads_mapped, denied_mapped}
 use Rattle.sat_solver.specs.session.TrailUnits.{IsUsable}
@@ -104,7 +104,7 @@ named_by s global [] w h = tt
 named_by s global (c ∷ cs) w h = (h.0.live, whole s (hash_of c) w ∙ h.0.hash, named_by s global cs w h.1)
 
 module _ (words live : List ℕ) (implied : List (List ℕ)) (st : State) (s : Session) (global : ℕ → ℕ) (fits : SessionMatches words live implied st s global) (clauses : AreClauses words live (length st.values)) (turns : AreInTurn words live implied st 0) where
-  pub place_usable : (i : ℕ) → i < length st.trail.lits → is_unit (node st (lit_at st i)).reason ≡ false → IsUsable s global (clause_of words st (lit_at st i))
+  pub place_usable : (i : ℕ) → i < length st.trail.lits → is_unit_reason (node st (lit_at st i)).reason ≡ false → IsUsable s global (clause_of words st (lit_at st i))
   place_usable i lt u =
       subst (λ c. IsUsable s global c) (sym (reason_clauses words live implied st i (length st.values) (node st (lit_at st i)).reason clauses u (turns i (omega arith) lt)))
       (reason_usable words live implied s global fits.clauses fits.paired st i (node st (lit_at st i)).reason u (turns i (omega arith) lt))
@@ -113,16 +113,16 @@ module _ (words live : List ℕ) (implied : List (List ℕ)) (st : State) (s : S
   all_used [] c r u = (u, tt)
   all_used (l ∷ ls) c r u =
       let x : IsReasoned st 0 l = r 0 (omega arith) in (
-        subst (λ m. IsUsable s global (clause_of words st m)) x.there (place_usable x.place x.within (ap (λ m. is_unit (node st m).reason) x.there ∙ x.caused)),
+        subst (λ m. IsUsable s global (clause_of words st m)) x.there (place_usable x.place x.within (ap (λ m. is_unit_reason (node st m).reason) x.there ∙ x.caused)),
         all_used ls c (λ k lt. r (suc k) (omega arith)) u,
       )
 
   -- what is true at level 0 is a unit of the session, where no clause makes it true
-  pub bottom_known : Agrees st → AreBare st → (l : ℕ) → IsTrueLit st.values l → level st l ≡ 0 → s.units (with_var global l) ≡ true
+  pub bottom_known : StateIsConsistent st → AreBare st → (l : ℕ) → IsTrueLit st.values l → level st l ≡ 0 → s.units (with_var global l) ≡ true
   bottom_known agrees bare l t z = elim (agrees.known l t) [
     | inl b ↦
         let low : level st (lit_at st b.place) ≡ 0 = ap (λ m. level st m) b.there ∙ z in
-        fits.known l (inr (record { place = b.place; within = b.within; there = b.there; bottom = z; none = ap (λ m. is_unit (node st m).reason) (sym b.there) ∙ ap (λ (r : Reason). is_unit r) (bare b.place b.within low) }))
+        fits.known l (inr (record { place = b.place; within = b.within; there = b.there; bottom = z; none = ap (λ m. is_unit_reason (node st m).reason) (sym b.there) ∙ ap (λ (r : Reason). is_unit_reason r) (bare b.place b.within low) }))
     | inr r ↦ fits.known l (inl r)
   ]
 
@@ -140,5 +140,5 @@ learned_may words live implied st s global e w back fits agrees clauses bare tur
     let leads : LeadsToConflict known (named_clauses words st w.used e) =
     leads_from_turns (named_clauses words st w.used e) known (map negated w.clause ++ bottom st) (λ l k. sym (among-append (map negated w.clause) (bottom st) l) ∙ k) (learns.acceptable (bottom st) units) in
     by_clauses (map (map (with_var global)) (named_clauses words st w.used e)) (subst (AreLiveByHash s (map (map (with_var global)) (named_clauses words st w.used e))) (hashes_same (clause_of words st) w.used (falsified words e)) (named_by s global (named_clauses words st w.used e) fits.width all))
-    (leads_mapped global (named_clauses words st w.used e) known (denied s (map (with_var global) w.clause))
+    (leads_mapped global (named_clauses words st w.used e) known (denied_in s (map (with_var global) w.clause))
     (denied_mapped global s w.clause (is_among (bottom st)) (λ l k. let o = units.only l k in bottom_known words live implied st s global fits clauses turns agrees bare l o.0 o.1)) leads)

@@ -18,7 +18,7 @@ use Rattle.sat_solver.specs.session.Session.{Session, MayShow}
 use Rattle.sat_solver.specs.session.LiveClauses.{LiveClause, IsIn, with_var, mapped}
 use Rattle.sat_solver.proofs.lemmas.session.Lists.{shows_all}
 use Rattle.sat_solver.proofs.lemmas.session.Mapped.{negated_mapped, among_mapped}
-use Rattle.sat_solver.specs.session.SolverClauses.{pair, pairs_of, pairs_from, binaries, longs, solver_clauses}
+use Rattle.sat_solver.specs.session.SolverClauses.{pair, binaries_of, binaries_from, binaries, longs, solver_clauses}
 use Rattle.sat_parts.specs.declared.parts.Parts.{Parts}
 use Rattle.sat_parts.specs.parts.Whole.{AllAssigned, IsModelled}
 use Rattle.sat_parts.proofs.lemmas.parts.ValueLemmas.{open_or_true}
@@ -38,14 +38,14 @@ record IsPairIn (a : ℕ) (ms : List ℕ) (c : LiveClause) : Type 0 where
   within : place < length ms
   same : c.literals ≡ a ∷ get_or ms place 0 ∷ []
 
-pair_in : (a : ℕ) (ms : List ℕ) (c : LiveClause) → IsIn c (pairs_of a ms) → IsPairIn a ms c
+pair_in : (a : ℕ) (ms : List ℕ) (c : LiveClause) → IsIn c (binaries_of a ms) → IsPairIn a ms c
 pair_in a [] c h = absurd h
 pair_in a (m ∷ ms) c h = go (ltb a m) h (pair_in a ms c)
   where
     later : IsPairIn a ms c → IsPairIn a (m ∷ ms) c
     later x = record { place = suc x.place; within = omega (arith, x.within); same = x.same }
 
-    go : (b : Bool) → IsIn c (cond b (pair a m ∷ pairs_of a ms) (pairs_of a ms)) → (IsIn c (pairs_of a ms) → IsPairIn a ms c) → IsPairIn a (m ∷ ms) c
+    go : (b : Bool) → IsIn c (cond b (pair a m ∷ binaries_of a ms) (binaries_of a ms)) → (IsIn c (binaries_of a ms) → IsPairIn a ms c) → IsPairIn a (m ∷ ms) c
     go true (inl e) ih = record { place = 0; within = omega arith; same = ap (λ (d : LiveClause). d.literals) e }
     go true (inr k) ih = later (ih k)
     go false k ih = later (ih k)
@@ -56,9 +56,9 @@ record IsPairFrom (l : ℕ) (implied : List (List ℕ)) (c : LiveClause) : Type 
   within : place < length (get_or implied list [])
   same : c.literals ≡ negated (l + list) ∷ get_or (get_or implied list []) place 0 ∷ []
 
-pair_from : (l : ℕ) (implied : List (List ℕ)) (c : LiveClause) → IsIn c (pairs_from l implied) → IsPairFrom l implied c
+pair_from : (l : ℕ) (implied : List (List ℕ)) (c : LiveClause) → IsIn c (binaries_from l implied) → IsPairFrom l implied c
 pair_from l [] c h = absurd h
-pair_from l (ms ∷ rest) c h = elim (in_either c (pairs_of (negated l) ms) (pairs_from (l + 1) rest) h) [
+pair_from l (ms ∷ rest) c h = elim (in_either c (binaries_of (negated l) ms) (binaries_from (l + 1) rest) h) [
   | inl a ↦
       let x : IsPairIn (negated l) ms c = pair_in (negated l) ms c a in
       let z : l + 0 ≡ l = omega arith in

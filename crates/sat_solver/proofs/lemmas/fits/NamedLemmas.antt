@@ -8,7 +8,7 @@ use Rattle.sat_checker.specs.LiteralSets.{mentions}
 use Rattle.sat_parts.specs.prop.Binaries.{implied_by}
 use Rattle.sat_parts.specs.prop.Values.{IsTrueLit}
 use Rattle.sat_parts.specs.prop.State.{State, level}
-use Rattle.sat_solver.specs.session.Session.{Session, with_solver_name, after}
+use Rattle.sat_solver.specs.session.Session.{Session, session_with_name, after}
 use Rattle.sat_solver.specs.session.LiveClauses.{LiveClause, IsIn}
 use Rattle.sat_solver.proofs.lemmas.session.Represented.{loses_name, still_of}
 use Rattle.sat_solver.specs.session.SolverClauses.{binaries, longs, solver_clauses}
@@ -66,7 +66,7 @@ listed_unnamed cs st st' s global w x h g unused =
       | inr d ↦ ((λ z. d (ap global z ∙ g.there)), sym (name_other s.solver_names w (global v) None d) ∙ e)
     ] in
     record {
-      clauses = still_of (with_solver_name w None s) t global cs (λ r set. refl) refl (loses_name s global w x cs h.clauses g.its unused);
+      clauses = still_of (session_with_name w None s) t global cs (λ r set. refl) refl (loses_name s global w x cs h.clauses g.its unused);
       known = λ l u. h.known l (g.units l u);
       sound = λ l n u.
           let o = old (variable l) n in

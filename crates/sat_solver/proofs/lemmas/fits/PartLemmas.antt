@@ -9,9 +9,9 @@ use Rattle.sat_store.specs.clause.Buffer.{lits_at}
 use Rattle.sat_checker.specs.LiteralSets.{is_among, is_part, canonical}
 use Rattle.sat_checker.proofs.lemmas.sets.Canonical.{same_tautology}
 use Rattle.sat_checker.proofs.lemmas.sets.Subsets.{all_true}
-use Rattle.sat_parts.specs.clause.Orders.{AreDistinct, Shuffled}
+use Rattle.sat_parts.specs.clause.Orders.{AreDistinct, IsReordering}
 use Rattle.sat_parts.specs.clause.Stored.{AreClauses}
-use Rattle.sat_parts.specs.prop.State.{State, Agrees}
+use Rattle.sat_parts.specs.prop.State.{State, StateIsConsistent}
 use Rattle.sat_solver.specs.session.Session.{Session, after, MayDerive, MayReplace}
 use Rattle.sat_solver.specs.session.LiveClauses.{with_var, AreMapped}
 use Rattle.sat_solver.proofs.lemmas.session.Lists.{solver_hash}
@@ -30,7 +30,7 @@ use Rattle.sat_solver.proofs.lemmas.fits.ListedLemmas.{MayCome}
 use Rattle.sat_solver.proofs.lemmas.fits.ShortenedLemmas.{may_shorten, may_replace, live_plain}
 
 -- a part of a live clause takes its place: the step derives part, in whatever order, what is stored is d, and w is missing
-module _ (words live : List ℕ) (implied : List (List ℕ)) (st : State) (s : Session) (global : ℕ → ℕ) (agrees : Agrees st) (fits : SessionMatches words live implied st s global) (clauses : AreClauses words live (length st.values)) (plain : ArePlain s) (o : ℕ) (there : Contains live o) where
+module _ (words live : List ℕ) (implied : List (List ℕ)) (st : State) (s : Session) (global : ℕ → ℕ) (agrees : StateIsConsistent st) (fits : SessionMatches words live implied st s global) (clauses : AreClauses words live (length st.values)) (plain : ArePlain s) (o : ℕ) (there : Contains live o) where
   abbrev c : List ℕ
   c = lits_at words o
 
@@ -47,7 +47,7 @@ module _ (words live : List ℕ) (implied : List (List ℕ)) (st : State) (s : S
   all_named (l ∷ ls) h = (named_in l (h l (among_at (l ∷ ls) 0 (omega arith))), all_named ls (λ m t. h m (or_right (eqb l m) (is_among ls m) t)))
 
   -- it is usable with its literals in whatever order
-  usable_as : (hs : List ℕ) → Shuffled hs c → AreDistinct hs → IsUsable s global hs
+  usable_as : (hs : List ℕ) → IsReordering hs c → AreDistinct hs → IsUsable s global hs
   usable_as hs order differ =
       let same : (l : ℕ) → is_among hs l ≡ is_among c l = same_shuffled hs c order in
       let names : AreMapped global s.solver_names hs = all_named hs (λ l t. sym (same l) ∙ t) in
@@ -56,14 +56,14 @@ module _ (words live : List ℕ) (implied : List (List ℕ)) (st : State) (s : S
         hash = sym (ap (λ ms. hash_of ms / 2 ^ (64 - s.width)) (solver_hash global s.solver_names hs names));
       }
 
-  module _ (part d : List ℕ) (order : Shuffled part d) (differ : AreDistinct d) (two : 1 < length d) (within : (l : ℕ) → is_among d l ≡ true → is_among c l ≡ true) where
+  module _ (part d : List ℕ) (order : IsReordering part d) (differ : AreDistinct d) (two : 1 < length d) (within : (l : ℕ) → is_among d l ≡ true → is_among c l ≡ true) where
     abbrev ks : List ℕ
     ks = map (with_var global) part
 
     names_d : AreMapped global s.solver_names d
     names_d = all_named d (λ l t. within l t)
 
-    part_of : (ls : List ℕ) → Shuffled ls c → is_part ks (map (with_var global) ls) ≡ true
+    part_of : (ls : List ℕ) → IsReordering ls c → is_part ks (map (with_var global) ls) ≡ true
     part_of ls shuffled = part_mapped (with_var global) part ls (all_true (is_among ls) part (λ l t. same_shuffled ls c shuffled l ∙ within l (sym (same_shuffled part d order l) ∙ t)))
 
     pub come_shorter : MayCome s.solver_names global part d
@@ -76,7 +76,7 @@ module _ (words live : List ℕ) (implied : List (List ℕ)) (st : State) (s : S
     }
 
     -- the hash is that of the clause with its literals in whatever order
-    pub derive_shorter : (hs : List ℕ) (hash : ℕ) → Shuffled hs c → AreDistinct hs → hash ≡ hash_of hs → ((k : ℕ) → k < length c → (is_among d (get_or c k 0) ≡ true) ⊎ IsUnitLit st (negated (get_or c k 0))) → MayDerive s (map (with_var global) part) (hash ∷ [])
+    pub derive_shorter : (hs : List ℕ) (hash : ℕ) → IsReordering hs c → AreDistinct hs → hash ≡ hash_of hs → ((k : ℕ) → k < length c → (is_among d (get_or c k 0) ≡ true) ⊎ IsUnitLit st (negated (get_or c k 0))) → MayDerive s (map (with_var global) part) (hash ∷ [])
     derive_shorter hs hash shuffled distinct e each = may_shorten s global hs part hash fits.width (usable_as hs shuffled distinct) e (λ k lt.
         let j = shuffled.forth k lt in
         subst (λ m. (is_among part m ≡ true) ⊎ (s.units (with_var global (negated m)) ≡ true)) j.1.1 (elim (each j.0 (omega (arith, j.1.0, shuffled.size))) [
@@ -84,7 +84,7 @@ module _ (words live : List ℕ) (implied : List (List ℕ)) (st : State) (s : S
           | inr u ↦ inr (fits.known (negated (get_or c j.0 0)) u)
         ]))
 
-    pub replace_shorter : (ls : List ℕ) (w : ℕ) (hashes : List ℕ) → Shuffled ls c → is_among c w ≡ true → is_among d w ≡ false → MayReplace (after (AtClause false (map (with_var global) part) hashes) s) (map (with_var global) ls)
+    pub replace_shorter : (ls : List ℕ) (w : ℕ) (hashes : List ℕ) → IsReordering ls c → is_among c w ≡ true → is_among d w ≡ false → MayReplace (after (AtClause false (map (with_var global) part) hashes) s) (map (with_var global) ls)
     replace_shorter ls w hashes shuffled has missing =
         let size : 1 < length (canonical (map (with_var global) part)) = (
         let e : canonical (map (with_var global) part) ≡ canonical (map (with_var global) d) = set_shuffled (with_var global) part d order in

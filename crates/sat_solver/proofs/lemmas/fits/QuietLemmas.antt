@@ -8,7 +8,7 @@ use Rattle.sat_base.specs.steps.Steps.{Step, AtClause}
 use Rattle.sat_checker.specs.LiteralSets.{is_among}
 use Rattle.sat_checker.specs.Leading.{LeadsToConflict}
 use Rattle.sat_parts.proofs.lemmas.prop.StateLemmas.{negated_twice}
-use Rattle.sat_solver.specs.session.Session.{Session, IsLive, AreLiveByHash, denied, MayDerive, by_unit, by_clauses}
+use Rattle.sat_solver.specs.session.Session.{Session, IsLive, AreLiveByHash, denied_in, MayDerive, by_unit, by_clauses}
 use Rattle.sat_solver.proofs.lemmas.session.Mapped.{among_mapped}
 use Rattle.sat_solver.specs.session.Coming.{EachIsAllowed}
 use Rattle.sat_solver.specs.session.Quiet.{others_of, LeavesLiteralOpen, are_few, is_quiet, AreQuiet, ComesQuietly, QuietNeverAdvances}
@@ -86,7 +86,7 @@ unit_in s (x ∷ xs) e = elim (or_cases (s.units x) (list_any s.units xs) e) [
 
 module _ (s : Session) (clause : List ℕ) (l : ℕ) (o : LeavesLiteralOpen s clause l) where
   abbrev holds : ℕ → Bool
-  holds = denied s (others_of l clause)
+  holds = denied_in s (others_of l clause)
 
   other_denied : (m : ℕ) → (m ≡ l → ⊥) → is_among clause m ≡ true → holds (negated m) ≡ true
   other_denied m n e = or_left (is_among (map negated (others_of l clause)) (negated m)) (s.units (negated m)) (among_mapped negated (others_of l clause) m (among_others l m clause n e))
@@ -103,7 +103,7 @@ module _ (s : Session) (clause : List ℕ) (l : ℕ) (o : LeavesLiteralOpen s cl
   ]
 
   -- each literal of a clause that is false under all negations is this one, or false under the others
-  one_split : (m : ℕ) → denied s clause (negated m) ≡ true → (m ≡ l) ⊎ (holds (negated m) ≡ true)
+  one_split : (m : ℕ) → denied_in s clause (negated m) ≡ true → (m ≡ l) ⊎ (holds (negated m) ≡ true)
   one_split m t = elim (either_way (eqb m l)) [
     | inl q ↦ inl (eqb-true m l q)
     | inr f ↦ inr (elim (or_cases (is_among (map negated clause) (negated m)) (s.units (negated m)) t) [
@@ -112,7 +112,7 @@ module _ (s : Session) (clause : List ℕ) (l : ℕ) (o : LeavesLiteralOpen s cl
     ])
   ]
 
-  all_split : (c : List ℕ) → AllByRecursion (λ m. denied s clause (negated m) ≡ true) c → AllByRecursion (λ m. (m ≡ l) ⊎ (holds (negated m) ≡ true)) c
+  all_split : (c : List ℕ) → AllByRecursion (λ m. denied_in s clause (negated m) ≡ true) c → AllByRecursion (λ m. (m ≡ l) ⊎ (holds (negated m) ≡ true)) c
   all_split [] h = tt
   all_split (m ∷ ms) h = (one_split m h.0, all_split ms h.1)
 
@@ -130,7 +130,7 @@ module _ (s : Session) (clause : List ℕ) (l : ℕ) (o : LeavesLiteralOpen s cl
         | inr k ↦ k
       ]
 
-  by_one : (c : List ℕ) → IsLive s c → AllByRecursion (λ m. denied s clause (negated m) ≡ true) c → ⊥
+  by_one : (c : List ℕ) → IsLive s c → AllByRecursion (λ m. denied_in s clause (negated m) ≡ true) c → ⊥
   by_one c live h = elim (either_way (is_among c l)) [
     | inl t ↦
         let new = o.stays (c ∷ []) (λ m. eqb l m || holds m) (live, (l, all_split c h, t, λ m k. k)) in
@@ -138,7 +138,7 @@ module _ (s : Session) (clause : List ℕ) (l : ℕ) (o : LeavesLiteralOpen s cl
     | inr f ↦ let new = o.stays [] holds (λ m t. t) in new.no_conflict c live (no_open c f (all_split c h))
   ]
 
-  by_few : (named : List (List ℕ)) (hashes : List ℕ) → are_few hashes ≡ true → AreLiveByHash s named hashes → LeadsToConflict (denied s clause) named → ⊥
+  by_few : (named : List (List ℕ)) (hashes : List ℕ) → are_few hashes ≡ true → AreLiveByHash s named hashes → LeadsToConflict (denied_in s clause) named → ⊥
   by_few [] hashes few n h = h
   by_few (c ∷ []) [] few n h = n
   by_few (c ∷ []) (x ∷ hashes) few n h = by_one c n.0 h

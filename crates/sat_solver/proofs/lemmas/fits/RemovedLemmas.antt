@@ -8,13 +8,13 @@ use Rattle.sat_base.specs.steps.Steps.{DeleteClause, Satisfied}
 use Rattle.sat_checker.specs.LiteralSets.{is_among}
 use Rattle.sat_parts.specs.prop.Binaries.{Binaries, implied_by, open_among, RemovesAssigned}
 use Rattle.sat_parts.specs.prop.Values.{is_unset, IsTrueLit}
-use Rattle.sat_parts.specs.prop.State.{State, level, current_level, Agrees}
+use Rattle.sat_parts.specs.prop.State.{State, level, current_level, StateIsConsistent}
 use Rattle.sat_parts.proofs.lemmas.clause.ListLemmas.{at_place, place_in}
 use Rattle.sat_parts.proofs.lemmas.clause.OrderLemmas.{shuffled_refl}
 use Rattle.sat_parts.proofs.lemmas.prop.StateLemmas.{negated_variable, negated_twice, level_low}
 use Rattle.sat_solver.specs.session.Session.{Session, after, May}
 use Rattle.sat_solver.specs.session.LiveClauses.{LiveClause, with_var}
-use Rattle.sat_solver.specs.session.SolverClauses.{pair, binaries, longs, Inserted, is_open_clause, binaries_left}
+use Rattle.sat_solver.specs.session.SolverClauses.{pair, binaries, longs, InsertsClause, is_open_clause, binaries_left}
 use Rattle.sat_solver.proofs.lemmas.trail.InsertedLemmas.{inserted_before}
 use Rattle.sat_solver.proofs.lemmas.trail.OpenLemmas.{binaries_open}
 use Rattle.sat_solver.proofs.lemmas.trail.LeftLemmas.{left_start, left_list, left_end, left_other, left_open, left_set}
@@ -77,7 +77,7 @@ paired_open values x y h p =
 abbrev pub LeftFits : (words live : List ℕ) (x : Binaries) (st : State) (global : ℕ → ℕ) → Session → (l k : ℕ) → Type 0
 LeftFits words live x st global t l k = FitsList (binaries_left st.values x.implied l k ++ longs (is_redundant words) words live) st t global
 
-module _ (words live : List ℕ) (x : Binaries) (st : State) (global : ℕ → ℕ) (agrees : Agrees st) (bare : AreBare st) (bottom : length st.trail.starts ≡ 0) (paired : ArePaired x.implied) (complete : (l k : ℕ) → k < length (implied_by x.implied l) → IsTrueLit st.values l → IsTrueLit st.values (get_or (implied_by x.implied l) k 0)) where
+module _ (words live : List ℕ) (x : Binaries) (st : State) (global : ℕ → ℕ) (agrees : StateIsConsistent st) (bare : AreBare st) (bottom : length st.trail.starts ≡ 0) (paired : ArePaired x.implied) (complete : (l k : ℕ) → k < length (implied_by x.implied l) → IsTrueLit st.values l → IsTrueLit st.values (get_or (implied_by x.implied l) k 0)) where
   -- what a clause of two literals makes true where one of its variables has a value
   set_or_open : (a : ℕ) → is_unset st.values (variable a) ≡ false → IsTrueLit st.values a ⊎ IsTrueLit st.values (negated a)
   set_or_open a n = elim (open_or_true st.values (variable a)) [
@@ -137,7 +137,7 @@ module _ (words live : List ℕ) (x : Binaries) (st : State) (global : ℕ → �
         let rest : List LiveClause = longs (is_redundant words) words live in
         let old : List LiveClause = binaries_left st.values x.implied l k ++ rest in
         let new : List LiveClause = binaries_left st.values x.implied l (k + 1) ++ rest in
-        let i : Inserted new old (pair (negated l) m) = inserted_before rest (binaries_left st.values x.implied l (k + 1)) (binaries_left st.values x.implied l k) (pair a m) (left_set st.values x.implied l k lt (lt-ltb a m lower) n) in
+        let i : InsertsClause new old (pair (negated l) m) = inserted_before rest (binaries_left st.values x.implied l (k + 1)) (binaries_left st.values x.implied l k) (pair a m) (left_set st.values x.implied l k lt (lt-ltb a m lower) n) in
         let c : Contains (implied_by x.implied (negated (negated l))) m = subst (λ z. Contains (implied_by x.implied z) m) (sym (negated_twice l)) (place_in (implied_by x.implied l) k lt) in
         let unit : (z : ℕ) → is_among (negated l ∷ m ∷ []) z ≡ true → IsTrueLit st.values z → May t (DeleteClause (map (with_var global) (negated l ∷ m ∷ [])) Satisfied) × LeftFits words live x st global (after (DeleteClause (map (with_var global) (negated l ∷ m ∷ [])) Satisfied) t) l (k + 1) = λ z there holds.
         let low : level st z ≡ 0 = (let e : level st z ≤ current_level st = level_low st z agrees holds in omega arith) in

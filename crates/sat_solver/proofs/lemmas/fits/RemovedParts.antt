@@ -5,7 +5,7 @@ use Rattle.sat_base.specs.steps.Steps.{DeleteClause, Satisfied}
 use Rattle.sat_parts.specs.clause.Db.{live_refs}
 use Rattle.sat_parts.specs.prop.Binaries.{implied_by, RemovesAssigned}
 use Rattle.sat_parts.specs.prop.Values.{IsTrueLit}
-use Rattle.sat_parts.specs.prop.State.{level, current_level, HasLeftQueue, Agrees}
+use Rattle.sat_parts.specs.prop.State.{level, current_level, HasLeftQueue, StateIsConsistent}
 use Rattle.sat_parts.proofs.lemmas.prop.StateLemmas.{level_low}
 use Rattle.sat_solver.specs.session.Session.{Session, after, May}
 use Rattle.sat_solver.specs.session.LiveClauses.{with_var}
@@ -20,7 +20,7 @@ module _ (p : Parts) (global : ℕ → ℕ) (holds : PartsInvariant p) (paired :
   abbrev live : List ℕ
   live = live_refs p.clauses p.db.refs
 
-  agrees : Agrees (state p)
+  agrees : StateIsConsistent (state p)
   agrees = holds.below.asks.agrees
 
   none : length p.trail.starts ≡ 0

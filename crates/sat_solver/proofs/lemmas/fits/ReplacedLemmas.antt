@@ -10,13 +10,13 @@ use Rattle.sat_store.specs.clause.Buffer.{lits_at}
 use Rattle.sat_store.specs.clause.Header.{Header, is_learned}
 use Rattle.sat_checker.specs.LiteralSets.{is_among}
 use Rattle.sat_parts.specs.clause.Db.{Db, HoldsDb, live_refs, ShortensClause}
-use Rattle.sat_parts.specs.clause.Orders.{AreDistinct, Shuffled}
+use Rattle.sat_parts.specs.clause.Orders.{AreDistinct, IsReordering}
 use Rattle.sat_parts.specs.clause.Stored.{AreClauses, lit_of, size_of}
-use Rattle.sat_parts.specs.prop.State.{State, Agrees}
+use Rattle.sat_parts.specs.prop.State.{State, StateIsConsistent}
 use Rattle.sat_parts.proofs.lemmas.prop.BuildLemmas.{live_in}
 use Rattle.sat_solver.specs.session.Session.{Session, after, May}
 use Rattle.sat_solver.specs.session.LiveClauses.{LiveClause, with_var}
-use Rattle.sat_solver.specs.session.SolverClauses.{binaries, longs, solver_clauses, Inserted}
+use Rattle.sat_solver.specs.session.SolverClauses.{binaries, longs, solver_clauses, InsertsClause}
 use Rattle.sat_solver.proofs.lemmas.trail.InsertedLemmas.{Splits, splits, longs_both, replaces}
 use Rattle.sat_parts.specs.parts.Frame.{IsUnitLit}
 use Rattle.sat_solver.specs.session.Fits.{is_redundant, SessionMatches}
@@ -35,8 +35,8 @@ pub record Both (words live : List ℕ) (implied : List (List ℕ)) (st : State)
 
 -- the long clauses where one of them was shortened, and where both stand
 record Shortened (old mid new : List LiveClause) (c d : LiveClause) : Type 0 where
-  comes : Inserted old mid d
-  goes : Inserted new mid c
+  comes : InsertsClause old mid d
+  goes : InsertsClause new mid c
 
 shortened_there : (words words' : List ℕ) (db : Db) (implied : List (List ℕ)) (o len : ℕ) → HoldsDb words db → Contains (live_refs words db.refs) o → ShortensClause words db words' o len →
     (mid : List LiveClause) × Shortened (solver_clauses (is_redundant words) words (live_refs words db.refs) implied) mid (solver_clauses (is_redundant words') words' (live_refs words' db.refs) implied)
@@ -62,14 +62,14 @@ shortened_there words words' db implied o len held there short =
     let mid : List LiveClause = binaries implied ++ (longs r words x.front ++ d ∷ c ∷ longs r words x.back) in (
       mid,
       record {
-        comes = subst (λ ds. Inserted (binaries implied ++ ds) mid d) (sym was) both.0;
-        goes = subst (λ ds. Inserted (binaries implied ++ ds) mid c) (sym is) both.1;
+        comes = subst (λ ds. InsertsClause (binaries implied ++ ds) mid d) (sym was) both.0;
+        goes = subst (λ ds. InsertsClause (binaries implied ++ ds) mid c) (sym is) both.1;
       },
     )
 
 -- LONG TO LONG
 
-module _ (words words' : List ℕ) (db : Db) (implied : List (List ℕ)) (st : State) (s : Session) (global : ℕ → ℕ) (agrees : Agrees st) (fits : SessionMatches words (live_refs words db.refs) implied st s global) (held : HoldsDb words db) (clauses : AreClauses words (live_refs words db.refs) (length st.values)) (plain : ArePlain s) (o len : ℕ) (there : Contains (live_refs words db.refs) o) (short : ShortensClause words db words' o len) (long : 3 ≤ len) (fewer : len < size_of words o) (false_by : (k : ℕ) → len ≤ k → k < size_of words o → IsUnitLit st (negated (lit_of words o k))) (ls part : List ℕ) (order : Shuffled ls (lits_at words o)) (part_order : Shuffled part (take len (lits_at words o))) (hs : List ℕ) (hash_order : Shuffled hs (lits_at words o)) (hash_distinct : AreDistinct hs) (hash : ℕ) (its : hash ≡ hash_of hs) where
+module _ (words words' : List ℕ) (db : Db) (implied : List (List ℕ)) (st : State) (s : Session) (global : ℕ → ℕ) (agrees : StateIsConsistent st) (fits : SessionMatches words (live_refs words db.refs) implied st s global) (held : HoldsDb words db) (clauses : AreClauses words (live_refs words db.refs) (length st.values)) (plain : ArePlain s) (o len : ℕ) (there : Contains (live_refs words db.refs) o) (short : ShortensClause words db words' o len) (long : 3 ≤ len) (fewer : len < size_of words o) (false_by : (k : ℕ) → len ≤ k → k < size_of words o → IsUnitLit st (negated (lit_of words o k))) (ls part : List ℕ) (order : IsReordering ls (lits_at words o)) (part_order : IsReordering part (take len (lits_at words o))) (hs : List ℕ) (hash_order : IsReordering hs (lits_at words o)) (hash_distinct : AreDistinct hs) (hash : ℕ) (its : hash ≡ hash_of hs) where
   abbrev live : List ℕ
   live = live_refs words db.refs
 
@@ -118,14 +118,14 @@ module _ (words words' : List ℕ) (db : Db) (implied : List (List ℕ)) (st : S
   step flag = AtClause flag (map (with_var global) part) (hash ∷ [])
 
   -- the flag of the derived clause is that of the old one
-  middle : (flag : Bool) → is_redundant words o ≡ flag → (mid : List LiveClause) × (FitsList mid st (after (step flag) s) global × Inserted (solver_clauses (is_redundant words') words' live' implied) mid (record { redundant = flag; literals = c }))
+  middle : (flag : Bool) → is_redundant words o ≡ flag → (mid : List LiveClause) × (FitsList mid st (after (step flag) s) global × InsertsClause (solver_clauses (is_redundant words') words' live' implied) mid (record { redundant = flag; literals = c }))
   middle flag side =
       let x = shortened_there words words' db implied o len held there short in
       let old : List LiveClause = solver_clauses (is_redundant words) words live implied in (
         x.0,
         (
-          listed_derived s global part d come st old x.0 flag (subst (λ b. Inserted old x.0 (record { redundant = b; literals = d })) side x.1.comes) (listed words live implied st s global fits) (hash ∷ []),
-          subst (λ b. Inserted (solver_clauses (is_redundant words') words' live' implied) x.0 (record { redundant = b; literals = c })) side x.1.goes,
+          listed_derived s global part d come st old x.0 flag (subst (λ b. InsertsClause old x.0 (record { redundant = b; literals = d })) side x.1.comes) (listed words live implied st s global fits) (hash ∷ []),
+          subst (λ b. InsertsClause (solver_clauses (is_redundant words') words' live' implied) x.0 (record { redundant = b; literals = c })) side x.1.goes,
         ),
       )
 

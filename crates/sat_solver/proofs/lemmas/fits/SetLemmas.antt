@@ -6,7 +6,7 @@ use Rattle.sat_checker.specs.LiteralSets.{is_among, is_tautology, is_part, canon
 use Rattle.sat_checker.specs.SortedSets.{NoRepeats}
 use Rattle.sat_checker.proofs.lemmas.sets.Canonical.{canonical_among, canonical_increasing, same_increasing, same_tautology, tautology_from, both_signs}
 use Rattle.sat_checker.proofs.lemmas.sets.Subsets.{all_true}
-use Rattle.sat_parts.specs.clause.Orders.{AreDistinct, Shuffled}
+use Rattle.sat_parts.specs.clause.Orders.{AreDistinct, IsReordering}
 use Rattle.sat_solver.specs.session.Session.{Session, with_live_clause, with_sorted, with_live}
 use Rattle.sat_solver.specs.session.LiveClauses.{with_var}
 use Rattle.sat_solver.proofs.lemmas.session.Mapped.{negated_mapped, among_mapped}
@@ -19,7 +19,7 @@ both_true false true f g = absurd (true≢false (sym (g refl)))
 both_true false false f g = refl
 
 -- the same literals in another order
-pub same_shuffled : (ls ms : List ℕ) → Shuffled ls ms → (m : ℕ) → is_among ls m ≡ is_among ms m
+pub same_shuffled : (ls ms : List ℕ) → IsReordering ls ms → (m : ℕ) → is_among ls m ≡ is_among ms m
 same_shuffled ls ms h m = both_true (is_among ls m) (is_among ms m)
     (λ t.
     let p = among_place ls m t in let j = h.forth p.0 p.1.0 in
@@ -42,13 +42,13 @@ set_same xs ys same =
     (λ m. canonical_among xs m ∙ same m ∙ sym (canonical_among ys m))
 
 -- the sorted set over proof variables
-pub set_shuffled : (f : ℕ → ℕ) (ls ms : List ℕ) → Shuffled ls ms → canonical (map f ls) ≡ canonical (map f ms)
+pub set_shuffled : (f : ℕ → ℕ) (ls ms : List ℕ) → IsReordering ls ms → canonical (map f ls) ≡ canonical (map f ms)
 set_shuffled f ls ms h = set_same (map f ls) (map f ms) (same_mapped f ls ms (same_shuffled ls ms h))
 
-pub taut_shuffled : (f : ℕ → ℕ) (ls ms : List ℕ) → Shuffled ls ms → is_tautology (map f ls) ≡ is_tautology (map f ms)
+pub taut_shuffled : (f : ℕ → ℕ) (ls ms : List ℕ) → IsReordering ls ms → is_tautology (map f ls) ≡ is_tautology (map f ms)
 taut_shuffled f ls ms h = same_tautology (map f ls) (map f ms) (same_mapped f ls ms (same_shuffled ls ms h))
 
-pub once_shuffled : (ls ms : List ℕ) → Shuffled ls ms → AreDistinct ls → NoRepeats ms
+pub once_shuffled : (ls ms : List ℕ) → IsReordering ls ms → AreDistinct ls → NoRepeats ms
 once_shuffled ls ms h d = once_distinct ms (h.apart d)
 
 -- both signs of a variable are both signs of its proof variable

@@ -17,7 +17,7 @@ use Rattle.sat_solver.specs.analyze_conflict.Derivation.{Learns}
 use Rattle.sat_solver.proofs.lemmas.analyze_conflict.Callers.{stands_by}
 use Rattle.sat_parts.specs.declared.parts.Parts.{Parts}
 use Rattle.sat_parts.specs.parts.Whole.{state, HoldsBelow, IsRefuted}
-use Rattle.sat_parts.specs.parts.Frame.{AddsNoUnit, Reordered}
+use Rattle.sat_parts.specs.parts.Frame.{AddsNoUnit, ReordersLits}
 use Rattle.sat_solver.specs.session.Fits.{SessionMatchesParts}
 use Rattle.sat_solver.specs.session.Going.{IsOrderly}
 use Rattle.sat_parts.specs.clause.Stored.{AreClauses}
@@ -80,7 +80,7 @@ orderly_from p top h = record { agrees = h.asks.agrees; clauses = h.asks.clauses
 
 -- PROPAGATION
 
-pub fits_propagated : (p p' : Parts) (s : Session) (global : ℕ → ℕ) → Reordered p p' → AddsNoUnit (state p) (state p') → AreClauses p'.clauses (live_refs p'.clauses p'.db.refs) (length p'.assignment.current) → SessionMatchesParts p s global → SessionMatchesParts p' s global
+pub fits_propagated : (p p' : Parts) (s : Session) (global : ℕ → ℕ) → ReordersLits p p' → AddsNoUnit (state p) (state p') → AreClauses p'.clauses (live_refs p'.clauses p'.db.refs) (length p'.assignment.current) → SessionMatchesParts p s global → SessionMatchesParts p' s global
 fits_propagated p p' s global moved carries clauses fits =
     let here : AreClauses p'.clauses (live_refs p.clauses p.db.refs) (length p.assignment.current) = subst (λ n. AreClauses p'.clauses (live_refs p.clauses p.db.refs) n) carries.size (subst (λ os. AreClauses p'.clauses os (length p'.assignment.current)) moved.live clauses) in
     rw (moved.live, moved.binary)

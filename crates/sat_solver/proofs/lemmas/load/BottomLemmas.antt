@@ -9,7 +9,7 @@ use Rattle.sat_base.specs.steps.Steps.{Assumptions as Asks}
 use Rattle.sat_parts.specs.prop.State.{State}
 use Rattle.sat_parts.specs.declared.parts.Parts.{Parts}
 use Rattle.sat_parts.specs.declared.parts.assumptions.Assumptions.{Assumptions}
-use Rattle.sat_parts.specs.parts.Assumed.{ArePlaced, HaveVariablesIn, variables}
+use Rattle.sat_parts.specs.parts.Assumed.{ArePlaced, HaveVariablesIn, variables_of_lits}
 use Rattle.sat_parts.specs.parts.Frame.{SameClauses, AddsNoUnit}
 use Rattle.sat_parts.specs.parts.Whole.{state, PartsInvariant}
 use Rattle.sat_parts.specs.parts.Words.{TrailWordStays}
@@ -19,7 +19,7 @@ use Rattle.sat_solver.specs.declared.context.Search.{Search}
 use Rattle.sat_solver.specs.cdcl.Joint.{global_in, assumed_in, SameVarsAndAssumptions}
 use Rattle.sat_solver.proofs.lemmas.cdcl.TurnLemmas.{ready_moved, free_moved, leaves_refl}
 use Rattle.sat_solver.specs.load.Bottom.{AtBottom}
-use Rattle.sat_solver.specs.assumptions.Setting.{AreAssumed}
+use Rattle.sat_solver.specs.assumptions.Setting.{ReplacesAssumed}
 
 pub at_bottom : (c : Search) (p : Parts) (a : Assumptions) → p.trail.starts ≡ [] → PartsInvariant p → SameClauses c.parts p → AddsNoUnit (state c.parts) (state p) → TrailWordStays c.parts p → ArePlaced a (state p) → a.lits ≡ c.assumptions.lits →
     AtBottom c (record c { parts = p; assumptions = a })
@@ -59,13 +59,13 @@ mention_not (l ∷ ls) v out (suc k) lt = elim (cases_Bool (mentions ls v)) [
   | inr f ↦ mention_not ls v f k (omega arith)
 ]
 
-pub variables_mention : (ls : List ℕ) (v : ℕ) → Contains (variables ls) v → mentions ls v ≡ true
+pub variables_mention : (ls : List ℕ) (v : ℕ) → Contains (variables_of_lits ls) v → mentions ls v ≡ true
 variables_mention [] v c = absurd (let lt : c.0 < 0 = c.1 in omega arith)
 variables_mention (l ∷ ls) v (zero, lt, e) = or_left (eqb (variable l) v) (mentions ls v) (eq-eqb (variable l) v e)
 variables_mention (l ∷ ls) v (suc k, lt, e) = or_right (eqb (variable l) v) (mentions ls v) (variables_mention ls v (k, omega arith, e))
 
 -- other literals are assumed
-pub assumed : (c : Search) (a : Assumptions) → c.parts.trail.starts ≡ [] → HaveVariablesIn a.lits.items c.parts → ((s : State) → s.trail.starts ≡ [] → ArePlaced a s) → AreAssumed a.lits.items c (record c { assumptions = a })
+pub assumed : (c : Search) (a : Assumptions) → c.parts.trail.starts ≡ [] → HaveVariablesIn a.lits.items c.parts → ((s : State) → s.trail.starts ≡ [] → ArePlaced a s) → ReplacesAssumed a.lits.items c (record c { assumptions = a })
 assumed c a bottom there placed = record {
   lits = refl;
   same = refl;

@@ -15,12 +15,12 @@ use Rattle.sat_solver.specs.session.Session.{Session}
 use Rattle.sat_solver.specs.session.LiveClauses.{LiveClause, IsIn, with_var, mapped, live_count_of, AreMapped, AreOf}
 use Rattle.sat_solver.specs.session.SolverClauses.{solver_clauses}
 use Rattle.sat_parts.specs.declared.parts.Parts.{Parts}
-use Rattle.sat_parts.specs.parts.Assumed.{IsPlaced, ArePlaced, variables}
-use Rattle.sat_parts.specs.parts.Frame.{Grown, IsUnitLit}
+use Rattle.sat_parts.specs.parts.Assumed.{IsPlaced, ArePlaced, variables_of_lits}
+use Rattle.sat_parts.specs.parts.Frame.{AddsVars, IsUnitLit}
 use Rattle.sat_parts.specs.parts.Whole.{state, PartsInvariant}
 use Rattle.sat_parts.specs.parts.Words.{IsIdle}
 use Rattle.sat_solver.specs.session.Fits.{is_redundant, SessionMatchesParts, TrueLitsHaveNames}
-use Rattle.sat_solver.specs.session.Naming.{global_of}
+use Rattle.sat_solver.specs.session.Naming.{global_of_index}
 use Rattle.sat_solver.proofs.lemmas.fits.AddedLemmas.{unit_true}
 use Rattle.sat_solver.proofs.lemmas.fits.CodeLemmas.{coded_by}
 use Rattle.sat_solver.proofs.lemmas.fits.FramedParts.{fits_grown}
@@ -67,9 +67,9 @@ module _ (f h : ℕ → ℕ) (p q : ℕ → Option ℕ) (stays : (v : ℕ) → p
   }
 
 record Found (globals : List ℕ) (s t : Session) (x : ℕ) : Type 0 where
-  without : s.solver_names (global_of globals x) ≡ None
+  without : s.solver_names (global_of_index globals x) ≡ None
   free : (v : ℕ) → s.solver_names v ≢ Some x
-  named : t.solver_names (global_of globals x) ≡ Some x
+  named : t.solver_names (global_of_index globals x) ≡ Some x
 
 found : (globals : List ℕ) (s t : Session) (gs : List Given) (x : ℕ) → AllByRecursion (IsGivenTo globals s t) gs → HasGiven gs x → Found globals s t x
 found globals s t [] x all h = absurd h
@@ -77,10 +77,10 @@ found globals s t (g ∷ gs) x all (inl e) = subst (λ z. Found globals s t z) e
 found globals s t (g ∷ gs) x all (inr k) = found globals s t gs x all.1 k
 
 -- the unit of a given index is the session's
-lit_unit : (globals : List ℕ) (s t : Session) (gs : List Given) (l : ℕ) → AllByRecursion (IsGivenTo globals s t) gs → GivesLit gs l → s.units (with_var (global_of globals) l) ≡ true
+lit_unit : (globals : List ℕ) (s t : Session) (gs : List Given) (l : ℕ) → AllByRecursion (IsGivenTo globals s t) gs → GivesLit gs l → s.units (with_var (global_of_index globals) l) ≡ true
 lit_unit globals s t [] l all h = absurd h
 lit_unit globals s t (g ∷ gs) l all (inl e) =
-    ap s.units (sym (coded_by (global_of globals) l)) ∙ ap (λ v. s.units (coded (global_of globals v) (is_positive l))) (sym e.0)
+    ap s.units (sym (coded_by (global_of_index globals) l)) ∙ ap (λ v. s.units (coded (global_of_index globals v) (is_positive l))) (sym e.0)
     ∙ all.0.unit (is_positive l) ∙ ap (λ u. says_unit u (is_positive l)) e.1 ∙ says_itself (is_positive l)
   where
     says_itself : (b : Bool) → says_unit (Some b) b ≡ true
@@ -88,10 +88,10 @@ lit_unit globals s t (g ∷ gs) l all (inl e) =
     says_itself false = refl
 lit_unit globals s t (g ∷ gs) l all (inr k) = lit_unit globals s t gs l all.1 k
 
-unit_lit : (globals : List ℕ) (s t : Session) (gs : List Given) (l : ℕ) → AllByRecursion (IsGivenTo globals s t) gs → HasGiven gs (variable l) → s.units (with_var (global_of globals) l) ≡ true → GivesLit gs l
+unit_lit : (globals : List ℕ) (s t : Session) (gs : List Given) (l : ℕ) → AllByRecursion (IsGivenTo globals s t) gs → HasGiven gs (variable l) → s.units (with_var (global_of_index globals) l) ≡ true → GivesLit gs l
 unit_lit globals s t [] l all h u = h
 unit_lit globals s t (g ∷ gs) l all (inl e) u =
-    inl (e, says_only g.unit (is_positive l) (sym (all.0.unit (is_positive l)) ∙ ap (λ v. s.units (coded (global_of globals v) (is_positive l))) e ∙ ap s.units (coded_by (global_of globals) l) ∙ u))
+    inl (e, says_only g.unit (is_positive l) (sym (all.0.unit (is_positive l)) ∙ ap (λ v. s.units (coded (global_of_index globals v) (is_positive l))) e ∙ ap s.units (coded_by (global_of_index globals) l) ∙ u))
   where
     says_only : (o : Option Bool) (b : Bool) → says_unit o b ≡ true → o ≡ Some b
     says_only None b h = absurd (true≢false (sym h))
@@ -119,7 +119,7 @@ placed_bottom ls below place s s' e e' kept h =
     }
 
 module _ (c c1 c2 c3 : Search) (globals : List ℕ) (gs : List Given) (count : ℕ) (holds : PartsInvariant c.parts) (next : length c.globals.items ≡ length c.parts.assignment.current) (more : length c.globals.items ≤ count) (least : length c.globals.items ≤ length globals → count ≤ length globals) (past : AllByRecursion (λ g. g.solver < count) gs)
-    (grown : Grown c.parts c1.parts count) (assumptions1 : c1.assumptions ≡ c.assumptions) (flags1 : length c1.analysis.flags ≡ count) (clear1 : AreClear c.analysis.flags → AreClear c1.analysis.flags)
+    (grown : AddsVars c.parts c1.parts count) (assumptions1 : c1.assumptions ≡ c.assumptions) (flags1 : length c1.analysis.flags ≡ count) (clear1 : AreClear c.analysis.flags → AreClear c1.analysis.flags)
     (glue1 : GrowsFlags count c.flags.flags.items c1.flags.flags.items) (globals1 : (v : ℕ) → v < length c.globals.items → get_or c1.globals.items v 0 ≡ get_or c.globals.items v 0) (many1 : length c1.globals.items ≡ count)
     (back : AtBottom c1 c2) (holds1 : PartsInvariant c1.parts) (renamed : Renames gs globals c2.globals.items c3.globals.items) (takes : TakesIndices gs c2.parts c3.parts)
     (analysis3 : c3.analysis ≡ c2.analysis) (flags3 : c3.flags ≡ c2.flags) (assumptions3 : c3.assumptions ≡ c2.assumptions) where
@@ -162,7 +162,7 @@ module _ (c c1 c2 c3 : Search) (globals : List ℕ) (gs : List Given) (count : �
     moved_lit : (l : ℕ) → global_in c3 (variable l) ≡ global_in c (variable l) → with_var (global_in c3) l ≡ with_var (global_in c) l
     moved_lit l e = ap (λ v. 2 * v + l % 2) e
 
-    given_lit : (l : ℕ) → HasGiven gs (variable l) → with_var (global_in c3) l ≡ with_var (global_of globals) l
+    given_lit : (l : ℕ) → HasGiven gs (variable l) → with_var (global_in c3) l ≡ with_var (global_of_index globals) l
     given_lit l h = ap (λ v. 2 * v + l % 2) (renamed.named (variable l) h)
 
     fits3 : SessionMatchesParts c3.parts t (global_in c3)
@@ -171,10 +171,10 @@ module _ (c c1 c2 c3 : Search) (globals : List ℕ) (gs : List Given) (count : �
       paired = fits2.paired;
       known = λ l u. elim (takes.units l u) [
         | inl o ↦ ap t.units (moved_lit l (old_stays (variable l) (unit_named l o)).0) ∙ ap (λ f. f (with_var (global_in c) l)) g.keeps.units ∙ fits2.known l o
-        | inr k ↦ ap t.units (given_lit l (lit_given gs l k)) ∙ ap (λ f. f (with_var (global_of globals) l)) g.keeps.units ∙ lit_unit globals s t gs l g.each k
+        | inr k ↦ ap t.units (given_lit l (lit_given gs l k)) ∙ ap (λ f. f (with_var (global_of_index globals) l)) g.keeps.units ∙ lit_unit globals s t gs l g.each k
       ];
       sound = λ l own u. elim (given_or_not gs (variable l)) [
-        | inl h ↦ takes.its l (unit_lit globals s t gs l g.each h (ap (λ f. f (with_var (global_of globals) l)) (sym g.keeps.units) ∙ ap t.units (sym (given_lit l h)) ∙ u))
+        | inl h ↦ takes.its l (unit_lit globals s t gs l g.each h (ap (λ f. f (with_var (global_of_index globals) l)) (sym g.keeps.units) ∙ ap t.units (sym (given_lit l h)) ∙ u))
         | inr out ↦ elim (g.others (global_in c3 (variable l)) (variable l) own) [
           | inl old ↦
               let same : global_in c3 (variable l) ≡ global_in c (variable l) = others (variable l) (g.below (global_in c3 (variable l)) (variable l) old) out in
@@ -198,7 +198,7 @@ module _ (c c1 c2 c3 : Search) (globals : List ℕ) (gs : List Given) (count : �
       λ k. past_all c.assumptions.lits.items v small ge k,
     )
       where
-        past_all : (ls : List ℕ) (v : ℕ) → ((k : ℕ) → k < length ls → variable (get_or ls k 0) < n) → n ≤ v → Contains (variables ls) v → ⊥
+        past_all : (ls : List ℕ) (v : ℕ) → ((k : ℕ) → k < length ls → variable (get_or ls k 0) < n) → n ≤ v → Contains (variables_of_lits ls) v → ⊥
         past_all [] v below ge k = (let lt : k.0 < 0 = k.1 in omega arith)
         past_all (l ∷ ls) v below ge (zero, lt, e) = (let z : variable l < n = below 0 (omega arith) in let f : variable l ≡ v = e in omega arith)
         past_all (l ∷ ls) v below ge (suc i, lt, e) = past_all ls v (λ j less. below (suc j) (omega arith)) ge (i, omega arith, e)
@@ -218,7 +218,7 @@ module _ (c c1 c2 c3 : Search) (globals : List ℕ) (gs : List Given) (count : �
       | inr idle ↦ absurd (idle.2 (contains_at c.assumptions.lits.items k lt))
     ]
       where
-        contains_at : (ls : List ℕ) (k : ℕ) → k < length ls → Contains (variables ls) (variable (get_or ls k 0))
+        contains_at : (ls : List ℕ) (k : ℕ) → k < length ls → Contains (variables_of_lits ls) (variable (get_or ls k 0))
         contains_at [] k lt = absurd (omega arith)
         contains_at (l ∷ ls) zero lt = (0, omega arith, refl)
         contains_at (l ∷ ls) (suc k) lt = let y = contains_at ls k (omega arith) in (suc y.0, omega (arith, y.1), y.2)
@@ -292,7 +292,7 @@ are_vacant globals s t c count gs h each below apart = record { each = go gs eac
     go (k ∷ ks) a b = let i = idle_index s c k.solver h a.0.free in (record { below = b.0; open_value = i.0; unpicked = i.1 }, go ks a.1 b.1)
 
 -- what is vacant is so at level 0, where there are more variables
-pub vacant_bottom : (c c1 c2 : Search) (reach count : ℕ) (gs : List Given) → Grown c.parts c1.parts count → AtBottom c1 c2 → AllByRecursion (λ g. g.solver < count) gs → AreVacant c.parts reach gs → AreVacant c2.parts (length c2.parts.assignment.current) gs
+pub vacant_bottom : (c c1 c2 : Search) (reach count : ℕ) (gs : List Given) → AddsVars c.parts c1.parts count → AtBottom c1 c2 → AllByRecursion (λ g. g.solver < count) gs → AreVacant c.parts reach gs → AreVacant c2.parts (length c2.parts.assignment.current) gs
 vacant_bottom c c1 c2 reach count gs grown back past h = record { each = subst (λ n. AllByRecursion (IsVacant c2.parts n) gs) (sym (back.moved.size ∙ grown.size)) (go gs past h.each); apart = h.apart }
   where
     go : (ks : List Given) → AllByRecursion (λ g. g.solver < count) ks → AllByRecursion (IsVacant c.parts reach) ks → AllByRecursion (IsVacant c2.parts count) ks

@@ -5,12 +5,12 @@ use Rattle.sat_base.specs.steps.Steps.{Step, AddClause, AtClause, DeleteClause, 
 use Rattle.sat_base.specs.device.Device.{Writer}
 use Rattle.sat_store.specs.declared.clause.alloc.StoreError.{StoreError}
 use Rattle.sat_store.specs.declared.clause.alloc.StoreError.TheVariants as stores
-use Rattle.sat_solver.specs.Recovery.{failure_of}
+use Rattle.sat_solver.specs.Recovery.{buffer_failure}
 use Rattle.sat_solver.specs.declared.proof.Proof.{Proof}
 use Rattle.sat_solver.specs.proof.ProofView.{HasAllowedSteps}
 use Rattle.sat_solver.proofs.lemmas.session.ProofLemmas.{adds_none}
 use Rattle.sat_solver.specs.cdcl.Going.{EmitsStepsOr}
-use Rattle.sat_parts.specs.prop.State.{Agrees}
+use Rattle.sat_parts.specs.prop.State.{StateIsConsistent}
 use Rattle.sat_parts.specs.declared.parts.Parts.{Parts}
 use Rattle.sat_parts.specs.declared.parts.load.Loaded.{Loaded}
 use Rattle.sat_parts.specs.declared.parts.load.Loaded.TheVariants.{Stored, Unit as One, Satisfied, Falsified}
@@ -64,7 +64,7 @@ leaves_added ks earlier consistent = record {
 pub few_lits : (c : Search) (ls : List ℕ) → PartsInvariant c.parts → MayLoad c ls → length ls < 2 ^ 32
 few_lits c ls holds may =
     let n : length ls ≤ 2 * length c.parts.assignment.current = fits_below ls (2 * length c.parts.assignment.current) may.differ may.below in
-    let a : Agrees (state c.parts) = holds.below.asks.agrees in
+    let a : StateIsConsistent (state c.parts) = holds.below.asks.agrees in
     omega (arith, n, a.room, a.trail.small)
 
 mentions_at : (ls : List ℕ) (k : ℕ) → k < length ls → mentions ls (variable (get_or ls k 0)) ≡ true
@@ -76,7 +76,7 @@ leaves_both : (s t u : Session) → SameAssumedAndNames s t → SameAssumedAndNa
 leaves_both s t u x y = record { assumed = y.assumed ∙ x.assumed; names = λ v. y.names v ∙ x.names v }
 
 -- nothing was written, and then the clause buffer refused
-pub goes_unstored : {A W L full : Type 0} {G : Ghosts L} (seen : W → Writer) (e : StoreError) (p : Proof W L G) (P : A → List Step → Type 0) → HasAllowedSteps p → (e ≡ stores.StoreFull → full) → EmitsStepsOr full seen (Err (failure_of e)) p p P
+pub goes_unstored : {A W L full : Type 0} {G : Ghosts L} (seen : W → Writer) (e : StoreError) (p : Proof W L G) (P : A → List Step → Type 0) → HasAllowedSteps p → (e ≡ stores.StoreFull → full) → EmitsStepsOr full seen (Err (buffer_failure e)) p p P
 goes_unstored seen stores.StoreFull p P keeps f = record { steps = []; went = adds_none seen p; searched = tt; quiet = tt; keeps = keeps; kept = tt; loss = refl; ends = f refl }
 goes_unstored seen stores.OutOfMemory p P keeps f = record { steps = []; went = adds_none seen p; searched = tt; quiet = tt; keeps = keeps; kept = tt; loss = inl refl; ends = tt }
 

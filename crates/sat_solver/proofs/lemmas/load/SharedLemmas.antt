@@ -5,7 +5,7 @@ use Rattle.sat_base.specs.values.Literals.{variable, coded}
 use Rattle.sat_solver.proofs.lemmas.variables.MapLemmas.{some_within}
 use Rattle.sat_solver.specs.session.Session.{Session}
 use Rattle.sat_solver.specs.session.LiveClauses.{with_var, AreMapped}
-use Rattle.sat_solver.specs.variables.Variables.{AreTidy, AreSaid, solver_of, global_at, indices_used}
+use Rattle.sat_solver.specs.variables.Variables.{AreTidy, NamesMatchSteps, solver_of, global_at, indices_used}
 use Rattle.sat_solver.specs.load.Literals as adding
 use Rattle.sat_solver.specs.variables.Search.{KeepsSearch, IsGiven, HasGiven, GivesIndices}
 use Rattle.sat_solver.specs.declared.variables.solver_vars.Given.{Given}
@@ -20,7 +20,7 @@ use Rattle.sat_solver.proofs.lemmas.load.IndexLemmas.{given_or_not}
 none_some : {x : ℕ} {o : Option ℕ} → o ≡ None → o ≡ Some x → ⊥
 none_some e f = cc
 
-module _ (old new : Variables) (s t : Session) (gs : List Given) (tidy : AreTidy old) (tidy' : AreTidy new) (said : AreSaid old s) (names : (v : ℕ) → t.solver_names v ≡ solver_of new v) (gives : GivesIndices old new s gs) (keeps : KeepsSearch s t) where
+module _ (old new : Variables) (s t : Session) (gs : List Given) (tidy : AreTidy old) (tidy' : AreTidy new) (said : NamesMatchSteps old s) (names : (v : ℕ) → t.solver_names v ≡ solver_of new v) (gives : GivesIndices old new s gs) (keeps : KeepsSearch s t) where
   given_to : (g : Given) → IsGiven old new s g → IsGivenTo new.globals.items s t g
   given_to g i =
       let its : get_or new.globals.items g.solver 0 ≡ i.variable = tidy'.globals g.solver i.variable i.taken in
@@ -94,8 +94,8 @@ over_named n c t (l ∷ ls) tidy names shares h =
     (ap t.solver_names (shares.same (variable l) h.0.0 h.0.1) ∙ names h.0.0 ∙ tidy.solvers.forth h.0.0 (variable l) h.0.1, over_named n c t ls tidy names shares h.1)
 
 -- the same literals over proof variables, by the names and by the search
-pub over_same : (n : Variables) (c : Search) (ls : List ℕ) → AreTidy n → SharesIndices n c → AreOver n ls → map (with_var (adding.global_in n)) ls ≡ map (with_var (global_in c)) ls
+pub over_same : (n : Variables) (c : Search) (ls : List ℕ) → AreTidy n → SharesIndices n c → AreOver n ls → map (with_var (adding.global_with_index n)) ls ≡ map (with_var (global_in c)) ls
 over_same n c [] tidy shares h = refl
 over_same n c (l ∷ ls) tidy shares h =
-    let e : adding.global_in n (l / 2) ≡ global_in c (l / 2) = tidy.globals (l / 2) h.0.0 h.0.1 ∙ sym (shares.same (l / 2) h.0.0 h.0.1) in
-    ap (λ v. (2 * v + l % 2) ∷ map (with_var (adding.global_in n)) ls) e ∙ ap (λ ms. with_var (global_in c) l ∷ ms) (over_same n c ls tidy shares h.1)
+    let e : adding.global_with_index n (l / 2) ≡ global_in c (l / 2) = tidy.globals (l / 2) h.0.0 h.0.1 ∙ sym (shares.same (l / 2) h.0.0 h.0.1) in
+    ap (λ v. (2 * v + l % 2) ∷ map (with_var (adding.global_with_index n)) ls) e ∙ ap (λ ms. with_var (global_in c) l ∷ ms) (over_same n c ls tidy shares h.1)

@@ -6,7 +6,7 @@ use Rattle.sat_store.specs.schedule.Luby.{luby, wrapped_number}
 use Rattle.sat_solver.specs.schedule.Ranks.{word_rank}
 use Rattle.sat_solver.specs.schedule.Gaps.{given_after, gap_end}
 use Rattle.sat_solver.specs.schedule.Progress.{IsComing, IsLong, AskProgress}
-use Rattle.sat_solver.specs.schedule.Climbing.{ExtendsEachWord, Climbs, StartsAnew, HasCome}
+use Rattle.sat_solver.specs.schedule.Climbing.{ExtendsEachWord, Climbs, StartsAnew, AskReachesRound}
 use Rattle.sat_solver.proofs.lemmas.schedule.RankLemmas.{rank_below, rank_begins, rank_rises}
 use Rattle.sat_solver.proofs.lemmas.schedule.GapLemmas.{long_ahead, pow_double, pow_mono}
 
@@ -97,33 +97,33 @@ progress_keeps n start round next given w v le p =
     record { gaps = p.gaps; base = p.base; spent = p.spent; risen = omega (arith, p.risen); due = p.due }
 
 pub come_climbs : {A : Type 0} (words : A → List Letter → Type 0) (s t : A) (n start round next given : ℕ) → Climbs words n s t →
-    HasCome words s n start round next given → HasCome words t n start (round + 1) next given
+    AskReachesRound words s n start round next given → AskReachesRound words t n start (round + 1) next given
 come_climbs words s t n start round next given c h =
     let x = c h.0 h.1.0 in
     (x.0, (x.1.0, progress_climbs n start round next given h.0 x.0 (rank_rises n h.0 x.0 x.1.2 x.1.1) h.1.1))
 
 pub come_keeps : {A : Type 0} (words : A → List Letter → Type 0) (s t : A) (n start round next given : ℕ) → ExtendsEachWord words s t →
-    HasCome words s n start round next given → HasCome words t n start round next given
+    AskReachesRound words s n start round next given → AskReachesRound words t n start round next given
 come_keeps words s t n start round next given c h =
     let x = c h.0 h.1.0 in
     (x.0, (x.1.0, progress_keeps n start round next given h.0 x.0 (subst (λ (v : List Letter). word_rank n h.0 ≤ word_rank n v) (sym x.1.1.1) (rank_begins n h.0 x.1.1.0)) h.1.1))
 
 pub come_restarts : {A : Type 0} (words : A → List Letter → Type 0) (s t : A) (n start round next given scale : ℕ) → StartsAnew words s t →
     round < 2 ^ 64 - 1 → next ≤ round → 0 < scale →
-    HasCome words s n start round next given → HasCome words t n start round (gap_end round (luby (given + 1)) scale) (wrapped_number (given + 1))
+    AskReachesRound words s n start round next given → AskReachesRound words t n start round (gap_end round (luby (given + 1)) scale) (wrapped_number (given + 1))
 come_restarts words s t n start round next given scale c counts over some h =
     let x = c h.0 h.1.0 in
     (x.0, (x.1, progress_restarts n start round next given scale h.0 x.0 counts over some h.1.1))
 
-pub come_few : {A : Type 0} (words : A → List Letter → Type 0) (s : A) (n start round next given : ℕ) → HasCome words s n start round next given → round + 1 < start + 2 ^ (2 * n + 3)
+pub come_few : {A : Type 0} (words : A → List Letter → Type 0) (s : A) (n start round next given : ℕ) → AskReachesRound words s n start round next given → round + 1 < start + 2 ^ (2 * n + 3)
 come_few words s n start round next given h = progress_few n start round next given h.0 h.1.1
 
-pub come_begins : {A : Type 0} (words : A → List Letter → Type 0) (s : A) (n round next given : ℕ) (w : List Letter) → words s w → n < 63 → HasCome words s n round round next given
+pub come_begins : {A : Type 0} (words : A → List Letter → Type 0) (s : A) (n round next given : ℕ) (w : List Letter) → words s w → n < 63 → AskReachesRound words s n round round next given
 come_begins words s n round next given w h few = (w, (h, progress_begins n round next given w few))
 
 -- an ask made few rounds, whatever the number of variables
 pub few_rounds : {A : Type 0} (words : A → List Letter → Type 0) (s : A) (n start round next given : ℕ) → round < 2 ^ 64 →
-    (n < 63 → HasCome words s n start round next given) → round + 1 < start + 2 ^ (2 * n + 3)
+    (n < 63 → AskReachesRound words s n start round next given) → round + 1 < start + 2 ^ (2 * n + 3)
 few_rounds words s n start round next given counts h = elim (cases_lt n 63) [
   | inl lt ↦ come_few words s n start round next given (h lt)
   | inr ge ↦ omega (arith, pow_mono 65 (2 * n + 3) (omega arith))

@@ -10,7 +10,7 @@ use Rattle.sat_solver.proofs.lemmas.session.ProofLemmas.{gains_none, gains_more}
 use Rattle.sat_solver.specs.session.Coming.{OnlyAllowedSteps, EndsAtUnsat}
 use Rattle.sat_solver.proofs.lemmas.session.ComingLemmas.{comes_open, comes_last}
 use Rattle.sat_parts.specs.declared.parts.Parts.{Parts}
-use Rattle.sat_parts.specs.parts.Assumed.{variables, ArePlaced}
+use Rattle.sat_parts.specs.parts.Assumed.{variables_of_lits, ArePlaced}
 use Rattle.sat_parts.specs.parts.Whole.{state, PartsInvariant}
 use Rattle.sat_parts.specs.parts.Words.{Words, TrailWordStays, trail_letters}
 use Rattle.sat_parts.proofs.lemmas.parts.WordSteps.{word_fits, word_begins}
@@ -29,16 +29,16 @@ use Rattle.sat_solver.proofs.lemmas.variables.Doing.{does_none, does_both}
 use Rattle.sat_solver.specs.cdcl.Ending.{RoundShares, EndsRound}
 use Rattle.sat_solver.specs.solver.Joined.{IsJoined, KeepsJoined}
 use Rattle.sat_solver.proofs.lemmas.solver.AnsweredLemmas.{joined_at}
-use Rattle.sat_solver.proofs.lemmas.solver.TellingLemmas.{shares_moved}
+use Rattle.sat_solver.proofs.lemmas.solver.ReportingLemmas.{shares_moved}
 use Rattle.sat_solver.specs.unit_simplify.Freed.{KeepsAsked}
-use Rattle.sat_solver.specs.unit_simplify.Passes.{PassesQuietly, FallsOr}
+use Rattle.sat_solver.specs.unit_simplify.Passes.{PassesQuietly, PassFailsOr}
 use Rattle.sat_solver.proofs.lemmas.unit_simplify.FreedLemmas.{asked_refl, asked_trans}
 use Rattle.sat_solver.proofs.lemmas.unit_simplify.PassesLemmas.{passes_goes, falls_goes, falls_later, falls_or}
 use Rattle.sat_solver.specs.declared.context.Search.{Search}
 use Rattle.sat_parts.specs.parts.Full.{IsFull}
 use Rattle.sat_solver.specs.cdcl.Joint.{assumed_in, SameVarsAndAssumptions, global_in, IsSearch}
 use Rattle.sat_solver.specs.cdcl.Learning.{LastAdvances}
-use Rattle.sat_solver.specs.clause.Reduced.{Reduced, Reduces, ReducesBy}
+use Rattle.sat_solver.specs.clause.Reduced.{ReductionEffect, Reduces, ReductionBySteps}
 use Rattle.sat_solver.specs.cdcl.Rounds.{RoundLearns, RoundSays}
 use Rattle.sat_solver.specs.schedule.Solving.{AdvanceTimes, StandsStill, words_in, values_in, ComesByRounds, TakesNoRounds, EndSays, Ended, BreaksRounds, ReducedAt}
 use Rattle.sat_solver.proofs.lemmas.cdcl.TurnLemmas.{moved_refl, moved_trans, ready_moved, free_moved, leaves_refl}
@@ -77,7 +77,7 @@ pub words_stay : (am : List ℕ) (p p' : Parts) → TrailWordStays p p' → (w :
 words_stay am p p' stay w x = (_, record { gone = x.gone; distinct = x.distinct; each = λ k b. (stay am).gone _ (x.each k b); is = refl })
 
 words_moved : (p : Parts) (a b : Search) → SameVarsAndAssumptions a b → (v : List Letter) → Words (assumed_in a) p v → Words (assumed_in b) p v
-words_moved p a b m v x = subst (λ ls. Words (variables ls.items) p v) (sym m.lits) x
+words_moved p a b m v x = subst (λ ls. Words (variables_of_lits ls.items) p v) (sym m.lits) x
 
 pub core_word : {W L : Type 0} {G : Ghosts L} (c : Core W L G) → Words (assumed_in c.search) c.search.parts (trail_letters c.search.parts.trail)
 core_word c = word_begins (assumed_in c.search) c.search.parts
@@ -119,7 +119,7 @@ module _ {W L : Type 0} {G : Ghosts L} (seen : W → Writer) where
     }
 
     -- a fault behind what went well
-    falls : (e : SolverError) → FallsOr (IsFull b.search.parts) seen e a.proof b.proof → (s : Core W L G) (n : Variables) (k : ℕ) → ComesByRounds seen s n k a na → BreaksRounds seen s e b
+    falls : (e : SolverError) → PassFailsOr (IsFull b.search.parts) seen e a.proof b.proof → (s : Core W L G) (n : Variables) (k : ℕ) → ComesByRounds seen s n k a na → BreaksRounds seen s e b
     falls e f s n k gone = falls_later seen e s.proof a.proof b.proof (gone.steps, gone.adds) f
 
   -- RESTARTS
@@ -156,7 +156,7 @@ module _ {W L : Type 0} {G : Ghosts L} (seen : W → Writer) where
 
   module _ (a b : Core W L G) (n : Variables) (round : ℕ) (config : b.config ≡ a.config) (joined : IsJoined n a) where
     abbrev Reduction : Result (Unit {0}) SolverError → Type 0
-    Reduction r = ReducesBy (Reduces a.config round) seen r a.proof b.proof a.search b.search
+    Reduction r = ReductionBySteps (Reduces a.config round) seen r a.proof b.proof a.search b.search
 
     pub reduced_sound : (x : Unit {0}) → Reduction (Ok x) → IsJoined n b
     reduced_sound x g = joined_at seen n a joined b g.steps g.went g.searched g.keeps g.ends.0.moved g.ends.0.search config
@@ -166,13 +166,13 @@ module _ {W L : Type 0} {G : Ghosts L} (seen : W → Writer) where
 
     pub reduced_goes : (x : Unit {0}) → Reduction (Ok x) → (s : Core W L G) (m : Variables) (k : ℕ) → ComesByRounds seen s m k a n → ComesByRounds seen s m k b n
     reduced_goes x g = λ s m k gone.
-        (let P : Unit {0} → List Step → Type 0 = λ _ _. Reduced (session_of b.proof) a.search b.search × Reduces a.config round a.search.parts b.search.parts in
+        (let P : Unit {0} → List Step → Type 0 = λ _ _. ReductionEffect (session_of b.proof) a.search b.search × Reduces a.config round a.search.parts b.search.parts in
         let p : PassesQuietly seen n n a.proof b.proof a.search b.search = passes_goes seen x n a.proof b.proof a.search b.search P joined.stands joined.shares g g.ends.0.search g.ends.0.moved g.ends.0.word in
         gone_on a b n n config g.steps g.went p.does p.asked g.ends.0.moved s m k k gone (times_quiet (steps_of s.proof) gone.steps g.steps k (allowed s a b gone.steps g.steps gone.adds.history g.went.history g.keeps) g.quiet gone.times))
 
     pub reduced_fails : (e : SolverError) → Reduction (Err e) → (s : Core W L G) (m : Variables) (k : ℕ) → ComesByRounds seen s m k a n → BreaksRounds seen s e b
     reduced_fails e g = λ s m k gone.
-        (let P : Unit {0} → List Step → Type 0 = λ _ _. Reduced (session_of b.proof) a.search b.search × Reduces a.config round a.search.parts b.search.parts in
+        (let P : Unit {0} → List Step → Type 0 = λ _ _. ReductionEffect (session_of b.proof) a.search b.search × Reduces a.config round a.search.parts b.search.parts in
         falls a b n n config e (falls_or seen (IsFull b.search.parts) e a.proof b.proof (falls_goes seen e a.proof b.proof P g)) s m k gone)
 
   -- ROUNDS
@@ -253,5 +253,5 @@ module _ {W L : Type 0} {G : Ghosts L} (seen : W → Writer) where
     round_fails e g = λ s n k gone. falls a b na nb config e g s n k gone
 
 -- a reduction, as a schedule of rounds has it
-pub reduced_at : {W L : Type 0} {G : Ghosts L} (seen : W → Writer) (a b : Core W L G) (round : ℕ) → b.config ≡ a.config → (x : Unit {0}) → ReducesBy (Reduces a.config round) seen (Ok x) a.proof b.proof a.search b.search → ReducedAt seen a round b
+pub reduced_at : {W L : Type 0} {G : Ghosts L} (seen : W → Writer) (a b : Core W L G) (round : ℕ) → b.config ≡ a.config → (x : Unit {0}) → ReductionBySteps (Reduces a.config round) seen (Ok x) a.proof b.proof a.search b.search → ReducedAt seen a round b
 reduced_at seen a b round config x g = record { steps = g.steps; adds = g.went; reduces = g.ends.1; moved = g.ends.0.moved; config = config }

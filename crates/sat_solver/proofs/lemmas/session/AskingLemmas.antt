@@ -5,7 +5,7 @@ use Rattle.sat_base.specs.device.Device.{Writer}
 use Rattle.sat_base.specs.steps.Steps.{Step}
 use Rattle.sat_checker.specs.declared.processing.ProofProcessor.{Ghosts}
 use Rattle.sat_solver.specs.proof.Counting.{TruncatesHashes, none_made, ask_begun, one_made}
-use Rattle.sat_solver.specs.proof.ProofView.{Target, Closed, Open, Broken, target_in, target_of, is_open, has_asked, EmitsExactly, TargetTakes, FlushesAndTells}
+use Rattle.sat_solver.specs.proof.ProofView.{Target, Closed, Open, Broken, target_in, target_of, is_open, has_asked, EmitsExactly, TargetTakes, FlushesAndNotifies}
 use Rattle.sat_solver.specs.declared.proof.hash_bits.Counting.{Counting}
 use Rattle.sat_solver.specs.declared.proof.output.Output.{Output}
 use Rattle.sat_solver.specs.declared.proof.Proof.{Proof}
@@ -45,7 +45,7 @@ module _ {W L : Type 0} {G : Ghosts L} (seen : W → Writer) where
       go (Some o) true n e = absurd (true≢false (sym e))
 
   -- steps, and then a flush
-  pub asked_flushed : (steps : List Step) (p q r : Proof W L G) → has_asked p ≡ true → EmitsExactly seen steps p q → FlushesAndTells seen q r → is_open (target_of seen r) ≡ true → has_asked r ≡ true
+  pub asked_flushed : (steps : List Step) (p q r : Proof W L G) → has_asked p ≡ true → EmitsExactly seen steps p q → FlushesAndNotifies seen q r → is_open (target_of seen r) ≡ true → has_asked r ≡ true
   asked_flushed steps p q r e adds f =
       asked r (carries_noted (target_of seen q) (target_of seen r) [] (flushed_carries (target_of seen q) (target_of seen r) f.target)
       (carries_noted (target_of seen p) (target_of seen q) steps adds.target (noted p e)))

@@ -1,58 +1,58 @@
 -- A solver's own checker takes what may be made.
 use Rattle.std.proofs.Common.{ℕ, ◌≡◌, ◌∙◌, ◌⊎◌, inl, inr, Bool, true, false, cond, eqb, not, ◌||◌, Option, None, Some, List, [], ◌∷◌, ◌++◌, Result, Ok, Err, refl, sym, ap, subst}
 use Rattle.std.proofs.lemmas.Bool.{true≢false, eq-eqb, eqb-true}
-use Rattle.sat_solver.specs.proof.Counting.{width_told}
+use Rattle.sat_solver.specs.proof.Counting.{width_change}
 use Rattle.sat_solver.proofs.lemmas.session.CutsLemmas.{told}
 use Rattle.std.proofs.Math.Bool.{Bool-set}
 use Rattle.std.proofs.Math.Logic.{∥∥₁_elim, ∥∥₁_prop}
 use Rattle.anyhow.specs.declared.error.Error.{Error}
 use Rattle.sat_base.specs.steps.Steps.{Step, ChangeHashBits}
 use Rattle.sat_checker.specs.CheckerView.{HasAccepted, ChecksDelayed, AddsListener, kernel_of, seen_of}
-use Rattle.sat_checker.specs.KernelView.{IsSettled, has_failed}
+use Rattle.sat_checker.specs.KernelView.{KernelIsSettled, kernel_has_failed}
 use Rattle.sat_checker.specs.KernelView as kernels
-use Rattle.sat_checker.specs.announcements.Announcements.{Told}
-use Rattle.sat_checker.specs.telling.Hearing.{HearsSince, HearsAll, told_by}
-use Rattle.sat_checker.specs.telling.Telling.{Listeners}
+use Rattle.sat_checker.specs.announcements.Announcements.{Notice}
+use Rattle.sat_checker.specs.listeners.Hearing.{HearsSince, HearsAll, notices_by}
+use Rattle.sat_checker.specs.listeners.Notifying.{Listeners}
 use Rattle.sat_checker.specs.declared.kernel.Kernel.{Kernel}
-use Rattle.sat_checker.specs.telling.ProcessingView.{listeners_of}
+use Rattle.sat_checker.specs.listeners.ProcessingView.{listeners_of}
 use Rattle.sat_checker.specs.declared.error.CheckerError.{CheckerError}
 use Rattle.sat_checker.specs.declared.error.CheckerError.TheVariants as errors
 use Rattle.sat_checker.specs.declared.processing.Nobody.{Nobody}
 use Rattle.sat_checker.specs.declared.processing.Processing.{Processing}
 use Rattle.sat_checker.specs.declared.processing.ProcessingError.TheVariants as faults
-use Rattle.sat_checker.proofs.lemmas.telling.Heard.{nobody_fails}
+use Rattle.sat_checker.proofs.lemmas.listeners.Heard.{nobody_fails}
 use Rattle.sat_checker.specs.declared.processing.ProofProcessor.{Ghosts}
 use Rattle.sat_solver.specs.declared.proof.made.CheckFault.{CheckFault}
 use Rattle.sat_solver.specs.declared.proof.made.CheckFault.TheVariants as checks
-use Rattle.sat_solver.specs.proof.Checked.{is_end, unended, has_begun, who_listens, AreGiven, none_given, one_given, end_given, AreGivenAndWidth, FedUnless, IsFed, IsFedBy, Heard, HeardWhole, FailsWhileHeard, IsCause, cause_in, OrCause, TakesStep, TakesWidth, TakesDelayed, FeedsOwnChecker, AddsOwnListener, BeginsAnew}
+use Rattle.sat_solver.specs.proof.Checked.{is_end, unended, has_begun, who_listens, AreGiven, none_given, one_given, end_given, AreGivenAndWidth, FedUnless, IsFed, IsFedBy, Heard, HeardWhole, FailsWhileHeard, IsCause, cause_in, OkOrCause, TakesStep, TakesWidth, TakesDelayed, FeedsOwnChecker, AddsOwnListener, BeginsAnew}
 use Rattle.sat_solver.specs.session.Due.{kept_if}
 use Rattle.sat_solver.specs.proof.Listening.{AreJustListeners, Hears, FailedOf, reads_nothing}
-use Rattle.sat_solver.specs.proof.MadeView.{audience, listed_in, Handed, HandedIn, HandedWhole, HandedWholeIn, HasListeners, IsHanded, IsHandedWhole, ListedAnew, cleared_complaint}
+use Rattle.sat_solver.specs.proof.MadeView.{made_audience, listed_in, MadeHandsBack, HandedIn, MadeHandsBackWhole, HandedWholeIn, HasListeners, IsHanded, IsHandedWhole, MadeListedAnew, cleared_complaint}
 use Rattle.sat_solver.specs.declared.proof.made.Made.{Made}
 use Rattle.sat_solver.specs.session.Session.{MayAll}
 use Rattle.sat_solver.specs.proof.Widths.{KeepsWidth, narrowed, IsNarrowedTo, none_yet, width_changes, one_more}
 use Rattle.sat_solver.specs.declared.proof.checker.Checked.{Checked}
 use Rattle.sat_solver.proofs.lemmas.session.EndedLemmas.{unended_may}
-use Rattle.sat_solver.proofs.lemmas.session.HearingLemmas.{answered_delayed, has_heard, heard_all, none_told, widths_quiet}
+use Rattle.sat_solver.proofs.lemmas.session.HearingLemmas.{answered_delayed, has_heard, heard_all, none_reported, widths_quiet}
 use Rattle.sat_solver.proofs.lemmas.session.Narrowing.{widths_are_free}
 
 -- what was given is written for the steps, but for ends
 given_narrowed : {steps given : List Step} {width : ℕ} → AreGiven steps given width → IsNarrowedTo (unended steps) given width
 given_narrowed none_given = none_yet
 given_narrowed (one_given {steps} {given} {before} step now e k g) =
-    subst (λ x. IsNarrowedTo x (narrowed now step ∷ (width_told before now ++ given)) now) (sym (ap (λ b. kept_if (not b) step (unended steps)) e)) (one_more step k (told before now (given_narrowed g)))
+    subst (λ x. IsNarrowedTo x (narrowed now step ∷ (width_change before now ++ given)) now) (sym (ap (λ b. kept_if (not b) step (unended steps)) e)) (one_more step k (told before now (given_narrowed g)))
 given_narrowed (end_given {steps} {given} {before} step now e g) =
-    subst (λ x. IsNarrowedTo x (width_told before now ++ given) now) (sym (ap (λ b. kept_if (not b) step (unended steps)) e)) (told before now (given_narrowed g))
+    subst (λ x. IsNarrowedTo x (width_change before now ++ given) now) (sym (ap (λ b. kept_if (not b) step (unended steps)) e)) (told before now (given_narrowed g))
 
 then_narrowed : {steps given : List Step} {now : ℕ} → AreGivenAndWidth steps given now → IsNarrowedTo (unended steps) given now
 then_narrowed {steps} {given} {now} t = subst (λ x. IsNarrowedTo (unended steps) x now) (sym t.told) (told t.before now (given_narrowed t.cut))
 
 -- a width that stays isn't told
-width_same : (bits : ℕ) (written : List Step) → written ≡ width_told bits bits ++ written
+width_same : (bits : ℕ) (written : List Step) → written ≡ width_change bits bits ++ written
 width_same bits written = ap (λ b. cond b [] (ChangeHashBits bits ∷ []) ++ written) (sym (eq-eqb bits bits refl))
 
 -- another one is
-width_other : (before now : ℕ) → (before ≡ now → ⊥) → ChangeHashBits now ∷ [] ≡ width_told before now
+width_other : (before now : ℕ) → (before ≡ now → ⊥) → ChangeHashBits now ∷ [] ≡ width_change before now
 width_other before now n = go (eqb before now) refl
   where
     go : (b : Bool) → eqb before now ≡ b → ChangeHashBits now ∷ [] ≡ cond b [] (ChangeHashBits now ∷ [])
@@ -60,7 +60,7 @@ width_other before now n = go (eqb before now) refl
     go false e = refl
 
 -- what comes of an answer, where more comes of it
-pub cause_map : (r : Result (Unit {0}) CheckerError) (F G : Type 0) (P Q : CheckFault → Type 0) → (F → G) → ((fault : CheckFault) → P fault → Q fault) → OrCause r F P → OrCause r G Q
+pub cause_map : (r : Result (Unit {0}) CheckerError) (F G : Type 0) (P Q : CheckFault → Type 0) → (F → G) → ((fault : CheckFault) → P fault → Q fault) → OkOrCause r F P → OkOrCause r G Q
 cause_map (Ok x) F G P Q f g h = f h
 cause_map (Err e) F G P Q f g h = (h.0, g (cause_in e) h.1)
 
@@ -88,9 +88,9 @@ given_ended : (steps written : List Step) (bits : ℕ) → AreGiven [] written b
 given_ended [] written bits g e = g
 given_ended (step ∷ steps) written bits g e = given_end step steps written bits (given_ended steps written bits g) e
 
-module _ {L : Type 0} (takes : L → Told → Result Unit Error → L → Type 0) where
+module _ {L : Type 0} (takes : L → Notice → Result Unit Error → L → Type 0) where
   -- nothing was taken yet, and these listen
-  pub fed_first : (own : Checked L) (added : List L) → own.bits ≡ 64 → kernels.HasAccepted (kernel_of own.checker) [] → has_failed (kernel_of own.checker) ≡ false → kernels.IsSettled (kernel_of own.checker) → AreJustListeners added (who_listens own) → IsFed takes own added []
+  pub fed_first : (own : Checked L) (added : List L) → own.bits ≡ 64 → kernels.HasAccepted (kernel_of own.checker) [] → kernel_has_failed (kernel_of own.checker) ≡ false → kernels.KernelIsSettled (kernel_of own.checker) → AreJustListeners added (who_listens own) → IsFed takes own added []
   fed_first own added e s g settled listed = record {
     written = [];
     cut = subst (AreGiven [] []) (sym e) none_given;
@@ -198,7 +198,7 @@ module _ {L : Type 0} (takes : L → Told → Result Unit Error → L → Type 0
         allowed = subst MayAll kept (unended_may (step ∷ steps) may)
 
         Fed : Type 0
-        Fed = HasAccepted (Hears takes) [] f.begun (seen_of new.checker) (narrowed mid.bits step ∷ f.written) × (has_failed (kernel_of new.checker) ≡ false)
+        Fed = HasAccepted (Hears takes) [] f.begun (seen_of new.checker) (narrowed mid.bits step ∷ f.written) × (kernel_has_failed (kernel_of new.checker) ≡ false)
 
         by : Fed → IsFed takes new added (step ∷ steps)
         by h = record {
@@ -230,11 +230,11 @@ module _ {L : Type 0} (takes : L → Told → Result Unit Error → L → Type 0
 listed_more : {L : Type 0} (added : List L) (one : L) (old new : Processing L Nobody) → AreJustListeners added old → listeners_of new ≡ record (listeners_of old) { processors = (listeners_of old).processors ++ one ∷ [] } → AreJustListeners (added ++ one ∷ []) new
 listed_more added one old new e f = f ∙ ap (λ (z : Listeners _ Nobody). record z { processors = z.processors ++ one ∷ [] }) e
 
-module _ {L : Type 0} (takes : L → Told → Result Unit Error → L → Type 0) where
-  heard_none : (told : List Told) (begun now : Processing L Nobody) → told ≡ [] → HearsSince (Hears takes) [] told begun now → now ≡ begun
+module _ {L : Type 0} (takes : L → Notice → Result Unit Error → L → Type 0) where
+  heard_none : (told : List Notice) (begun now : Processing L Nobody) → told ≡ [] → HearsSince (Hears takes) [] told begun now → now ≡ begun
   heard_none told begun now e h = go h.0 (sym h.1 ∙ e) h.2
     where
-      go : (since : List Told) → since ≡ [] → HearsAll (Hears takes) since begun now → now ≡ begun
+      go : (since : List Notice) → since ≡ [] → HearsAll (Hears takes) since begun now → now ≡ begun
       go [] e k = k
       go (t ∷ ts) e k = cc
 
@@ -245,19 +245,19 @@ module _ {L : Type 0} (takes : L → Told → Result Unit Error → L → Type 0
     written = fed.written;
     cut = subst (AreGiven steps fed.written) (sym bits) fed.cut;
     begun = who_listens new;
-    were = listed_more added one (who_listens old) (who_listens new) (ap listeners_of (heard_none (told_by conflict fed.written) fed.begun (who_listens old) silent (fed.stands.heard fed.going)) ∙ fed.were) listed;
+    were = listed_more added one (who_listens old) (who_listens new) (ap listeners_of (heard_none (notices_by conflict fed.written) fed.begun (who_listens old) silent (fed.stands.heard fed.going)) ∙ fed.were) listed;
     stands = record {
       kernel = subst (λ k. kernels.HasAccepted k fed.written) (sym kernel) fed.stands.kernel;
-      heard = λ f. ([], subst (λ (k : Kernel). told_by k.state.formula.status.conflict fed.written ≡ []) (sym kernel) silent, refl);
+      heard = λ f. ([], subst (λ (k : Kernel). notices_by k.state.formula.status.conflict fed.written ≡ []) (sym kernel) silent, refl);
     };
-    going = ap has_failed kernel ∙ fed.going;
+    going = ap kernel_has_failed kernel ∙ fed.going;
   }
     where
       conflict : Option (ℕ × ℕ)
       conflict = old.checker.kernel.state.formula.status.conflict
 
-      silent : told_by conflict fed.written ≡ []
-      silent = none_told fed.written (widths_quiet (unended steps) (unended_none steps unbegun) (given_narrowed fed.cut)) conflict
+      silent : notices_by conflict fed.written ≡ []
+      silent = none_reported fed.written (widths_quiet (unended steps) (unended_none steps unbegun) (given_narrowed fed.cut)) conflict
 
   -- another one was added, or no memory was left for it
   pub taken_in : (r : Result (Unit {0}) CheckerError) (old new : Checked L) (one : L) → new.bits ≡ old.bits
@@ -286,7 +286,7 @@ starved_stable (errors.ProofProcessorError cause) h = absurd (∥∥₁_elim h (
 starved_stable e h = refl
 
 -- where nobody was added no processor answers a fault
-module _ {L : Type 0} (takes : L → Told → Result Unit Error → L → Type 0) where
+module _ {L : Type 0} (takes : L → Notice → Result Unit Error → L → Type 0) where
   nobody_failed : (now : Listeners L Nobody) (steps : List Step) (cause : Error) → FailsWhileHeard takes [] now steps (checks.Processor cause) → ⊥
   nobody_failed now steps cause f = elim f.heard.2 [
     | inl h ↦ nobody_fails takes reads_nothing (faults.ProofProcessorError cause) h.0 f.begun f.heard.0 f.were h.2
@@ -302,7 +302,7 @@ module _ {L : Type 0} (takes : L → Told → Result Unit Error → L → Type 0
   with_listeners (checks.Processor cause) added now steps h =
       (h, λ e. ∥∥₁_elim h (λ a b. absurd a) (λ f. nobody_failed now steps cause (subst (λ xs. FailsWhileHeard takes xs now steps (checks.Processor cause)) (same_added added e) f)))
 
-module _ {L : Type 0} (takes : L → Told → Result Unit Error → L → Type 0) (lost : Bool) (own : Option (Checked L)) (added : List L) (steps : List Step) (fed : ∥ FedUnless takes lost own added steps ∥₁) where
+module _ {L : Type 0} (takes : L → Notice → Result Unit Error → L → Type 0) (lost : Bool) (own : Option (Checked L)) (added : List L) (steps : List Step) (fed : ∥ FedUnless takes lost own added steps ∥₁) where
   -- a step more that the checker isn't given
   pub skipped_fed : (step : Step) (now : List Step) → now ≡ step ∷ steps → ∥ FedUnless takes true own added now ∥₁
   skipped_fed step now e = subst (λ x. ∥ FedUnless takes true own added x ∥₁) (sym e) (∥∥₁_elim fed ∥∥₁_prop (go own))
@@ -351,7 +351,7 @@ module _ {L : Type 0} (takes : L → Told → Result Unit Error → L → Type 0
       told_fed l tells = ∥∥₁_elim was ∥∥₁_prop (λ f. let k = tells added steps (f.0 l) in ∣ ((λ _. k.0), fed_heard takes new added steps k.0) ∣₁)
 
       -- and nothing waits any more
-      pub told_settled : lost ≡ false → TakesDelayed takes (Ok tt) old new → IsSettled (kernel_of new.checker)
+      pub told_settled : lost ≡ false → TakesDelayed takes (Ok tt) old new → KernelIsSettled (kernel_of new.checker)
       told_settled l tells = none_stable new.checker.kernel.state.formula.status.conflict (λ n. ∥∥₁_elim was (λ x y. absurd x) (λ f. n (tells added steps (f.0 l)).1))
 
       -- or it failed
@@ -379,7 +379,7 @@ module _ {L : Type 0} (takes : L → Told → Result Unit Error → L → Type 0
       pub unlistened_why : (e : CheckerError) (one : L) → has_begun steps ≡ false → lost ≡ false → AddsOwnListener takes (Err e) old one new → cause_in e ≡ checks.OutOfMemory
       unlistened_why e one u l takes_in = starved_stable e (∥∥₁_elim was ∥∥₁_prop (λ f. ∣ (takes_in added steps u (f.0 l)).1.0 ∣₁))
 
-module _ {L : Type 0} (takes : L → Told → Result Unit Error → L → Type 0) where
+module _ {L : Type 0} (takes : L → Notice → Result Unit Error → L → Type 0) where
   -- a lost one stays so
   pub lost_fed : (lost : Bool) (own : Option (Checked L)) (added : List L) (steps : List Step) → ∥ FedUnless takes lost own added steps ∥₁ → lost ≡ true → (step : Step) (now : List Step) → now ≡ step ∷ steps → ∥ FedUnless takes lost own added now ∥₁
   lost_fed lost own added steps fed l step now e = subst (λ b. ∥ FedUnless takes b own added now ∥₁) (sym l) (skipped_fed takes lost own added steps fed step now e)
@@ -394,8 +394,8 @@ module _ {L : Type 0} (takes : L → Told → Result Unit Error → L → Type 0
   anew_fed new added steps u f = (let k = fed_ended takes new added steps u f in ∣ ((λ _. k), fed_heard takes new added steps k) ∣₁)
 
   -- a checker began anew
-  pub anew : (old new : Checked L) (added given : List L) → added ≡ given → given ≡ (listeners_of (who_listens old)).processors → new.bits ≡ 64 → kernels.HasAccepted (kernel_of new.checker) [] → has_failed (kernel_of new.checker) ≡ false
-      → kernels.IsSettled (kernel_of new.checker) → listeners_of (who_listens new) ≡ record { processors = given; transcripts = [] } → BeginsAnew takes old new added
+  pub anew : (old new : Checked L) (added given : List L) → added ≡ given → given ≡ (listeners_of (who_listens old)).processors → new.bits ≡ 64 → kernels.HasAccepted (kernel_of new.checker) [] → kernel_has_failed (kernel_of new.checker) ≡ false
+      → kernels.KernelIsSettled (kernel_of new.checker) → listeners_of (who_listens new) ≡ record { processors = given; transcripts = [] } → BeginsAnew takes old new added
   anew old new added given e f bits stands going settled listed = record {
     listed = e ∙ f;
     fed = fed_first takes new added bits stands going settled (listed ∙ ap (λ (xs : List L). record { processors = xs; transcripts = [] }) (sym e));
@@ -413,23 +413,23 @@ module _ {L : Type 0} (takes : L → Told → Result Unit Error → L → Type 0
 
 module _ {L : Type 0} {G : Ghosts L} (m : Made L G) where
   -- those who listened are handed back
-  pub made_handed : (own : Checked L) (given : List L) → m.own ≡ Some own → given ≡ (listeners_of (who_listens own)).processors → Handed m given
+  pub made_handed : (own : Checked L) (given : List L) → m.own ≡ Some own → given ≡ (listeners_of (who_listens own)).processors → MadeHandsBack m given
   made_handed own given is e = subst (λ o. HandedIn G.takes (listed_in o m.roll.items) given m.history.steps) (sym is) (handed G.takes m.lost m.own m.roll.items m.history.steps m.fed own is given e)
 
-  pub made_handed_whole : (own : Checked L) (given : List L) → m.own ≡ Some own → given ≡ (listeners_of (who_listens own)).processors → HandedWhole m given
+  pub made_handed_whole : (own : Checked L) (given : List L) → m.own ≡ Some own → given ≡ (listeners_of (who_listens own)).processors → MadeHandsBackWhole m given
   made_handed_whole own given is e l = subst (λ o. HandedWholeIn G.takes (listed_in o m.roll.items) given m.history.steps) (sym is) (handed_whole G.takes m.lost m.own m.roll.items m.history.steps m.fed own is given e l)
 
   -- who listens as checking begins
-  pub listed_first : m.own ≡ None → ListedAnew m.lost m (audience m) m.roll.items
-  listed_first is = subst (λ o. ListedAnew m.lost m (listed_in o m.roll.items) m.roll.items) (sym is) (none_listed G.takes m.lost m.own m.roll.items m.history.steps m.fed is)
+  pub listed_first : m.own ≡ None → MadeListedAnew m.lost m (made_audience m) m.roll.items
+  listed_first is = subst (λ o. MadeListedAnew m.lost m (listed_in o m.roll.items) m.roll.items) (sym is) (none_listed G.takes m.lost m.own m.roll.items m.history.steps m.fed is)
 
-  pub listed_again : (own : Checked L) (given : List L) → m.own ≡ Some own → m.lost ≡ true → given ≡ (listeners_of (who_listens own)).processors → ListedAnew m.lost m (audience m) given
-  listed_again own given is l e = subst (λ o. ListedAnew m.lost m (listed_in o m.roll.items) given) (sym is) (subst (λ b. ListedAnew b m (Some m.roll.items) given) (sym l) (made_handed own given is e))
+  pub listed_again : (own : Checked L) (given : List L) → m.own ≡ Some own → m.lost ≡ true → given ≡ (listeners_of (who_listens own)).processors → MadeListedAnew m.lost m (made_audience m) given
+  listed_again own given is l e = subst (λ o. MadeListedAnew m.lost m (listed_in o m.roll.items) given) (sym is) (subst (λ b. MadeListedAnew b m (Some m.roll.items) given) (sym l) (made_handed own given is e))
 
 -- a complaint was told, and nothing else has changed
-pub complaint_told : {L : Type 0} {G : Ghosts L} (m : Made L G) (complaint : Option Error) (counted : m.begun ≡ has_begun m.history.steps) (may : ∥ MayAll m.history.steps ∥₁) (fed : ∥ FedUnless G.takes m.lost m.own m.roll.items m.history.steps ∥₁) → complaint ≡ None
+pub complaint_reported : {L : Type 0} {G : Ghosts L} (m : Made L G) (complaint : Option Error) (counted : m.begun ≡ has_begun m.history.steps) (may : ∥ MayAll m.history.steps ∥₁) (fed : ∥ FedUnless G.takes m.lost m.own m.roll.items m.history.steps ∥₁) → complaint ≡ None
     → record { history = m.history; own = m.own; roll = m.roll; begun = m.begun; lost = m.lost; complaint = complaint; counted = counted; may = may; fed = fed } ≡ cleared_complaint m
-complaint_told m complaint counted may fed none = λ i. record m {
+complaint_reported m complaint counted may fed none = λ i. record m {
   complaint = none i;
   counted = Bool-set m.begun (has_begun m.history.steps) counted m.counted i;
   may = ∥∥₁_prop may m.may i;

@@ -2,7 +2,7 @@
 use Rattle.std.proofs.Common.{ℕ, zero, suc, ◌+◌, ◌-◌, ◌<◌, ◌≤◌, ◌≡◌, ◌∙◌, Bool, true, false, not, ◌&&◌, refl, sym, ap, arith}
 use Rattle.std.proofs.lemmas.Bool.{true≢false}
 use Rattle.std.specs.Prelude.{cond, min}
-use Rattle.sat_solver.specs.proof.Counting.{too_short, too_long, widened, shortened, fitting}
+use Rattle.sat_solver.specs.proof.Counting.{too_short, too_long, widened_bits, shortened, fitting}
 
 -- a turn is left
 turn : (i : ℕ) → i < 32 → 32 - i ≡ suc (32 - (i + 1))
@@ -11,12 +11,12 @@ turn i h = omega arith
 none : (i : ℕ) → 32 ≤ i → 32 - i ≡ zero
 none i h = omega arith
 
-widen_one : (k n b : ℕ) → widened (suc k) n b ≡ cond (too_short n b) (widened k n (min (b + 2) 64)) b
-unfolding widened
+widen_one : (k n b : ℕ) → widened_bits (suc k) n b ≡ cond (too_short n b) (widened_bits k n (min (b + 2) 64)) b
+unfolding widened_bits
 widen_one k n b = refl
 
-widen_none : (n b : ℕ) → widened zero n b ≡ b
-unfolding widened
+widen_none : (n b : ℕ) → widened_bits zero n b ≡ b
+unfolding widened_bits
 widen_none n b = refl
 
 shorten_one : (k n b : ℕ) → shortened (suc k) n b ≡ cond (too_long n b) (shortened k n (b - 2)) b
@@ -27,15 +27,15 @@ shorten_none : (n b : ℕ) → shortened zero n b ≡ b
 unfolding shortened
 shorten_none n b = refl
 
-pub widen_on : (i n b m : ℕ) → i < 32 → true ≡ too_short n b → m ≡ min (b + 2) 64 → widened (32 - (i + 1)) n m ≡ widened (32 - i) n b
+pub widen_on : (i n b m : ℕ) → i < 32 → true ≡ too_short n b → m ≡ min (b + 2) 64 → widened_bits (32 - (i + 1)) n m ≡ widened_bits (32 - i) n b
 widen_on i n b m h e s =
-    ap (λ x. widened (32 - (i + 1)) n x) s ∙ ap (λ c. cond c (widened (32 - (i + 1)) n (min (b + 2) 64)) b) e ∙ sym (widen_one (32 - (i + 1)) n b) ∙ sym (ap (λ k. widened k n b) (turn i h))
+    ap (λ x. widened_bits (32 - (i + 1)) n x) s ∙ ap (λ c. cond c (widened_bits (32 - (i + 1)) n (min (b + 2) 64)) b) e ∙ sym (widen_one (32 - (i + 1)) n b) ∙ sym (ap (λ k. widened_bits k n b) (turn i h))
 
-pub widen_stop : (i n b : ℕ) → i < 32 → false ≡ too_short n b → b ≡ widened (32 - i) n b
-widen_stop i n b h e = ap (λ c. cond c (widened (32 - (i + 1)) n (min (b + 2) 64)) b) e ∙ sym (widen_one (32 - (i + 1)) n b) ∙ sym (ap (λ k. widened k n b) (turn i h))
+pub widen_stop : (i n b : ℕ) → i < 32 → false ≡ too_short n b → b ≡ widened_bits (32 - i) n b
+widen_stop i n b h e = ap (λ c. cond c (widened_bits (32 - (i + 1)) n (min (b + 2) 64)) b) e ∙ sym (widen_one (32 - (i + 1)) n b) ∙ sym (ap (λ k. widened_bits k n b) (turn i h))
 
-pub widen_end : (i n b : ℕ) → 32 ≤ i → b ≡ widened (32 - i) n b
-widen_end i n b h = sym (ap (λ k. widened k n b) (none i h) ∙ widen_none n b)
+pub widen_end : (i n b : ℕ) → 32 ≤ i → b ≡ widened_bits (32 - i) n b
+widen_end i n b h = sym (ap (λ k. widened_bits k n b) (none i h) ∙ widen_none n b)
 
 pub shorten_on : (i n b m : ℕ) → i < 32 → true ≡ too_long n b → m ≡ b - 2 → shortened (32 - (i + 1)) n m ≡ shortened (32 - i) n b
 shorten_on i n b m h e s =

@@ -2,14 +2,14 @@
 use Rattle.std.proofs.Common.{ℕ, ◌≡◌, Bool, true, false, cond, eqb, List, [], ◌∷◌, ◌++◌, refl, sym, subst}
 use Rattle.std.proofs.lemmas.Bool.{eqb-true}
 use Rattle.sat_base.specs.steps.Steps.{Step, ChangeHashBits}
-use Rattle.sat_solver.specs.proof.Counting.{start, width_told, counted, TruncatesHashes, none_made, ask_begun, one_made}
+use Rattle.sat_solver.specs.proof.Counting.{nothing_counted, width_change, counted, TruncatesHashes, none_made, ask_begun, one_made}
 use Rattle.sat_solver.specs.proof.ProofTexts.{CutsAreFree}
 use Rattle.sat_solver.specs.proof.Widths.{IsNarrowedTo, none_yet, width_changes, one_more}
 use Rattle.sat_solver.specs.declared.proof.hash_bits.Counting.{Counting}
 use Rattle.sat_solver.proofs.lemmas.session.Narrowing.{widths_are_free}
 
 -- a width that changes was written
-pub told : {made written : List Step} (before now : ℕ) → IsNarrowedTo made written before → IsNarrowedTo made (width_told before now ++ written) now
+pub told : {made written : List Step} (before now : ℕ) → IsNarrowedTo made written before → IsNarrowedTo made (width_change before now ++ written) now
 told {made} {written} before now w = go (eqb before now) refl
   where
     go : (b : Bool) → eqb before now ≡ b → IsNarrowedTo made (cond b [] (ChangeHashBits now ∷ []) ++ written) now
@@ -17,7 +17,7 @@ told {made} {written} before now w = go (eqb before now) refl
     go false e = width_changes now w
 
 -- what is written for steps, by whole hashes at first
-pub is_written : {c d : Counting} {made written : List Step} → c ≡ start → TruncatesHashes c made written d → IsNarrowedTo made written d.bits
+pub is_written : {c d : Counting} {made written : List Step} → c ≡ nothing_counted → TruncatesHashes c made written d → IsNarrowedTo made written d.bits
 is_written e none_made = subst (λ (x : Counting). IsNarrowedTo [] [] x.bits) (sym e) none_yet
 is_written e (ask_begun p) = is_written e p
 is_written e (one_made {d = d} step k p) = one_more step k (told d.bits (counted step d).bits (is_written e p))

@@ -10,7 +10,7 @@ use Rattle.sat_checker.proofs.lemmas.propagation.Soundness.{negated-negated}
 use Rattle.sat_solver.specs.proof.Drat.{times, without_set, behind_lines, behind_step, present, RefutesByUnits, LinesStand, IsDratDerivation, DratStands}
 use Rattle.sat_solver.specs.proof.DratText.{unit_lines, drat_lines}
 use Rattle.sat_checker.specs.Contents.{more_if, less_if, same_side}
-use Rattle.sat_solver.specs.session.Session.{Session, nothing, with_live, without_live, with_fact, with_facts, with_sorted, with_live_clause, knowing_literals, after, session_after, AreLiveByHash, denied, MayDerive, by_unit, by_clauses, MayProve, May, MayAll}
+use Rattle.sat_solver.specs.session.Session.{Session, nothing, with_live, without_live, with_fact, with_facts, with_sorted, with_live_clause, knowing_literals, after, session_after, AreLiveByHash, denied_in, MayDerive, by_unit, by_clauses, MayProve, May, MayAll}
 use Rattle.sat_solver.proofs.lemmas.session.DratLemmas.{times_behind, times_itself, times_left, times_less, refutes_one, refutes_unit, leads_refute, units_first, negations, leads_within, units_in, units_there, units_are}
 
 -- of two literals or more
@@ -183,12 +183,12 @@ derive_refutes : (s : Session) (ps : List (List ℕ)) (clause hashes : List ℕ)
 derive_refutes s ps clause hashes k (by_unit t) = unit_refutes ps s.units k.units (map negated clause) clause (among_negated clause) t
 derive_refutes s ps clause hashes k (by_clauses named n lead) =
     units_first ps us (map negated clause) (is_among (map negated clause)) (units_are s.units (λ u. 0 < times (u ∷ []) ps) k.units (negations named)) (λ l a. a)
-    (λ known h. leads_refute ps named known (λ l. is_among us l || is_among (map negated clause) l) (named_present s ps k named hashes n) h (leads_within named (denied s clause) (λ l. is_among us l || is_among (map negated clause) l) within lead))
+    (λ known h. leads_refute ps named known (λ l. is_among us l || is_among (map negated clause) l) (named_present s ps k named hashes n) h (leads_within named (denied_in s clause) (λ l. is_among us l || is_among (map negated clause) l) within lead))
   where
     us : List ℕ
     us = units_in s.units (negations named)
 
-    within : (l : ℕ) → is_among (negations named) l ≡ true → denied s clause l ≡ true → (is_among us l || is_among (map negated clause) l) ≡ true
+    within : (l : ℕ) → is_among (negations named) l ≡ true → denied_in s clause l ≡ true → (is_among us l || is_among (map negated clause) l) ≡ true
     within l a d = elim (or_cases (is_among (map negated clause) l) (s.units l) d) [
       | inl t ↦ or_right (is_among us l) (is_among (map negated clause) l) t
       | inr t ↦ or_left (is_among us l) (is_among (map negated clause) l) (units_there s.units (negations named) l a t)

@@ -7,8 +7,8 @@ use Rattle.sat_base.specs.device.Sink.{empty_sink}
 use Rattle.sat_base.specs.steps.Steps.{Step, SolverVarName, UserVarName, DeleteVar, ChangeSamplingMode, AddClause, AtClause, UnitClauses, DeleteClause, ChangeHashBits, Model, Assumptions, FailedAssumptions, End}
 use Rattle.sat_checker.specs.declared.processing.ProofProcessor.{Ghosts}
 use Rattle.sat_solver.specs.proof.Checked.{has_begun}
-use Rattle.sat_solver.specs.proof.Counting.{start}
-use Rattle.sat_solver.specs.proof.Fronts.{FrontText, TargetTakesFront, WentOn, FrontsAreAccepted}
+use Rattle.sat_solver.specs.proof.Counting.{nothing_counted}
+use Rattle.sat_solver.specs.proof.Fronts.{FrontText, TargetTakesFront, GoesOnFrom, FrontsAreAccepted}
 use Rattle.sat_solver.specs.proof.ProofView.{Target, Closed, Open, Broken as Faulty, TargetTakes, TargetFails, GivesWriter, target_of, steps_of, EmitsExactly, FailsToEmit}
 use Rattle.sat_solver.specs.session.Session.{nothing, May, MayAll, after, session_after}
 use Rattle.sat_solver.specs.declared.proof.format.ProofFormat.{ProofFormat}
@@ -55,7 +55,7 @@ may_first (step ∷ later) first m = may_first later first m.0
 
 module _ (f : ProofFormat) (from given : Writer) where
   -- of the text of steps that were carried
-  carried_front : (steps : List Step) (now : Target) → MayAll steps → TargetTakes (Open f start (empty_sink from)) steps now → GivesWriter now (Some given) → FrontText f from given steps
+  carried_front : (steps : List Step) (now : Target) → MayAll steps → TargetTakes (Open f nothing_counted (empty_sink from)) steps now → GivesWriter now (Some given) → FrontText f from given steps
   carried_front steps now m h g =
       let q : Some given ≡ Some h.1.writer = subst (λ (z : Target). GivesWriter z (Some given)) h.2 g in
       let same : h.1.writer ≡ given = cc in
@@ -74,7 +74,7 @@ module _ (f : ProofFormat) (from given : Writer) where
       }
 
   -- of the text at which a call failed
-  stopped_front : (steps : List Step) (now : Target) → MayAll steps → TargetFails (Open f start (empty_sink from)) steps now → GivesWriter now (Some given) → FrontText f from given steps
+  stopped_front : (steps : List Step) (now : Target) → MayAll steps → TargetFails (Open f nothing_counted (empty_sink from)) steps now → GivesWriter now (Some given) → FrontText f from given steps
   stopped_front steps now m h g =
       let q : Some given ≡ Some h.0 = subst (λ (z : Target). GivesWriter z (Some given)) h.1 g in
       let same : h.0 ≡ given = cc in
@@ -129,10 +129,10 @@ follows_more a b c xs ys p q = elim p [
     stays (Faulty w) first s n = absurd s
 
 -- a flush writes no step
-pub went_none : {W L : Type 0} {G : Ghosts L} (seen : W → Writer) (p : Proof W L G) → WentOn seen p p
+pub went_none : {W L : Type 0} {G : Ghosts L} (seen : W → Writer) (p : Proof W L G) → GoesOnFrom seen p p
 went_none seen p = record { steps = []; history = refl; target = inl (carries_none (target_of seen p)) }
 
-pub went_more : {W L : Type 0} {G : Ghosts L} (seen : W → Writer) (a b c : Proof W L G) → WentOn seen a b → WentOn seen b c → WentOn seen a c
+pub went_more : {W L : Type 0} {G : Ghosts L} (seen : W → Writer) (a b c : Proof W L G) → GoesOnFrom seen a b → GoesOnFrom seen b c → GoesOnFrom seen a c
 went_more seen a b c p q = record {
   steps = q.steps ++ p.steps;
   history = q.history ∙ ap (λ z. q.steps ++ z) p.history ∙ sym (append_assoc q.steps p.steps (steps_of a));
@@ -140,9 +140,9 @@ went_more seen a b c p q = record {
 }
 
 -- steps that were taken
-pub went_added : {W L : Type 0} {G : Ghosts L} (seen : W → Writer) (steps : List Step) (a b : Proof W L G) → EmitsExactly seen steps a b → WentOn seen a b
+pub went_added : {W L : Type 0} {G : Ghosts L} (seen : W → Writer) (steps : List Step) (a b : Proof W L G) → EmitsExactly seen steps a b → GoesOnFrom seen a b
 went_added seen steps a b h = record { steps = steps; history = h.history; target = inl h.target }
 
 -- and steps at whose text a call failed
-pub went_failed : {W L : Type 0} {G : Ghosts L} (seen : W → Writer) (steps : List Step) (a b : Proof W L G) → FailsToEmit seen steps a b → WentOn seen a b
+pub went_failed : {W L : Type 0} {G : Ghosts L} (seen : W → Writer) (steps : List Step) (a b : Proof W L G) → FailsToEmit seen steps a b → GoesOnFrom seen a b
 went_failed seen steps a b h = record { steps = steps; history = h.history; target = inr ([], steps, refl, h.target) }

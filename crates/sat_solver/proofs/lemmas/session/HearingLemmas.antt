@@ -4,12 +4,12 @@ use Rattle.std.proofs.lemmas.Bool.{true≢false}
 use Rattle.anyhow.specs.declared.error.Error.{Error}
 use Rattle.sat_base.specs.steps.Steps.{Step, ChangeHashBits}
 use Rattle.sat_checker.specs.Accepts.{stored_after}
-use Rattle.sat_checker.specs.CheckerView.{Seen, HasAccepted, BreaksAt, StarvesAt, AnswersStep, AnswersDelayed, has_failed}
-use Rattle.sat_checker.specs.KernelView.{IsSettled}
+use Rattle.sat_checker.specs.CheckerView.{CheckerView, HasAccepted, BreaksAt, StarvesAt, AnswersStep, AnswersDelayed, has_failed}
+use Rattle.sat_checker.specs.KernelView.{KernelIsSettled}
 use Rattle.sat_checker.specs.Stored.{Stored}
 use Rattle.sat_checker.specs.Storing.{settled, settled_by}
-use Rattle.sat_checker.specs.announcements.Announcements.{Told, told_after, told_over, delayed, delayed_by}
-use Rattle.sat_checker.specs.telling.Hearing.{HearsSince, told_by}
+use Rattle.sat_checker.specs.announcements.Announcements.{Notice, notices_after, notices_over, delayed, delayed_by}
+use Rattle.sat_checker.specs.listeners.Hearing.{HearsSince, notices_by}
 use Rattle.sat_checker.specs.declared.error.CheckerError.{CheckerError}
 use Rattle.sat_checker.specs.declared.error.CheckerError.TheVariants as errors
 use Rattle.sat_checker.specs.declared.processing.Nobody.{Nobody}
@@ -18,7 +18,7 @@ use Rattle.sat_checker.specs.declared.processing.ProcessingError.{ProcessingErro
 use Rattle.sat_checker.specs.declared.processing.ProcessingError.TheVariants as faults
 use Rattle.sat_solver.specs.declared.proof.made.CheckFault.{CheckFault}
 use Rattle.sat_solver.specs.declared.proof.made.CheckFault.TheVariants as checks
-use Rattle.sat_solver.specs.proof.Checked.{OrCause}
+use Rattle.sat_solver.specs.proof.Checked.{OkOrCause}
 use Rattle.sat_solver.specs.proof.Listening.{Hears, HeardAll, HeardUpTo, HasHeard, FailedOf}
 use Rattle.sat_solver.specs.session.Session.{MayAll}
 use Rattle.sat_solver.specs.proof.Widths.{IsNarrowedTo, none_yet, width_changes, one_more}
@@ -27,13 +27,13 @@ use Rattle.sat_solver.proofs.lemmas.session.StepLemmas.{sessions_are_accepted}
 -- changes of width tell nothing, and leave no unit conflict
 pub record Quiet (written : List Step) : Type 0 where
   pub conflict : (stored_after written).conflict ≡ None
-  pub told : told_after written ≡ []
+  pub told : notices_after written ≡ []
 
 still : (f : Stored) → f.conflict ≡ None → (settled f).conflict ≡ None
 still f e = ap (λ c. (settled_by c f).conflict) e ∙ e
 
-shown : (written : List Step) (f : Stored) → f.conflict ≡ None → told_after written ≡ [] → told_after written ++ told_over f (delayed f) ++ [] ≡ []
-shown written f e t = ap (λ ts. ts ++ told_over f (delayed f) ++ []) t ∙ ap (λ c. told_over f (delayed_by f.next_id c) ++ []) e
+shown : (written : List Step) (f : Stored) → f.conflict ≡ None → notices_after written ≡ [] → notices_after written ++ notices_over f (delayed f) ++ [] ≡ []
+shown written f e t = ap (λ ts. ts ++ notices_over f (delayed f) ++ []) t ∙ ap (λ c. notices_over f (delayed_by f.next_id c) ++ []) e
 
 width_quiet : (bits : ℕ) (written : List Step) → Quiet written → Quiet (ChangeHashBits bits ∷ written)
 width_quiet bits written q = record {
@@ -47,13 +47,13 @@ widths_quiet wide e (width_changes bits h) = width_quiet bits _ (widths_quiet wi
 widths_quiet wide e (one_more step k h) = cc
 
 -- so all of it was told
-pub none_told : (written : List Step) → Quiet written → (conflict : Option (ℕ × ℕ)) → told_by conflict written ≡ []
-none_told written q (Some c) = q.told
-none_told written q None = ap (λ ts. ts ++ told_over (stored_after written) (delayed (stored_after written))) q.told ∙ ap (λ c. told_over (stored_after written) (delayed_by (stored_after written).next_id c)) q.conflict
+pub none_reported : (written : List Step) → Quiet written → (conflict : Option (ℕ × ℕ)) → notices_by conflict written ≡ []
+none_reported written q (Some c) = q.told
+none_reported written q None = ap (λ ts. ts ++ notices_over (stored_after written) (delayed (stored_after written))) q.told ∙ ap (λ c. notices_over (stored_after written) (delayed_by (stored_after written).next_id c)) q.conflict
 
-module _ {L : Type 0} (takes : L → Told → Result Unit Error → L → Type 0) (begun : Processing L Nobody) where
+module _ {L : Type 0} (takes : L → Notice → Result Unit Error → L → Type 0) (begun : Processing L Nobody) where
   -- what a checker that goes on has told
-  pub heard_all : (now : Processing L Nobody) (written : List Step) (conflict : Option (ℕ × ℕ)) → HearsSince (Hears takes) [] (told_by conflict written) begun now → HeardAll takes begun now written
+  pub heard_all : (now : Processing L Nobody) (written : List Step) (conflict : Option (ℕ × ℕ)) → HearsSince (Hears takes) [] (notices_by conflict written) begun now → HeardAll takes begun now written
   heard_all now written (Some c) h = inl h
   heard_all now written None h = inr h
 
@@ -63,7 +63,7 @@ module _ {L : Type 0} (takes : L → Told → Result Unit Error → L → Type 0
   has_heard now written checks.CounterEnd h = inl h.1
   has_heard now written (checks.Processor cause) h = inr (faults.ProofProcessorError cause, h)
 
-  module _ (old new : Seen (Processing L Nobody)) (written : List Step) (going : has_failed old ≡ false) where
+  module _ (old new : CheckerView (Processing L Nobody)) (written : List Step) (going : has_failed old ≡ false) where
     -- before the step, or as it was told
     abbrev pub Broke : Step → CheckFault → Type 0
     Broke step fault = FailedOf takes begun new.listeners written fault ⊎ FailedOf takes begun new.listeners (step ∷ written) fault
@@ -82,7 +82,7 @@ module _ {L : Type 0} (takes : L → Told → Result Unit Error → L → Type 0
 
     -- an answer to a step that may be written
     pub answered : (r : Result (Unit {0}) CheckerError) (step : Step) → MayAll (step ∷ written) → AnswersStep (Hears takes) [] begun r old step new written
-        → OrCause r (HasAccepted (Hears takes) [] begun new (step ∷ written) × (has_failed new ≡ false)) (Broke step)
+        → OkOrCause r (HasAccepted (Hears takes) [] begun new (step ∷ written) × (has_failed new ≡ false)) (Broke step)
     answered (Ok x) step may a = (a.1.stands, a.1.goes_on)
     answered (Err errors.OutOfMemory) step may a = (tt, starved_at step a.1)
     answered (Err errors.CounterEnd) step may a = (tt, inl (inl (step, a.1), a.2.heard))
@@ -93,7 +93,7 @@ module _ {L : Type 0} (takes : L → Told → Result Unit Error → L → Type 0
 
     -- an answer to what waits
     pub answered_delayed : (r : Result (Unit {0}) CheckerError) → AnswersDelayed (Hears takes) [] begun r old new written
-        → OrCause r (HasAccepted (Hears takes) [] begun new written × (has_failed new ≡ false) × IsSettled new.kernel) (FailedOf takes begun new.listeners written)
+        → OkOrCause r (HasAccepted (Hears takes) [] begun new written × (has_failed new ≡ false) × KernelIsSettled new.kernel) (FailedOf takes begun new.listeners written)
     answered_delayed (Ok x) a = (a.2, a.3, a.4)
     answered_delayed (Err errors.OutOfMemory) a = (tt, inr (inr a.3.heard))
     answered_delayed (Err errors.CounterEnd) a = (tt, (inr a.2, a.3.heard))

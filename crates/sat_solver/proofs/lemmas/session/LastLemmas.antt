@@ -7,7 +7,7 @@ use Rattle.sat_checker.specs.Storing.{settled, with_canonical, with_literals_kno
 use Rattle.sat_checker.specs.Accepts.{effect}
 use Rattle.sat_checker.proofs.lemmas.meaning.Orderly.{Orderly}
 use Rattle.sat_checker.proofs.lemmas.invariants.Last.{derived_last, last_stays, last_is_settled}
-use Rattle.sat_solver.specs.session.Session.{long_of, last_after}
+use Rattle.sat_solver.specs.session.Session.{last_long, last_after}
 
 -- the last irredundant clause has this set, where there is one
 abbrev pub LastIs : Option (List ℕ) → Stored → Type 0
@@ -18,7 +18,7 @@ pub no_last : (set : List ℕ) → None ≡ Some set → ⊥
 no_last set e = cc
 
 -- what was derived is the last one
-last_derived : (b : Bool) (set : List ℕ) (g : Stored) → Orderly (cond b g (with_canonical false set g)) → LastIs (cond b None (long_of false set)) (cond b g (with_canonical false set g))
+last_derived : (b : Bool) (set : List ℕ) (g : Stored) → Orderly (cond b g (with_canonical false set g)) → LastIs (cond b None (last_long false set)) (cond b g (with_canonical false set g))
 last_derived true set g o want e = absurd (no_last want e)
 last_derived false [] g o want e = absurd (no_last want e)
 last_derived false (l ∷ []) g o want e = absurd (no_last want e)
@@ -28,7 +28,7 @@ last_derived false (l ∷ m ∷ ls) g o want e = derived_last (l ∷ m ∷ ls) g
 pub last_kept : (step : Step) (last : Option (List ℕ)) (f : Stored) → Orderly (effect step f) → LastIs last f → LastIs (last_after step last) (effect step f)
 last_kept (AtClause true clause hashes) last f o h want e = absurd (go (is_tautology clause) e)
   where
-    go : (b : Bool) → cond b None (long_of true (canonical clause)) ≡ Some want → ⊥
+    go : (b : Bool) → cond b None (last_long true (canonical clause)) ≡ Some want → ⊥
     go true k = no_last want k
     go false k = no_last want k
 last_kept (AtClause false clause hashes) last f o h want e = last_derived (is_tautology clause) (canonical clause) (with_literals_known clause f) o want e

@@ -6,7 +6,7 @@ use Rattle.sat_base.specs.values.Literals.{variable, negated}
 use Rattle.sat_checker.specs.LiteralSets.{is_among}
 use Rattle.sat_checker.specs.SortedSets.{NoRepeats}
 use Rattle.sat_checker.specs.Leading.{LeadsToConflict}
-use Rattle.sat_solver.specs.session.Session.{Session, denied}
+use Rattle.sat_solver.specs.session.Session.{Session, denied_in}
 use Rattle.sat_solver.specs.session.LiveClauses.{with_var, AreMapped}
 
 -- the other sign of a mapped literal
@@ -57,7 +57,7 @@ module _ (global : ℕ → ℕ) where
       )
 
   -- the negations of a clause, and units
-  pub denied_mapped : (s : Session) (clause : List ℕ) (known : ℕ → Bool) → Carries known s.units → Carries (λ l. is_among (map negated clause) l || known l) (denied s (map (with_var global) clause))
+  pub denied_mapped : (s : Session) (clause : List ℕ) (known : ℕ → Bool) → Carries known s.units → Carries (λ l. is_among (map negated clause) l || known l) (denied_in s (map (with_var global) clause))
   denied_mapped s clause known m l h = elim (or_cases (is_among (map negated clause) l) (known l) h) [
     | inl k ↦ or_left (is_among (map negated (map (with_var global) clause)) (with_var global l)) (s.units (with_var global l)) (go clause k)
     | inr t ↦ or_right (is_among (map negated (map (with_var global) clause)) (with_var global l)) (s.units (with_var global l)) (m l t)

@@ -5,7 +5,7 @@ use Rattle.std.specs.List.{AllByRecursion}
 use Rattle.sat_base.specs.values.Literals.{coded, variable}
 use Rattle.sat_base.specs.values.Clauses.{Valuation, literal_true, clause_true, EachTrue, EachHolds}
 use Rattle.sat_base.specs.script.Script.{Literal, Among}
-use Rattle.sat_base.specs.script.Judge.{Judge, identity_of, over, or_zero}
+use Rattle.sat_base.specs.script.ScriptState.{ScriptState, identity_of, over, or_zero}
 use Rattle.sat_base.specs.steps.Steps.{Step, SolverVarName, UserVarName, DeleteVar, ChangeSamplingMode, AddClause, AtClause, UnitClauses, DeleteClause, ChangeHashBits, Model, Assumptions, FailedAssumptions, End}
 use Rattle.sat_checker.specs.Fold.{Holds}
 use Rattle.sat_checker.proofs.lemmas.meaning.Answers.{unsat_means_none, models_extend, cores_fail}
@@ -67,7 +67,7 @@ some_true a (y ∷ ys) t = elim (or_cases (literal_true a y) (clause_true a ys) 
 ]
 
 -- a literal over a name is true where the one over its proof variable is
-pub read_value : (j : Judge) (variable_of : ℕ → Option ℕ) (a b : Valuation) → AgreeOn j variable_of a b → (l : Literal) (code : ℕ) → IsReadAs j variable_of l code → literal_true a code ≡ literal_true b (over j l)
+pub read_value : (j : ScriptState) (variable_of : ℕ → Option ℕ) (a b : Valuation) → AgreeOn j variable_of a b → (l : Literal) (code : ℕ) → IsReadAs j variable_of l code → literal_true a code ≡ literal_true b (over j l)
 read_value j variable_of a b agree l code r =
     let e : a r.var ≡ b r.identity = agree l.name r.identity r.var r.in_use r.named in
     let o : over j l ≡ coded r.identity l.positive = ap (λ x. coded (or_zero x) l.positive) r.in_use in
@@ -94,7 +94,7 @@ named_models_are_right j variable_of steps codes ask line means may names read a
     }
 
 -- where the literals of a core are true, so are those over proof variables
-core_true : (j : Judge) (variable_of : ℕ → Option ℕ) (a b : Valuation) (codes : List ℕ) (core : List Literal) → AgreeOn j variable_of a b → AllFrom j variable_of codes core → EachTrue b (map (over j) core) → EachTrue a codes
+core_true : (j : ScriptState) (variable_of : ℕ → Option ℕ) (a b : Valuation) (codes : List ℕ) (core : List Literal) → AgreeOn j variable_of a b → AllFrom j variable_of codes core → EachTrue b (map (over j) core) → EachTrue a codes
 core_true j variable_of a b codes core agree from t = all_from (λ x. literal_true a x ≡ true) codes (λ x i.
     let r = all_at (λ code. (l : Literal) × IsReadAs j variable_of l code × Among l core) x codes from i in
     read_value j variable_of a b agree r.0 x r.1 ∙ all_at (λ y. literal_true b y ≡ true) (over j r.0) (map (over j) core) t (among_images (over j) r.0 core r.2))

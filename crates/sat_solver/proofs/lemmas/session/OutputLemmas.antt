@@ -6,7 +6,7 @@ use Rattle.sat_base.specs.device.Device.{Writer, WriterBreaks, FlushesOnce}
 use Rattle.sat_base.specs.device.Sink.{Flushes, empty_sink}
 use Rattle.sat_base.specs.steps.Steps.{Step, ChangeHashBits}
 use Rattle.sat_base.proofs.lemmas.device.Sending.{sent_none, sends_flush}
-use Rattle.sat_solver.specs.proof.Counting.{width_told}
+use Rattle.sat_solver.specs.proof.Counting.{width_change}
 use Rattle.sat_solver.specs.proof.DratText.{drat_text}
 use Rattle.sat_solver.specs.proof.OutputView.{is_lines, step_text, SpellsIn, text_in, AreSpeltInFormat, PutsSteps, PutsLines, lines_format}
 use Rattle.sat_solver.specs.declared.proof.output.OutputError.{OutputError}
@@ -21,16 +21,16 @@ module _ (binary : Bool) where
       go true = refl
 
   -- a width has none
-  told_text : (before now : ℕ) → text_in (lines_format binary) (width_told before now) ≡ []
-  told_text before now = go (nat_eq before now)
+  reported_text : (before now : ℕ) → text_in (lines_format binary) (width_change before now) ≡ []
+  reported_text before now = go (nat_eq before now)
     where
       go : (b : Bool) → text_in (lines_format binary) (cond b [] (ChangeHashBits now ∷ [])) ≡ []
       go true = refl
       go false = step_is (ChangeHashBits now)
 
   -- so what is written behind a width has the lines of the step
-  text_is : (before now : ℕ) (step : Step) → text_in (lines_format binary) (step ∷ width_told before now) ≡ drat_text binary step
-  text_is before now step = ap (λ xs. xs ++ step_text (lines_format binary) step) (told_text before now) ∙ step_is step
+  text_is : (before now : ℕ) (step : Step) → text_in (lines_format binary) (step ∷ width_change before now) ≡ drat_text binary step
+  text_is before now step = ap (λ xs. xs ++ step_text (lines_format binary) step) (reported_text before now) ∙ step_is step
 
   spelt_any : (steps : List Step) → AreSpeltInFormat (lines_format binary) steps
   spelt_any [] = tt
@@ -46,8 +46,8 @@ lines_are false = refl
 lines_are true = refl
 
 -- lines were put, and nothing waits
-pub lines_put : (binary : Bool) (r : Result (Unit {0}) OutputError) (before now : ℕ) (step : Step) (v w : Writer) → PutsLines binary r step v w → PutsSteps (lines_format binary) r (step ∷ width_told before now) (empty_sink v) (empty_sink w)
-lines_put binary (Ok x) before now step v w h = record { spelt = spelt_any binary (step ∷ width_told before now); sent = record { fresh = drat_text binary step; flows = text_is binary before now step ∙ sym (append-nil (drat_text binary step)); takes = h } }
+pub lines_put : (binary : Bool) (r : Result (Unit {0}) OutputError) (before now : ℕ) (step : Step) (v w : Writer) → PutsLines binary r step v w → PutsSteps (lines_format binary) r (step ∷ width_change before now) (empty_sink v) (empty_sink w)
+lines_put binary (Ok x) before now step v w h = record { spelt = spelt_any binary (step ∷ width_change before now); sent = record { fresh = drat_text binary step; flows = text_is binary before now step ∙ sym (append-nil (drat_text binary step)); takes = h } }
 lines_put binary (Err (Write e)) before now step v w h = subst (WriterBreaks v w) (sym (text_is binary before now step)) h
 lines_put binary (Err OutOfMemory) before now step v w h = ap empty_sink h
 

@@ -4,7 +4,7 @@ use Rattle.std.proofs.lemmas.Bool.{true≢false}
 use Rattle.std.proofs.lemmas.List.{append-nil, reverse-append}
 use Rattle.std.specs.Prelude.{is_some, reverse}
 use Rattle.sat_base.specs.device.Device.{Writer, WriterTakes, WriterBreaks}
-use Rattle.sat_base.specs.device.Sink.{Sink, Sent, empty_sink}
+use Rattle.sat_base.specs.device.Sink.{Sink, AddsToSink, empty_sink}
 use Rattle.sat_base.specs.steps.Formats.{Format, Items}
 use Rattle.sat_base.specs.steps.Steps.{Step, End}
 use Rattle.sat_base.specs.steps.StepBytes.{step_bytes}
@@ -15,7 +15,7 @@ use Rattle.sat_checker.specs.declared.processing.ProofProcessor.{Ghosts}
 use Rattle.sat_solver.specs.proof.Counting.{TruncatesHashes, none_made, ask_begun, one_made, written_for, counted}
 use Rattle.sat_solver.specs.proof.ProofTexts.{ClosedIsText, BrokenIsFront, WroteSince, TookSince}
 use Rattle.sat_solver.specs.proof.OutputView.{step_text, text_in, AreSpeltInFormat, SendsSteps}
-use Rattle.sat_solver.specs.proof.ProofView.{IsAtWidth, Target, Closed, Open, Broken as Faulty, is_open, Carried, TargetTakes, TargetFails, Flushed, TakesAll, GivesWriter, target_of, steps_of, has_asked, EmitsExactly, EmitsChecked, FailsToEmit, FailsCheck, Complains, is_checked, is_lost, EmitsAsAnswered, Drains, FlushesAndTells, FlushesOrFails, ClosesTarget, ClosesOne, HandsBack}
+use Rattle.sat_solver.specs.proof.ProofView.{IsAtWidth, Target, Closed, Open, Broken as Faulty, is_open, Carried, TargetTakes, TargetFails, Flushed, TakesAll, GivesWriter, target_of, steps_of, has_asked, EmitsExactly, EmitsChecked, FailsToEmit, FailsCheck, Complains, is_checked, is_lost, EmitsAsAnswered, Drains, FlushesAndNotifies, FlushesOrFails, ClosesTarget, ClosesOne, HandsBack}
 use Rattle.sat_solver.specs.proof.Complaints.{IsComplaint}
 use Rattle.sat_solver.specs.proof.MadeView as mades
 use Rattle.sat_solver.specs.session.Making.{ComesByCheckedSteps}
@@ -65,7 +65,7 @@ module _ (f : ProofFormat) where
   pub wrote_more : (s t u : Sink) (xs ys : List Step) → SendsSteps f xs s t → SendsSteps f ys t u → SendsSteps f (ys ++ xs) s u
   wrote_more s t u xs ys p q = record {
     spelt = spelt_append ys xs q.spelt p.spelt;
-    sent = subst (Sent s u) (sym (text_append ys xs)) (sent_more s t u (text_in f xs) (text_in f ys) p.sent q.sent);
+    sent = subst (AddsToSink s u) (sym (text_append ys xs)) (sent_more s t u (text_in f xs) (text_in f ys) p.sent q.sent);
   }
 
   -- what waits behind steps, and the text of later ones
@@ -142,7 +142,7 @@ takes_all (Open a n s) b c given w xs o p f g e =
     let q = subst (λ (z : Target). GivesWriter z given) k.1 g in
     let is : k.0.writer ≡ w = cc in
     let text = text_in a p.3.written in
-    let sent : Sent s k.0 text = subst (Sent s k.0) (append-nil text) (sent_more s p.1 k.0 text [] p.3.wrote.sent k.2.sent) in
+    let sent : AddsToSink s k.0 text = subst (AddsToSink s k.0) (append-nil text) (sent_more s p.1 k.0 text [] p.3.wrote.sent k.2.sent) in
     let none = k.2.none in
     let all : sent.fresh ≡ s.waiting ++ text = sym (append-nil sent.fresh) ∙ ap (λ (z : List ℕ). sent.fresh ++ z) (sym none) ∙ sym sent.flows in
     record {
@@ -203,10 +203,10 @@ gains_none seen p = record { history = refl; listening = refl; taking = refl; as
 pub gains_kept : {W L : Type 0} {G : Ghosts L} (seen : W → Writer) (p q : Proof W L G) → q.made ≡ p.made → q.counting ≡ p.counting → has_asked q ≡ has_asked p → TargetTakes (target_of seen p) [] (target_of seen q) → EmitsChecked seen [] p q
 gains_kept {W} {L} {G} seen p q made counting asked target = record {
   history = ap (λ (m : Made L G). m.history.steps) made;
-  listening = ap (λ (m : Made L G). mades.audience m) made;
-  taking = ap (λ (m : Made L G). mades.is_lost m) made;
+  listening = ap (λ (m : Made L G). mades.made_audience m) made;
+  taking = ap (λ (m : Made L G). mades.made_is_lost m) made;
   asked = asked;
-  width = λ h. elim h [ inl w ↦ subst (λ n. mades.IsTold n q.made) (ap (λ (n : Counting). n.bits) (sym counting)) (subst (λ (m : Made L G). mades.IsTold p.counting.bits m) (sym made) w) | inr n ↦ absurd (n refl) ];
+  width = λ h. elim h [ inl w ↦ subst (λ n. mades.LastWidthIs n q.made) (ap (λ (n : Counting). n.bits) (sym counting)) (subst (λ (m : Made L G). mades.LastWidthIs p.counting.bits m) (sym made) w) | inr n ↦ absurd (n refl) ];
   target = target;
 }
 
@@ -289,16 +289,16 @@ gives_none (Open a n s) b c xs o p f g =
 gives_none (Faulty w) b c xs o p f g = absurd (true≢false (sym o))
 
 -- the last step was made, the target flushed and handed back
-pub close_gives : {W L : Type 0} {G : Ghosts L} (seen : W → Writer) (o : Option W) (a b c d : Proof W L G) → is_open (target_of seen a) ≡ true → EmitsChecked seen (End ∷ []) a b → FlushesAndTells seen b c → HandsBack seen o c d → ClosesTarget seen (Ok o) a d
+pub close_gives : {W L : Type 0} {G : Ghosts L} (seen : W → Writer) (o : Option W) (a b c d : Proof W L G) → is_open (target_of seen a) ≡ true → EmitsChecked seen (End ∷ []) a b → FlushesAndNotifies seen b c → HandsBack seen o c d → ClosesTarget seen (Ok o) a d
 close_gives seen None a b c d open_yet p q h = absurd (gives_none (target_of seen a) (target_of seen b) (target_of seen c) (End ∷ []) open_yet p.target q.target h.gives)
 close_gives seen (Some w) a b c d open_yet p q h = record {
   history = h.history ∙ q.history ∙ p.history;
-  listening = ap mades.audience h.made ∙ q.listening ∙ p.listening;
-  taking = ap mades.is_lost h.made ∙ q.taking ∙ p.taking;
+  listening = ap mades.made_audience h.made ∙ q.listening ∙ p.listening;
+  taking = ap mades.made_is_lost h.made ∙ q.taking ∙ p.taking;
   asked = h.asked ∙ q.asked ∙ p.asked;
   takes = takes_all (target_of seen a) (target_of seen b) (target_of seen c) (Some (seen w)) (seen w) (End ∷ []) open_yet p.target q.target h.gives refl;
   target = h.target;
-  told = subst (λ (m : Made _ _). mades.HasTold m) (sym h.made) q.told;
+  told = subst (λ (m : Made _ _). mades.MadeIsReported m) (sym h.made) q.told;
 }
 
 -- SINCE THE OPENING

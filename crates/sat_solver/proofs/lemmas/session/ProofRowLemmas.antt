@@ -1,14 +1,14 @@
 -- Rows of widths and lines, computed.
 use Rattle.std.proofs.Common.{refl}
-use Rattle.sat_solver.specs.proof.Counting.{widened, shortened}
+use Rattle.sat_solver.specs.proof.Counting.{widened_bits, shortened}
 use Rattle.sat_solver.specs.proof.ProofRows.{WidthRows, CountRow, LineRows}
 
 pub width_rows : WidthRows
-unfolding widened shortened
+unfolding widened_bits shortened
 width_rows = (refl, refl, refl, refl, refl, refl, refl)
 
 pub count_row : CountRow
-unfolding widened
+unfolding widened_bits
 count_row = refl
 
 pub line_rows : LineRows

@@ -1,7 +1,7 @@
 -- Steps that are put into a target's text, with the widths that they have.
 use Rattle.std.proofs.Common.{ℕ, Bool, ◌≡◌, ◌∙◌, true, false, Option, None, Some, Err, List, [], ◌∷◌, ◌++◌, append_assoc, refl, sym, ap, subst}
 use Rattle.sat_base.specs.device.Device.{Writer, WriterBreaks}
-use Rattle.sat_base.specs.device.Sink.{Sink, Sent}
+use Rattle.sat_base.specs.device.Sink.{Sink, AddsToSink}
 use Rattle.std.proofs.lemmas.Bool.{eq-eqb}
 use Rattle.std.specs.Prelude.{cond}
 use Rattle.sat_base.specs.steps.Steps.{Step, ChangeHashBits}
@@ -10,7 +10,7 @@ use Rattle.sat_base.specs.steps.StepText.{SpellsStep}
 use Rattle.sat_solver.specs.declared.proof.format.ProofFormat.TheVariants.{Varisat}
 use Rattle.sat_base.proofs.lemmas.device.Writes.{breaks_within}
 use Rattle.sat_checker.specs.declared.processing.ProofProcessor.{Ghosts}
-use Rattle.sat_solver.specs.proof.Counting.{width_told, written_for, counted}
+use Rattle.sat_solver.specs.proof.Counting.{width_change, written_for, counted}
 use Rattle.sat_solver.specs.proof.OutputView.{step_text, SpellsIn, text_in, SendsSteps, PutsSteps, output_format, output_sink}
 use Rattle.sat_solver.specs.proof.ProofView.{TargetTakes, TargetFails, Open, Broken as Faulty, with_fault, target_in, target_of, EmitsExactly, FailsToEmit}
 use Rattle.sat_solver.specs.proof.Widths.{narrowed, KeepsWidth}
@@ -24,11 +24,11 @@ use Rattle.sat_solver.specs.declared.proof.output.OutputError.TheVariants.{Write
 use Rattle.sat_solver.proofs.lemmas.session.ProofLemmas.{wrote_none, breaks_behind, cuts_one, carries_none}
 
 -- one step was written
-pub wrote_one : (f : ProofFormat) (step : Step) (s t : Sink) → Sent s t (step_text f step) → SpellsIn f step → SendsSteps f (step ∷ []) s t
+pub wrote_one : (f : ProofFormat) (step : Step) (s t : Sink) → AddsToSink s t (step_text f step) → SpellsIn f step → SendsSteps f (step ∷ []) s t
 wrote_one f step s t h k = record { spelt = (k, tt); sent = h }
 
 -- one at the same width waits
-pub waits_at : (step : Step) (before now : ℕ) (s t : Sink) → before ≡ now → Sent s t (step_bytes step) → SpellsStep step (step_bytes step) → SendsSteps Varisat (step ∷ width_told before now) s t
+pub waits_at : (step : Step) (before now : ℕ) (s t : Sink) → before ≡ now → AddsToSink s t (step_bytes step) → SpellsStep step (step_bytes step) → SendsSteps Varisat (step ∷ width_change before now) s t
 waits_at step before now s t e sent spells = subst (λ xs. SendsSteps Varisat (step ∷ xs) s t) (sym (ap (λ b. cond b [] (ChangeHashBits now ∷ [])) (eq-eqb before now e))) (wrote_one Varisat step s t sent spells)
 
 -- a step behind others that were written
@@ -80,7 +80,7 @@ module _ {W L : Type 0} {G : Ghosts L} (seen : W → Writer) (p : Proof W L G) w
 
     module _ (step cut : Step) (keeps : KeepsWidth step) (d : Counting) (e : d ≡ counted step p.counting) (is_cut : cut ≡ narrowed d.bits step) where
       -- a step was written
-      pub carries_put : output_format u ≡ output_format o → SendsSteps (output_format o) (cut ∷ width_told p.counting.bits d.bits) (output_sink seen o) (output_sink seen u) →
+      pub carries_put : output_format u ≡ output_format o → SendsSteps (output_format o) (cut ∷ width_change p.counting.bits d.bits) (output_sink seen o) (output_sink seen u) →
           TargetTakes (target_of seen p) (step ∷ []) (target_in seen (Some u) p.broken d)
       carries_put same wrote = subst (λ b. TargetTakes (target_of seen p) (step ∷ []) (with_fault b (output_format u) d (output_sink seen u))) (sym well) carried
         where
@@ -89,15 +89,15 @@ module _ {W L : Type 0} {G : Ghosts L} (seen : W → Writer) (p : Proof W L G) w
               (subst (λ t. TargetTakes t (step ∷ []) (Open (output_format o) d (output_sink seen u))) was_open
               (subst (λ x. TargetTakes (Open (output_format o) p.counting (output_sink seen o)) (step ∷ []) (Open (output_format o) x (output_sink seen u))) (sym e)
               (carries_step (output_format o) p.counting (output_sink seen o) (output_sink seen u) step keeps (subst (λ x. SendsSteps (output_format o) (written_for p.counting.bits x.bits step) (output_sink seen o) (output_sink seen u)) e
-              (subst (λ x. SendsSteps (output_format o) (x ∷ width_told p.counting.bits d.bits) (output_sink seen o) (output_sink seen u)) is_cut wrote)))))
+              (subst (λ x. SendsSteps (output_format o) (x ∷ width_change p.counting.bits d.bits) (output_sink seen o) (output_sink seen u)) is_cut wrote)))))
 
       -- a call of the target failed at its text
-      pub stops_put : WriterBreaks (output_sink seen o).writer (output_sink seen u).writer ((output_sink seen o).waiting ++ text_in (output_format o) (cut ∷ width_told p.counting.bits d.bits)) →
+      pub stops_put : WriterBreaks (output_sink seen o).writer (output_sink seen u).writer ((output_sink seen o).waiting ++ text_in (output_format o) (cut ∷ width_change p.counting.bits d.bits)) →
           TargetFails (target_of seen p) (step ∷ []) (Faulty (output_sink seen u).writer)
       stops_put b = subst (λ t. TargetFails t (step ∷ []) (Faulty (output_sink seen u).writer)) was_open
           (stops_step (output_format o) p.counting (output_sink seen o) (output_sink seen u) step keeps
           (subst (λ x. WriterBreaks (output_sink seen o).writer (output_sink seen u).writer ((output_sink seen o).waiting ++ text_in (output_format o) (written_for p.counting.bits x.bits step))) e
-          (subst (λ x. WriterBreaks (output_sink seen o).writer (output_sink seen u).writer ((output_sink seen o).waiting ++ text_in (output_format o) (x ∷ width_told p.counting.bits d.bits))) is_cut b)))
+          (subst (λ x. WriterBreaks (output_sink seen o).writer (output_sink seen u).writer ((output_sink seen o).waiting ++ text_in (output_format o) (x ∷ width_change p.counting.bits d.bits))) is_cut b)))
 
     -- no memory was left, and nothing was written
     pub carries_starved : output_format u ≡ output_format o → output_sink seen u ≡ output_sink seen o → TargetTakes (target_of seen p) [] (target_in seen (Some u) p.broken p.counting)

@@ -7,7 +7,7 @@ use Rattle.sat_base.specs.values.Hashes.{hash_of}
 use Rattle.sat_checker.specs.LiteralSets.{mentions, canonical, same_literals}
 use Rattle.sat_checker.specs.SortedSets.{NoRepeats}
 use Rattle.sat_checker.specs.Contents.{same_side, more_if, less_if}
-use Rattle.sat_solver.specs.session.Session.{Session, with_live, without_live, with_solver_name, IsLive, hash_in}
+use Rattle.sat_solver.specs.session.Session.{Session, with_live, without_live, session_with_name, IsLive, hash_in}
 use Rattle.sat_solver.specs.session.LiveClauses.{LiveClause, live_count_of, IsIn, with_var, mapped, AreMapped, AreOf}
 use Rattle.sat_solver.proofs.lemmas.session.Lists.{count_between, in_counts, solver_hash}
 use Rattle.sat_solver.proofs.lemmas.session.Mapped.{once_mapped}
@@ -111,7 +111,7 @@ renamed : (names : ℕ → Option ℕ) (v w : ℕ) (name o : Option ℕ) → w �
 renamed names v w name o n e = ap (λ b. cond b name (names w)) (ne_eqb w v n) ∙ e
 
 -- A solver variable that no clause has loses its proof variable.
-pub loses_name : (s : Session) (f : ℕ → ℕ) (v x : ℕ) (cs : List LiveClause) → AreOf s f cs → s.solver_names v ≡ Some x → ((c : LiveClause) → IsIn c cs → mentions c.literals x ≡ false) → AreOf (with_solver_name v None s) f cs
+pub loses_name : (s : Session) (f : ℕ → ℕ) (v x : ℕ) (cs : List LiveClause) → AreOf s f cs → s.solver_names v ≡ Some x → ((c : LiveClause) → IsIn c cs → mentions c.literals x ≡ false) → AreOf (session_with_name v None s) f cs
 loses_name s f v x cs h its unused = record {
   named = λ c k. both_of (λ l. s.solver_names (f (variable l)) ≡ Some (variable l)) (λ l. variable l ≢ x) (λ l. cond (eqb (f (variable l)) v) None (s.solver_names (f (variable l))) ≡ Some (variable l)) c.literals
       (λ l p q. renamed s.solver_names v (f (variable l)) None (Some (variable l)) (λ e. q (some_same (variable l) x (sym p ∙ ap s.solver_names e ∙ its))) p)

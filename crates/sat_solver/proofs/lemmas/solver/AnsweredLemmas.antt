@@ -22,26 +22,26 @@ use Rattle.sat_solver.specs.declared.config.SolverConfig.{SolverConfig}
 use Rattle.sat_solver.specs.assumptions.Core.{causes_hashes}
 use Rattle.sat_solver.specs.cdcl.Going.{AreSearched}
 use Rattle.sat_solver.specs.cdcl.Joint.{global_in, IsSearch, SameVarsAndAssumptions}
-use Rattle.sat_solver.specs.load.Literals.{named_literal, Images}
+use Rattle.sat_solver.specs.load.Literals.{user_literal, Images}
 use Rattle.sat_solver.specs.variables.Variables.{data_at, global_at, user_of, names_used, variables_used}
 use Rattle.sat_solver.specs.variables.Shared.{SharesIndices}
-use Rattle.sat_solver.specs.Models.{is_true, value_by, value_in, model_to, named_to}
+use Rattle.sat_solver.specs.Models.{has_true_value, value_by, value_in, model_to, named_to}
 use Rattle.sat_checker.specs.matching.Checking.{variable_of}
 use Rattle.sat_checker.specs.matching.Expected.{Shows, Fails, Spells, EachSpelt, SameSet, shows, fails}
-use Rattle.sat_checker.specs.matching.ProofChecking.{the_checking}
+use Rattle.sat_checker.specs.matching.ProofChecking.{checker_rules}
 use Rattle.sat_checker.specs.matching.Traces.{HasTrace, no_step, visible}
-use Rattle.sat_solver.specs.variables.Calls.{NamesInvariant, Agree, NamesRefineJudge}
+use Rattle.sat_solver.specs.variables.Calls.{NamesInvariant, NamesAgree, NamesEffect}
 use Rattle.sat_solver.specs.declared.variables.Variables.{Variables}
 use Rattle.sat_solver.proofs.lemmas.variables.MapLemmas.{some_within}
 use Rattle.sat_solver.proofs.lemmas.variables.ModeChanges.{live_within}
 use Rattle.sat_solver.proofs.lemmas.variables.Searched.{searches_agree}
 use Rattle.sat_solver.proofs.lemmas.variables.TakenNames.{test_among}
-use Rattle.sat_solver.specs.solver.Joined.{IsJoined, name_of, named_by, user_by}
-use Rattle.sat_solver.specs.solver.Answering.{Shown, WritesFailedCore, model_of, line_of}
+use Rattle.sat_solver.specs.solver.Joined.{IsJoined, lit_over_names, named_by, user_by}
+use Rattle.sat_solver.specs.solver.Answering.{Shown, WritesFailedCore, model_of, line_of_names}
 use Rattle.sat_solver.proofs.lemmas.solver.BehindLemmas.{stands_behind}
 use Rattle.sat_solver.proofs.lemmas.solver.ShownLemmas.{coded_back, coded_sign, model_all}
 use Rattle.sat_solver.proofs.lemmas.solver.LineLemmas.{named_has, named_each, mapped_each, literal_among}
-use Rattle.sat_solver.proofs.lemmas.solver.TellingLemmas.{each_live, shares_moved}
+use Rattle.sat_solver.proofs.lemmas.solver.ReportingLemmas.{each_live, shares_moved}
 use Rattle.sat_parts.proofs.lemmas.parts.ValueLemmas.{coded_variable}
 
 -- what holds at each place holds of all
@@ -58,8 +58,8 @@ module _ (n : Variables) (values : List (Option Bool)) (user order : List ℕ) (
       let l = get_or user k 0 in
       let value : value_in n values i.variable_is ≡ is_positive l =
       ap (λ o. value_by o values (data_at n i.variable_is).unit) i.indexed
-      ∙ ap (λ x. is_true (get_or values x None)) (sym (ap variable i.is ∙ coded_variable i.index_is (is_positive l)))
-      ∙ ap is_true t
+      ∙ ap (λ x. has_true_value (get_or values x None)) (sym (ap variable i.is ∙ coded_variable i.index_is (is_positive l)))
+      ∙ ap has_true_value t
       ∙ ap is_positive i.is ∙ coded_sign i.index_is (is_positive l) in
       subst (λ m. Among m (named_to n values (names_used n))) (ap (coded (variable l)) value ∙ coded_back l)
       (named_has n values (names_used n) (variable l) i.variable_is (some_within n.global_from_user.fwd (variable l) i.variable_is i.named) i.named)
@@ -75,8 +75,8 @@ module _ (n : Variables) (steps : List Step) (stands : NamesInvariant n steps) (
   pub record Taken_from (l : ℕ) : Type 0 where
     pub from : ℕ
     pub among : Among from user
-    pub is : name_of n l ≡ from
-    pub spells : Spells (variable_of steps) (named_literal from) (with_var (global_in c) l)
+    pub is : lit_over_names n l ≡ from
+    pub spells : Spells (variable_of steps) (user_literal from) (with_var (global_in c) l)
 
   among_at : (ls : List ℕ) (k : ℕ) → k < length ls → Among (get_or ls k 0) ls
   among_at [] k lt = absurd (omega arith)
@@ -108,32 +108,32 @@ module _ (n : Variables) (steps : List Step) (stands : NamesInvariant n steps) (
 
   module _ (core : List ℕ) (among : (k : ℕ) → k < length core → Contains order (get_or core k 0)) where
     -- the core over names is of the assumptions
-    pub core_among : AllByRecursion (λ l. Among l user) (map (name_of n) core)
+    pub core_among : AllByRecursion (λ l. Among l user) (map (lit_over_names n) core)
     core_among = each core among
       where
-        each : (ls : List ℕ) → ((k : ℕ) → k < length ls → Contains order (get_or ls k 0)) → AllByRecursion (λ l. Among l user) (map (name_of n) ls)
+        each : (ls : List ℕ) → ((k : ℕ) → k < length ls → Contains order (get_or ls k 0)) → AllByRecursion (λ l. Among l user) (map (lit_over_names n) ls)
         each [] f = tt
         each (l ∷ ls) f = (let t = taken_from l (f 0 (omega arith)) in subst (λ m. Among m user) (sym t.is) t.among, each ls (λ k lt. f (suc k) (omega arith)))
 
     -- and stands for what was written
-    pub core_spelt : SameSet (variable_of steps) (map named_literal (map (name_of n) core)) (map (with_var (global_in c)) core)
+    pub core_spelt : SameSet (variable_of steps) (map user_literal (map (lit_over_names n) core)) (map (with_var (global_in c)) core)
     core_spelt = (there core among (λ x m. m), only core among (λ x m. m))
       where
         f : ℕ → ℕ
         f = with_var (global_in c)
 
-        spells_at : (l : ℕ) → Contains order l → Spells (variable_of steps) (named_literal (name_of n l)) (f l)
-        spells_at l h = (let t = taken_from l h in subst (λ m. Spells (variable_of steps) (named_literal m) (f l)) (sym t.is) t.spells)
+        spells_at : (l : ℕ) → Contains order l → Spells (variable_of steps) (user_literal (lit_over_names n l)) (f l)
+        spells_at l h = (let t = taken_from l h in subst (λ m. Spells (variable_of steps) (user_literal m) (f l)) (sym t.is) t.spells)
 
         there : (ls : List ℕ) → ((k : ℕ) → k < length ls → Contains order (get_or ls k 0)) → ((x : ℕ) → Among x (map f ls) → Among x (map f core)) →
-            AllByRecursion (λ l. (code : ℕ) × Spells (variable_of steps) l code × Among code (map f core)) (map named_literal (map (name_of n) ls))
+            AllByRecursion (λ l. (code : ℕ) × Spells (variable_of steps) l code × Among code (map f core)) (map user_literal (map (lit_over_names n) ls))
         there [] g m = tt
         there (l ∷ ls) g m = ((f l, spells_at l (g 0 (omega arith)), m (f l) (inl refl)), there ls (λ k lt. g (suc k) (omega arith)) (λ x i. m x (inr i)))
 
-        only : (ls : List ℕ) → ((k : ℕ) → k < length ls → Contains order (get_or ls k 0)) → ((x : Literal) → Among x (map named_literal (map (name_of n) ls)) → Among x (map named_literal (map (name_of n) core))) →
-            AllByRecursion (λ code. (l : Literal) × Spells (variable_of steps) l code × Among l (map named_literal (map (name_of n) core))) (map f ls)
+        only : (ls : List ℕ) → ((k : ℕ) → k < length ls → Contains order (get_or ls k 0)) → ((x : Literal) → Among x (map user_literal (map (lit_over_names n) ls)) → Among x (map user_literal (map (lit_over_names n) core))) →
+            AllByRecursion (λ code. (l : Literal) × Spells (variable_of steps) l code × Among l (map user_literal (map (lit_over_names n) core))) (map f ls)
         only [] g m = tt
-        only (l ∷ ls) g m = ((named_literal (name_of n l), spells_at l (g 0 (omega arith)), m (named_literal (name_of n l)) (inl refl)), only ls (λ k lt. g (suc k) (omega arith)) (λ x i. m x (inr i)))
+        only (l ∷ ls) g m = ((user_literal (lit_over_names n l), spells_at l (g 0 (omega arith)), m (user_literal (lit_over_names n l)) (inl refl)), only ls (λ k lt. g (suc k) (omega arith)) (λ x i. m x (inr i)))
 
 -- no valuation that the steps leave makes a core true that was written
 pub core_none : (steps : List Step) (codes hashes : List ℕ) → MayAll (FailedAssumptions codes hashes ∷ steps) → (a : Valuation) → Holds steps a → EachTrue a codes → ⊥
@@ -142,10 +142,10 @@ core_none steps codes hashes may a held t = (let s = sessions_are_accepted (Fail
 -- STEPS OF ANSWERS
 
 -- the line of a model spells what was written
-pub line_spelt : (n : Variables) (steps : List Step) (values : List (Option Bool)) → NamesInvariant n steps → EachSpelt (variable_of steps) (map named_literal (named_to n values (names_used n))) (model_to n values (variables_used n))
+pub line_spelt : (n : Variables) (steps : List Step) (values : List (Option Bool)) → NamesInvariant n steps → EachSpelt (variable_of steps) (map user_literal (named_to n values (names_used n))) (model_to n values (variables_used n))
 line_spelt n steps values stands =
     mapped_each (λ l. (code : ℕ) × Spells (variable_of steps) l code × Among code (model_to n values (variables_used n))) (named_to n values (names_used n))
-    (named_each n values (λ l. (code : ℕ) × Spells (variable_of steps) (named_literal l) code × Among code (model_to n values (variables_used n))) (names_used n) (λ u v lt e.
+    (named_each n values (λ l. (code : ℕ) × Spells (variable_of steps) (user_literal l) code × Among code (model_to n values (variables_used n))) (names_used n) (λ u v lt e.
     let live = stands.tidy.named v u (stands.tidy.users.back u v e) in
     let b = value_in n values v in (
       coded v b,
@@ -153,7 +153,7 @@ line_spelt n steps values stands =
       test_among (model_to n values (variables_used n)) (coded v b) (model_all n values (variables_used n) v (live_within n v live) live),
     )))
 
-named_among_all : (line asked : List ℕ) → AllByRecursion (λ l. Among l line) asked → AllByRecursion (λ l. Among l (map named_literal line)) (map named_literal asked)
+named_among_all : (line asked : List ℕ) → AllByRecursion (λ l. Among l line) asked → AllByRecursion (λ l. Among l (map user_literal line)) (map user_literal asked)
 named_among_all line [] h = tt
 named_among_all line (l ∷ asked) h = (literal_among l line h.0, named_among_all line asked h.1)
 
@@ -186,32 +186,32 @@ module _ {W L : Type 0} {G : Ghosts L} (seen : W → Writer) (n : Variables) (a 
   }
 
   -- the step of a model, as the judge expects it
-  pub does_shown : (b : Core W L G) → Shown seen n a b → (asked : List ℕ) → AllByRecursion (λ l. Among l (line_of n a)) asked →
-      NamesRefineJudge n n (steps_of a.proof) (steps_of b.proof) (λ j. j) (λ j. Shows (names_of (map named_literal (line_of n a))) (map named_literal asked) (map named_literal (line_of n a)) ∷ [])
+  pub does_shown : (b : Core W L G) → Shown seen n a b → (asked : List ℕ) → AllByRecursion (λ l. Among l (line_of_names n a)) asked →
+      NamesEffect n n (steps_of a.proof) (steps_of b.proof) (λ j. j) (λ j. Shows (names_of (map user_literal (line_of_names n a))) (map user_literal asked) (map user_literal (line_of_names n a)) ∷ [])
   does_shown b shown asked among =
       let may : MayAll (Model (model_of n a) ∷ steps_of a.proof) = subst MayAll shown.adds.history shown.joined.sound.keeps in
       record {
         stands = shown.joined.stands;
         kept = λ j live agree. record {
           live = live;
-          agree = subst (λ ss. Agree n ss j live) (sym shown.adds.history)
+          agree = subst (λ ss. NamesAgree n ss j live) (sym shown.adds.history)
               (searches_agree n (steps_of a.proof) (Model (model_of n a)) joined.stands may.1 (each_live n a.search.parts.assignment.current (variables_used n) (model_of n a) (λ l t. t)) j live agree);
-          trace = subst (λ ss. HasTrace the_checking (steps_of a.proof) ss (Shows (names_of (map named_literal (line_of n a))) (map named_literal asked) (map named_literal (line_of n a)) ∷ [])) (sym shown.adds.history)
-              (visible (shows refl (line_spelt n (steps_of a.proof) a.search.parts.assignment.current joined.stands) (named_among_all (line_of n a) asked among)) no_step);
+          trace = subst (λ ss. HasTrace checker_rules (steps_of a.proof) ss (Shows (names_of (map user_literal (line_of_names n a))) (map user_literal asked) (map user_literal (line_of_names n a)) ∷ [])) (sym shown.adds.history)
+              (visible (shows refl (line_spelt n (steps_of a.proof) a.search.parts.assignment.current joined.stands) (named_among_all (line_of_names n a) asked among)) no_step);
         };
       }
 
   -- the step of a core, as the judge expects it
   pub does_failed : (b : Core W L G) (core : List ℕ) → WritesFailedCore seen n a b core → (asked order : List ℕ) → Images n asked order → a.search.assumptions.lits.items ≡ order →
-      NamesRefineJudge n n (steps_of a.proof) (steps_of b.proof) (λ j. j) (λ j. Fails (map named_literal asked) (map named_literal core) ∷ [])
+      NamesEffect n n (steps_of a.proof) (steps_of b.proof) (λ j. j) (λ j. Fails (map user_literal asked) (map user_literal core) ∷ [])
   does_failed b core f asked order images lits =
-      subst (λ ss. NamesRefineJudge n n (steps_of a.proof) ss (λ j. j) (λ j. Fails (map named_literal asked) (map named_literal core) ∷ [])) (sym (history_of f))
+      subst (λ ss. NamesEffect n n (steps_of a.proof) ss (λ j. j) (λ j. Fails (map user_literal asked) (map user_literal core) ∷ [])) (sym (history_of f))
       (record {
         stands = stands;
         kept = λ j live agree. record {
           live = live;
           agree = searches_agree n (steps_of a.proof) step joined.stands may.1 tt j live agree;
-          trace = visible (fails (subst (λ xs. SameSet (variable_of (steps_of a.proof)) (map named_literal xs) codes) (sym f.named) spelt)) no_step;
+          trace = visible (fails (subst (λ xs. SameSet (variable_of (steps_of a.proof)) (map user_literal xs) codes) (sym f.named) spelt)) no_step;
         };
       })
     where
@@ -233,5 +233,5 @@ module _ {W L : Type 0} {G : Ghosts L} (seen : W → Writer) (n : Variables) (a 
       stands : NamesInvariant n (step ∷ steps_of a.proof)
       stands = subst (NamesInvariant n) (history_of f) f.joined.stands
 
-      spelt : SameSet (variable_of (steps_of a.proof)) (map named_literal (map (name_of n) used)) codes
+      spelt : SameSet (variable_of (steps_of a.proof)) (map user_literal (map (lit_over_names n) used)) codes
       spelt = core_spelt n (steps_of a.proof) joined.stands a.search joined.shares asked order images used (λ k lt. subst (λ ls. Contains ls (get_or used k 0)) lits (f.told.failed.among k lt))

@@ -2,8 +2,8 @@
 use Rattle.std.proofs.Common.{◌≡◌, true, false, Err, [], ap, subst}
 use Rattle.sat_base.specs.device.Device.{Writer}
 use Rattle.sat_checker.specs.declared.processing.ProofProcessor.{Ghosts}
-use Rattle.sat_solver.specs.cdcl.Going.{fault_of}
-use Rattle.sat_solver.specs.proof.ProofView.{EmitsExactly, FlushesAndTells, FlushesOrFails, asking as asking_proof, has_asked, is_lost}
+use Rattle.sat_solver.specs.cdcl.Going.{proof_fault}
+use Rattle.sat_solver.specs.proof.ProofView.{EmitsExactly, FlushesAndNotifies, FlushesOrFails, asking as asking_proof, has_asked, is_lost}
 use Rattle.sat_solver.specs.declared.error.SolverError.{SolverError}
 use Rattle.sat_solver.specs.declared.proof.Proof.{Proof}
 use Rattle.sat_solver.specs.declared.proof.ProofError.{ProofError}
@@ -17,7 +17,7 @@ use Rattle.sat_solver.specs.solver.Whole.{IsSolver}
 use Rattle.sat_solver.proofs.lemmas.session.AskingLemmas.{asked_flushed}
 use Rattle.sat_solver.proofs.lemmas.solver.BegunLemmas.{begun, settled_begun, rounds_begun, breaks_begun, flush_begun}
 use Rattle.sat_solver.proofs.lemmas.solver.SettlingLemmas.{answered, settled_flushed, settled_broken, flushed_by}
-use Rattle.sat_solver.proofs.lemmas.solver.ToldLemmas.{solve_ends}
+use Rattle.sat_solver.proofs.lemmas.solver.ReportedLemmas.{solve_ends}
 
 module _ {W L : Type 0} {G : Ghosts L} (seen : W → Writer) (s : Solver W L G) (going : s.failed ≡ false) (p : Proof W L G) (adds : EmitsExactly seen [] s.core.proof p) (taking : is_lost p ≡ is_lost s.core.proof) (mid : Solver W L G) where
   abbrev pub used : Solver W L G
@@ -40,17 +40,17 @@ module _ {W L : Type 0} {G : Ghosts L} (seen : W → Writer) (s : Solver W L G) 
     behind = settled_begun seen used p adds taking mid settled
 
     -- a flush failed
-    pub ask_breaks : (e : ProofError) → FlushesOrFails seen (Err e) mid.core.proof q → AnswersOrBreaks seen (Err (fault_of e)) used flushed
+    pub ask_breaks : (e : ProofError) → FlushesOrFails seen (Err e) mid.core.proof q → AnswersOrBreaks seen (Err (proof_fault e)) used flushed
     ask_breaks e f = settled_broken seen used mid behind q e f
 
-    pub ask_broken : (e : ProofError) → FlushesOrFails seen (Err e) mid.core.proof q → Solves seen (Err (fault_of e)) s (failed_with flushed)
-    ask_broken e f = solve_ends seen s flushed going (fault_of e) (ask_breaks e f)
+    pub ask_broken : (e : ProofError) → FlushesOrFails seen (Err e) mid.core.proof q → Solves seen (Err (proof_fault e)) s (failed_with flushed)
+    ask_broken e f = solve_ends seen s flushed going (proof_fault e) (ask_breaks e f)
 
     -- or not
-    pub ask_whole : FlushesAndTells seen mid.core.proof q → IsSolver flushed
+    pub ask_whole : FlushesAndNotifies seen mid.core.proof q → IsSolver flushed
     ask_whole f _ = (settled_flushed seen used mid behind q f).whole
 
-    pub ask_answered : p ≡ asking_proof s.core.proof → (s.state ≡ states.Unknown → SearchedBy seen mid.state s.clock mid.clock s.names mid.names asking.core mid.core mid.told.failed_core.items) → FlushesAndTells seen mid.core.proof q → Answered seen s flushed
+    pub ask_answered : p ≡ asking_proof s.core.proof → (s.state ≡ states.Unknown → SearchedBy seen mid.state s.clock mid.clock s.names mid.names asking.core mid.core mid.told.failed_core.items) → FlushesAndNotifies seen mid.core.proof q → Answered seen s flushed
     ask_answered same searched f =
         answered seen s flushed (settled_flushed seen used mid behind q f) going (flushed_by seen mid.core.proof q f) f.told
         (asked_flushed seen settled.took.0 p mid.core.proof q (ap (λ (x : Proof W L G). has_asked x) same) settled.took.1 f)

@@ -7,8 +7,8 @@ use Rattle.sat_solver.specs.declared.error.SolverError.TheVariants as errors
 use Rattle.sat_solver.specs.declared.context.Core.{Core}
 use Rattle.sat_solver.specs.declared.proof.Proof.{Proof}
 use Rattle.sat_solver.specs.declared.solver.Solver.{Solver}
-use Rattle.sat_base.specs.script.Judge.{Judge}
-use Rattle.sat_solver.specs.variables.Calls.{Agree, NamesRefineJudge}
+use Rattle.sat_base.specs.script.ScriptState.{ScriptState}
+use Rattle.sat_solver.specs.variables.Calls.{NamesAgree, NamesEffect}
 use Rattle.sat_checker.specs.matching.Bridge.{Live}
 use Rattle.sat_solver.specs.schedule.Solving.{AdvancesIn}
 use Rattle.sat_solver.specs.session.Coming.{OnlyAllowedSteps, EndsAtUnsat}
@@ -39,12 +39,12 @@ module _ {W L : Type 0} {G : Ghosts L} (seen : W → Writer) (old : Solver W L G
     comes = subst (λ ss. OnlyAllowedSteps EndsAtUnsat ss (steps_in new)) adds.history s.comes;
     config = s.config;
     times = subst (λ ss. AdvancesIn ss (steps_in new) (learned_of new.state (new.clock.rounds - old.clock.rounds))) adds.history s.times;
-    does = subst (λ ss. NamesRefineJudge old.names new.names ss (steps_in new) (λ j. j) (λ j. due_for_answer old.state new)) adds.history s.does;
+    does = subst (λ ss. NamesEffect old.names new.names ss (steps_in new) (λ j. j) (λ j. due_for_answer old.state new)) adds.history s.does;
     took = (_, adds_more seen [] s.took.0 old.core.proof p new.core.proof adds s.took.1);
     width = λ n. s.width (λ e. n (e ∙ adds.history));
     same = s.same;
     users = s.users;
-    counts = record { on = rounds_begun new.clock.rounds s.counts.on; round = s.counts.round; spent = s.counts.spent; answered = subst (λ ss. (j : Judge) (live : Live) → Agree old.names ss j live → 2 ^ (2 * j.identity_count + 3) ≤ rounds_left old → new.state ≡ states.Unknown → ⊥) adds.history s.counts.answered };
+    counts = record { on = rounds_begun new.clock.rounds s.counts.on; round = s.counts.round; spent = s.counts.spent; answered = subst (λ ss. (j : ScriptState) (live : Live) → NamesAgree old.names ss j live → 2 ^ (2 * j.identity_count + 3) ≤ rounds_left old → new.state ≡ states.Unknown → ⊥) adds.history s.counts.answered };
     known = λ k. (let h = s.known k in (adds_more seen [] [] old.core.proof p new.core.proof adds h.0, h.1));
   }
 

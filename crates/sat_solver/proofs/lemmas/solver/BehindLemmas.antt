@@ -2,17 +2,17 @@
 use Rattle.std.proofs.Common.{ℕ, ◌≡◌, ◌∙◌, false, Option, List, [], ◌∷◌, ◌++◌, map, refl, sym, subst}
 use Rattle.std.specs.List.{AllByRecursion}
 use Rattle.sat_base.specs.values.Literals.{variable}
-use Rattle.sat_base.specs.script.Judge.{Judge}
+use Rattle.sat_base.specs.script.ScriptState.{ScriptState}
 use Rattle.sat_base.specs.steps.Steps.{Step, AtClause, UnitClauses, DeleteClause}
 use Rattle.sat_solver.specs.session.Session.{Session, MayAll, session_after}
 use Rattle.sat_solver.specs.cdcl.Going.{HaveSolverNames, IsSearched}
 use Rattle.sat_checker.specs.matching.Bridge.{Live}
-use Rattle.sat_solver.specs.variables.Variables.{AreSaid}
+use Rattle.sat_solver.specs.variables.Variables.{NamesMatchSteps}
 use Rattle.sat_checker.specs.matching.Checking.{is_ordered}
 use Rattle.sat_checker.specs.matching.Expected.{Expected}
-use Rattle.sat_checker.specs.matching.ProofChecking.{the_checking}
+use Rattle.sat_checker.specs.matching.ProofChecking.{checker_rules}
 use Rattle.sat_checker.specs.matching.Traces.{HasTrace, no_step, silent}
-use Rattle.sat_solver.specs.variables.Calls.{NamesInvariant, Agree, NamesRefineJudge, DoesNothing}
+use Rattle.sat_solver.specs.variables.Calls.{NamesInvariant, NamesAgree, NamesEffect, DoesNothing}
 use Rattle.sat_solver.specs.variables.Searching.{AreIndexed, IsOfSearch}
 use Rattle.sat_solver.specs.declared.variables.Variables.{Variables}
 use Rattle.sat_checker.proofs.lemmas.matching.Traces.{traces_both}
@@ -20,11 +20,11 @@ use Rattle.sat_solver.proofs.lemmas.variables.Doing.{does_both}
 use Rattle.sat_solver.proofs.lemmas.variables.Searched.{searches_stand, searches_agree}
 use Rattle.std.proofs.lemmas.List.{append-nil}
 
-indexed : (n : Variables) (s : Session) (ls : List ℕ) → AreSaid n s → HaveSolverNames s.solver_names ls → AreIndexed n ls
+indexed : (n : Variables) (s : Session) (ls : List ℕ) → NamesMatchSteps n s → HaveSolverNames s.solver_names ls → AreIndexed n ls
 indexed n s [] said h = tt
 indexed n s (l ∷ ls) said h = ((h.0.0, sym (said.solver_names (variable l)) ∙ h.0.1), indexed n s ls said h.1)
 
-of_search : (n : Variables) (s : Session) (step : Step) → AreSaid n s → IsSearched s.solver_names step → IsOfSearch n step
+of_search : (n : Variables) (s : Session) (step : Step) → NamesMatchSteps n s → IsSearched s.solver_names step → IsOfSearch n step
 of_search n s (AtClause redundant clause hashes) said h = indexed n s clause said h
 of_search n s (UnitClauses us) said h = indexed n s (map (λ u. u.0) us) said h
 of_search n s (DeleteClause clause proof) said h = tt
@@ -43,13 +43,13 @@ stands_behind n earlier (step ∷ steps) stands may h =
     searches_stand n (steps ++ earlier) step (stands_behind n earlier steps stands may.0 h.1) may.1 (of_search n (session_after earlier) step stands.said h.0)
 
 agree_behind : (n : Variables) (earlier steps : List Step) → NamesInvariant n earlier → MayAll (steps ++ earlier) → AllByRecursion (IsSearched (session_after earlier).solver_names) steps →
-    (j : Judge) (live : Live) → Agree n earlier j live → Agree n (steps ++ earlier) j live
+    (j : ScriptState) (live : Live) → NamesAgree n earlier j live → NamesAgree n (steps ++ earlier) j live
 agree_behind n earlier [] stands may h j live a = a
 agree_behind n earlier (step ∷ steps) stands may h j live a =
     searches_agree n (steps ++ earlier) step (stands_behind n earlier steps stands may.0 h.1) may.1 (of_search n (session_after earlier) step stands.said h.0) j live
     (agree_behind n earlier steps stands may.0 h.1 j live a)
 
-quiet_writes : (names : ℕ → Option ℕ) (earlier steps : List Step) → AllByRecursion (IsSearched names) steps → HasTrace the_checking earlier (steps ++ earlier) []
+quiet_writes : (names : ℕ → Option ℕ) (earlier steps : List Step) → AllByRecursion (IsSearched names) steps → HasTrace checker_rules earlier (steps ++ earlier) []
 quiet_writes names earlier [] h = no_step
 quiet_writes names earlier (step ∷ steps) h = traces_both (quiet_writes names earlier steps h.1) (silent (unordered names step h.0) no_step)
 
@@ -61,11 +61,11 @@ nothing_behind n earlier steps stands may h = record {
 }
 
 -- a call, and then steps of a search
-pub does_behind : (old new : Variables) (from to steps : List Step) (judge : Judge → Judge) (due : Judge → List Expected) → NamesRefineJudge old new from to judge due → MayAll (steps ++ to) → AllByRecursion (IsSearched (session_after to).solver_names) steps →
-    NamesRefineJudge old new from (steps ++ to) judge due
+pub does_behind : (old new : Variables) (from to steps : List Step) (judge : ScriptState → ScriptState) (due : ScriptState → List Expected) → NamesEffect old new from to judge due → MayAll (steps ++ to) → AllByRecursion (IsSearched (session_after to).solver_names) steps →
+    NamesEffect old new from (steps ++ to) judge due
 does_behind old new from to steps judge due does may h =
     let both = does_both old new new from to (steps ++ to) judge (λ j. j) due (λ j. []) does (nothing_behind new to steps does.stands may h) in
     record {
       stands = both.stands;
-      kept = λ j live a. let k = both.kept j live a in record { live = k.live; agree = k.agree; trace = subst (HasTrace the_checking from (steps ++ to)) (append-nil (due j)) k.trace };
+      kept = λ j live a. let k = both.kept j live a in record { live = k.live; agree = k.agree; trace = subst (HasTrace checker_rules from (steps ++ to)) (append-nil (due j)) k.trace };
     }

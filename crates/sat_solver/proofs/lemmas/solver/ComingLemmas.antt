@@ -1,7 +1,7 @@
 -- A solver that took a clause, or assumptions.
 use Rattle.std.proofs.Common.{ℕ, ◌≡◌, ◌∙◌, true, false, Option, None, Some, is_some, Err, List, get_or, refl, sym, ap, subst, ◌⊎◌, inl, inr}
 use Rattle.sat_base.specs.device.Device.{Writer}
-use Rattle.sat_base.specs.script.Judge.{Judge, bring_all, refused_literal}
+use Rattle.sat_base.specs.script.ScriptState.{ScriptState, bring_all, refused_literal}
 use Rattle.sat_base.specs.values.Literals.{variable}
 use Rattle.sat_store.specs.variables.Maps.{target}
 use Rattle.sat_checker.specs.declared.processing.ProofProcessor.{Ghosts}
@@ -18,7 +18,7 @@ use Rattle.sat_solver.specs.declared.config.SolverConfig.{SolverConfig}
 use Rattle.sat_solver.specs.load.Literals.{Image, Images}
 use Rattle.sat_solver.specs.load.Clauses.{LeavesOut}
 use Rattle.sat_solver.specs.load.Assumed as assuming
-use Rattle.sat_solver.specs.variables.Calls.{NamesRefineJudge}
+use Rattle.sat_solver.specs.variables.Calls.{NamesEffect}
 use Rattle.sat_solver.proofs.lemmas.session.ProofLemmas.{gains_adds, gained_width}
 use Rattle.sat_solver.proofs.lemmas.variables.Doing.{judged_by}
 use Rattle.sat_solver.proofs.lemmas.solver.SpeltLemmas.{global_images_of, global_images_kept}
@@ -32,14 +32,14 @@ use Rattle.sat_solver.specs.solver.Whole.{HasFullStore, SolverInvariant, IsWhole
 use Rattle.sat_solver.specs.solver.Adding.{AddClauseEffect, with_added, due_for_clause, ForgetsAnswer, AreSampled, IsBeforeDrat, AddsClause, ReplacesAssumptions, AssumesOrRefuses, due_for_asked}
 use Rattle.sat_solver.specs.clause.Activity.{AreDecays}
 use Rattle.sat_solver.specs.solver.Asking.{AskedIn}
-use Rattle.sat_solver.specs.variables.Room.{HasRoom, users_in}
+use Rattle.sat_solver.specs.variables.VariableRoom.{HasVariablesFor, users_in}
 use Rattle.sat_solver.specs.variables.Refusing.{names_in, as_refusal}
 use Rattle.sat_checker.specs.matching.Bridge.{Live}
 use Rattle.sat_checker.specs.matching.Expected.{Unknown}
-use Rattle.sat_solver.specs.variables.Variables.{AreJudged}
+use Rattle.sat_solver.specs.variables.Variables.{NamesMatchState}
 use Rattle.std.proofs.lemmas.Bool.{true≢false}
 use Rattle.sat_solver.specs.solver.Failing.{failed_with}
-use Rattle.sat_solver.proofs.lemmas.solver.ToldLemmas.{names_told}
+use Rattle.sat_solver.proofs.lemmas.solver.ReportedLemmas.{names_reported}
 use Rattle.sat_solver.proofs.lemmas.solver.TakingLemmas.{took_starved}
 use Rattle.sat_solver.proofs.lemmas.variables.ComingSteps.{comes_added, comes_due}
 use Rattle.sat_solver.specs.session.Coming.{OnlyAllowedSteps}
@@ -83,7 +83,7 @@ module _ {W L : Type 0} {G : Ghosts L} (seen : W → Writer) (s : Solver W L G) 
         core_unsat : states.UnsatUnderAssumptions ≡ states.Unsat → ⊥
         core_unsat x = cc
 
-    due_by : (st : State) → (st ≡ states.Unsat → ⊥) → NamesRefineJudge s.names n' (steps_in s) (steps_of b.proof) (with_added user) (due_for_clause states.Unknown user) → NamesRefineJudge s.names n' (steps_in s) (steps_of b.proof) (with_added user) (due_for_clause st user)
+    due_by : (st : State) → (st ≡ states.Unsat → ⊥) → NamesEffect s.names n' (steps_in s) (steps_of b.proof) (with_added user) (due_for_clause states.Unknown user) → NamesEffect s.names n' (steps_in s) (steps_of b.proof) (with_added user) (due_for_clause st user)
     due_by states.Unsat k d = absurd (k refl)
     due_by e k d = d
 
@@ -194,7 +194,7 @@ module _ {W L : Type 0} {G : Ghosts L} (seen : W → Writer) (s : Solver W L G) 
       judged = judged_by l.does whole.judged;
       says = subst (λ st. StateSays st (record s.core { proof = p }) n' s.asked s.assumed.items s.told.failed_core.items) (sym known) (l.unseen.search.unsat ∙ unsat);
     };
-    does = subst (λ st. NamesRefineJudge s.names n' (steps_in s) (steps_of p) (with_added user) (due_for_clause st user)) (sym known) l.does;
+    does = subst (λ st. NamesEffect s.names n' (steps_in s) (steps_of p) (with_added user) (due_for_clause st user)) (sym known) l.does;
     comes = comes_added (names_in user) (steps_in s) (steps_of p) (comes_due (names_in user) (steps_in s) (steps_of p) l.comes);
     order = λ k. absurd (k known);
     left_out = λ e. l.comes;
@@ -243,7 +243,7 @@ module _ {W L : Type 0} {G : Ghosts L} (seen : W → Writer) (s : Solver W L G) 
 -- FAULTS
 
 -- a call over a clause failed
-pub adding_ends : {W L : Type 0} {G : Ghosts L} (seen : W → Writer) (e : SolverError) (s new : Solver W L G) (user : List ℕ) → s.failed ≡ false → IsBeforeDrat seen s → AreSampled s user → HasRoom s.names (users_in user) → IsFaultOr (HasFullStore new) e → BreaksNamesOr (HasFullStore new) seen e s.core new.core → new.clock ≡ s.clock → new.failed ≡ true → AddsClause seen (Err e) s new user
+pub adding_ends : {W L : Type 0} {G : Ghosts L} (seen : W → Writer) (e : SolverError) (s new : Solver W L G) (user : List ℕ) → s.failed ≡ false → IsBeforeDrat seen s → AreSampled s user → HasVariablesFor s.names (users_in user) → IsFaultOr (HasFullStore new) e → BreaksNamesOr (HasFullStore new) seen e s.core new.core → new.clock ≡ s.clock → new.failed ≡ true → AddsClause seen (Err e) s new user
 adding_ends seen errors.OutOfMemory s new user g d w r x b k f = ((d, w), r, record { going = g; failed = f; fault = x; breaks = b; clock = k })
 adding_ends seen errors.StoreFull s new user g d w r x b k f = ((d, w), r, record { going = g; failed = f; fault = x; breaks = b; clock = k })
 adding_ends seen (errors.ProofIoError cause) s new user g d w r x b k f = ((d, w), r, record { going = g; failed = f; fault = x; breaks = b; clock = k })
@@ -252,7 +252,7 @@ adding_ends seen errors.CounterEnd s new user g d w r x b k f = ((d, w), r, reco
 adding_ends seen e s new user g d w r x b k f = absurd x
 
 -- a call over assumptions failed
-pub asking_ends : {W L : Type 0} {G : Ghosts L} (seen : W → Writer) (e : SolverError) (s new : Solver W L G) (user : List ℕ) → s.failed ≡ false → AreSampled s user → HasRoom s.names (users_in user) → IsFault e → BreaksNames seen e s.core new.core → new.clock ≡ s.clock → new.failed ≡ true → AssumesOrRefuses seen (Err e) s new user
+pub asking_ends : {W L : Type 0} {G : Ghosts L} (seen : W → Writer) (e : SolverError) (s new : Solver W L G) (user : List ℕ) → s.failed ≡ false → AreSampled s user → HasVariablesFor s.names (users_in user) → IsFault e → BreaksNames seen e s.core new.core → new.clock ≡ s.clock → new.failed ≡ true → AssumesOrRefuses seen (Err e) s new user
 asking_ends seen errors.OutOfMemory s new user g w r x b k f = (w, r, record { going = g; failed = f; fault = x; breaks = b; clock = k })
 asking_ends seen (errors.ProofIoError cause) s new user g w r x b k f = (w, r, record { going = g; failed = f; fault = x; breaks = b; clock = k })
 asking_ends seen (errors.ProofProcessorError cause) s new user g w r x b k f = (w, r, record { going = g; failed = f; fault = x; breaks = b; clock = k })
@@ -262,20 +262,20 @@ asking_ends seen e s new user g w r x b k f = absurd x
 -- CALLS
 
 -- no name of mode witness was found
-pub none_refused : {W L : Type 0} {G : Ghosts L} (s : Solver W L G) (user : List ℕ) (o : Option ℕ) → ((j : Judge) (live : Live) → AreJudged s.names j live → refused_literal j (names_in user) ≡ as_refusal o) → is_some o ≡ false → AreSampled s user
+pub none_refused : {W L : Type 0} {G : Ghosts L} (s : Solver W L G) (user : List ℕ) (o : Option ℕ) → ((j : ScriptState) (live : Live) → NamesMatchState s.names j live → refused_literal j (names_in user) ≡ as_refusal o) → is_some o ≡ false → AreSampled s user
 none_refused s user None judged none = λ j live agree. judged j live agree.judged
 none_refused s user (Some name) judged none = absurd (true≢false none)
 
 -- assumptions were taken, and no memory was left to list them over names
-pub asking_starved : {W L : Type 0} {G : Ghosts L} (seen : W → Writer) (s mid new : Solver W L G) (user : List ℕ) → s.failed ≡ false → AreSampled s user → HasRoom s.names (users_in user) → is_lost s.core.proof ≡ false → AskedIn seen (record s { used = true }) mid user → mid.clock ≡ s.clock → new.core ≡ (failed_with mid).core → new.clock ≡ mid.clock → new.failed ≡ true → AssumesOrRefuses seen (Err errors.OutOfMemory) s new user
+pub asking_starved : {W L : Type 0} {G : Ghosts L} (seen : W → Writer) (s mid new : Solver W L G) (user : List ℕ) → s.failed ≡ false → AreSampled s user → HasVariablesFor s.names (users_in user) → is_lost s.core.proof ≡ false → AskedIn seen (record s { used = true }) mid user → mid.clock ≡ s.clock → new.core ≡ (failed_with mid).core → new.clock ≡ mid.clock → new.failed ≡ true → AssumesOrRefuses seen (Err errors.OutOfMemory) s new user
 asking_starved seen s mid new user going sampled room taking a clock core same failed = (
   sampled,
   room,
-  record { going = going; failed = failed; fault = tt; breaks = subst (λ c. BreaksNames seen errors.OutOfMemory s.core c) (sym core) (names_told seen errors.OutOfMemory s.core mid (took_starved seen s.core mid.core a.took (a.whole.taking ∙ sym taking))); clock = same ∙ clock },
+  record { going = going; failed = failed; fault = tt; breaks = subst (λ c. BreaksNames seen errors.OutOfMemory s.core c) (sym core) (names_reported seen errors.OutOfMemory s.core mid (took_starved seen s.core mid.core a.took (a.whole.taking ∙ sym taking))); clock = same ∙ clock },
 )
 
 -- assumptions were taken, and listed over names
-pub assumed_by : {W L : Type 0} {G : Ghosts L} (seen : W → Writer) (s mid new : Solver W L G) (user : List ℕ) → s.failed ≡ false → AreSampled s user → HasRoom s.names (users_in user) → AskedIn seen (record s { used = true }) mid user → mid.clock ≡ s.clock → new ≡ record mid { assumed = new.assumed } → new.assumed.items ≡ user → ReplacesAssumptions seen s new user
+pub assumed_by : {W L : Type 0} {G : Ghosts L} (seen : W → Writer) (s mid new : Solver W L G) (user : List ℕ) → s.failed ≡ false → AreSampled s user → HasVariablesFor s.names (users_in user) → AskedIn seen (record s { used = true }) mid user → mid.clock ≡ s.clock → new ≡ record mid { assumed = new.assumed } → new.assumed.items ≡ user → ReplacesAssumptions seen s new user
 assumed_by {W} {L} {G} seen s mid new user going sampled room a clock same items = record {
   sampled = sampled;
   room = room;
@@ -286,7 +286,7 @@ assumed_by {W} {L} {G} seen s mid new user going sampled room a clock same items
     failed = ap (λ (x : Solver W L G). x.failed) same ∙ a.failed ∙ going;
     used = ap (λ (x : Solver W L G). x.used) same ∙ a.used;
     config = ap (λ (x : Solver W L G). x.core.config) same ∙ a.config;
-    does = subst (λ (x : Solver W L G). NamesRefineJudge s.names x.names (steps_in s) (steps_in x) (bring_all (names_in user)) (due_for_asked o user)) (sym same) (a.does o);
+    does = subst (λ (x : Solver W L G). NamesEffect s.names x.names (steps_in s) (steps_in x) (bring_all (names_in user)) (due_for_asked o user)) (sym same) (a.does o);
     took = subst (λ (x : Solver W L G). ComesBySteps seen s.core.proof x.core.proof) (sym same) a.took;
     width = subst (λ (x : Solver W L G). (steps_in x ≡ steps_in s → ⊥) → IsAtWidth x.core.proof) (sym same) a.width;
   };

@@ -11,14 +11,14 @@ use Rattle.sat_solver.specs.declared.load.literals.Taken.{Taken}
 use Rattle.sat_solver.specs.declared.context.Core.{Core}
 use Rattle.sat_solver.specs.declared.context.Search.{Search}
 use Rattle.sat_solver.specs.proof.ProofView.{is_lost, session_of, steps_of}
-use Rattle.sat_solver.specs.variables.Calls.{HasJudge, NamesInvariant}
+use Rattle.sat_solver.specs.variables.Calls.{HasScriptState, NamesInvariant}
 use Rattle.sat_solver.specs.clause.Activity.{AreDecays}
 use Rattle.sat_solver.specs.cdcl.Turns.{IsComplete}
 use Rattle.sat_solver.specs.declared.state.State.{State}
 use Rattle.sat_solver.specs.declared.state.State.TheVariants as states
-use Rattle.sat_solver.specs.solver.Configuring.{SetsDecays, HandsOn}
+use Rattle.sat_solver.specs.solver.Configuring.{SetsDecays, PassesToSearch}
 use Rattle.sat_solver.specs.solver.Whole.{IsWholeOf, StateSays, AskGoesOn, HasCore}
-use Rattle.sat_solver.proofs.lemmas.solver.TellingLemmas.{shares_moved}
+use Rattle.sat_solver.proofs.lemmas.solver.ReportingLemmas.{shares_moved}
 
 and_both : (a b : Bool) → (a && b) ≡ true → (a ≡ true) × (b ≡ true)
 and_both true b h = (refl, h)
@@ -85,7 +85,7 @@ module _ {W L : Type 0} {G : Ghosts L} (u : SolverConfigUpdate) (c : Core W L G)
       subst (λ (x : Search). IsComplete x.assumptions.lits.items x.parts) (sym d.search)
       (subst (λ p. IsComplete c.search.assumptions.lits.items p) (sym d.parts) (record { done = h.done; all = h.all; assumed = h.assumed }))
 
-  says : (st : State) (b : Core W L G) → HandsOn st changed b → StateSays st c n asked assumed core → StateSays st b n asked assumed core
+  says : (st : State) (b : Core W L G) → PassesToSearch st changed b → StateSays st c n asked assumed core → StateSays st b n asked assumed core
   says states.Unknown b d h = going b d h
   says states.Sat b d h = (going b d h.0, complete b d h.1)
   says states.UnsatUnderAssumptions b d h = (
@@ -95,12 +95,12 @@ module _ {W L : Type 0} {G : Ghosts L} (u : SolverConfigUpdate) (c : Core W L G)
   says states.Unsat b d h = subst (λ (x : Core W L G). (session_of x.proof).unsat ≡ true) (sym d) h
 
   -- the parts of a core that aren't the search
-  pub core_same : (st : State) (b : Core W L G) → HandsOn st changed b → (b.proof ≡ c.proof) × (b.config ≡ updated u c.config)
+  pub core_same : (st : State) (b : Core W L G) → PassesToSearch st changed b → (b.proof ≡ c.proof) × (b.config ≡ updated u c.config)
   core_same states.Unsat b d = (ap (λ x. x.proof) d, ap (λ x. x.config) d)
   core_same e b d = (ap (λ x. x.proof) d.same, ap (λ x. x.config) d.same)
 
   -- all stands behind it
-  pub whole_configured : (st : State) (b : Core W L G) → HandsOn st changed b → IsWholeOf c n asked assumed core scale st → IsWholeOf b n asked assumed core (unwrap_or u.luby_restart_interval_scale scale) st
+  pub whole_configured : (st : State) (b : Core W L G) → PassesToSearch st changed b → IsWholeOf c n asked assumed core scale st → IsWholeOf b n asked assumed core (unwrap_or u.luby_restart_interval_scale scale) st
   whole_configured st b d whole = record {
     stands = subst (λ p. NamesInvariant n (steps_of p)) (sym (core_same st b d).0) whole.stands;
     images = whole.images;
@@ -110,6 +110,6 @@ module _ {W L : Type 0} {G : Ghosts L} (u : SolverConfigUpdate) (c : Core W L G)
     scaled = ap (unwrap_or u.luby_restart_interval_scale) whole.scaled ∙ sym (ap (λ (x : SolverConfig). x.luby_restart_interval_scale) (core_same st b d).1);
     decays = subst AreDecays (sym (core_same st b d).1) (decays_kept u c.config range whole.decays);
     taking = ap is_lost (core_same st b d).0 ∙ whole.taking;
-    judged = subst (λ p. HasJudge n (steps_of p)) (sym (core_same st b d).0) whole.judged;
+    judged = subst (λ p. HasScriptState n (steps_of p)) (sym (core_same st b d).0) whole.judged;
     says = says st b d whole.says;
   }

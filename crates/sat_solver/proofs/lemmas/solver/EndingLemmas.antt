@@ -5,7 +5,7 @@ use Rattle.sat_base.specs.steps.Steps.{End}
 use Rattle.sat_base.specs.values.Clauses.{EachTrue}
 use Rattle.sat_checker.specs.Fold.{Holds}
 use Rattle.sat_checker.specs.declared.processing.ProofProcessor.{Ghosts}
-use Rattle.sat_solver.specs.load.Literals.{named_literal}
+use Rattle.sat_solver.specs.load.Literals.{user_literal}
 use Rattle.sat_checker.specs.matching.Checking.{variable_of}
 use Rattle.sat_solver.specs.proof.ProofView.{ClosesTarget, ClosesOne, HasAllowedSteps, is_lost, steps_of, session_of}
 use Rattle.sat_solver.specs.session.Session.{MayAll, session_after}
@@ -15,7 +15,7 @@ use Rattle.sat_solver.specs.declared.load.literals.Taken.{Taken}
 use Rattle.sat_solver.specs.declared.context.Core.{Core}
 use Rattle.sat_solver.specs.cdcl.Joint.{IsSearch}
 use Rattle.sat_checker.specs.matching.Traces.{no_step, visible}
-use Rattle.sat_solver.specs.variables.Calls.{NamesInvariant, Agree, NamesRefineJudge}
+use Rattle.sat_solver.specs.variables.Calls.{NamesInvariant, NamesAgree, NamesEffect}
 use Rattle.sat_checker.specs.matching.Expected.{Finish, SameSet, finish}
 use Rattle.sat_solver.proofs.lemmas.variables.Searched.{searches_stand, searches_agree}
 use Rattle.sat_solver.specs.declared.solver.Solver.{Solver}
@@ -26,7 +26,7 @@ use Rattle.sat_solver.specs.solver.Proving.{ClosedOne, ClosesProof}
 use Rattle.sat_solver.proofs.lemmas.session.CertificateLemmas.{is_certificate}
 use Rattle.sat_solver.proofs.lemmas.session.DratDerivations.{drat_stands}
 use Rattle.sat_solver.proofs.lemmas.session.ProofLemmas.{since_closed}
-use Rattle.sat_solver.proofs.lemmas.solver.TellingLemmas.{search_rests}
+use Rattle.sat_solver.proofs.lemmas.solver.ReportingLemmas.{search_rests}
 use Rattle.sat_solver.proofs.lemmas.solver.SettlingLemmas.{whole_over}
 
 -- the last step leaves all as it is
@@ -40,7 +40,7 @@ whole_ended {W} {L} {G} c n asked assumed core scale state p whole e keeps takin
   scaled = whole.scaled;
   decays = whole.decays;
   taking = taking ∙ whole.taking;
-  judged = (let k = whole.judged in (k.0, k.1, subst (λ ss. Agree n ss k.0 k.1) (sym e) (searches_agree n (steps_of c.proof) End whole.stands (subst MayAll e keeps).1 tt k.0 k.1 k.2)));
+  judged = (let k = whole.judged in (k.0, k.1, subst (λ ss. NamesAgree n ss k.0 k.1) (sym e) (searches_agree n (steps_of c.proof) End whole.stands (subst MayAll e keeps).1 tt k.0 k.1 k.2)));
   says = says state whole.says;
 }
   where
@@ -71,7 +71,7 @@ whole_ended {W} {L} {G} c n asked assumed core scale state p whole e keeps takin
         some = h.1.some;
         codes = h.1.codes;
         none = subst (λ ss. (a : _) → Holds ss a → EachTrue a h.1.codes → ⊥) (sym e) h.1.none;
-        same = subst (λ ss. SameSet (variable_of ss) (map named_literal core) h.1.codes) (sym e) h.1.same;
+        same = subst (λ ss. SameSet (variable_of ss) (map user_literal core) h.1.codes) (sym e) h.1.same;
         among = h.1.among;
       },
     )
@@ -83,7 +83,7 @@ module _ {W L : Type 0} {G : Ghosts L} (seen : W → Writer) (s : Solver W L G) 
   closed_one given c = record {
     going = going;
     whole = ended;
-    does = subst (λ ss. NamesRefineJudge s.names s.names (steps_in s) ss (λ j. j) (λ j. Finish ∷ [])) (sym c.history) (record {
+    does = subst (λ ss. NamesEffect s.names s.names (steps_in s) ss (λ j. j) (λ j. Finish ∷ [])) (sym c.history) (record {
       stands = searches_stand s.names (steps_in s) End whole.stands may.1 tt;
       kept = λ j live agree. record { live = live; agree = searches_agree s.names (steps_in s) End whole.stands may.1 tt j live agree; trace = visible finish no_step };
     });

@@ -10,13 +10,13 @@ use Rattle.sat_solver.specs.declared.schedule.Outcome.TheVariants as outcomes
 use Rattle.sat_solver.specs.declared.error.SolverError.{SolverError}
 use Rattle.sat_solver.specs.declared.variables.Variables.{Variables}
 use Rattle.sat_solver.specs.declared.context.Core.{Core}
-use Rattle.sat_solver.specs.schedule.Rounds.{ComesBy}
+use Rattle.sat_solver.specs.schedule.Rounds.{LastRoundAnswers}
 use Rattle.sat_solver.specs.schedule.Solving.{Ended, Restarted, ReducedAt, RoundOf}
 use Rattle.sat_solver.specs.declared.state.State.{State}
 use Rattle.sat_solver.specs.declared.state.State.TheVariants as states
 use Rattle.sat_solver.specs.solver.Joined.{IsJoined}
 use Rattle.sat_solver.specs.solver.Answering.{BreaksOff}
-use Rattle.sat_solver.specs.solver.Found.{OutcomeHolds, ToldSays, TellsOutcome, FindsAnswer, SearchedBy, state_found}
+use Rattle.sat_solver.specs.solver.Found.{OutcomeHolds, ReportSays, ReportsOutcome, FindsAnswer, SearchedBy, state_found}
 use Rattle.sat_solver.specs.declared.solver.find.Clock.{Clock}
 use Rattle.sat_solver.proofs.lemmas.solver.AnsweredLemmas.{joined_by}
 
@@ -29,39 +29,39 @@ module _ {W L : Type 0} {G : Ghosts L} (seen : W → Writer) (n m : Variables) (
   comes_to joined outcomes.Unsat mid e = tt
 
   -- and it was told
-  pub finds_told : (outcome : Outcome) (o : Option State) (mid b : Core W L G) (core : List ℕ) (rounds : ℕ) → Ended seen a n (rounds - 1) outcome mid m → ToldSays seen o outcome m mid b core → FindsAnswer seen o rounds n m a b core
-  finds_told outcomes.Model (Some states.Sat) mid b core rounds e t = record { mid = mid; ended = e; shown = t }
-  finds_told outcomes.Failed (Some states.UnsatUnderAssumptions) mid b core rounds e t = record { mid = mid; ended = e; failed = t }
-  finds_told outcomes.Unsat (Some states.Unsat) mid b core rounds e t = subst (λ c. Ended seen a n (rounds - 1) outcomes.Unsat c m) (sym t) e
-  finds_told outcomes.Learned o mid b core rounds e t = absurd e.says
-  finds_told outcomes.Model None mid b core rounds e t = absurd t
-  finds_told outcomes.Failed None mid b core rounds e t = absurd t
-  finds_told outcomes.Failed (Some states.Unknown) mid b core rounds e t = absurd t
-  finds_told outcomes.Failed (Some states.Sat) mid b core rounds e t = absurd t
-  finds_told outcomes.Failed (Some states.Unsat) mid b core rounds e t = absurd t
-  finds_told outcomes.Unsat None mid b core rounds e t = absurd t
-  finds_told outcomes.Unsat (Some states.Unknown) mid b core rounds e t = absurd t
-  finds_told outcomes.Unsat (Some states.Sat) mid b core rounds e t = absurd t
-  finds_told outcomes.Unsat (Some states.UnsatUnderAssumptions) mid b core rounds e t = absurd t
-  finds_told outcomes.Model (Some x) mid b core rounds e t = absurd t
+  pub finds_reported : (outcome : Outcome) (o : Option State) (mid b : Core W L G) (core : List ℕ) (rounds : ℕ) → Ended seen a n (rounds - 1) outcome mid m → ReportSays seen o outcome m mid b core → FindsAnswer seen o rounds n m a b core
+  finds_reported outcomes.Model (Some states.Sat) mid b core rounds e t = record { mid = mid; ended = e; shown = t }
+  finds_reported outcomes.Failed (Some states.UnsatUnderAssumptions) mid b core rounds e t = record { mid = mid; ended = e; failed = t }
+  finds_reported outcomes.Unsat (Some states.Unsat) mid b core rounds e t = subst (λ c. Ended seen a n (rounds - 1) outcomes.Unsat c m) (sym t) e
+  finds_reported outcomes.Learned o mid b core rounds e t = absurd e.says
+  finds_reported outcomes.Model None mid b core rounds e t = absurd t
+  finds_reported outcomes.Failed None mid b core rounds e t = absurd t
+  finds_reported outcomes.Failed (Some states.Unknown) mid b core rounds e t = absurd t
+  finds_reported outcomes.Failed (Some states.Sat) mid b core rounds e t = absurd t
+  finds_reported outcomes.Failed (Some states.Unsat) mid b core rounds e t = absurd t
+  finds_reported outcomes.Unsat None mid b core rounds e t = absurd t
+  finds_reported outcomes.Unsat (Some states.Unknown) mid b core rounds e t = absurd t
+  finds_reported outcomes.Unsat (Some states.Sat) mid b core rounds e t = absurd t
+  finds_reported outcomes.Unsat (Some states.UnsatUnderAssumptions) mid b core rounds e t = absurd t
+  finds_reported outcomes.Model (Some x) mid b core rounds e t = absurd t
 
   -- or its telling failed
-  pub breaks_told : {k : ℕ} → (outcome : Outcome) (e : SolverError) (mid b : Core W L G) → Ended seen a n k outcome mid m → BreaksOff seen e mid b → BreaksOff seen e a b
-  breaks_told outcome e mid b ended k = (record { fault = k.0.fault; steps = k.0.steps ++ ended.steps; went = went_behind seen (Unit {0}) e ended.steps k.0.steps a.proof mid.proof b.proof (gains_adds seen ended.steps a.proof mid.proof ended.adds) k.0.went; loss = loss_later e a.proof mid.proof b.proof ended.adds.taking k.0.loss }, k.1)
+  pub breaks_reported : {k : ℕ} → (outcome : Outcome) (e : SolverError) (mid b : Core W L G) → Ended seen a n k outcome mid m → BreaksOff seen e mid b → BreaksOff seen e a b
+  breaks_reported outcome e mid b ended k = (record { fault = k.0.fault; steps = k.0.steps ++ ended.steps; went = went_behind seen (Unit {0}) e ended.steps k.0.steps a.proof mid.proof b.proof (gains_adds seen ended.steps a.proof mid.proof ended.adds) k.0.went; loss = loss_later e a.proof mid.proof b.proof ended.adds.taking k.0.loss }, k.1)
 
   -- what came of telling it
-  pub finds_by : (outcome : Outcome) (r : Result (Option State) SolverError) (mid b : Core W L G) (core : List ℕ) (rounds : ℕ) → Ended seen a n (rounds - 1) outcome mid m → TellsOutcome seen r outcome m mid b core → IfOk r (λ o. FindsAnswer seen o rounds n m a b core)
-  finds_by outcome (Ok o) mid b core rounds e t = finds_told outcome o mid b core rounds e t
+  pub finds_by : (outcome : Outcome) (r : Result (Option State) SolverError) (mid b : Core W L G) (core : List ℕ) (rounds : ℕ) → Ended seen a n (rounds - 1) outcome mid m → ReportsOutcome seen r outcome m mid b core → IfOk r (λ o. FindsAnswer seen o rounds n m a b core)
+  finds_by outcome (Ok o) mid b core rounds e t = finds_reported outcome o mid b core rounds e t
   finds_by outcome (Err x) mid b core rounds e t = tt
 
-  pub breaks_by : {k : ℕ} → (outcome : Outcome) (r : Result (Option State) SolverError) (mid b : Core W L G) (core : List ℕ) → Ended seen a n k outcome mid m → TellsOutcome seen r outcome m mid b core → IfErr r (λ x. BreaksOff seen x a b)
+  pub breaks_by : {k : ℕ} → (outcome : Outcome) (r : Result (Option State) SolverError) (mid b : Core W L G) (core : List ℕ) → Ended seen a n k outcome mid m → ReportsOutcome seen r outcome m mid b core → IfErr r (λ x. BreaksOff seen x a b)
   breaks_by outcome (Ok o) mid b core e t = tt
-  breaks_by outcome (Err x) mid b core e t = breaks_told outcome x mid b e t
+  breaks_by outcome (Err x) mid b core e t = breaks_reported outcome x mid b e t
 
   -- by which rounds it was found
   pub searched_by : (before now : Clock) (outcome : Outcome) (r : Result (Option State) SolverError) (mid b : Core W L G) (core : List ℕ) →
-      ComesBy Restarted (ReducedAt seen) (RoundOf seen) (Some outcome) a n before.restarts before.rounds mid m now.restarts now.rounds →
-      TellsOutcome seen r outcome m mid b core → IfOk r (λ o. SearchedBy seen (state_found o) before now n m a b core)
+      LastRoundAnswers Restarted (ReducedAt seen) (RoundOf seen) (Some outcome) a n before.restarts before.rounds mid m now.restarts now.rounds →
+      ReportsOutcome seen r outcome m mid b core → IfOk r (λ o. SearchedBy seen (state_found o) before now n m a b core)
   searched_by before now outcome (Ok (Some state)) mid b core rounds t = record { outcome = Some outcome; found = mid; rounds = rounds; tells = t }
   searched_by before now outcome (Ok None) mid b core rounds t = absurd t
   searched_by before now outcome (Err x) mid b core rounds t = tt

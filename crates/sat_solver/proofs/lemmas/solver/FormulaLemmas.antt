@@ -3,7 +3,7 @@ use Rattle.std.proofs.Common.{ℕ, ◌+◌, ◌≤◌, ◌≡◌, ◌⊎◌, ◌
 use Rattle.std.proofs.lemmas.Bool.{true≢false}
 use Rattle.std.proofs.lemmas.List.{append-nil}
 use Rattle.sat_base.specs.device.Device.{Reader, Writer, GaveAll, GaveEnough, GaveFront, ReadFails}
-use Rattle.sat_base.specs.dimacs.Dimacs.{dimacs, settled}
+use Rattle.sat_base.specs.dimacs.Dimacs.{dimacs, up_to_last_blank}
 use Rattle.sat_base.specs.dimacs.Parsing.{Progress, with_fed, clauses_read, all_taken, FeedsPiece, Finishes, IsSoundSoFar, IsSoundText}
 use Rattle.sat_base.specs.declared.dimacs.error.DimacsError.{DimacsError}
 use Rattle.sat_base.specs.declared.dimacs.error.DimacsError.TheVariants as texts
@@ -128,7 +128,7 @@ module _ {W L : Type 0} {G : Ghosts L} (seen : W → Writer) where
 
   -- a piece without a fault
   pub piece_added : (old cur new : Solver W L G) (text piece : List ℕ) (p q r : Progress) (answer : Result Unit DimacsError) → HasFed text p → FeedsPiece answer piece p q → r ≡ all_taken q → AddsFormulaRead seen (Ok tt) answer q cur new → AddsAll seen old p.taken cur
-      → HasFed (text ++ piece) r × (r.taken ≡ (dimacs (settled (text ++ piece))).clauses) × AddsAll seen old r.taken new
+      → HasFed (text ++ piece) r × (r.taken ≡ (dimacs (up_to_last_blank (text ++ piece))).clauses) × AddsAll seen old r.taken new
   piece_added old cur new text piece p q r answer is f t a added =
       let fed : q ≡ with_fed piece p = (subst (λ (z : Result Unit DimacsError). FeedsPiece z piece p q) a.2.0 f).1 in
       let first : AddsAll seen old q.taken cur = subst (λ cs. AddsAll seen old cs cur) (sym (ap (λ (z : Progress). z.taken) fed)) added in (
@@ -167,7 +167,7 @@ module _ {W L : Type 0} {G : Ghosts L} (seen : W → Writer) where
       a
 
   -- a read that failed
-  pub read_answers : (old cur : Solver W L G) (from to : Reader) (text : List ℕ) (p : Progress) → old.failed ≡ false → HasFed text p → ReadFails from to → GaveFront from to text → IsSoundSoFar p → p.taken ≡ (dimacs (settled text)).clauses → AddsAll seen old p.taken cur →
+  pub read_answers : (old cur : Solver W L G) (from to : Reader) (text : List ℕ) (p : Progress) → old.failed ≡ false → HasFed text p → ReadFails from to → GaveFront from to text → IsSoundSoFar p → p.taken ≡ (dimacs (up_to_last_blank text)).clauses → AddsAll seen old p.taken cur →
       AddsText seen (Err errors.Read) old cur from to
   read_answers old cur from to text p going is r g s t added = inl (record {
     going = going;

@@ -5,14 +5,14 @@ use Rattle.std.specs.Prelude.{reverse}
 use Rattle.sat_base.specs.device.Device.{Reader, Writer, WriterTakes}
 use Rattle.sat_base.specs.steps.Steps.{Step, End}
 use Rattle.sat_base.specs.steps.StepText.{SpellsSteps}
-use Rattle.sat_base.specs.script.Judge.{Judge}
+use Rattle.sat_base.specs.script.ScriptState.{ScriptState}
 use Rattle.sat_checker.specs.declared.processing.ProofProcessor.{Ghosts}
 use Rattle.sat_checker.specs.matching.Expected.{Expected, Unknown}
 use Rattle.sat_solver.specs.cdcl.Going as going
-use Rattle.sat_solver.specs.proof.Fronts.{FrontSince, TargetTakesFront, WentOn}
+use Rattle.sat_solver.specs.proof.Fronts.{FrontSince, TargetTakesFront, GoesOnFrom}
 use Rattle.sat_solver.specs.proof.OutputView.{text_in, AreSpeltInFormat}
 use Rattle.sat_solver.specs.session.Making.{ComesBySteps}
-use Rattle.sat_solver.specs.proof.ProofView.{Target, FailsCheck, TargetTakes, GivesWriter, target_of, steps_of, seen_of}
+use Rattle.sat_solver.specs.proof.ProofView.{Target, FailsCheck, TargetTakes, GivesWriter, target_of, steps_of, handed_writer}
 use Rattle.sat_solver.specs.session.Session.{MayAll}
 use Rattle.sat_solver.specs.solver.Adding.{Added, AddsClause, AssumesOrRefuses}
 use Rattle.sat_solver.specs.solver.Answering.{BreaksCall}
@@ -38,18 +38,18 @@ use Rattle.sat_solver.proofs.lemmas.session.ProofLemmas.{carries_none, text_spel
 module _ {W L : Type 0} {G : Ghosts L} (seen : W → Writer) where
   -- PROOFS
 
-  took : (a b : Proof W L G) → ComesBySteps seen a b → WentOn seen a b
+  took : (a b : Proof W L G) → ComesBySteps seen a b → GoesOnFrom seen a b
   took a b t = went_added seen t.0 a b t.1
 
   -- no step, and the target as it was
-  stood : (a b : Proof W L G) → steps_of b ≡ steps_of a → target_of seen b ≡ target_of seen a → WentOn seen a b
+  stood : (a b : Proof W L G) → steps_of b ≡ steps_of a → target_of seen b ≡ target_of seen a → GoesOnFrom seen a b
   stood a b h t = record { steps = []; history = h; target = inl (subst (TargetTakes (target_of seen a) []) (sym t) (carries_none (target_of seen a))) }
 
-  checked : {fault : CheckFault} (steps : List Step) (a b : Proof W L G) → FailsCheck seen fault steps a b → WentOn seen a b
+  checked : {fault : CheckFault} (steps : List Step) (a b : Proof W L G) → FailsCheck seen fault steps a b → GoesOnFrom seen a b
   checked steps a b h = went_added seen steps a b h.adds
 
   -- steps of a call that failed
-  failed : (e : SolverError) (steps : List Step) (a b : Proof W L G) → going.EmitsUpToFault {A = Unit {0}} seen (Err e) steps a b → WentOn seen a b
+  failed : (e : SolverError) (steps : List Step) (a b : Proof W L G) → going.EmitsUpToFault {A = Unit {0}} seen (Err e) steps a b → GoesOnFrom seen a b
   failed (errors.ProofProcessorError cause) steps a b h = checked steps a b h
   failed (errors.ProofIoError cause) steps a b h = went_failed seen steps a b h
   failed errors.CounterEnd steps a b h = checked steps a b h
@@ -60,10 +60,10 @@ module _ {W L : Type 0} {G : Ghosts L} (seen : W → Writer) where
   same : (a b : Solver W L G) (why : Type 0) → Refuses a b why → ReachesBySteps seen a b
   same a b why h = subst (λ (x : Solver W L G). ReachesBySteps seen a x) (sym h.same) (went_none seen a.core.proof)
 
-  names_broke : (full : Type 0) (e : SolverError) (a b : Core W L G) → BreaksNamesOr full seen e a b → WentOn seen a.proof b.proof
+  names_broke : (full : Type 0) (e : SolverError) (a b : Core W L G) → BreaksNamesOr full seen e a b → GoesOnFrom seen a.proof b.proof
   names_broke full e a b h = failed e h.steps a.proof b.proof h.went
 
-  broke : (e : SolverError) (a b : Core W L G) → BreaksCall seen e a b → WentOn seen a.proof b.proof
+  broke : (e : SolverError) (a b : Core W L G) → BreaksCall seen e a b → GoesOnFrom seen a.proof b.proof
   broke e a b h = failed e h.steps a.proof b.proof h.went
 
   added : (a b : Solver W L G) (user : List ℕ) → Added seen a b user → ReachesBySteps seen a b
@@ -108,7 +108,7 @@ module _ {W L : Type 0} {G : Ghosts L} (seen : W → Writer) where
   text_added a b (Err errors.HasFailed) from to h = same a b _ h.0
   text_added a b (Err e) from to h = text_stopped a b e from to h
 
-  mode_changed : (a b : Solver W L G) (r : Result (Unit {0}) SolverError) (user : ℕ) (judge : Judge → Judge) (due : Judge → List Expected) (May : List Step → Step → Type 0) → ChangesMode seen r a b user judge due May → ReachesBySteps seen a b
+  mode_changed : (a b : Solver W L G) (r : Result (Unit {0}) SolverError) (user : ℕ) (judge : ScriptState → ScriptState) (due : ScriptState → List Expected) (May : List Step → Step → Type 0) → ChangesMode seen r a b user judge due May → ReachesBySteps seen a b
   mode_changed a b (Ok x) user judge due May h = took a.core.proof b.core.proof h.1.did.took
   mode_changed a b (Err errors.AssumedVariable) user judge due May h = same a b _ h
   mode_changed a b (Err errors.VariableLimit) user judge due May h = same a b _ h
@@ -133,7 +133,7 @@ module _ {W L : Type 0} {G : Ghosts L} (seen : W → Writer) where
   solved a b (Err e) h = broke e a.core b.core h.breaks
 
   configured : (a b : Solver W L G) (r : Result (Unit {0}) SolverError) (u : SolverConfigUpdate) → Configures r u a b → ReachesBySteps seen a b
-  configured a b (Ok x) u h = subst (WentOn seen a.core.proof) (sym h.same.proof) (went_none seen a.core.proof)
+  configured a b (Ok x) u h = subst (GoesOnFrom seen a.core.proof) (sym h.same.proof) (went_none seen a.core.proof)
   configured a b (Err errors.HasFailed) u h = same a b _ h
   configured a b (Err errors.OutOfRange) u h = same a b _ h
   configured a b (Err e) u h = absurd h
@@ -182,10 +182,10 @@ module _ {W L : Type 0} {G : Ghosts L} (seen : W → Writer) where
     closing_fails = unclosed old new;
   }
 
-  pub hands_front : (s : Solver W L G) (handed : Option W) → GivesWriter (target_of seen s.core.proof) (seen_of seen handed) → HandsFront seen handed s
+  pub hands_front : (s : Solver W L G) (handed : Option W) → GivesWriter (target_of seen s.core.proof) (handed_writer seen handed) → HandsFront seen handed s
   hands_front s handed g opened f from given is open_then begun went =
       let follows = subst (λ (t : Target). TargetTakesFront t went.steps (target_of seen s.core.proof)) open_then went.target in
-      let gives = subst (λ (o : Option W). GivesWriter (target_of seen s.core.proof) (seen_of seen o)) is g in
+      let gives = subst (λ (o : Option W). GivesWriter (target_of seen s.core.proof) (handed_writer seen o)) is g in
       ∥∥₁_elim s.core.proof.made.may ∥∥₁_prop (λ may.
       let front = fronts_are_accepted f from (seen given) (steps_in opened) went.steps (target_of seen s.core.proof) begun (subst MayAll went.history may) follows gives in
       ∣ subst (FrontSince f from (seen given) (steps_in opened)) (sym went.history) front ∣₁)

@@ -7,21 +7,21 @@ use Rattle.std.specs.List.{AllByRecursion}
 use Rattle.sat_base.specs.values.Literals.{variable, coded}
 use Rattle.sat_base.specs.values.Clauses.{Valuation, EachTrue, literal_true}
 use Rattle.sat_base.specs.script.Script.{Literal, names_of, Among}
-use Rattle.sat_base.specs.script.Judge.{Judge, identity_of, over, IsRightModel}
-use Rattle.sat_base.specs.script.JudgeLaws.{Increase}
+use Rattle.sat_base.specs.script.ScriptState.{ScriptState, identity_of, over, IsRightModel}
+use Rattle.sat_base.specs.script.ScriptStateLaws.{Increase}
 use Rattle.sat_base.proofs.lemmas.script.NamesListed.{lists_in_use}
 use Rattle.sat_base.specs.steps.Steps.{Step, Model}
 use Rattle.sat_checker.specs.Fold.{Holds}
 use Rattle.sat_solver.specs.session.Session.{May, session_after}
 use Rattle.sat_solver.specs.session.NamedMeaning.{MeansAcceptedClauses, AgreeOn, IsReadAs, AllReadAmong}
 use Rattle.sat_solver.proofs.lemmas.session.NamedLemmas.{all_at, all_from, among_images, read_value, named_models_are_right}
-use Rattle.sat_solver.specs.load.Literals.{named_literal}
+use Rattle.sat_solver.specs.load.Literals.{user_literal}
 use Rattle.sat_checker.specs.matching.Bridge.{Live, AgreesOnLive}
 use Rattle.sat_solver.specs.variables.Live.{given_of}
 use Rattle.sat_solver.specs.variables.Variables.{global_of, names_used, variables_used}
 use Rattle.sat_solver.specs.Models.{value_in, model_to, name_literal, named_to}
 use Rattle.sat_checker.specs.matching.Checking.{variable_of}
-use Rattle.sat_solver.specs.variables.Calls.{NamesInvariant, Agree}
+use Rattle.sat_solver.specs.variables.Calls.{NamesInvariant, NamesAgree}
 use Rattle.sat_solver.specs.declared.variables.Variables.{Variables}
 use Rattle.sat_solver.proofs.lemmas.variables.MapLemmas.{some_within}
 use Rattle.sat_solver.proofs.lemmas.variables.TakenNames.{test_among}
@@ -48,7 +48,7 @@ agree_at live a b v i h m = all_pairs live h m
 some_same : (x y : ℕ) (o : Option ℕ) → o ≡ Some x → o ≡ Some y → x ≡ y
 some_same x y o e f = (let g : Some x ≡ Some y = sym e ∙ f in cc)
 
-module _ (n : Variables) (steps : List Step) (j : Judge) (live : Live) (agree : Agree n steps j live) where
+module _ (n : Variables) (steps : List Step) (j : ScriptState) (live : Live) (agree : NamesAgree n steps j live) where
   agree_on : (a b : Valuation) → AgreesOnLive live a b → AgreeOn j (variable_of steps) a b
   agree_on a b h name i v use_ named =
       let k = agree.bridge.named name v named in
@@ -61,7 +61,7 @@ module _ (n : Variables) (steps : List Step) (j : Judge) (live : Live) (agree : 
   }
 
   -- the proof's literal of a name in use
-  pub reads_at : (u v : ℕ) (b : Bool) → NamesInvariant n steps → global_of n u ≡ Some v → IsReadAs j (variable_of steps) (named_literal (coded u b)) (coded v b)
+  pub reads_at : (u v : ℕ) (b : Bool) → NamesInvariant n steps → global_of n u ≡ Some v → IsReadAs j (variable_of steps) (user_literal (coded u b)) (coded v b)
   reads_at u v b stands e =
       let name : variable_of steps (variable (coded u b) + 1) ≡ Some v = ap (λ w. variable_of steps (w + 1)) (coded_variable u b) ∙ stands.read u ∙ e in
       let k = agree.bridge.named (variable (coded u b) + 1) v name in
@@ -109,69 +109,69 @@ module _ (n : Variables) (values : List (Option Bool)) where
   rise_more [] y h k = (tt, tt)
   rise_more (x ∷ xs) y h k = (all_both (λ z. x < z) xs (y ∷ []) h.0 (k.0, tt), rise_more xs y h.1 k.1)
 
-  names_in_both : (xs ys : List ℕ) → names_of (map named_literal (xs ++ ys)) ≡ names_of (map named_literal xs) ++ names_of (map named_literal ys)
+  names_in_both : (xs ys : List ℕ) → names_of (map user_literal (xs ++ ys)) ≡ names_of (map user_literal xs) ++ names_of (map user_literal ys)
   names_in_both [] ys = refl
   names_in_both (x ∷ xs) ys = ap (λ zs. (variable x + 1) ∷ zs) (names_in_both xs ys)
 
-  names_below : (count : ℕ) (xs : List ℕ) → AllByRecursion (λ l. variable l < count) xs → AllByRecursion (λ x. x < count + 1) (names_of (map named_literal xs))
+  names_below : (count : ℕ) (xs : List ℕ) → AllByRecursion (λ l. variable l < count) xs → AllByRecursion (λ x. x < count + 1) (names_of (map user_literal xs))
   names_below count [] h = tt
   names_below count (x ∷ xs) h = ((let b = h.0 in omega arith), names_below count xs h.1)
 
   below : (count : ℕ) → AllByRecursion (λ l. variable l < count) (named_to n values count)
   below count = named_each (λ l. variable l < count) count (λ u v lt e. (let s = coded_variable u (value_in n values v) in omega arith))
 
-  rise_lits : (xs : List ℕ) (u : ℕ) (o : Option ℕ) → Increase (names_of (map named_literal xs)) → AllByRecursion (λ x. x < u + 1) (names_of (map named_literal xs)) → Increase (names_of (map named_literal (xs ++ name_literal n values u o)))
-  rise_lits xs u None h k = subst (λ ys. Increase (names_of (map named_literal ys))) (sym (append-nil xs)) h
+  rise_lits : (xs : List ℕ) (u : ℕ) (o : Option ℕ) → Increase (names_of (map user_literal xs)) → AllByRecursion (λ x. x < u + 1) (names_of (map user_literal xs)) → Increase (names_of (map user_literal (xs ++ name_literal n values u o)))
+  rise_lits xs u None h k = subst (λ ys. Increase (names_of (map user_literal ys))) (sym (append-nil xs)) h
   rise_lits xs u (Some v) h k = subst Increase (sym (names_in_both xs (coded u (value_in n values v) ∷ [])))
-      (subst (λ w. Increase (names_of (map named_literal xs) ++ (w + 1) ∷ [])) (sym (coded_variable u (value_in n values v))) (rise_more (names_of (map named_literal xs)) (u + 1) h k))
+      (subst (λ w. Increase (names_of (map user_literal xs) ++ (w + 1) ∷ [])) (sym (coded_variable u (value_in n values v))) (rise_more (names_of (map user_literal xs)) (u + 1) h k))
 
-  pub line_rises : (count : ℕ) → Increase (names_of (map named_literal (named_to n values count)))
-  line_rises zero = subst (λ ys. Increase (names_of (map named_literal ys))) (sym (named_zero n values)) tt
-  line_rises (suc count) = subst (λ ys. Increase (names_of (map named_literal ys))) (sym (named_grown count))
+  pub line_rises : (count : ℕ) → Increase (names_of (map user_literal (named_to n values count)))
+  line_rises zero = subst (λ ys. Increase (names_of (map user_literal ys))) (sym (named_zero n values)) tt
+  line_rises (suc count) = subst (λ ys. Increase (names_of (map user_literal ys))) (sym (named_grown count))
       (rise_lits (named_to n values count) count (global_of n count) (line_rises count) (names_below count (named_to n values count) (below count)))
 
-names_each : (P : ℕ → Type 0) (ls : List ℕ) → AllByRecursion (λ l. P (variable l + 1)) ls → AllByRecursion P (names_of (map named_literal ls))
+names_each : (P : ℕ → Type 0) (ls : List ℕ) → AllByRecursion (λ l. P (variable l + 1)) ls → AllByRecursion P (names_of (map user_literal ls))
 names_each P [] h = tt
 names_each P (l ∷ ls) h = (h.0, names_each P ls h.1)
 
-pub mapped_each : (P : Literal → Type 0) (ls : List ℕ) → AllByRecursion (λ l. P (named_literal l)) ls → AllByRecursion P (map named_literal ls)
+pub mapped_each : (P : Literal → Type 0) (ls : List ℕ) → AllByRecursion (λ l. P (user_literal l)) ls → AllByRecursion P (map user_literal ls)
 mapped_each P [] h = tt
 mapped_each P (l ∷ ls) h = (h.0, mapped_each P ls h.1)
 
-named_among : (l : ℕ) (ls : List ℕ) → Among l ls → Among (variable l + 1) (names_of (map named_literal ls))
+named_among : (l : ℕ) (ls : List ℕ) → Among l ls → Among (variable l + 1) (names_of (map user_literal ls))
 named_among l [] m = absurd m
 named_among l (x ∷ xs) m = elim m [ inl e ↦ inl (ap (λ y. variable y + 1) e) | inr k ↦ inr (named_among l xs k) ]
 
-pub literal_among : (l : ℕ) (ls : List ℕ) → Among l ls → Among (named_literal l) (map named_literal ls)
+pub literal_among : (l : ℕ) (ls : List ℕ) → Among l ls → Among (user_literal l) (map user_literal ls)
 literal_among l [] m = absurd m
-literal_among l (x ∷ xs) m = elim m [ inl e ↦ inl (ap named_literal e) | inr k ↦ inr (literal_among l xs k) ]
+literal_among l (x ∷ xs) m = elim m [ inl e ↦ inl (ap user_literal e) | inr k ↦ inr (literal_among l xs k) ]
 
 module _ (n : Variables) (steps : List Step) (values : List (Option Bool)) (stands : NamesInvariant n steps) where
   abbrev pub line : List ℕ
   line = named_to n values (names_used n)
 
-  module _ (j : Judge) (live : Live) (agree : Agree n steps j live) where
-    lists_all : (name i : ℕ) → identity_of j name ≡ Some i → Among name (names_of (map named_literal line))
+  module _ (j : ScriptState) (live : Live) (agree : NamesAgree n steps j live) where
+    lists_all : (name i : ℕ) → identity_of j name ≡ Some i → Among name (names_of (map user_literal line))
     lists_all zero i e = absurd (none-some i (sym agree.judged.no_zero ∙ e))
     lists_all (suc u) i e = named u i (let q : suc u ≡ u + 1 = omega arith in q) (global_of n u) refl (sym (agree.judged.names u) ∙ (let q : u + 1 ≡ suc u = omega arith in ap (identity_of j) q) ∙ e)
       where
-        named : (u i : ℕ) → suc u ≡ u + 1 → (o : Option ℕ) → global_of n u ≡ o → given_of live (global_of n u) ≡ Some i → Among (suc u) (names_of (map named_literal line))
+        named : (u i : ℕ) → suc u ≡ u + 1 → (o : Option ℕ) → global_of n u ≡ o → given_of live (global_of n u) ≡ Some i → Among (suc u) (names_of (map user_literal line))
         named u i q None g e = absurd (none-some i (sym (ap (given_of live) g) ∙ e))
-        named u i q (Some v) g e = subst (λ name. Among name (names_of (map named_literal line))) (ap (λ w. w + 1) (coded_variable u (value_in n values v)) ∙ sym q)
+        named u i q (Some v) g e = subst (λ name. Among name (names_of (map user_literal line))) (ap (λ w. w + 1) (coded_variable u (value_in n values v)) ∙ sym q)
             (named_among (coded u (value_in n values v)) line (named_has n values (names_used n) u v (some_within n.global_from_user.fwd u v g) g))
 
-    lists_only : AllByRecursion (λ name. (i : ℕ) × (identity_of j name ≡ Some i)) (names_of (map named_literal line))
+    lists_only : AllByRecursion (λ name. (i : ℕ) × (identity_of j name ≡ Some i)) (names_of (map user_literal line))
     lists_only = names_each (λ name. (i : ℕ) × (identity_of j name ≡ Some i)) line
         (named_each n values (λ l. (i : ℕ) × (identity_of j (variable l + 1) ≡ Some i)) (names_used n) (λ u v lt e.
         let r = reads_at n steps j live agree u v (value_in n values v) stands e in (r.identity, r.in_use)))
 
     -- the names in use, in order
-    lists : names_of (map named_literal line) ≡ map (λ n. n.name) j.in_use
-    lists = lists_in_use j (names_of (map named_literal line)) agree.judged.increasing (line_rises n values (names_used n)) lists_all lists_only
+    lists : names_of (map user_literal line) ≡ map (λ n. n.name) j.in_use
+    lists = lists_in_use j (names_of (map user_literal line)) agree.judged.increasing (line_rises n values (names_used n)) lists_all lists_only
 
-    read : AllReadAmong j (variable_of steps) (map named_literal line) (model_to n values (variables_used n))
+    read : AllReadAmong j (variable_of steps) (map user_literal line) (model_to n values (variables_used n))
     read = mapped_each (λ l. (code : ℕ) × IsReadAs j (variable_of steps) l code × Among code (model_to n values (variables_used n))) line
-        (named_each n values (λ l. (code : ℕ) × IsReadAs j (variable_of steps) (named_literal l) code × Among code (model_to n values (variables_used n))) (names_used n) (λ u v lt e.
+        (named_each n values (λ l. (code : ℕ) × IsReadAs j (variable_of steps) (user_literal l) code × Among code (model_to n values (variables_used n))) (names_used n) (λ u v lt e.
         let live_ = stands.tidy.named v u (stands.tidy.users.back u v e) in (
           coded v (value_in n values v),
           reads_at n steps j live agree u v (value_in n values v) stands e,
@@ -179,31 +179,31 @@ module _ (n : Variables) (steps : List Step) (values : List (Option Bool)) (stan
         )))
 
     -- the line of a model that may be shown is right
-    pub model_line : (asked : List ℕ) → May (session_after steps) (Model (model_to n values (variables_used n))) → AllByRecursion (λ l. Among l line) asked → IsRightModel j (map named_literal asked) (map named_literal line)
+    pub model_line : (asked : List ℕ) → May (session_after steps) (Model (model_to n values (variables_used n))) → AllByRecursion (λ l. Among l line) asked → IsRightModel j (map user_literal asked) (map user_literal line)
     model_line asked may among =
-        named_models_are_right j (variable_of steps) steps (model_to n values (variables_used n)) (map named_literal asked) (map named_literal line)
-        (means_of n steps j live agree) (stands.may, may) lists read (mapped_each (λ l. Among l (map named_literal line)) asked (each_among asked among))
+        named_models_are_right j (variable_of steps) steps (model_to n values (variables_used n)) (map user_literal asked) (map user_literal line)
+        (means_of n steps j live agree) (stands.may, may) lists read (mapped_each (λ l. Among l (map user_literal line)) asked (each_among asked among))
       where
-        each_among : (xs : List ℕ) → AllByRecursion (λ l. Among l line) xs → AllByRecursion (λ l. Among (named_literal l) (map named_literal line)) xs
+        each_among : (xs : List ℕ) → AllByRecursion (λ l. Among l line) xs → AllByRecursion (λ l. Among (user_literal l) (map user_literal line)) xs
         each_among [] h = tt
         each_among (x ∷ xs) h = (literal_among x line h.0, each_among xs h.1)
 
 -- a core that no valuation of the steps makes true is right
-module _ (n : Variables) (steps : List Step) (j : Judge) (live : Live) (agree : Agree n steps j live) where
+module _ (n : Variables) (steps : List Step) (j : ScriptState) (live : Live) (agree : NamesAgree n steps j live) where
   spells_reads : (l : Literal) (code : ℕ) → Spells (variable_of steps) l code → IsReadAs j (variable_of steps) l code
   spells_reads l code s = (let k = agree.bridge.named l.name s.variable s.named in record { identity = k.0; in_use = k.1; var = s.variable; named = s.named; is = s.is })
 
-  pub core_of : (asked core codes : List ℕ) → ((a : Valuation) → Holds steps a → EachTrue a codes → ⊥) → SameSet (variable_of steps) (map named_literal core) codes → AllByRecursion (λ l. Among l asked) core → IsCoreOf j (map named_literal asked) (map named_literal core)
+  pub core_of : (asked core codes : List ℕ) → ((a : Valuation) → Holds steps a → EachTrue a codes → ⊥) → SameSet (variable_of steps) (map user_literal core) codes → AllByRecursion (λ l. Among l asked) core → IsCoreOf j (map user_literal asked) (map user_literal core)
   core_of asked core codes none same among = record {
     among = each_among core among;
     none = λ b t h.
         let m = (means_of n steps j live agree).back b h in
         none m.0 m.2 (all_from (λ x. literal_true m.0 x ≡ true) codes (λ x i.
-        let r = all_at (λ code. (l : Literal) × Spells (variable_of steps) l code × Among l (map named_literal core)) x codes same.1 i in
+        let r = all_at (λ code. (l : Literal) × Spells (variable_of steps) l code × Among l (map user_literal core)) x codes same.1 i in
         read_value j (variable_of steps) m.0 b m.1 r.0 x (spells_reads r.0 x r.1)
-        ∙ all_at (λ y. literal_true b y ≡ true) (over j r.0) (map (over j) (map named_literal core)) t (among_images (over j) r.0 (map named_literal core) r.2)));
+        ∙ all_at (λ y. literal_true b y ≡ true) (over j r.0) (map (over j) (map user_literal core)) t (among_images (over j) r.0 (map user_literal core) r.2)));
   }
     where
-      each_among : (xs : List ℕ) → AllByRecursion (λ l. Among l asked) xs → AllByRecursion (λ l. Among l (map named_literal asked)) (map named_literal xs)
+      each_among : (xs : List ℕ) → AllByRecursion (λ l. Among l asked) xs → AllByRecursion (λ l. Among l (map user_literal asked)) (map user_literal xs)
       each_among [] h = tt
       each_among (x ∷ xs) h = (literal_among x asked h.0, each_among xs h.1)

@@ -11,7 +11,7 @@ use Rattle.sat_parts.specs.declared.parts.Parts.{Parts}
 use Rattle.sat_solver.specs.variables.Counting.{count_to}
 use Rattle.sat_solver.proofs.lemmas.variables.Counts.{count_suc}
 use Rattle.sat_parts.specs.parts.Whole.{PartsInvariant}
-use Rattle.sat_solver.specs.solver.Progressing.{is_open_at, clauses_of, GoesOnIn}
+use Rattle.sat_solver.specs.solver.Progressing.{is_open_at, live_count_of_tier, GoesOnIn}
 use Rattle.sat_solver.specs.solver.Whole.{StateSays}
 
 -- the search goes on
@@ -31,5 +31,5 @@ counted_next n values x count next b c e s =
     ∙ ap (λ k. count_to k (is_open_at n values)) (let q : suc x ≡ x + 1 = omega arith in q)
 
 -- the number of a tier is that of its live clauses
-pub tier_count : (p : Parts) → PartsInvariant p → (tier : Tier) (r : ℕ) → r ≡ get_or p.db.counts (index_of tier) 0 → r ≡ clauses_of p tier
+pub tier_count : (p : Parts) → PartsInvariant p → (tier : Tier) (r : ℕ) → r ≡ get_or p.db.counts (index_of tier) 0 → r ≡ live_count_of_tier p tier
 tier_count p h tier r e = e ∙ h.below.held.counts tier

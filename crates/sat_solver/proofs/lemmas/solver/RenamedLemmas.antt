@@ -6,7 +6,7 @@ use Rattle.sat_base.specs.device.Device.{Writer}
 use Rattle.sat_base.specs.values.Literals.{variable, is_positive, coded}
 use Rattle.sat_base.specs.values.Clauses.{Valuation, EachTrue, literal_true}
 use Rattle.sat_base.specs.script.Script.{Literal, Among}
-use Rattle.sat_base.specs.script.Judge.{Judge}
+use Rattle.sat_base.specs.script.ScriptState.{ScriptState}
 use Rattle.sat_checker.specs.LiteralSets.{mentions}
 use Rattle.sat_store.specs.variables.Maps.{target}
 use Rattle.sat_checker.specs.declared.processing.ProofProcessor.{Ghosts}
@@ -21,18 +21,18 @@ use Rattle.sat_solver.specs.declared.variables.error.NameError.{NameError}
 use Rattle.sat_solver.specs.declared.variables.error.NameError.TheVariants as names
 use Rattle.sat_base.specs.steps.Steps.{Step}
 use Rattle.sat_solver.specs.session.Coming.{OnlyAllowedSteps}
-use Rattle.sat_solver.specs.load.Faults.{told_as}
+use Rattle.sat_solver.specs.load.Faults.{reported_as}
 use Rattle.sat_solver.specs.load.Alike.{LooksAlike}
 use Rattle.sat_solver.proofs.lemmas.load.AlikeLemmas.{search_alike}
-use Rattle.sat_solver.specs.load.Literals.{named_literal, Image, Images, GlobalImages}
-use Rattle.sat_solver.specs.variables.Calls.{HasJudge, NamesInvariant, NamesRefineJudge}
+use Rattle.sat_solver.specs.load.Literals.{user_literal, Image, Images, GlobalImages}
+use Rattle.sat_solver.specs.variables.Calls.{HasScriptState, NamesInvariant, NamesEffect}
 use Rattle.sat_solver.proofs.lemmas.variables.Doing.{judged_by}
 use Rattle.sat_checker.specs.matching.Checking.{variable_of}
 use Rattle.sat_checker.specs.matching.Expected.{Expected, Spells}
-use Rattle.sat_solver.specs.Models.{is_true, value_by, value_in}
+use Rattle.sat_solver.specs.Models.{has_true_value, value_by, value_in}
 use Rattle.sat_solver.specs.variables.Failing.{Limits}
-use Rattle.sat_solver.specs.variables.Room.{HasRoom}
-use Rattle.sat_solver.specs.variables.Naming.{AreFresh, KeepsOthers, IsNextUser, NoneLeft}
+use Rattle.sat_solver.specs.variables.VariableRoom.{HasVariablesFor}
+use Rattle.sat_solver.specs.variables.Naming.{VariablesAreKeptOrNew, KeepsOthers, IsNextUser, NoneLeft}
 use Rattle.sat_solver.specs.variables.Observing.{NamesAllHidden}
 use Rattle.sat_solver.specs.variables.Refusing.{IsAssumed}
 use Rattle.sat_solver.specs.variables.Search.{IsAlike, KeepsUnits}
@@ -172,12 +172,12 @@ module _ {W L : Type 0} {G : Ghosts L} (s : Solver W L G) (whole : SolverInvaria
     }
 
     -- literals of the assumptions are spelt as before
-    spells : (l code : ℕ) → Among l s.assumed.items → Spells (variable_of (steps_in s)) (named_literal l) code → Spells (variable_of (steps_of p)) (named_literal l) code
+    spells : (l code : ℕ) → Among l s.assumed.items → Spells (variable_of (steps_in s)) (user_literal l) code → Spells (variable_of (steps_of p)) (user_literal l) code
     spells l code h x = record { variable = x.variable; named = stands.read (variable l) ∙ kept l x.variable h (sym (whole.stands.read (variable l)) ∙ x.named); is = x.is }
 
     module _ (core codes : List ℕ) where
-      there : (ls : List ℕ) → AllByRecursion (λ l. Among l s.assumed.items) ls → AllByRecursion (λ l. (code : ℕ) × Spells (variable_of (steps_in s)) l code × Among code codes) (map named_literal ls) →
-          AllByRecursion (λ l. (code : ℕ) × Spells (variable_of (steps_of p)) l code × Among code codes) (map named_literal ls)
+      there : (ls : List ℕ) → AllByRecursion (λ l. Among l s.assumed.items) ls → AllByRecursion (λ l. (code : ℕ) × Spells (variable_of (steps_in s)) l code × Among code codes) (map user_literal ls) →
+          AllByRecursion (λ l. (code : ℕ) × Spells (variable_of (steps_of p)) l code × Among code codes) (map user_literal ls)
       there [] h t = tt
       there (l ∷ ls) h t = ((t.0.0, spells l t.0.0 h.0 t.0.1, t.0.2), there ls h.1 t.1)
 
@@ -185,19 +185,19 @@ module _ {W L : Type 0} {G : Ghosts L} (s : Solver W L G) (whole : SolverInvaria
       pub record Named_from (x : Literal) : Type 0 where
         pub from : ℕ
         pub among : Among from s.assumed.items
-        pub is : x ≡ named_literal from
+        pub is : x ≡ user_literal from
 
-      named_from : (ls : List ℕ) (x : Literal) → AllByRecursion (λ l. Among l s.assumed.items) ls → Among x (map named_literal ls) → Named_from x
+      named_from : (ls : List ℕ) (x : Literal) → AllByRecursion (λ l. Among l s.assumed.items) ls → Among x (map user_literal ls) → Named_from x
       named_from [] x h i = absurd i
       named_from (l ∷ ls) x h (inl e) = record { from = l; among = h.0; is = e }
       named_from (l ∷ ls) x h (inr i) = named_from ls x h.1 i
 
-      only : (cs : List ℕ) → AllByRecursion (λ l. Among l s.assumed.items) core → AllByRecursion (λ code. (l : Literal) × Spells (variable_of (steps_in s)) l code × Among l (map named_literal core)) cs →
-          AllByRecursion (λ code. (l : Literal) × Spells (variable_of (steps_of p)) l code × Among l (map named_literal core)) cs
+      only : (cs : List ℕ) → AllByRecursion (λ l. Among l s.assumed.items) core → AllByRecursion (λ code. (l : Literal) × Spells (variable_of (steps_in s)) l code × Among l (map user_literal core)) cs →
+          AllByRecursion (λ code. (l : Literal) × Spells (variable_of (steps_of p)) l code × Among l (map user_literal core)) cs
       only [] h t = tt
       only (c ∷ cs) h t =
           let f = named_from core t.0.0 h t.0.2 in
-          ((named_literal f.from, spells f.from c f.among (subst (λ x. Spells (variable_of (steps_in s)) x c) f.is t.0.1), subst (λ x. Among x (map named_literal core)) f.is t.0.2), only cs h t.1)
+          ((user_literal f.from, spells f.from c f.among (subst (λ x. Spells (variable_of (steps_in s)) x c) f.is t.0.1), subst (λ x. Among x (map user_literal core)) f.is t.0.2), only cs h t.1)
 
       -- valuations that agree on the assumptions make the same codes true
       module _ (a b : Valuation) (same : (v : ℕ) → mentions (session_in s).assumed v ≡ true → b v ≡ a v) where
@@ -208,7 +208,7 @@ module _ {W L : Type 0} {G : Ghosts L} (s : Solver W L G) (whole : SolverInvaria
             let v : variable c ≡ y.variable_is = ap variable sp.is ∙ coded_variable sp.variable x.positive ∙ at in
             ap (λ q. cond (is_positive c) q (not q)) (same (variable c) (subst (λ w. mentions (session_in s).assumed w ≡ true) (sym v) y.mentioned)) ∙ t
 
-        each_true : (cs : List ℕ) → AllByRecursion (λ l. Among l s.assumed.items) core → AllByRecursion (λ code. (l : Literal) × Spells (variable_of (steps_in s)) l code × Among l (map named_literal core)) cs → EachTrue a cs → EachTrue b cs
+        each_true : (cs : List ℕ) → AllByRecursion (λ l. Among l s.assumed.items) core → AllByRecursion (λ code. (l : Literal) × Spells (variable_of (steps_in s)) l code × Among l (map user_literal core)) cs → EachTrue a cs → EachTrue b cs
         each_true [] h o t = tt
         each_true (c ∷ cs) h o t = (true_at c o.0.0 o.0.1 (named_from core o.0.0 h o.0.2) t.0, each_true cs h o.1 t.1)
 
@@ -231,7 +231,7 @@ module _ {W L : Type 0} {G : Ghosts L} (s : Solver W L G) (whole : SolverInvaria
     says states.Unsat h = alike.unsat ∙ h
 
     -- all stands behind it
-    whole_renamed : HasJudge n' (steps_of p) → is_lost p ≡ is_lost s.core.proof → IsWholeOf new n' s.asked s.assumed.items s.told.failed_core.items s.clock.restarts.scale s.state
+    whole_renamed : HasScriptState n' (steps_of p) → is_lost p ≡ is_lost s.core.proof → IsWholeOf new n' s.asked s.assumed.items s.told.failed_core.items s.clock.restarts.scale s.state
     whole_renamed judged taking = record {
       stands = stands;
       images = images;
@@ -254,7 +254,7 @@ module _ {W L : Type 0} {G : Ghosts L} (seen : W → Writer) (s : Solver W L G) 
   values = s.core.search.parts.assignment.current
 
   module _ (alike : IsAlike s.names n' (steps_in s) (steps_of p)) (stands : NamesInvariant n' (steps_of p)) where
-    says_true : (o : Option Bool) → says_unit o true ≡ is_true o
+    says_true : (o : Option Bool) → says_unit o true ≡ has_true_value o
     says_true None = refl
     says_true (Some b) = refl
 
@@ -273,13 +273,13 @@ module _ {W L : Type 0} {G : Ghosts L} (seen : W → Writer) (s : Solver W L G) 
 
     -- one that isn't in use is false
     unused_false : (v : ℕ) → (data_at s.names v).deleted ≡ true → value_in s.names values v ≡ false
-    unused_false v gone = ap (λ o. value_by o values (data_at s.names v).unit) (none (solver_of s.names v) refl) ∙ ap (λ k. is_true k.unit) (whole.stands.tidy.gone v gone)
+    unused_false v gone = ap (λ o. value_by o values (data_at s.names v).unit) (none (solver_of s.names v) refl) ∙ ap (λ k. has_true_value k.unit) (whole.stands.tidy.gone v gone)
       where
         none : (o : Option ℕ) → solver_of s.names v ≡ o → solver_of s.names v ≡ None
         none None e = e
         none (Some x) e = absurd (true≢false (sym gone ∙ whole.stands.tidy.indexed v x e))
 
-    values_kept : AreFresh s.names n' → KeepsUnits n' (steps_in s) (steps_of p) → (user : ℕ) → IsKeptOrFalse (name_value s user) (name_value (record s { core = record s.core { proof = p }; names = n'; used = true }) user)
+    values_kept : VariablesAreKeptOrNew s.names n' → KeepsUnits n' (steps_in s) (steps_of p) → (user : ℕ) → IsKeptOrFalse (name_value s user) (name_value (record s { core = record s.core { proof = p }; names = n'; used = true }) user)
     values_kept fresh units user = go (global_of s.names user) refl (global_of n' user) refl
       where
         go : (o : Option ℕ) → global_of s.names user ≡ o → (t : Option ℕ) → global_of n' user ≡ t → IsKeptOrFalse (variable_value s o) (variable_value (record s { core = record s.core { proof = p }; names = n'; used = true }) t)
@@ -289,7 +289,7 @@ module _ {W L : Type 0} {G : Ghosts L} (seen : W → Writer) (s : Solver W L G) 
         go (Some v) e (Some w) f = value_same w (λ b. units user w b f) ∙ ap (value_in s.names values) (fresh.same user v w e f)
 
   -- a call over names was carried out
-  pub renamed : (judge : Judge → Judge) (due : Judge → List Expected) (May : List Step → Step → Type 0) → OnlyAllowedSteps May (steps_in s) (steps_of p) → NamesRefineJudge s.names n' (steps_in s) (steps_of p) judge due → AreFresh s.names n' → KeepsUnits n' (steps_in s) (steps_of p) →
+  pub renamed : (judge : ScriptState → ScriptState) (due : ScriptState → List Expected) (May : List Step → Step → Type 0) → OnlyAllowedSteps May (steps_in s) (steps_of p) → NamesEffect s.names n' (steps_in s) (steps_of p) judge due → VariablesAreKeptOrNew s.names n' → KeepsUnits n' (steps_in s) (steps_of p) →
       ((l v : ℕ) → Among l s.assumed.items → global_of s.names (variable l) ≡ Some v → global_of n' (variable l) ≡ Some v) → IsAlike s.names n' (steps_in s) (steps_of p) → ComesByCheckedSteps seen s.core.proof p →
       Renamed seen s (record s { core = record s.core { proof = p }; names = n'; used = true }) judge due May
   renamed judge due May comes does fresh units kept alike took = record {
@@ -304,7 +304,7 @@ module _ {W L : Type 0} {G : Ghosts L} (seen : W → Writer) (s : Solver W L G) 
   }
 
 -- a call over modes failed
-pub mode_ends : {W L : Type 0} {G : Ghosts L} (seen : W → Writer) (e : SolverError) (s new : Solver W L G) (user : ℕ) (judge : Judge → Judge) (due : Judge → List Expected) (May : List Step → Step → Type 0) → s.failed ≡ false → (IsAsked s user → ⊥) → HasRoom s.names (user ∷ []) → IsFault e → BreaksNames seen e s.core new.core → new.clock ≡ s.clock → new.failed ≡ true → ChangesMode seen (Err e) s new user judge due May
+pub mode_ends : {W L : Type 0} {G : Ghosts L} (seen : W → Writer) (e : SolverError) (s new : Solver W L G) (user : ℕ) (judge : ScriptState → ScriptState) (due : ScriptState → List Expected) (May : List Step → Step → Type 0) → s.failed ≡ false → (IsAsked s user → ⊥) → HasVariablesFor s.names (user ∷ []) → IsFault e → BreaksNames seen e s.core new.core → new.clock ≡ s.clock → new.failed ≡ true → ChangesMode seen (Err e) s new user judge due May
 mode_ends seen errors.OutOfMemory s new user judge due May g n r x b k f = (n, r, record { going = g; failed = f; fault = x; breaks = b; clock = k })
 mode_ends seen (errors.ProofIoError cause) s new user judge due May g n r x b k f = (n, r, record { going = g; failed = f; fault = x; breaks = b; clock = k })
 mode_ends seen (errors.ProofProcessorError cause) s new user judge due May g n r x b k f = (n, r, record { going = g; failed = f; fault = x; breaks = b; clock = k })
@@ -328,7 +328,7 @@ new_fails seen errors.CounterEnd s new g n x b k f = (n, record { going = g; fai
 new_fails seen e s new g n x b k f = absurd x
 
 -- where it wasn't for want of a variable, there was one
-pub one_left : {W : Type 0} (e : NameError) (old new : Variables) (from to : W) → (told_as e ≡ errors.VariableLimit → ⊥) → Limits e old new from to → NoneLeft old → ⊥
+pub one_left : {W : Type 0} (e : NameError) (old new : Variables) (from to : W) → (reported_as e ≡ errors.VariableLimit → ⊥) → Limits e old new from to → NoneLeft old → ⊥
 one_left names.VariableLimit old new from to n h = absurd (n refl)
 one_left e old new from to n h = h
 
@@ -337,10 +337,10 @@ pub fault_left : (e : SolverError) → IsNameFaultOr ⊥ e → (e ≡ errors.Var
 fault_left e h n = elim h [ inl x ↦ x | inr q ↦ absurd (n q) ]
 
 -- which fault a call over names tells as the limit
-pub told_limit : (e : NameError) → told_as e ≡ errors.VariableLimit → e ≡ names.VariableLimit
-told_limit names.VariableLimit h = refl
-told_limit (names.Check checks.OutOfMemory) h = cc
-told_limit e h = cc
+pub reported_limit : (e : NameError) → reported_as e ≡ errors.VariableLimit → e ≡ names.VariableLimit
+reported_limit names.VariableLimit h = refl
+reported_limit (names.Check checks.OutOfMemory) h = cc
+reported_limit e h = cc
 
 -- a call that changed neither names nor steps
 pub same_solver : {W L : Type 0} {G : Ghosts L} (s : Solver W L G) (n' : Variables) (p : Proof W L G) → n' ≡ s.names → p ≡ s.core.proof → ◌≡◌ {A = Solver W L G} (record s { core = record s.core { proof = p }; names = n' }) s

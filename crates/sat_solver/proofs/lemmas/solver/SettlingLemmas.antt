@@ -9,21 +9,21 @@ use Rattle.sat_checker.specs.Fold.{Holds}
 use Rattle.sat_checker.specs.declared.processing.ProofProcessor.{Ghosts}
 use Rattle.sat_parts.specs.prop.Values.{IsTrueLit}
 use Rattle.sat_solver.specs.session.LiveClauses.{with_var}
-use Rattle.sat_solver.specs.proof.ProofView.{Target, Closed, Open, Broken, Flushed, FlushesAndTells, FlushesOrFails, EmitsExactly, EmitsChecked, FailsCheck, HasTold, is_lost, steps_of, session_of, target_of}
+use Rattle.sat_solver.specs.proof.ProofView.{Target, Closed, Open, Broken, Flushed, FlushesAndNotifies, FlushesOrFails, EmitsExactly, EmitsChecked, FailsCheck, AllStepsReported, is_lost, steps_of, session_of, target_of}
 use Rattle.sat_solver.specs.declared.proof.made.CheckFault.{CheckFault}
 use Rattle.sat_solver.specs.declared.proof.made.CheckFault.TheVariants as checks
 use Rattle.sat_solver.specs.declared.proof.Proof.{Proof}
 use Rattle.sat_solver.specs.declared.proof.ProofError.{ProofError}
 use Rattle.sat_solver.specs.declared.proof.ProofError.TheVariants.{Write, OutOfMemory, Check}
-use Rattle.sat_solver.specs.cdcl.Going.{check_fault_of, fault_of}
+use Rattle.sat_solver.specs.cdcl.Going.{check_fault_of, proof_fault}
 use Rattle.sat_solver.specs.session.Session.{Session, MayAll, session_after}
 use Rattle.sat_solver.specs.session.Coming.{OnlyAllowedSteps, EndsAtUnsat}
 use Rattle.sat_solver.proofs.lemmas.session.ComingLemmas.{comes_none, comes_one, comes_both, comes_open}
 use Rattle.std.proofs.lemmas.Bool.{true≢false}
 use Rattle.sat_solver.proofs.lemmas.session.ProofLemmas.{adds_none, adds_more, gained_width, gains_adds, gains_more, fails_later, flush_records, check_later}
 use Rattle.sat_solver.proofs.lemmas.cdcl.GoingLemmas.{check_loss, complaint_kept, went_checked, fault_checked}
-use Rattle.sat_base.specs.script.Judge.{Judge}
-use Rattle.sat_solver.specs.schedule.Counting.{CountsOn, steps_left}
+use Rattle.sat_base.specs.script.ScriptState.{ScriptState}
+use Rattle.sat_solver.specs.schedule.Counting.{CountsOn, round_allowance}
 use Rattle.sat_solver.proofs.lemmas.schedule.GapLemmas.{pow_pos, pow_mono}
 use Rattle.sat_solver.specs.declared.schedule.Outcome.TheVariants as outcomes
 use Rattle.sat_solver.specs.declared.context.Core.{Core}
@@ -34,12 +34,12 @@ use Rattle.sat_solver.specs.cdcl.Joint.{global_in, AreAsked, IsSearch, SameVarsA
 use Rattle.sat_solver.specs.clause.Activity.{AreDecays}
 use Rattle.sat_solver.specs.cdcl.Turns.{IsComplete}
 use Rattle.sat_solver.specs.schedule.Solving.{AdvancesIn, AdvanceTimes, StandsStill, Ended, values_in}
-use Rattle.sat_solver.specs.load.Literals.{named_literal, Images, GlobalImages}
+use Rattle.sat_solver.specs.load.Literals.{user_literal, Images, GlobalImages}
 use Rattle.sat_checker.specs.matching.Checking.{variable_of}
 use Rattle.sat_checker.specs.matching.Expected.{Shows, SameSet}
 use Rattle.sat_solver.specs.Models.{named_to}
 use Rattle.sat_solver.specs.variables.Variables.{names_used}
-use Rattle.sat_solver.specs.variables.Calls.{NamesInvariant, Agree, NamesRefineJudge, HasJudge}
+use Rattle.sat_solver.specs.variables.Calls.{NamesInvariant, NamesAgree, NamesEffect, HasScriptState}
 use Rattle.sat_checker.specs.matching.Bridge.{Live}
 use Rattle.sat_solver.specs.declared.variables.Variables.{Variables}
 use Rattle.sat_solver.specs.declared.load.literals.Taken.{Taken}
@@ -47,10 +47,10 @@ use Rattle.sat_solver.proofs.lemmas.variables.Doing.{does_none, does_both, judge
 use Rattle.sat_solver.specs.declared.solver.Solver.{Solver}
 use Rattle.sat_solver.specs.declared.state.State.{State}
 use Rattle.sat_solver.specs.declared.state.State.TheVariants as states
-use Rattle.sat_solver.specs.declared.solver.find.Told.{Told}
+use Rattle.sat_solver.specs.declared.solver.find.LastAnswers.{LastAnswers}
 use Rattle.sat_solver.specs.declared.solver.find.Clock.{Clock}
-use Rattle.sat_solver.specs.solver.Joined.{IsJoined, name_of}
-use Rattle.sat_solver.specs.solver.Answering.{BreaksOff, FlushFails, WritesFailedCore, line_of, model_of}
+use Rattle.sat_solver.specs.solver.Joined.{IsJoined, lit_over_names}
+use Rattle.sat_solver.specs.solver.Answering.{BreaksOff, FlushFails, WritesFailedCore, line_of_names, model_of}
 use Rattle.sat_solver.specs.solver.Found.{FoundModel, FoundCore, FoundNone, FoundSays}
 use Rattle.sat_solver.specs.solver.Calls.{Answered, Counts, CountsRounds, RoundsOn, IsFlushed, MakesRounds, NotesAsk, learned_of, due_between_states, due_for_answer}
 use Rattle.sat_solver.specs.solver.Settling.{Settled}
@@ -108,13 +108,13 @@ module _ {W L : Type 0} {G : Ghosts L} (seen : W → Writer) (s : Solver W L G) 
     known = λ k. (adds_none seen s.core.proof, refl);
   }
     where
-      none : (st : State) → (st ≡ states.Unknown → ⊥) → NamesRefineJudge s.names s.names (steps_in s) (steps_in s) (λ j. j) (λ j. due_between_states st st (line_in s) s.assumed.items s.told.failed_core.items)
+      none : (st : State) → (st ≡ states.Unknown → ⊥) → NamesEffect s.names s.names (steps_in s) (steps_in s) (λ j. j) (λ j. due_between_states st st (line_in s) s.assumed.items s.told.failed_core.items)
       none states.Unknown n = absurd (n refl)
       none states.Sat n = does_none s.names (steps_in s) whole.stands
       none states.UnsatUnderAssumptions n = does_none s.names (steps_in s) whole.stands
       none states.Unsat n = does_none s.names (steps_in s) whole.stands
 
-  module _ (goes : AskGoesOn s.core s.names s.asked) (core : Core W L G) (m : Variables) (told : Told) (clock : Clock) (scale : clock.restarts.scale ≡ s.clock.restarts.scale) where
+  module _ (goes : AskGoesOn s.core s.names s.asked) (core : Core W L G) (m : Variables) (told : LastAnswers) (clock : Clock) (scale : clock.restarts.scale ≡ s.clock.restarts.scale) where
     positive : 0 < clock.restarts.scale
     positive = subst (λ (k : ℕ). 0 < k) (sym scale) whole.positive
 
@@ -144,7 +144,7 @@ module _ {W L : Type 0} {G : Ghosts L} (seen : W → Writer) (s : Solver W L G) 
         judged = judged_by found.gone.does whole.judged;
         says = subst (λ st. StateSays st core m s.asked s.assumed.items told.failed_core.items) (sym unknown) (record { joined = found.joined; lits = ap (λ ls. ls.items) found.gone.moved.lits ∙ goes.lits });
       };
-      does = subst (λ st. NamesRefineJudge s.names m (steps_in s) (steps_of core.proof) (λ j. j) (λ j. due_between_states st st (line_of m core) s.assumed.items told.failed_core.items)) (sym unknown) found.gone.does;
+      does = subst (λ st. NamesEffect s.names m (steps_in s) (steps_of core.proof) (λ j. j) (λ j. due_between_states st st (line_of_names m core) s.assumed.items told.failed_core.items)) (sym unknown) found.gone.does;
       comes = comes_open (steps_in s) (steps_of core.proof) found.gone.steps found.gone.adds.history found.joined.sound.search.stands.fits.consistent;
       took = (found.gone.steps, gains_adds seen found.gone.steps s.core.proof core.proof found.gone.adds);
       width = gained_width seen s.core.proof core.proof (found.gone.steps, found.gone.adds);
@@ -160,8 +160,8 @@ module _ {W L : Type 0} {G : Ghosts L} (seen : W → Writer) (s : Solver W L G) 
       abbrev pub new : State → Solver W L G
       new st = record s { core = core; names = m; told = told; clock = clock; state = st }
 
-      unknown_told : (st : State) → NamesRefineJudge s.names m (steps_in s) (steps_of core.proof) (λ j. j) (λ j. due_between_states states.Unknown st (line_of m core) s.assumed.items told.failed_core.items) → NamesRefineJudge s.names m (steps_in s) (steps_of core.proof) (λ j. j) (λ j. due_between_states s.state st (line_of m core) s.assumed.items told.failed_core.items)
-      unknown_told st d = subst (λ before. NamesRefineJudge s.names m (steps_in s) (steps_of core.proof) (λ j. j) (λ j. due_between_states before st (line_of m core) s.assumed.items told.failed_core.items)) (sym unknown) d
+      unknown_told : (st : State) → NamesEffect s.names m (steps_in s) (steps_of core.proof) (λ j. j) (λ j. due_between_states states.Unknown st (line_of_names m core) s.assumed.items told.failed_core.items) → NamesEffect s.names m (steps_in s) (steps_of core.proof) (λ j. j) (λ j. due_between_states s.state st (line_of_names m core) s.assumed.items told.failed_core.items)
+      unknown_told st d = subst (λ before. NamesEffect s.names m (steps_in s) (steps_of core.proof) (λ j. j) (λ j. due_between_states before st (line_of_names m core) s.assumed.items told.failed_core.items)) (sym unknown) d
 
       -- where a model was found
       pub settled_model : Counts s (new states.Sat) → FoundModel seen (clock.rounds - s.clock.rounds) s.names m s.core core → Settled seen s (new states.Sat)
@@ -219,10 +219,10 @@ module _ {W L : Type 0} {G : Ghosts L} (seen : W → Writer) (s : Solver W L G) 
           both : EmitsChecked seen (Model (model_of m found.mid) ∷ found.ended.steps) s.core.proof core.proof
           both = gains_more seen found.ended.steps (Model (model_of m found.mid) ∷ []) s.core.proof found.mid.proof core.proof found.ended.adds found.shown.adds
 
-          does : NamesRefineJudge s.names m (steps_in s) (steps_of core.proof) (λ j. j) (λ j. due_between_states states.Unknown states.Sat (line_of m core) s.assumed.items told.failed_core.items)
-          does = does_both s.names m m (steps_in s) (steps_of found.mid.proof) (steps_of core.proof) (λ j. j) (λ j. j) (λ j. []) (λ j. due_between_states states.Unknown states.Sat (line_of m core) s.assumed.items told.failed_core.items)
+          does : NamesEffect s.names m (steps_in s) (steps_of core.proof) (λ j. j) (λ j. due_between_states states.Unknown states.Sat (line_of_names m core) s.assumed.items told.failed_core.items)
+          does = does_both s.names m m (steps_in s) (steps_of found.mid.proof) (steps_of core.proof) (λ j. j) (λ j. j) (λ j. []) (λ j. due_between_states states.Unknown states.Sat (line_of_names m core) s.assumed.items told.failed_core.items)
               found.ended.does
-              (subst (λ c. NamesRefineJudge m m (steps_of found.mid.proof) (steps_of core.proof) (λ j. j) (λ j. Shows (names_of (map named_literal (line_by c))) (map named_literal s.assumed.items) (map named_literal (line_by c)) ∷ [])) (sym found.shown.search)
+              (subst (λ c. NamesEffect m m (steps_of found.mid.proof) (steps_of core.proof) (λ j. j) (λ j. Shows (names_of (map user_literal (line_by c))) (map user_literal s.assumed.items) (map user_literal (line_by c)) ∷ [])) (sym found.shown.search)
               (does_shown seen m found.mid mid core found.shown s.assumed.items (subst (λ c. AllByRecursion (λ l. Among l (line_by c)) s.assumed.items) found.shown.search asked)))
 
       -- where assumptions were found that can't be true together
@@ -275,8 +275,8 @@ module _ {W L : Type 0} {G : Ghosts L} (seen : W → Writer) (s : Solver W L G) 
           both : EmitsChecked seen (found.failed.steps ++ found.ended.steps) s.core.proof core.proof
           both = gains_more seen found.ended.steps found.failed.steps s.core.proof found.mid.proof core.proof found.ended.adds found.failed.adds
 
-          does : NamesRefineJudge s.names m (steps_in s) (steps_of core.proof) (λ j. j) (λ j. due_between_states states.Unknown states.UnsatUnderAssumptions (line_of m core) s.assumed.items told.failed_core.items)
-          does = does_both s.names m m (steps_in s) (steps_of found.mid.proof) (steps_of core.proof) (λ j. j) (λ j. j) (λ j. []) (λ j. due_between_states states.Unknown states.UnsatUnderAssumptions (line_of m core) s.assumed.items told.failed_core.items)
+          does : NamesEffect s.names m (steps_in s) (steps_of core.proof) (λ j. j) (λ j. due_between_states states.Unknown states.UnsatUnderAssumptions (line_of_names m core) s.assumed.items told.failed_core.items)
+          does = does_both s.names m m (steps_in s) (steps_of found.mid.proof) (steps_of core.proof) (λ j. j) (λ j. j) (λ j. []) (λ j. due_between_states states.Unknown states.UnsatUnderAssumptions (line_of_names m core) s.assumed.items told.failed_core.items)
               found.ended.does (does_failed seen m found.mid mid core told.failed_core.items found.failed s.assumed.items s.asked.order.items images lits)
 
           failed_is : (mid : Core W L G) → IsJoined m mid → mid.search.assumptions.lits.items ≡ s.asked.order.items → WritesFailedCore seen m mid core told.failed_core.items → HasCore core s.assumed.items told.failed_core.items
@@ -286,10 +286,10 @@ module _ {W L : Type 0} {G : Ghosts L} (seen : W → Writer) (s : Solver W L G) 
               let history : steps_of core.proof ≡ FailedAssumptions codes (causes_hashes mid.search.parts core.search.analysis.used) ∷ steps_of mid.proof = f.adds.history ∙ ap (λ ss. ss ++ steps_of mid.proof) f.told.is in
               let among : (k : ℕ) → k < length used → Contains s.asked.order.items (get_or used k 0) = λ k lt. subst (λ ls. Contains ls (get_or used k 0)) lits (f.told.failed.among k lt) in
               record {
-                some = λ e. some_mapped (name_of m) used f.told.failed.some (sym f.named ∙ e);
+                some = λ e. some_mapped (lit_over_names m) used f.told.failed.some (sym f.named ∙ e);
                 codes = codes;
                 none = subst (λ ss. (a : Valuation) → Holds ss a → EachTrue a codes → ⊥) (sym history) (core_none (steps_of mid.proof) codes (causes_hashes mid.search.parts core.search.analysis.used) (subst MayAll history f.joined.sound.keeps));
-                same = subst (λ xs. SameSet (variable_of (steps_of core.proof)) (map named_literal xs) codes) (sym f.named)
+                same = subst (λ xs. SameSet (variable_of (steps_of core.proof)) (map user_literal xs) codes) (sym f.named)
                     (core_spelt m (steps_of core.proof) f.joined.stands mid.search joined.shares s.assumed.items s.asked.order.items images used among);
                 among = subst (AllByRecursion (λ l. Among l s.assumed.items)) (sym f.named) (core_among m (steps_of core.proof) f.joined.stands mid.search joined.shares s.assumed.items s.asked.order.items images used among);
               }
@@ -332,7 +332,7 @@ whole_over {W} {L} {G} c n asked assumed core scale state p whole e taking = rec
   scaled = whole.scaled;
   decays = whole.decays;
   taking = taking ∙ whole.taking;
-  judged = subst (HasJudge n) (sym e) whole.judged;
+  judged = subst (HasScriptState n) (sym e) whole.judged;
   says = says state whole.says;
 }
   where
@@ -363,21 +363,21 @@ whole_over {W} {L} {G} c n asked assumed core scale state p whole e taking = rec
         some = h.1.some;
         codes = h.1.codes;
         none = subst (λ ss. (a : Valuation) → Holds ss a → EachTrue a h.1.codes → ⊥) (sym e) h.1.none;
-        same = subst (λ ss. SameSet (variable_of ss) (map named_literal core) h.1.codes) (sym e) h.1.same;
+        same = subst (λ ss. SameSet (variable_of ss) (map user_literal core) h.1.codes) (sym e) h.1.same;
         among = h.1.among;
       },
     )
     says states.Unsat h = subst (λ ss. (session_after ss).unsat ≡ true) (sym e) h
 
 module _ {W L : Type 0} {G : Ghosts L} (seen : W → Writer) (old mid : Solver W L G) (settled : Settled seen old mid) (p : Proof W L G) where
-  flush_adds : FlushesAndTells seen mid.core.proof p → EmitsExactly seen [] mid.core.proof p
+  flush_adds : FlushesAndNotifies seen mid.core.proof p → EmitsExactly seen [] mid.core.proof p
   flush_adds f = gains_adds seen [] mid.core.proof p (flush_records seen (Ok tt) mid.core.proof p settled.whole.taking f)
 
   -- the answer was flushed
-  pub settled_flushed : FlushesAndTells seen mid.core.proof p → Settled seen old (record mid { core = record mid.core { proof = p } })
+  pub settled_flushed : FlushesAndNotifies seen mid.core.proof p → Settled seen old (record mid { core = record mid.core { proof = p } })
   settled_flushed f = record {
     whole = whole_over mid.core mid.names mid.asked mid.assumed.items mid.told.failed_core.items mid.clock.restarts.scale mid.state p settled.whole f.history f.taking;
-    does = subst (λ ss. NamesRefineJudge old.names mid.names (steps_in old) ss (λ j. j) (λ j. due_for_answer old.state mid)) (sym f.history) settled.does;
+    does = subst (λ ss. NamesEffect old.names mid.names (steps_in old) ss (λ j. j) (λ j. due_for_answer old.state mid)) (sym f.history) settled.does;
     comes = subst (OnlyAllowedSteps EndsAtUnsat (steps_in old)) (sym f.history) settled.comes;
     took = (_, adds_more seen settled.took.0 [] old.core.proof mid.core.proof p settled.took.1 (flush_adds f));
     width = λ n. f.width (settled.width (λ e. n (f.history ∙ e)));
@@ -390,7 +390,7 @@ module _ {W L : Type 0} {G : Ghosts L} (seen : W → Writer) (old mid : Solver W
   }
 
   -- and where the target failed at it
-  pub settled_broken : (e : ProofError) → FlushesOrFails seen (Err e) mid.core.proof p → BreaksOff seen (fault_of e) old.core (record mid.core { proof = p }) × CountsRounds old mid × ((old.state ≡ states.Unknown → ⊥) → FlushFails seen (fault_of e) old.core.proof p)
+  pub settled_broken : (e : ProofError) → FlushesOrFails seen (Err e) mid.core.proof p → BreaksOff seen (proof_fault e) old.core (record mid.core { proof = p }) × CountsRounds old mid × ((old.state ≡ states.Unknown → ⊥) → FlushFails seen (proof_fault e) old.core.proof p)
   settled_broken (Write cause) f = ((record { fault = tt; steps = _; went = fails_later seen settled.took.0 [] old.core.proof mid.core.proof p settled.took.1 f.0; loss = tt }, f.1), settled.counts.on, λ k. fails_later seen [] [] old.core.proof mid.core.proof p (settled.known k).0 f.0)
   settled_broken OutOfMemory f = absurd f
   settled_broken (Check fault) f =
@@ -403,12 +403,12 @@ module _ {W L : Type 0} {G : Ghosts L} (seen : W → Writer) (old mid : Solver W
       flush_checked checks.CounterEnd h = h
       flush_checked (checks.Processor cause) h = h
 
-module _ {W L : Type 0} {G : Ghosts L} (seen : W → Writer) (s : Solver W L G) (whole : SolverInvariant s) (unknown : s.state ≡ states.Unknown) (core : Core W L G) (m : Variables) (told : Told) (clock : Clock) (scale : clock.restarts.scale ≡ s.clock.restarts.scale) (on : CountsOn (values_in s.core) s.core.config.max_steps s.clock.rounds clock.rounds) where
+module _ {W L : Type 0} {G : Ghosts L} (seen : W → Writer) (s : Solver W L G) (whole : SolverInvariant s) (unknown : s.state ≡ states.Unknown) (core : Core W L G) (m : Variables) (told : LastAnswers) (clock : Clock) (scale : clock.restarts.scale ≡ s.clock.restarts.scale) (on : CountsOn (values_in s.core) s.core.config.max_steps s.clock.rounds clock.rounds) where
   goes_on : AskGoesOn s.core s.names s.asked
   goes_on = subst (λ st. StateSays st s.core s.names s.asked s.assumed.items s.told.failed_core.items) unknown whole.says
 
   -- no more variables than identities
-  over_identities : (j : Judge) (live : Live) → Agree s.names (steps_in s) j live → values_in s.core ≤ j.identity_count
+  over_identities : (j : ScriptState) (live : Live) → NamesAgree s.names (steps_in s) j live → values_in s.core ≤ j.identity_count
   over_identities j live agree =
       let shares = goes_on.joined.shares in
       let size = shares.size in
@@ -432,13 +432,13 @@ module _ {W L : Type 0} {G : Ghosts L} (seen : W → Writer) (s : Solver W L G) 
   settled_some round states.Unsat found = settled_unsat seen s whole goes_on core m told clock scale unknown (record { on = rounds_on; round = λ u k. round; spent = λ u. absurd (apart_unsat u); answered = λ j live a fits u. apart_unsat u }) found
 
   -- or none by now
-  pub settled_without : clock.rounds ≡ s.clock.rounds + steps_left s.core.config.max_steps s.clock.rounds →
-      ((n : ℕ) → values_in s.core ≤ n → 2 ^ (2 * n + 3) ≤ steps_left s.core.config.max_steps s.clock.rounds → ⊥) →
+  pub settled_without : clock.rounds ≡ s.clock.rounds + round_allowance s.core.config.max_steps s.clock.rounds →
+      ((n : ℕ) → values_in s.core ≤ n → 2 ^ (2 * n + 3) ≤ round_allowance s.core.config.max_steps s.clock.rounds → ⊥) →
       FoundNone seen (clock.rounds - s.clock.rounds) s.names m s.core core → Settled seen s (record s { core = core; names = m; told = told; clock = clock })
   settled_without spent answered found = settled_none seen s whole goes_on core m told clock scale unknown (record { on = rounds_on; round = λ u k. absurd (k unknown); spent = λ u. spent; answered = λ j live a fits u. answered j.identity_count (over_identities j live a) fits }) found
 
 -- a target was flushed
-pub flushed_by : {W L : Type 0} {G : Ghosts L} (seen : W → Writer) (p q : Proof W L G) → FlushesAndTells seen p q → IsFlushed (target_of seen q)
+pub flushed_by : {W L : Type 0} {G : Ghosts L} (seen : W → Writer) (p q : Proof W L G) → FlushesAndNotifies seen p q → IsFlushed (target_of seen q)
 flushed_by seen p q f = go (target_of seen p) (target_of seen q) f.target
   where
     go : (a b : Target) → Flushed a b → IsFlushed b
@@ -448,7 +448,7 @@ flushed_by seen p q f = go (target_of seen p) (target_of seen q) f.target
 
 -- CALLS
 
-module _ {W L : Type 0} {G : Ghosts L} (seen : W → Writer) (s new : Solver W L G) (settled : Settled seen (record s { used = true }) new) (going : s.failed ≡ false) (flushed : IsFlushed (target_of seen new.core.proof)) (told : HasTold new.core.proof) (asked : NotesAsk seen new.core.proof) (rounds : s.state ≡ states.Unknown → MakesRounds seen s new) where
+module _ {W L : Type 0} {G : Ghosts L} (seen : W → Writer) (s new : Solver W L G) (settled : Settled seen (record s { used = true }) new) (going : s.failed ≡ false) (flushed : IsFlushed (target_of seen new.core.proof)) (told : AllStepsReported new.core.proof) (asked : NotesAsk seen new.core.proof) (rounds : s.state ≡ states.Unknown → MakesRounds seen s new) where
   -- an ask was looked at
   pub answered : Answered seen s new
   answered = record {

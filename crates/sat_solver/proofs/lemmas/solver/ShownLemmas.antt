@@ -18,9 +18,9 @@ use Rattle.sat_solver.proofs.lemmas.cdcl.ShowingLemmas.{are_true_lits, complete_
 use Rattle.sat_solver.proofs.lemmas.fits.CodeLemmas.{coded_by}
 use Rattle.sat_solver.proofs.lemmas.variables.ModeChanges.{live_within}
 use Rattle.sat_solver.proofs.lemmas.cdcl.TurnLemmas.{ready_names}
-use Rattle.sat_solver.specs.variables.Variables.{AreTidy, AreSaid, data_at, solver_of, variables_used, says_unit}
+use Rattle.sat_solver.specs.variables.Variables.{AreTidy, NamesMatchSteps, data_at, solver_of, variables_used, says_unit}
 use Rattle.sat_solver.specs.variables.Shared.{SharesIndices}
-use Rattle.sat_solver.specs.Models.{is_true, value_by, value_in, literal_in, model_to}
+use Rattle.sat_solver.specs.Models.{has_true_value, value_by, value_in, literal_in, model_to}
 use Rattle.sat_solver.specs.declared.variables.Variables.{Variables}
 use Rattle.sat_solver.proofs.lemmas.variables.ModelSteps.{model_zero, model_next}
 use Rattle.sat_parts.proofs.lemmas.parts.ValueLemmas.{coded_variable}
@@ -151,7 +151,7 @@ mapped_back f (l ∷ ls) y h = elim (or_cases (eqb (f l) y) (is_among (map f ls)
   | inr k ↦ (let m = mapped_back f ls y k in (m.0, or_right (eqb l m.0) (is_among ls m.0) m.1, m.2))
 ]
 
-unit_value : (unit : Option Bool) (b : Bool) → says_unit unit b ≡ true → is_true unit ≡ b
+unit_value : (unit : Option Bool) (b : Bool) → says_unit unit b ≡ true → has_true_value unit ≡ b
 unit_value None b h = absurd (true≢false (sym h))
 unit_value (Some value) true h = h
 unit_value (Some true) false h = absurd (true≢false (sym h))
@@ -163,7 +163,7 @@ other_sign l e = elim (cases_eq (l % 2) 0) [
   | inr k ↦ omega arith
 ]
 
-module _ (n : Variables) (s : Session) (c : Search) (tidy : AreTidy n) (said : AreSaid n s) (search : IsSearch s c) (shares : SharesIndices n c) where
+module _ (n : Variables) (s : Session) (c : Search) (tidy : AreTidy n) (said : NamesMatchSteps n s) (search : IsSearch s c) (shares : SharesIndices n c) where
   abbrev pub values : List (Option Bool)
   values = c.parts.assignment.current
 
@@ -187,8 +187,8 @@ module _ (n : Variables) (s : Session) (c : Search) (tidy : AreTidy n) (said : A
       ap (λ w. s.solver_names (global_in c w)) (coded_variable x b) ∙ ap s.solver_names (global_is v x e) ∙ said.solver_names v ∙ e ∙ ap Some (sym (coded_variable x b)) in
       let y = search.stands.fits.sound (coded x b) name (ap s.units same ∙ u) in
       ap (λ o. value_by o values (data_at n v).unit) e
-      ∙ ap (λ w. is_true (get_or values w None)) (sym (coded_variable x b))
-      ∙ ap is_true y.0
+      ∙ ap (λ w. has_true_value (get_or values w None)) (sym (coded_variable x b))
+      ∙ ap has_true_value y.0
       ∙ coded_sign x b
 
   units_shown : (count l : ℕ) → s.units l ≡ true → is_among (model_to n values count) (negated l) ≡ false
@@ -206,7 +206,7 @@ module _ (n : Variables) (s : Session) (c : Search) (tidy : AreTidy n) (said : A
       let v = global_in c (variable m.0) in
       let index : solver_of n v ≡ Some (variable m.0) = sym (said.solver_names v) ∙ ready_names s c search.ready m.0 is_true_lit in
       let live = tidy.indexed v (variable m.0) index in
-      let value : value_in n values v ≡ is_positive m.0 = ap (λ o. value_by o values (data_at n v).unit) index ∙ ap is_true is_true_lit in
+      let value : value_in n values v ≡ is_positive m.0 = ap (λ o. value_by o values (data_at n v).unit) index ∙ ap has_true_value is_true_lit in
       let lit : coded v (value_in n values v) ≡ l = ap (coded v) value ∙ coded_by (global_in c) m.0 ∙ m.2 in
       subst (λ k. is_among (model_to n values (variables_used n)) k ≡ true) lit (model_all n values (variables_used n) v (live_within n v live) live)
 

@@ -2,7 +2,7 @@
 use Rattle.std.proofs.Common.{ℕ, zero, suc, ◌<◌, ◌≡◌, ◌∙◌, refl, List, [], ◌∷◌, length, map, get_or, sym, ap, arith}
 use Rattle.sat_base.specs.values.Literals.{variable, is_positive, coded}
 use Rattle.sat_solver.specs.session.LiveClauses.{with_var}
-use Rattle.sat_solver.specs.load.Literals.{Image, Images, GlobalImages, global_in}
+use Rattle.sat_solver.specs.load.Literals.{Image, Images, GlobalImages, global_with_index}
 use Rattle.sat_solver.specs.variables.Naming.{KeepsNames}
 use Rattle.sat_solver.specs.variables.Variables.{AreTidy}
 use Rattle.sat_solver.specs.declared.variables.Variables.{Variables}
@@ -21,18 +21,18 @@ mapped_at f (l ∷ ls) zero lt = refl
 mapped_at f (l ∷ ls) (suc k) lt = mapped_at f ls k (omega arith)
 
 -- what was written for assumptions stands for them
-pub global_images_of : (n : Variables) (user : List ℕ) (t : Taken) → AreTidy n → Images n user t.order.items → t.globals.items ≡ map (with_var (global_in n)) t.order.items → GlobalImages n user t.globals.items
+pub global_images_of : (n : Variables) (user : List ℕ) (t : Taken) → AreTidy n → Images n user t.order.items → t.globals.items ≡ map (with_var (global_with_index n)) t.order.items → GlobalImages n user t.globals.items
 global_images_of n user t tidy images e = record {
-  count = ap (λ ls. length ls) e ∙ length_mapped (with_var (global_in n)) t.order.items ∙ images.count;
+  count = ap (λ ls. length ls) e ∙ length_mapped (with_var (global_with_index n)) t.order.items ∙ images.count;
   each = λ k lt.
       let x : Image n (get_or user k 0) (get_or t.order.items k 0) = images.each k lt in
-      let at : global_in n (variable (get_or t.order.items k 0)) ≡ x.variable_is = ap (λ l. global_in n (variable l)) x.is ∙ ap (global_in n) (coded_variable x.index_is (is_positive (get_or user k 0)))
+      let at : global_with_index n (variable (get_or t.order.items k 0)) ≡ x.variable_is = ap (λ l. global_with_index n (variable l)) x.is ∙ ap (global_with_index n) (coded_variable x.index_is (is_positive (get_or user k 0)))
       ∙ tidy.globals x.index_is x.variable_is (tidy.solvers.back x.variable_is x.index_is x.indexed) in
       let sign : is_positive (get_or t.order.items k 0) ≡ is_positive (get_or user k 0) = ap is_positive x.is ∙ coded_sign x.index_is (is_positive (get_or user k 0)) in (
         x.variable_is,
         x.named,
-        ap (λ ls. get_or ls k 0) e ∙ mapped_at (with_var (global_in n)) t.order.items k (let c = images.count in omega arith)
-            ∙ sym (coded_by (global_in n) (get_or t.order.items k 0)) ∙ ap (λ v. coded v (is_positive (get_or t.order.items k 0))) at ∙ ap (coded x.variable_is) sign,
+        ap (λ ls. get_or ls k 0) e ∙ mapped_at (with_var (global_with_index n)) t.order.items k (let c = images.count in omega arith)
+            ∙ sym (coded_by (global_with_index n) (get_or t.order.items k 0)) ∙ ap (λ v. coded v (is_positive (get_or t.order.items k 0))) at ∙ ap (coded x.variable_is) sign,
       );
 }
 

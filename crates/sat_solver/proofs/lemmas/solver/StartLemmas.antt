@@ -3,7 +3,7 @@ use Rattle.std.proofs.Common.{ℕ, ◌<◌, ◌≡◌, ◌∙◌, true, false, n
 use Rattle.std.proofs.lemmas.Bool.{true≢false}
 use Rattle.std.proofs.lemmas.List.{get_or_past}
 use Rattle.std.proofs.lemmas.Option.{none-some}
-use Rattle.sat_base.specs.script.Judge.{start}
+use Rattle.sat_base.specs.script.ScriptState.{start}
 use Rattle.sat_checker.specs.Stored.{unknown}
 use Rattle.sat_store.specs.declared.data.VarData.{VarData}
 use Rattle.sat_store.specs.variables.VarData.{unused_variable}
@@ -15,10 +15,10 @@ use Rattle.sat_solver.specs.declared.load.literals.Taken.{Taken}
 use Rattle.sat_solver.specs.declared.context.Core.{Core}
 use Rattle.sat_solver.specs.clause.Activity.{AreDecays}
 use Rattle.sat_solver.specs.cdcl.Joint.{IsSearch}
-use Rattle.sat_solver.specs.variables.Variables.{AreTidy, AreSaid, says_unit, mode_in, user_of, data_at, global_of, solver_of, names_used, variables_used}
+use Rattle.sat_solver.specs.variables.Variables.{AreTidy, NamesMatchSteps, says_unit, checker_mode, user_of, data_at, global_of, solver_of, names_used, variables_used}
 use Rattle.sat_solver.specs.variables.Live.{given_of}
-use Rattle.sat_solver.specs.variables.Calls.{NamesInvariant, Agree, HasJudge}
-use Rattle.sat_checker.specs.matching.ProofChecking.{the_checking}
+use Rattle.sat_solver.specs.variables.Calls.{NamesInvariant, NamesAgree, HasScriptState}
+use Rattle.sat_checker.specs.matching.ProofChecking.{checker_rules}
 use Rattle.sat_checker.proofs.lemmas.matching.Bridge.{begun}
 use Rattle.sat_solver.specs.solver.Joined.{IsJoined}
 use Rattle.sat_solver.specs.solver.Whole.{IsWholeOf}
@@ -45,10 +45,10 @@ module _ (n : Variables) (tidy : AreTidy n) (none : variables_used n ≡ 0) wher
   names_none : names_used n ≡ 0
   names_none = (let r = tidy.reach in omega (arith, none))
 
-  variable_first : (v : ℕ) (d : VarData) → d ≡ unused_variable → unknown ≡ cond d.deleted unknown (record { known = true; mode = mode_in d.sampling_mode; name = user_of n v })
-  variable_first v d e = subst (λ (x : VarData). unknown ≡ cond x.deleted unknown (record { known = true; mode = mode_in x.sampling_mode; name = user_of n v })) (sym e) refl
+  variable_first : (v : ℕ) (d : VarData) → d ≡ unused_variable → unknown ≡ cond d.deleted unknown (record { known = true; mode = checker_mode d.sampling_mode; name = user_of n v })
+  variable_first v d e = subst (λ (x : VarData). unknown ≡ cond x.deleted unknown (record { known = true; mode = checker_mode x.sampling_mode; name = user_of n v })) (sym e) refl
 
-  said : AreSaid n nothing
+  said : NamesMatchSteps n nothing
   said = record {
     variables = λ v. variable_first v (data_at n v) (unused v);
     solver_names = λ v. sym (no_index v);
@@ -60,7 +60,7 @@ module _ (n : Variables) (tidy : AreTidy n) (none : variables_used n ≡ 0) wher
   pub stands_first : NamesInvariant n []
   stands_first = record { tidy = tidy; said = said; may = tt; read = λ u. sym (no_name u) }
 
-  pub agree_first : Agree n [] start []
+  pub agree_first : NamesAgree n [] start []
   agree_first = record {
     judged = record {
       first_unused = (let e = names_none in omega arith);
@@ -75,7 +75,7 @@ module _ (n : Variables) (tidy : AreTidy n) (none : variables_used n ≡ 0) wher
       increasing = tt;
       modes = λ v i e. absurd (none-some i e);
     };
-    bridge = begun the_checking;
+    bridge = begun checker_rules;
   }
 
   -- names and a search without steps are joined
@@ -103,7 +103,7 @@ module _ (n : Variables) (tidy : AreTidy n) (none : variables_used n ≡ 0) wher
     scaled = scaled;
     decays = decays;
     taking = taking;
-    judged = subst (HasJudge n) (sym steps) (start, [], agree_first);
+    judged = subst (HasScriptState n) (sym steps) (start, [], agree_first);
     says = record {
       joined = joined_first c steps search values globals locals mids;
       lits = none_mapped _ c.search.assumptions.lits.items search.ready.asked ∙ sym order;

@@ -4,7 +4,7 @@ use Rattle.std.specs.Prelude.{IsErrAnd}
 use Rattle.std.proofs.lemmas.Result.{err_from_is_err_and}
 use Rattle.sat_base.specs.device.Device.{Writer}
 use Rattle.sat_base.specs.values.Literals.{variable}
-use Rattle.sat_base.specs.script.Judge.{bring_all, with_clause}
+use Rattle.sat_base.specs.script.ScriptState.{bring_all, with_clause}
 use Rattle.sat_base.specs.steps.Steps.{Step, AddClause, Assumptions}
 use Rattle.sat_checker.specs.LiteralSets.{is_tautology}
 use Rattle.sat_checker.specs.SortedSets.{IsIncreasing}
@@ -23,20 +23,20 @@ use Rattle.sat_solver.specs.declared.error.SolverError.TheVariants as errors
 use Rattle.sat_solver.specs.declared.variables.error.NameError.{NameError}
 use Rattle.sat_solver.specs.declared.variables.error.NameError.TheVariants as names
 use Rattle.sat_solver.specs.variables.Failing.{IsFailure, EmitsUpTo}
-use Rattle.sat_solver.specs.load.Faults.{told_as}
+use Rattle.sat_solver.specs.load.Faults.{reported_as}
 use Rattle.sat_solver.specs.declared.context.Core.{Core}
 use Rattle.sat_solver.specs.declared.context.Search.{Search}
 use Rattle.sat_parts.specs.parts.Full.{IsFull}
 use Rattle.sat_solver.specs.cdcl.Going.{IsFault, IsFaultOr, EmitsStepsOr}
 use Rattle.sat_solver.specs.cdcl.Joint.{global_in, IsSearch}
 use Rattle.sat_solver.proofs.lemmas.cdcl.AskedLemmas.{asked_after, kinds_of}
-use Rattle.sat_solver.specs.load.Literals.{named_literal, Image}
+use Rattle.sat_solver.specs.load.Literals.{user_literal, Image}
 use Rattle.sat_solver.specs.load.Clauses.{BringsClause}
 use Rattle.sat_solver.specs.load.Assumed.{BringsAssumptions}
 use Rattle.sat_solver.specs.declared.config.SolverConfig.{SolverConfig}
 use Rattle.sat_solver.specs.session.LiveClauses.{with_var}
 use Rattle.sat_parts.specs.parts.Assumed.{HaveVariablesIn}
-use Rattle.sat_solver.specs.variables.Calls.{NamesInvariant, NamesRefineJudge}
+use Rattle.sat_solver.specs.variables.Calls.{NamesInvariant, NamesEffect}
 use Rattle.sat_checker.specs.matching.Expected.{Unknown, Adds, bringing}
 use Rattle.sat_solver.specs.variables.Refusing.{names_in}
 use Rattle.sat_solver.specs.variables.Naming.{ExtendsNames}
@@ -47,7 +47,7 @@ use Rattle.sat_solver.specs.declared.load.literals.Taken.{Taken}
 use Rattle.sat_solver.specs.variables.Initialized.{AreVacant, GivesSearchIndices}
 use Rattle.sat_solver.specs.variables.Shared.{SharesIndices}
 use Rattle.sat_solver.specs.load.Loaded.{MayLoad, IsAdded, IsLoaded}
-use Rattle.sat_solver.specs.assumptions.Setting.{AreAssumed}
+use Rattle.sat_solver.specs.assumptions.Setting.{ReplacesAssumed}
 use Rattle.sat_solver.proofs.lemmas.load.AlikeLemmas.{tautology_loads}
 use Rattle.sat_solver.proofs.lemmas.load.LoadingLemmas.{asked_added}
 use Rattle.sat_solver.proofs.lemmas.load.SharedLemmas.{gives_names, given_vacant, shares_given, AreOver, over_below, over_named, over_same}
@@ -61,7 +61,7 @@ use Rattle.sat_solver.specs.session.Coming.{OnlyAllowedSteps, DeletesAdded}
 use Rattle.sat_solver.proofs.lemmas.session.ComingLemmas.{comes_both}
 use Rattle.sat_solver.proofs.lemmas.variables.ComingSteps.{comes_added, comes_deleted}
 use Rattle.sat_solver.proofs.lemmas.solver.BehindLemmas.{does_behind}
-use Rattle.sat_solver.proofs.lemmas.solver.TellingLemmas.{shares_moved}
+use Rattle.sat_solver.proofs.lemmas.solver.ReportingLemmas.{shares_moved}
 
 -- FAULTS
 
@@ -70,10 +70,10 @@ pub none_took : {W L : Type 0} {G : Ghosts L} (seen : W → Writer) (p : Proof W
 none_took seen p = ([], gains_none seen p)
 
 -- a failure of a call over names, as a solver tells it
-pub told_fails : (e : NameError) → IsFailure e → IsFault (told_as e)
-told_fails names.VariableLimit h = absurd h
-told_fails (names.Check checks.OutOfMemory) h = tt
-told_fails e h = tt
+pub reported_fails : (e : NameError) → IsFailure e → IsFault (reported_as e)
+reported_fails names.VariableLimit h = absurd h
+reported_fails (names.Check checks.OutOfMemory) h = tt
+reported_fails e h = tt
 
 -- a fault that is handed on, or one of a search
 pub fault_on : {A : Type 0} (full : Type 0) (r : Result A SolverError) (e : SolverError) → IsErrAnd r (λ f. f ≡ e) → IsFaultOr full e → IfErr r (IsFaultOr full)
@@ -85,7 +85,7 @@ fault_ends seen (Err e) p q P goes = goes.ends
 
 module _ {W L : Type 0} {G : Ghosts L} (seen : W → Writer) (a b : Core W L G) where
   -- a call over names failed
-  pub names_broke : {full : Type 0} (e : NameError) → EmitsUpTo (ComesByCheckedSteps seen) (NotTaken seen) a.proof e b.proof → BreaksNamesOff full seen (told_as e) a b
+  pub names_broke : {full : Type 0} (e : NameError) → EmitsUpTo (ComesByCheckedSteps seen) (NotTaken seen) a.proof e b.proof → BreaksNamesOff full seen (reported_as e) a b
   names_broke names.VariableLimit h = (record { fault = inr refl; steps = h.0; went = gains_adds seen h.0 a.proof b.proof h.1; loss = h.1.taking }, tt)
   names_broke names.OutOfMemory h = (record { fault = inl tt; steps = h.0; went = gains_adds seen h.0 a.proof b.proof h.1; loss = inl h.1.taking }, tt)
   names_broke (names.Write cause) h = (record { fault = inl tt; steps = h.0.0; went = h.0.1; loss = tt }, h.1)
@@ -204,9 +204,9 @@ module _ {W L : Type 0} {G : Ghosts L} (seen : W → Writer) (n n' : Variables) 
       abbrev pub new : Core W L G
       new = record a { proof = q; search = c2 }
 
-      does2 : NamesRefineJudge n n' (steps_of a.proof) (steps_of q) (λ j. with_clause (map named_literal user) (bring_all (names_in user) j)) (λ j. bringing (names_in user) j ++ (Adds (map named_literal user) ∷ []))
-      does2 = subst (λ ss. NamesRefineJudge n n' (steps_of a.proof) ss (λ j. with_clause (map named_literal user) (bring_all (names_in user) j)) (λ j. bringing (names_in user) j ++ (Adds (map named_literal user) ∷ []))) (sym goes.went.history)
-          (does_behind n n' (steps_of a.proof) (steps_of p) goes.steps (λ j. with_clause (map named_literal user) (bring_all (names_in user) j)) (λ j. bringing (names_in user) j ++ (Adds (map named_literal user) ∷ []))
+      does2 : NamesEffect n n' (steps_of a.proof) (steps_of q) (λ j. with_clause (map user_literal user) (bring_all (names_in user) j)) (λ j. bringing (names_in user) j ++ (Adds (map user_literal user) ∷ []))
+      does2 = subst (λ ss. NamesEffect n n' (steps_of a.proof) ss (λ j. with_clause (map user_literal user) (bring_all (names_in user) j)) (λ j. bringing (names_in user) j ++ (Adds (map user_literal user) ∷ []))) (sym goes.went.history)
+          (does_behind n n' (steps_of a.proof) (steps_of p) goes.steps (λ j. with_clause (map user_literal user) (bring_all (names_in user) j)) (λ j. bringing (names_in user) j ++ (Adds (map user_literal user) ∷ []))
           adds.does (subst MayAll goes.went.history goes.keeps) goes.searched)
 
       goes_on2 : (l : Bool) → IsLoaded l (session_of q) c1 c2 → GoesOnOr l n' new
@@ -262,7 +262,7 @@ module _ {W L : Type 0} {G : Ghosts L} (seen : W → Writer) (n n' : Variables) 
     pub asked_there : HaveVariablesIn t.order.items c1.parts
     asked_there = over_below n' c1 t.order.items shares_asked over_order
 
-    pub asked_taken : (c2 : Search) → AreAssumed t.order.items c1 c2 → TookAssumptions seen n n' a (record a { proof = p; search = c2 }) user t
+    pub asked_taken : (c2 : Search) → ReplacesAssumed t.order.items c1 c2 → TookAssumptions seen n n' a (record a { proof = p; search = c2 }) user t
     asked_taken c2 assumed = record {
       does = assumes.does;
       comes = assumes.comes;

@@ -8,10 +8,10 @@ use Rattle.sat_parts.specs.clause.Db.{without}
 use Rattle.sat_parts.specs.clause.Orders.{AreDistinct}
 use Rattle.sat_parts.proofs.lemmas.clause.ListLemmas.{in_tail, in_head, there, at_place}
 use Rattle.sat_solver.specs.session.LiveClauses.{LiveClause}
-use Rattle.sat_solver.specs.session.SolverClauses.{longs, Inserted}
+use Rattle.sat_solver.specs.session.SolverClauses.{longs, InsertsClause}
 
 -- behind other clauses, or before them
-pub inserted_behind : (xs old new : List LiveClause) (c : LiveClause) → Inserted old new c → Inserted (xs ++ old) (xs ++ new) c
+pub inserted_behind : (xs old new : List LiveClause) (c : LiveClause) → InsertsClause old new c → InsertsClause (xs ++ old) (xs ++ new) c
 inserted_behind xs old new c i = record {
   before = xs ++ i.before;
   behind = i.behind;
@@ -19,7 +19,7 @@ inserted_behind xs old new c i = record {
   is = ap (λ cs. xs ++ cs) i.is ∙ sym (append_assoc xs i.before (c ∷ i.behind));
 }
 
-pub inserted_before : (ys old new : List LiveClause) (c : LiveClause) → Inserted old new c → Inserted (old ++ ys) (new ++ ys) c
+pub inserted_before : (ys old new : List LiveClause) (c : LiveClause) → InsertsClause old new c → InsertsClause (old ++ ys) (new ++ ys) c
 inserted_before ys old new c i = record {
   before = i.before;
   behind = i.behind ++ ys;
@@ -27,11 +27,11 @@ inserted_before ys old new c i = record {
   is = ap (λ cs. cs ++ ys) i.is ∙ append_assoc i.before (c ∷ i.behind) ys;
 }
 
-pub inserted_first : (old : List LiveClause) (c : LiveClause) → Inserted old (c ∷ old) c
+pub inserted_first : (old : List LiveClause) (c : LiveClause) → InsertsClause old (c ∷ old) c
 inserted_first old c = record { before = []; behind = old; was = refl; is = refl }
 
 -- a clause comes before another one, which goes
-pub replaces : (xs front back : List LiveClause) (c d : LiveClause) → Inserted (xs ++ (front ++ c ∷ back)) (xs ++ (front ++ d ∷ c ∷ back)) d × Inserted (xs ++ (front ++ d ∷ back)) (xs ++ (front ++ d ∷ c ∷ back)) c
+pub replaces : (xs front back : List LiveClause) (c d : LiveClause) → InsertsClause (xs ++ (front ++ c ∷ back)) (xs ++ (front ++ d ∷ c ∷ back)) d × InsertsClause (xs ++ (front ++ d ∷ back)) (xs ++ (front ++ d ∷ c ∷ back)) c
 replaces xs front back c d = (
   inserted_behind xs (front ++ c ∷ back) (front ++ d ∷ c ∷ back) d (record { before = front; behind = c ∷ back; was = refl; is = refl }),
   inserted_behind xs (front ++ d ∷ back) (front ++ d ∷ c ∷ back) c (record { before = front ++ d ∷ []; behind = back; was = sym (append_assoc front (d ∷ []) back); is = sym (append_assoc front (d ∷ []) (c ∷ back)) }),
@@ -91,7 +91,7 @@ splits (p ∷ os) o d c = elim (cases_eq p o) [
 ]
 
 -- a long clause that goes
-pub long_goes : (r : ℕ → Bool) (words os : List ℕ) (o : ℕ) → AreDistinct os → Contains os o → Inserted (longs r words (without o os)) (longs r words os) (record { redundant = r o; literals = lits_at words o })
+pub long_goes : (r : ℕ → Bool) (words os : List ℕ) (o : ℕ) → AreDistinct os → Contains os o → InsertsClause (longs r words (without o os)) (longs r words os) (record { redundant = r o; literals = lits_at words o })
 long_goes r words os o d c =
     let x : Splits os o = splits os o d c in
     record {
@@ -102,5 +102,5 @@ long_goes r words os o d c =
     }
 
 -- and one that comes
-pub long_comes : (r : ℕ → Bool) (words os : List ℕ) (o : ℕ) → Inserted (longs r words os) (longs r words (os ++ o ∷ [])) (record { redundant = r o; literals = lits_at words o })
+pub long_comes : (r : ℕ → Bool) (words os : List ℕ) (o : ℕ) → InsertsClause (longs r words os) (longs r words (os ++ o ∷ [])) (record { redundant = r o; literals = lits_at words o })
 long_comes r words os o = record { before = longs r words os; behind = []; was = sym (append-nil (longs r words os)); is = longs_both r words os (o ∷ []) }

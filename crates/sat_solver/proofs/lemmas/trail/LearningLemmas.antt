@@ -11,7 +11,7 @@ use Rattle.sat_solver.specs.session.Session.{Session, after}
 use Rattle.sat_solver.specs.session.LiveClauses.{LiveClause, with_var, AreMapped, AreOf}
 use Rattle.sat_solver.proofs.lemmas.session.Mapped.{once_mapped}
 use Rattle.sat_solver.proofs.lemmas.session.StepsOfClauses.{derived_comes_as}
-use Rattle.sat_solver.specs.session.SolverClauses.{pair, binaries, Inserted}
+use Rattle.sat_solver.specs.session.SolverClauses.{pair, binaries, InsertsClause}
 use Rattle.sat_solver.proofs.lemmas.trail.ClauseLemmas.{binary_comes, binary_comes_turned}
 
 two_apart : (a b : ℕ) → a ≢ b → NoRepeats (a ∷ b ∷ [])
@@ -30,7 +30,7 @@ turned_set x y = same_increasing (canonical (x ∷ y ∷ [])) (canonical (y ∷ 
 module _ (s : Session) (global : ℕ → ℕ) (a b : ℕ) (hashes : List ℕ) (rest : List LiveClause) (apart : a ≢ b) (named : AreMapped global s.solver_names (a ∷ b ∷ [])) where
   -- where the clause was put in somewhere
   put_in : (old new : List LiveClause) (c : LiveClause) → c.redundant ≡ false → AreMapped global s.solver_names c.literals → NoRepeats c.literals → canonical (map (with_var global) (a ∷ b ∷ [])) ≡ canonical (map (with_var global) c.literals)
-      → is_tautology (map (with_var global) (a ∷ b ∷ [])) ≡ false → Inserted old new c → AreOf s global (old ++ rest) → AreOf (after (AtClause c.redundant (map (with_var global) (a ∷ b ∷ [])) hashes) s) global (new ++ rest)
+      → is_tautology (map (with_var global) (a ∷ b ∷ [])) ≡ false → InsertsClause old new c → AreOf s global (old ++ rest) → AreOf (after (AtClause c.redundant (map (with_var global) (a ∷ b ∷ [])) hashes) s) global (new ++ rest)
   put_in old new c r m n e t i h =
       let from : AreOf s global (i.before ++ (i.behind ++ rest)) = subst (AreOf s global) (ap (λ cs. cs ++ rest) i.was ∙ append_assoc i.before i.behind rest) h in
       let d : List ℕ = map (with_var global) (a ∷ b ∷ []) in

@@ -8,7 +8,7 @@ use Rattle.std.specs.List.{filter}
 use Rattle.sat_base.specs.values.Literals.{negated}
 use Rattle.sat_parts.specs.prop.Binaries.{implied_by}
 use Rattle.sat_solver.specs.session.LiveClauses.{LiveClause}
-use Rattle.sat_solver.specs.session.SolverClauses.{pair, pairs_of, pairs_from, binaries, Inserted, is_open_clause, binaries_left}
+use Rattle.sat_solver.specs.session.SolverClauses.{pair, binaries_of, binaries_from, binaries, InsertsClause, is_open_clause, binaries_left}
 use Rattle.sat_solver.proofs.lemmas.trail.OpenLemmas.{pairs_both}
 
 nothing_left : {X : Type 0} → (xs : List X) (n : ℕ) → length xs ≤ n → drop n xs ≡ []
@@ -17,20 +17,20 @@ nothing_left [] (suc n) h = refl
 nothing_left (x ∷ xs) zero h = absurd (omega arith)
 nothing_left (x ∷ xs) (suc n) h = nothing_left xs n (omega arith)
 
-from_both : (l : ℕ) (xs ys : List (List ℕ)) → pairs_from l (xs ++ ys) ≡ pairs_from l xs ++ pairs_from (l + length xs) ys
-from_both l [] ys = (let z : l + 0 ≡ l = omega arith in ap (λ k. pairs_from k ys) (sym z))
+from_both : (l : ℕ) (xs ys : List (List ℕ)) → binaries_from l (xs ++ ys) ≡ binaries_from l xs ++ binaries_from (l + length xs) ys
+from_both l [] ys = (let z : l + 0 ≡ l = omega arith in ap (λ k. binaries_from k ys) (sym z))
 from_both l (ms ∷ xs) ys =
     let z : l + 1 + length xs ≡ l + suc (length xs) = omega arith in
-    ap (λ cs. pairs_of (negated l) ms ++ cs) (from_both (l + 1) xs ys) ∙ sym (append_assoc (pairs_of (negated l) ms) (pairs_from (l + 1) xs) (pairs_from (l + 1 + length xs) ys))
-    ∙ ap (λ k. (pairs_of (negated l) ms ++ pairs_from (l + 1) xs) ++ pairs_from k ys) z
+    ap (λ cs. binaries_of (negated l) ms ++ cs) (from_both (l + 1) xs ys) ∙ sym (append_assoc (binaries_of (negated l) ms) (binaries_from (l + 1) xs) (binaries_from (l + 1 + length xs) ys))
+    ∙ ap (λ k. (binaries_of (negated l) ms ++ binaries_from (l + 1) xs) ++ binaries_from k ys) z
 
 -- a list and those behind it
-from_here : (implied : List (List ℕ)) (l : ℕ) → pairs_from l (drop l implied) ≡ pairs_of (negated l) (implied_by implied l) ++ pairs_from (l + 1) (drop (l + 1) implied)
+from_here : (implied : List (List ℕ)) (l : ℕ) → binaries_from l (drop l implied) ≡ binaries_of (negated l) (implied_by implied l) ++ binaries_from (l + 1) (drop (l + 1) implied)
 from_here implied l = elim (cases_lt l (length implied)) [
-  | inl lt ↦ ap (pairs_from l) (drop-cons implied l [] lt) ∙ (let z : suc l ≡ l + 1 = omega arith in ap (λ n. pairs_of (negated l) (implied_by implied l) ++ pairs_from (l + 1) (drop n implied)) z)
+  | inl lt ↦ ap (binaries_from l) (drop-cons implied l [] lt) ∙ (let z : suc l ≡ l + 1 = omega arith in ap (λ n. binaries_of (negated l) (implied_by implied l) ++ binaries_from (l + 1) (drop n implied)) z)
   | inr ge ↦
-      ap (pairs_from l) (nothing_left implied l ge)
-      ∙ sym (ap (λ ms. pairs_of (negated l) ms ++ pairs_from (l + 1) (drop (l + 1) implied)) (get_or_past implied l [] ge) ∙ ap (pairs_from (l + 1)) (nothing_left implied (l + 1) (omega arith)))
+      ap (binaries_from l) (nothing_left implied l ge)
+      ∙ sym (ap (λ ms. binaries_of (negated l) ms ++ binaries_from (l + 1) (drop (l + 1) implied)) (get_or_past implied l [] ge) ∙ ap (binaries_from (l + 1)) (nothing_left implied (l + 1) (omega arith)))
 ]
 
 module _ (values : List (Option Bool)) (implied : List (List ℕ)) where
@@ -46,27 +46,27 @@ module _ (values : List (Option Bool)) (implied : List (List ℕ)) where
   left_list l lt =
       let ms : List ℕ = implied_by implied l in
       let a : ℕ = negated l in
-      let before : List LiveClause = opens (pairs_from 0 (take l implied)) in
-      let behind : List LiveClause = pairs_from (l + 1) (drop (l + 1) implied) in
+      let before : List LiveClause = opens (binaries_from 0 (take l implied)) in
+      let behind : List LiveClause = binaries_from (l + 1) (drop (l + 1) implied) in
       let size : 0 + length (take l implied) ≡ l = (let e : length (take l implied) ≡ l = length-take-le l implied (omega arith) in omega arith) in
       let s : suc l ≡ l + 1 = omega arith in
-      let more : pairs_from 0 (take (l + 1) implied) ≡ pairs_from 0 (take l implied) ++ pairs_of (negated l) (implied_by implied l) =
-      ap (λ n. pairs_from 0 (take n implied)) (sym s) ∙ ap (pairs_from 0) (take-suc implied l [] lt) ∙ from_both 0 (take l implied) (ms ∷ [])
-      ∙ ap (λ k. pairs_from 0 (take l implied) ++ (pairs_of (negated k) ms ++ [])) size ∙ ap (λ cs. pairs_from 0 (take l implied) ++ cs) (append-nil (pairs_of a ms)) in
-      ap (λ xs. before ++ (opens (pairs_of a xs) ++ (pairs_of a (drop (length ms) ms) ++ behind))) (take-length ms)
-      ∙ ap (λ xs. before ++ (opens (pairs_of a ms) ++ (pairs_of a xs ++ behind))) (nothing_left ms (length ms) (omega arith))
-      ∙ sym (append_assoc before (opens (pairs_of a ms)) behind)
-      ∙ ap (λ cs. cs ++ behind) (sym (filter-append (is_open_clause values) (pairs_from 0 (take l implied)) (pairs_of a ms)))
+      let more : binaries_from 0 (take (l + 1) implied) ≡ binaries_from 0 (take l implied) ++ binaries_of (negated l) (implied_by implied l) =
+      ap (λ n. binaries_from 0 (take n implied)) (sym s) ∙ ap (binaries_from 0) (take-suc implied l [] lt) ∙ from_both 0 (take l implied) (ms ∷ [])
+      ∙ ap (λ k. binaries_from 0 (take l implied) ++ (binaries_of (negated k) ms ++ [])) size ∙ ap (λ cs. binaries_from 0 (take l implied) ++ cs) (append-nil (binaries_of a ms)) in
+      ap (λ xs. before ++ (opens (binaries_of a xs) ++ (binaries_of a (drop (length ms) ms) ++ behind))) (take-length ms)
+      ∙ ap (λ xs. before ++ (opens (binaries_of a ms) ++ (binaries_of a xs ++ behind))) (nothing_left ms (length ms) (omega arith))
+      ∙ sym (append_assoc before (opens (binaries_of a ms)) behind)
+      ∙ ap (λ cs. cs ++ behind) (sym (filter-append (is_open_clause values) (binaries_from 0 (take l implied)) (binaries_of a ms)))
       ∙ ap (λ cs. opens cs ++ behind) (sym more)
-      ∙ ap (λ cs. opens (pairs_from 0 (take (l + 1) implied)) ++ cs) (from_here implied (l + 1))
+      ∙ ap (λ cs. opens (binaries_from 0 (take (l + 1) implied)) ++ cs) (from_here implied (l + 1))
 
   -- in the end the open ones are left
   pub left_end : binaries_left values implied (length implied) 0 ≡ opens (binaries implied)
   left_end =
       let n : ℕ = length implied in
-      let gone : pairs_of (negated (length implied)) (implied_by implied (length implied)) ++ pairs_from (length implied + 1) (drop (length implied + 1) implied) ≡ [] =
-      sym (from_here implied n) ∙ ap (pairs_from n) (nothing_left implied n (omega arith)) in
-      ap (λ xs. opens (pairs_from 0 xs) ++ (pairs_of (negated n) (implied_by implied n) ++ pairs_from (n + 1) (drop (n + 1) implied))) (take-length implied)
+      let gone : binaries_of (negated (length implied)) (implied_by implied (length implied)) ++ binaries_from (length implied + 1) (drop (length implied + 1) implied) ≡ [] =
+      sym (from_here implied n) ∙ ap (binaries_from n) (nothing_left implied n (omega arith)) in
+      ap (λ xs. opens (binaries_from 0 xs) ++ (binaries_of (negated n) (implied_by implied n) ++ binaries_from (n + 1) (drop (n + 1) implied))) (take-length implied)
       ∙ ap (λ cs. opens (binaries implied) ++ cs) gone ∙ append-nil (opens (binaries implied))
 
   -- AN ITEM OF A LIST
@@ -79,52 +79,52 @@ module _ (values : List (Option Bool)) (implied : List (List ℕ)) where
     a = negated l
 
     abbrev one : List LiveClause
-    one = pairs_of a (m ∷ [])
+    one = binaries_of a (m ∷ [])
 
     abbrev before : List LiveClause
-    before = opens (pairs_from 0 (take l implied))
+    before = opens (binaries_from 0 (take l implied))
 
     abbrev first : List LiveClause
-    first = opens (pairs_of a (take k (implied_by implied l)))
+    first = opens (binaries_of a (take k (implied_by implied l)))
 
     abbrev behind : List LiveClause
-    behind = pairs_of a (drop (k + 1) (implied_by implied l)) ++ pairs_from (l + 1) (drop (l + 1) implied)
+    behind = binaries_of a (drop (k + 1) (implied_by implied l)) ++ binaries_from (l + 1) (drop (l + 1) implied)
 
     -- before it is looked at, and behind
     left_with : binaries_left values implied l k ≡ before ++ (first ++ (one ++ behind))
     left_with =
         let ms : List ℕ = implied_by implied l in
         let s : suc k ≡ k + 1 = omega arith in
-        ap (λ xs. before ++ (first ++ (pairs_of a xs ++ pairs_from (l + 1) (drop (l + 1) implied)))) (drop-cons ms k 0 lt ∙ ap (λ n. m ∷ drop n ms) s)
-        ∙ ap (λ cs. before ++ (first ++ (cs ++ pairs_from (l + 1) (drop (l + 1) implied)))) (pairs_both a (m ∷ []) (drop (k + 1) ms))
-        ∙ ap (λ cs. before ++ (first ++ cs)) (append_assoc one (pairs_of a (drop (k + 1) ms)) (pairs_from (l + 1) (drop (l + 1) implied)))
+        ap (λ xs. before ++ (first ++ (binaries_of a xs ++ binaries_from (l + 1) (drop (l + 1) implied)))) (drop-cons ms k 0 lt ∙ ap (λ n. m ∷ drop n ms) s)
+        ∙ ap (λ cs. before ++ (first ++ (cs ++ binaries_from (l + 1) (drop (l + 1) implied)))) (pairs_both a (m ∷ []) (drop (k + 1) ms))
+        ∙ ap (λ cs. before ++ (first ++ cs)) (append_assoc one (binaries_of a (drop (k + 1) ms)) (binaries_from (l + 1) (drop (l + 1) implied)))
 
     left_next : binaries_left values implied l (k + 1) ≡ before ++ (first ++ (opens one ++ behind))
     left_next =
         let ms : List ℕ = implied_by implied l in
         let s : k + 1 ≡ suc k = omega arith in
-        ap (λ xs. before ++ (opens (pairs_of a xs) ++ behind)) (ap (λ n. take n ms) s ∙ take-suc ms k 0 lt)
+        ap (λ xs. before ++ (opens (binaries_of a xs) ++ behind)) (ap (λ n. take n ms) s ∙ take-suc ms k 0 lt)
         ∙ ap (λ cs. before ++ (opens cs ++ behind)) (pairs_both a (take k ms) (m ∷ []))
-        ∙ ap (λ cs. before ++ (cs ++ behind)) (filter-append (is_open_clause values) (pairs_of a (take k ms)) one)
+        ∙ ap (λ cs. before ++ (cs ++ behind)) (filter-append (is_open_clause values) (binaries_of a (take k ms)) one)
         ∙ ap (λ cs. before ++ cs) (append_assoc first (opens one) behind)
 
     -- the clause stands elsewhere
     pub left_other : ltb a m ≡ false → binaries_left values implied l k ≡ binaries_left values implied l (k + 1)
     left_other e =
-        let none : pairs_of a (m ∷ []) ≡ [] = ap (λ b. cond b (pair a m ∷ []) []) e in
+        let none : binaries_of a (m ∷ []) ≡ [] = ap (λ b. cond b (pair a m ∷ []) []) e in
         left_with ∙ ap (λ cs. before ++ (first ++ (cs ++ behind))) none ∙ sym (ap (λ cs. before ++ (first ++ (opens cs ++ behind))) none) ∙ sym left_next
 
     -- it stays
     pub left_open : ltb a m ≡ true → is_open_clause values (pair a m) ≡ true → binaries_left values implied l k ≡ binaries_left values implied l (k + 1)
     left_open e u =
-        let its : pairs_of a (m ∷ []) ≡ pair a m ∷ [] = ap (λ b. cond b (pair a m ∷ []) []) e in
+        let its : binaries_of a (m ∷ []) ≡ pair a m ∷ [] = ap (λ b. cond b (pair a m ∷ []) []) e in
         let same : opens (pair a m ∷ []) ≡ pair a m ∷ [] = ap (λ b. cond b (pair a m ∷ []) []) u in
         left_with ∙ ap (λ cs. before ++ (first ++ (cs ++ behind))) (its ∙ sym same ∙ sym (ap opens its)) ∙ sym left_next
 
     -- it goes
-    pub left_set : ltb a m ≡ true → is_open_clause values (pair a m) ≡ false → Inserted (binaries_left values implied l (k + 1)) (binaries_left values implied l k) (pair a m)
+    pub left_set : ltb a m ≡ true → is_open_clause values (pair a m) ≡ false → InsertsClause (binaries_left values implied l (k + 1)) (binaries_left values implied l k) (pair a m)
     left_set e u =
-        let its : pairs_of a (m ∷ []) ≡ pair a m ∷ [] = ap (λ b. cond b (pair a m ∷ []) []) e in
+        let its : binaries_of a (m ∷ []) ≡ pair a m ∷ [] = ap (λ b. cond b (pair a m ∷ []) []) e in
         let same : opens one ≡ [] = ap opens its ∙ ap (λ b. cond b (pair a m ∷ []) []) u in
         record {
           before = before ++ first;

@@ -7,13 +7,13 @@ use Rattle.sat_base.specs.values.Literals.{variable, negated}
 use Rattle.sat_parts.specs.prop.Values.{is_unset}
 use Rattle.sat_parts.specs.prop.Binaries.{Binaries, open_among, RemovesAssigned}
 use Rattle.sat_solver.specs.session.LiveClauses.{LiveClause}
-use Rattle.sat_solver.specs.session.SolverClauses.{pair, pairs_of, pairs_from, binaries, is_open_clause}
+use Rattle.sat_solver.specs.session.SolverClauses.{pair, binaries_of, binaries_from, binaries, is_open_clause}
 
-pub pairs_both : (a : ℕ) (xs ys : List ℕ) → pairs_of a (xs ++ ys) ≡ pairs_of a xs ++ pairs_of a ys
+pub pairs_both : (a : ℕ) (xs ys : List ℕ) → binaries_of a (xs ++ ys) ≡ binaries_of a xs ++ binaries_of a ys
 pairs_both a [] ys = refl
 pairs_both a (x ∷ xs) ys = go (ltb a x) (pairs_both a xs ys)
   where
-    go : (b : Bool) → pairs_of a (xs ++ ys) ≡ pairs_of a xs ++ pairs_of a ys → cond b (pair a x ∷ pairs_of a (xs ++ ys)) (pairs_of a (xs ++ ys)) ≡ cond b (pair a x ∷ pairs_of a xs) (pairs_of a xs) ++ pairs_of a ys
+    go : (b : Bool) → binaries_of a (xs ++ ys) ≡ binaries_of a xs ++ binaries_of a ys → cond b (pair a x ∷ binaries_of a (xs ++ ys)) (binaries_of a (xs ++ ys)) ≡ cond b (pair a x ∷ binaries_of a xs) (binaries_of a xs) ++ binaries_of a ys
     go true ih = ap (λ cs. pair a x ∷ cs) ih
     go false ih = ih
 
@@ -26,58 +26,58 @@ module _ (values : List (Option Bool)) where
 
   -- WHAT IS LEFT OF ONE LIST
 
-  opens_if : (a m : ℕ) (ms : List ℕ) → unset a ≡ true → (b : Bool) → opens (cond b (pair a m ∷ pairs_of a ms) (pairs_of a ms)) ≡ cond b (cond (unset m) (pair a m ∷ opens (pairs_of a ms)) (opens (pairs_of a ms))) (opens (pairs_of a ms))
-  opens_if a m ms u true = ap (λ x. cond (x && (unset m && true)) (pair a m ∷ opens (pairs_of a ms)) (opens (pairs_of a ms))) u ∙ go (unset m)
+  opens_if : (a m : ℕ) (ms : List ℕ) → unset a ≡ true → (b : Bool) → opens (cond b (pair a m ∷ binaries_of a ms) (binaries_of a ms)) ≡ cond b (cond (unset m) (pair a m ∷ opens (binaries_of a ms)) (opens (binaries_of a ms))) (opens (binaries_of a ms))
+  opens_if a m ms u true = ap (λ x. cond (x && (unset m && true)) (pair a m ∷ opens (binaries_of a ms)) (opens (binaries_of a ms))) u ∙ go (unset m)
     where
-      go : (y : Bool) → cond (y && true) (pair a m ∷ opens (pairs_of a ms)) (opens (pairs_of a ms)) ≡ cond y (pair a m ∷ opens (pairs_of a ms)) (opens (pairs_of a ms))
+      go : (y : Bool) → cond (y && true) (pair a m ∷ opens (binaries_of a ms)) (opens (binaries_of a ms)) ≡ cond y (pair a m ∷ opens (binaries_of a ms)) (opens (binaries_of a ms))
       go true = refl
       go false = refl
   opens_if a m ms u false = refl
 
-  pairs_if : (a m : ℕ) (ms : List ℕ) (y : Bool) → pairs_of a (cond y (m ∷ ms) ms) ≡ cond (ltb a m) (cond y (pair a m ∷ pairs_of a ms) (pairs_of a ms)) (pairs_of a ms)
+  pairs_if : (a m : ℕ) (ms : List ℕ) (y : Bool) → binaries_of a (cond y (m ∷ ms) ms) ≡ cond (ltb a m) (cond y (pair a m ∷ binaries_of a ms) (binaries_of a ms)) (binaries_of a ms)
   pairs_if a m ms true = refl
   pairs_if a m ms false = go (ltb a m)
     where
-      go : (b : Bool) → pairs_of a ms ≡ cond b (pairs_of a ms) (pairs_of a ms)
+      go : (b : Bool) → binaries_of a ms ≡ cond b (binaries_of a ms) (binaries_of a ms)
       go true = refl
       go false = refl
 
   -- the literal has no value
-  opens_open : (a : ℕ) (ms : List ℕ) → unset a ≡ true → pairs_of a (filter unset ms) ≡ opens (pairs_of a ms)
+  opens_open : (a : ℕ) (ms : List ℕ) → unset a ≡ true → binaries_of a (filter unset ms) ≡ opens (binaries_of a ms)
   opens_open a [] u = refl
   opens_open a (m ∷ ms) u =
-      let ih : pairs_of a (filter unset ms) ≡ opens (pairs_of a ms) = opens_open a ms u in
+      let ih : binaries_of a (filter unset ms) ≡ opens (binaries_of a ms) = opens_open a ms u in
       pairs_if a m (filter unset ms) (unset m)
       ∙ ap (λ cs. cond (ltb a m) (cond (unset m) (pair a m ∷ cs) cs) cs) ih
       ∙ sym (opens_if a m ms u (ltb a m))
 
   -- or has one
-  opens_set : (a : ℕ) (ms : List ℕ) → unset a ≡ false → [] ≡ opens (pairs_of a ms)
+  opens_set : (a : ℕ) (ms : List ℕ) → unset a ≡ false → [] ≡ opens (binaries_of a ms)
   opens_set a [] u = refl
   opens_set a (m ∷ ms) u = go (ltb a m) (opens_set a ms u)
     where
-      go : (b : Bool) → [] ≡ opens (pairs_of a ms) → [] ≡ opens (cond b (pair a m ∷ pairs_of a ms) (pairs_of a ms))
-      go true ih = ih ∙ sym (ap (λ x. cond (x && (unset m && true)) (pair a m ∷ opens (pairs_of a ms)) (opens (pairs_of a ms))) u)
+      go : (b : Bool) → [] ≡ opens (binaries_of a ms) → [] ≡ opens (cond b (pair a m ∷ binaries_of a ms) (binaries_of a ms))
+      go true ih = ih ∙ sym (ap (λ x. cond (x && (unset m && true)) (pair a m ∷ opens (binaries_of a ms)) (opens (binaries_of a ms))) u)
       go false ih = ih
 
-  opens_of : (l : ℕ) (ms : List ℕ) → pairs_of (negated l) (open_among values (variable l) ms) ≡ opens (pairs_of (negated l) ms)
+  opens_of : (l : ℕ) (ms : List ℕ) → binaries_of (negated l) (open_among values (variable l) ms) ≡ opens (binaries_of (negated l) ms)
   opens_of l ms =
       let same : unset (negated l) ≡ is_unset values (variable l) = (let e : variable (negated l) ≡ variable l = omega arith in ap (is_unset values) e) in
       elim (cases_Bool (is_unset values (variable l))) [
-        | inl t ↦ ap (λ b. pairs_of (negated l) (cond b (filter unset ms) [])) t ∙ opens_open (negated l) ms (same ∙ t)
-        | inr f ↦ ap (λ b. pairs_of (negated l) (cond b (filter unset ms) [])) f ∙ opens_set (negated l) ms (same ∙ f)
+        | inl t ↦ ap (λ b. binaries_of (negated l) (cond b (filter unset ms) [])) t ∙ opens_open (negated l) ms (same ∙ t)
+        | inr f ↦ ap (λ b. binaries_of (negated l) (cond b (filter unset ms) [])) f ∙ opens_set (negated l) ms (same ∙ f)
       ]
 
-  opens_from : (l : ℕ) (old new : List (List ℕ)) → length new ≡ length old → ((i : ℕ) → i < length old → get_or new i [] ≡ open_among values (variable (l + i)) (get_or old i [])) → pairs_from l new ≡ opens (pairs_from l old)
+  opens_from : (l : ℕ) (old new : List (List ℕ)) → length new ≡ length old → ((i : ℕ) → i < length old → get_or new i [] ≡ open_among values (variable (l + i)) (get_or old i [])) → binaries_from l new ≡ opens (binaries_from l old)
   opens_from l [] [] n h = refl
   opens_from l [] (ms ∷ new) n h = absurd (omega arith)
   opens_from l (ms ∷ old) [] n h = absurd (omega arith)
   opens_from l (ms ∷ old) (ks ∷ new) n h =
       let z : l + 0 ≡ l = omega arith in
       let here : ks ≡ open_among values (variable l) ms = h 0 (omega arith) ∙ ap (λ k. open_among values (variable k) ms) z in
-      let rest : pairs_from (l + 1) new ≡ opens (pairs_from (l + 1) old) = opens_from (l + 1) old new (omega arith) (λ i lt. (let y : l + suc i ≡ l + 1 + i = omega arith in h (suc i) (omega arith) ∙ ap (λ k. open_among values (variable k) (get_or old i [])) y)) in
-      ap (λ xs. pairs_of (negated l) xs ++ pairs_from (l + 1) new) here ∙ ap (λ cs. cs ++ pairs_from (l + 1) new) (opens_of l ms) ∙ ap (λ cs. opens (pairs_of (negated l) ms) ++ cs) rest
-      ∙ sym (filter-append (is_open_clause values) (pairs_of (negated l) ms) (pairs_from (l + 1) old))
+      let rest : binaries_from (l + 1) new ≡ opens (binaries_from (l + 1) old) = opens_from (l + 1) old new (omega arith) (λ i lt. (let y : l + suc i ≡ l + 1 + i = omega arith in h (suc i) (omega arith) ∙ ap (λ k. open_among values (variable k) (get_or old i [])) y)) in
+      ap (λ xs. binaries_of (negated l) xs ++ binaries_from (l + 1) new) here ∙ ap (λ cs. cs ++ binaries_from (l + 1) new) (opens_of l ms) ∙ ap (λ cs. opens (binaries_of (negated l) ms) ++ cs) rest
+      ∙ sym (filter-append (is_open_clause values) (binaries_of (negated l) ms) (binaries_from (l + 1) old))
 
   -- what remove_assigned leaves
   pub binaries_open : (x y : Binaries) → RemovesAssigned values x y → binaries y.implied ≡ opens (binaries x.implied)

@@ -8,9 +8,9 @@ use Rattle.sat_store.specs.clause.Buffer.{lits_at}
 use Rattle.sat_parts.specs.declared.prop.graph.Reason.{Reason}
 use Rattle.sat_parts.specs.declared.prop.graph.Reason.TheVariants.{Unit as NoCause, Binary, Long}
 use Rattle.sat_parts.specs.clause.Stored.{lit_of, size_of}
-use Rattle.sat_parts.specs.prop.Graphs.{is_unit}
+use Rattle.sat_parts.specs.prop.Graphs.{is_unit_reason}
 use Rattle.sat_parts.specs.prop.Values.{value_of, IsTrueLit}
-use Rattle.sat_parts.specs.prop.State.{State, node, lit_at, IsBefore, Agrees}
+use Rattle.sat_parts.specs.prop.State.{State, node, lit_at, IsBefore, StateIsConsistent}
 use Rattle.sat_parts.specs.prop.Reasons.{IsFalseBefore, Implies, AreInTurn}
 use Rattle.sat_solver.specs.session.Session.{Session, with_fact, MayProve}
 use Rattle.sat_solver.specs.session.LiveClauses.{with_var}
@@ -84,7 +84,7 @@ not_both values l a b =
     differ : (x y : Bool) → x ≡ true → y ≡ false → Some x ≡ Some y → ⊥
     differ x y p q e = let k : x ≡ y = cc in true≢false (sym p ∙ k ∙ q)
 
-module _ (words live : List ℕ) (implied : List (List ℕ)) (st : State) (global : ℕ → ℕ) (filled : (o : ℕ) → Contains live o → 0 < size_of words o) (agrees : Agrees st) (turns : AreInTurn words live implied st 0) where
+module _ (words live : List ℕ) (implied : List (List ℕ)) (st : State) (global : ℕ → ℕ) (filled : (o : ℕ) → Contains live o → 0 < size_of words o) (agrees : StateIsConsistent st) (turns : AreInTurn words live implied st 0) where
   -- what is a unit by now
   record Now (s : Session) (i : ℕ) : Type 0 where
     fits : UnitsFit words st s global
@@ -97,7 +97,7 @@ module _ (words live : List ℕ) (implied : List (List ℕ)) (st : State) (globa
   mapped_all s l [] h = tt
   mapped_all s l (m ∷ ms) h = (elim h.0 [ inl e ↦ inl (ap (with_var global) e) | inr k ↦ inr k ], mapped_all s l ms h.1)
 
-  others : (s : Session) (i l : ℕ) (r : Reason) → lit_at st i ≡ l → Now s i → is_unit r ≡ false → Implies words live implied st i r → AllByRecursion (λ m. (m ≡ l) ⊎ (s.units (negated (with_var global m)) ≡ true)) (reason_clause words l r)
+  others : (s : Session) (i l : ℕ) (r : Reason) → lit_at st i ≡ l → Now s i → is_unit_reason r ≡ false → Implies words live implied st i r → AllByRecursion (λ m. (m ≡ l) ⊎ (s.units (negated (with_var global m)) ≡ true)) (reason_clause words l r)
   others s i l NoCause e n u h = tt
   others s i l (Binary ls) e n u h = (inl refl, (inr (unit_false s i (slice_index_or ls 0 0) n h.1), tt))
   others s i l (Long o) e n u h = from_index (λ m. (m ≡ l) ⊎ (s.units (negated (with_var global m)) ≡ true)) (lits_at words o) (λ k j. elim (eq-zero-or-pos k) [
@@ -147,16 +147,16 @@ module _ (words live : List ℕ) (implied : List (List ℕ)) (st : State) (globa
 
   may_from : (ls : List ℕ) (i : ℕ) (s : Session) → drop i st.trail.lits ≡ ls → Now s i → MayProve s (written_units words st s.width global ls)
   may_from [] i s e n = tt
-  may_from (l ∷ ls) i s e n = go (may_from ls (i + 1)) (is_unit (node st l).reason) refl
+  may_from (l ∷ ls) i s e n = go (may_from ls (i + 1)) (is_unit_reason (node st l).reason) refl
     where
       parts : Parts st.trail.lits i l ls
       parts = drop_parts st.trail.lits i l ls e
 
-      go : ((s : Session) → drop (i + 1) st.trail.lits ≡ ls → Now s (i + 1) → MayProve s (written_units words st s.width global ls)) → (b : Bool) → is_unit (node st l).reason ≡ b
+      go : ((s : Session) → drop (i + 1) st.trail.lits ≡ ls → Now s (i + 1) → MayProve s (written_units words st s.width global ls)) → (b : Bool) → is_unit_reason (node st l).reason ≡ b
           → MayProve s (cond b (written_units words st s.width global ls) ((with_var global l, hash_of (reason_clause words l (node st l).reason) / 2 ^ (64 - s.width)) ∷ written_units words st s.width global ls))
-      go ih true u = ih s parts.rest (later s i l parts.there n (subst (λ x. s.units (with_var global x) ≡ true) parts.there (n.fits.given i parts.inside (subst (λ x. is_unit (node st x).reason ≡ true) (sym parts.there) u))))
+      go ih true u = ih s parts.rest (later s i l parts.there n (subst (λ x. s.units (with_var global x) ≡ true) parts.there (n.fits.given i parts.inside (subst (λ x. is_unit_reason (node st x).reason ≡ true) (sym parts.there) u))))
       go ih false u =
-          let usable : IsUsable s global (reason_clause words l (node st l).reason) = subst (λ x. IsUsable s global (reason_clause words x (node st x).reason)) parts.there (n.fits.usable i parts.inside (subst (λ x. is_unit (node st x).reason ≡ false) (sym parts.there) u)) in
+          let usable : IsUsable s global (reason_clause words l (node st l).reason) = subst (λ x. IsUsable s global (reason_clause words x (node st x).reason)) parts.there (n.fits.usable i parts.inside (subst (λ x. is_unit_reason (node st x).reason ≡ false) (sym parts.there) u)) in
           let implies : Implies words live implied st i (node st l).reason = subst (λ x. Implies words live implied st i (node st x).reason) parts.there (turns i (omega arith) parts.inside) in
           let next : Now (with_fact (with_var global l) s) (i + 1) = subst (λ x. Now (with_fact (with_var global x) s) (i + 1)) parts.there (with_it s i parts.inside n) in (
             proves s (with_var global l) (hash_of (reason_clause words l (node st l).reason) / 2 ^ (64 - s.width)) (map (with_var global) (reason_clause words l (node st l).reason)) usable.live usable.hash

@@ -13,8 +13,8 @@ use Rattle.sat_solver.specs.unit_simplify.Left.{TakesUnitsOff}
 use Rattle.sat_solver.specs.cdcl.Turns.{IsPropagated}
 use Rattle.sat_solver.specs.declared.context.Search.{Search}
 use Rattle.sat_solver.proofs.lemmas.cdcl.TurnLemmas.{Propagation, ready_moved, free_moved}
-use Rattle.sat_solver.proofs.lemmas.solver.TellingLemmas.{shares_moved}
-use Rattle.sat_solver.specs.unit_simplify.Flat.{IsFlat}
+use Rattle.sat_solver.proofs.lemmas.solver.ReportingLemmas.{shares_moved}
+use Rattle.sat_solver.specs.unit_simplify.Flat.{HasEmptyTrail}
 use Rattle.sat_solver.specs.unit_simplify.Passes.{StandTogether, MaySettle, PassesQuietly, Simplifies}
 use Rattle.sat_solver.proofs.lemmas.unit_simplify.LighterLemmas.{goes_leaves}
 use Rattle.sat_solver.proofs.lemmas.unit_simplify.PassesLemmas.{passes_goes, passes_trans, falls_later}
@@ -39,7 +39,7 @@ module _ {W L : Type 0} {G : Ghosts L} (seen : W → Writer) (n : Variables) (p 
   leaves : SameAssumedAndNames (session_of p) (session_of q)
   leaves = goes_leaves seen tt p q (λ _ _. TakesUnitsOff c.parts d.parts (session_of q) (global_in c)) g
 
-  pub settled_flat : IsFlat d.parts
+  pub settled_flat : HasEmptyTrail d.parts
   settled_flat = record { bottom = g.ends.starts ∙ may.bottom; empty = g.ends.empty may.bottom }
 
   pub settled_passes : PassesQuietly seen n n p q c d

@@ -24,7 +24,7 @@ use Rattle.sat_solver.specs.declared.context.Search.{Search}
 use Rattle.sat_solver.proofs.lemmas.cdcl.GoingLemmas.{goes_on, goes_failing}
 use Rattle.sat_solver.specs.unit_simplify.Cuts.{deleted_step, derived_step, MayCut}
 use Rattle.sat_solver.specs.unit_simplify.Cutting.{Replaces, NamesCut}
-use Rattle.sat_solver.specs.unit_simplify.Flat.{IsFlat, IsStrengthened, StrengthensClause}
+use Rattle.sat_solver.specs.unit_simplify.Flat.{HasEmptyTrail, IsStrengthened, StrengthensClause}
 use Rattle.sat_solver.specs.unit_simplify.Looks.{HasFalse}
 use Rattle.sat_solver.proofs.lemmas.unit_simplify.CutLemmas.{cut_goes, fewer_open, part_named}
 use Rattle.sat_solver.proofs.lemmas.unit_simplify.LighterLemmas.{goes_leaves}
@@ -32,7 +32,7 @@ use Rattle.sat_solver.proofs.lemmas.unit_simplify.LightensLemmas.{lightens_cut}
 use Rattle.sat_solver.proofs.lemmas.unit_simplify.TrueLemmas.{lighter_by}
 
 -- the clause at o was gathered in m, and what is left of it put in its place in d
-module _ {W L : Type 0} {G : Ghosts L} (seen : W → Writer) (p : Proof W L G) (c m : Search) (o len : ℕ) (h : IsSearch (session_of p) c) (flat : IsFlat c.parts) (there : Contains (live_refs c.parts.clauses c.parts.db.refs) o) (has : HasFalse c.parts o)
+module _ {W L : Type 0} {G : Ghosts L} (seen : W → Writer) (p : Proof W L G) (c m : Search) (o len : ℕ) (h : IsSearch (session_of p) c) (flat : HasEmptyTrail c.parts) (there : Contains (live_refs c.parts.clauses c.parts.db.refs) o) (has : HasFalse c.parts o)
     (same : m ≡ record c { parts = m.parts; scratch = m.scratch }) (left : List ℕ) (n : NamesCut c m left o len) (q : Parts) (r : Replaces m.parts q o len) (b : Bool) (side : is_redundant m.parts.clauses o ≡ b) where
   abbrev part : List ℕ
   part = map (with_var (global_in c)) (take len (lits_at m.parts.clauses o))

@@ -8,7 +8,7 @@ use Rattle.sat_base.specs.values.Hashes.{hash_of}
 use Rattle.sat_base.specs.steps.Steps.{Step, Simplified}
 use Rattle.sat_store.specs.clause.Buffer.{lits_at}
 use Rattle.sat_parts.specs.clause.Db.{live_refs}
-use Rattle.sat_parts.specs.clause.Orders.{AreDistinct, Shuffled}
+use Rattle.sat_parts.specs.clause.Orders.{AreDistinct, IsReordering}
 use Rattle.sat_parts.specs.clause.Stored.{lit_of, size_of}
 use Rattle.sat_parts.specs.prop.Values.{IsFalseLit}
 use Rattle.sat_parts.proofs.lemmas.clause.OrderLemmas.{shuffled_refl}
@@ -17,7 +17,7 @@ use Rattle.sat_solver.specs.session.Session.{Session, session_after}
 use Rattle.sat_solver.specs.session.LiveClauses.{with_var}
 use Rattle.sat_solver.proofs.lemmas.session.StepsOfClauses.{length_mapped}
 use Rattle.sat_parts.specs.declared.parts.Parts.{Parts}
-use Rattle.sat_parts.specs.parts.Frame.{Dropped, Shortened, AddsOriginalClause, IsUnitLit}
+use Rattle.sat_parts.specs.parts.Frame.{DropsLongClause, ShortensLongClause, AddsOriginalClause, IsUnitLit}
 use Rattle.sat_parts.specs.parts.Whole.{state}
 use Rattle.sat_solver.specs.session.Fits.{is_redundant, SessionMatchesParts}
 use Rattle.sat_solver.proofs.lemmas.fits.FitLemmas.{among_at, mapped_at}
@@ -33,7 +33,7 @@ use Rattle.sat_solver.specs.declared.context.Search.{Search}
 use Rattle.sat_solver.specs.cdcl.Joint.{global_in, IsSearch}
 use Rattle.sat_solver.specs.unit_simplify.Cuts.{deleted_step, derived_step}
 use Rattle.sat_solver.specs.unit_simplify.Cutting.{Gathers, PutsPart, puts_long, puts_pair}
-use Rattle.sat_solver.specs.unit_simplify.Flat.{IsFlat}
+use Rattle.sat_solver.specs.unit_simplify.Flat.{HasEmptyTrail}
 use Rattle.sat_solver.specs.unit_simplify.Looks.{HasFalse}
 use Rattle.sat_solver.proofs.lemmas.unit_simplify.GatherLemmas.{moved_there, moved_size, open_not_false}
 
@@ -58,7 +58,7 @@ fewer_open c p o len there g has =
 
 -- ONE CLAUSE
 
-module _ (steps : List Step) (c : Search) (p : Parts) (o len : ℕ) (h : IsSearch (session_after steps) c) (flat : IsFlat c.parts) (there : Contains (live_refs c.parts.clauses c.parts.db.refs) o) (g : Gathers c.parts p o len (size_of c.parts.clauses o)) (some : 2 ≤ len) (within : len ≤ size_of c.parts.clauses o) (fewer : len < size_of c.parts.clauses o) where
+module _ (steps : List Step) (c : Search) (p : Parts) (o len : ℕ) (h : IsSearch (session_after steps) c) (flat : HasEmptyTrail c.parts) (there : Contains (live_refs c.parts.clauses c.parts.db.refs) o) (g : Gathers c.parts p o len (size_of c.parts.clauses o)) (some : 2 ≤ len) (within : len ≤ size_of c.parts.clauses o) (fewer : len < size_of c.parts.clauses o) where
   abbrev s : Session
   s = session_after steps
 
@@ -77,7 +77,7 @@ module _ (steps : List Step) (c : Search) (p : Parts) (o len : ℕ) (h : IsSearc
   there_p : Contains (live_refs p.clauses p.db.refs) o
   there_p = moved_there c.parts p o g.moved there
 
-  order : Shuffled old new
+  order : IsReordering old new
   order = g.moved.kept.lits o there
 
   distinct : AreDistinct old
@@ -113,7 +113,7 @@ module _ (steps : List Step) (c : Search) (p : Parts) (o len : ℕ) (h : IsSearc
   Cut q b = BothParts p q s (global_in c) (derived_step b mpart (hash ∷ [])) (deleted_step b Simplified mold)
 
   -- a long clause is left
-  module _ (q : Parts) (long : 3 ≤ len) (short : Shortened p q o len) where
+  module _ (q : Parts) (long : 3 ≤ len) (short : ShortensLongClause p q o len) where
     cut_long : (b : Bool) → is_redundant p.clauses o ≡ b → Cut q b
     cut_long false side =
         fits_short p q s (global_in c) fits_p g.holds o there_p old order (sessions_are_plain steps) part old hash order distinct refl len short long (omega (arith, size)) false_by (shuffled_refl part) side
@@ -122,7 +122,7 @@ module _ (steps : List Step) (c : Search) (p : Parts) (o len : ℕ) (h : IsSearc
         (fits_short_redundant p q s (global_in c) fits_p g.holds o there_p old order (sessions_are_plain steps) part old hash order distinct refl len short long (omega (arith, size)) false_by (shuffled_refl part) side)
 
   -- two literals are left
-  module _ (q mid : Parts) (two : len ≡ 2) (stores : AddsOriginalClause p mid (lit_of p.clauses o 0 ∷ lit_of p.clauses o 1 ∷ [])) (drops : Dropped mid q o) where
+  module _ (q mid : Parts) (two : len ≡ 2) (stores : AddsOriginalClause p mid (lit_of p.clauses o 0 ∷ lit_of p.clauses o 1 ∷ [])) (drops : DropsLongClause mid q o) where
     abbrev a : ℕ
     a = lit_of p.clauses o 0
 

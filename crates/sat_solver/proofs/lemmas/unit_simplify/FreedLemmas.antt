@@ -18,8 +18,8 @@ use Rattle.sat_solver.specs.session.LiveClauses.{LiveClause, with_var, mapped, A
 use Rattle.sat_solver.proofs.lemmas.session.Lists.{unused_in_all}
 use Rattle.sat_solver.specs.session.SolverClauses.{solver_clauses}
 use Rattle.sat_parts.specs.declared.parts.Parts.{Parts}
-use Rattle.sat_parts.specs.parts.Assumed.{IsPlaced, variables}
-use Rattle.sat_parts.specs.parts.Frame.{Freed, IsUnitLit}
+use Rattle.sat_parts.specs.parts.Assumed.{IsPlaced, variables_of_lits}
+use Rattle.sat_parts.specs.parts.Frame.{FreesVar, IsUnitLit}
 use Rattle.sat_parts.specs.parts.Round.{IsUnused as InNoClause}
 use Rattle.sat_parts.specs.parts.Whole.{state, PartsInvariant}
 use Rattle.sat_parts.specs.parts.Words.{IsIdle, TrailWordExtendsFor}
@@ -49,8 +49,8 @@ use Rattle.sat_solver.proofs.lemmas.cdcl.TurnLemmas.{free_moved, moved_refl, mov
 use Rattle.sat_solver.specs.variables.Shared.{SharesIndices}
 use Rattle.sat_solver.proofs.lemmas.load.GivenLemmas.{of_on}
 use Rattle.sat_solver.proofs.lemmas.load.IndexLemmas.{coded_variable, coded_sign}
-use Rattle.sat_solver.specs.unit_simplify.Flat.{IsFlat}
-use Rattle.sat_solver.specs.unit_simplify.Freed.{LosesIndex, GivesUp, MayFree, KeepsAsked, FreesSome, AreLeft, IsIndexOfAssumed}
+use Rattle.sat_solver.specs.unit_simplify.Flat.{HasEmptyTrail}
+use Rattle.sat_solver.specs.unit_simplify.Freed.{LosesIndex, FreesIndex, MayFree, KeepsAsked, FreesSome, AreLeft, IsIndexOfAssumed}
 
 none_some : {A : Type 0} (x : A) → None ≡ Some x → ⊥
 none_some x e = cc
@@ -72,7 +72,7 @@ module _ (old mid : Variables) (from mids : List Step) (v x : ℕ) (stands : Nam
   quiet_mid = quiet_comes from mids (SolverVarName v None ∷ []) u.step (refl, tt)
 
   -- a variable that has a name
-  pub gives_up_named : GivesUp old mid from mids v
+  pub gives_up_named : FreesIndex old mid from mids v
   gives_up_named = record {
     does = u.does;
     solvers = u.solvers;
@@ -90,7 +90,7 @@ module _ (old mid : Variables) (from mids : List Step) (v x : ℕ) (stands : Nam
   }
 
   -- and then its variable
-  pub gives_up_both : (new : Variables) (to : List Step) → DoesNothing mid new mids to → IsAlike mid new mids to → ForgetsIdle mid mids to v → new.global_from_user ≡ mid.global_from_user → GivesUp old new from to v
+  pub gives_up_both : (new : Variables) (to : List Step) → DoesNothing mid new mids to → IsAlike mid new mids to → ForgetsIdle mid mids to v → new.global_from_user ≡ mid.global_from_user → FreesIndex old new from to v
   gives_up_both new to does a idle users = record {
     quiet = comes_both (λ earlier step. is_quiet step ≡ true) from mids to quiet_mid
         (elim idle [ inl h ↦ quiet_comes mids to (DeleteVar v ∷ []) h.0 (refl, tt) | inr h ↦ quiet_comes mids to [] h.0 tt ]);
@@ -113,7 +113,7 @@ module _ (old mid : Variables) (from mids : List Step) (v x : ℕ) (stands : Nam
 variable_mapped : (global : ℕ → ℕ) (l : ℕ) → variable (with_var global l) ≡ global (variable l)
 variable_mapped global l = omega arith
 
-pub assumed_mention : (global : ℕ → ℕ) (ls : List ℕ) (x : ℕ) → Contains (variables ls) x → mentions (map (with_var global) ls) (global x) ≡ true
+pub assumed_mention : (global : ℕ → ℕ) (ls : List ℕ) (x : ℕ) → Contains (variables_of_lits ls) x → mentions (map (with_var global) ls) (global x) ≡ true
 assumed_mention global [] x c = absurd (let lt : c.0 < 0 = c.1 in omega arith)
 assumed_mention global (l ∷ ls) x (zero, lt, e) =
     or_left (eqb (variable (with_var global l)) (global x)) (mentions (map (with_var global) ls) (global x)) (eq-eqb (variable (with_var global l)) (global x) (variable_mapped global l ∙ ap global e))
@@ -136,7 +136,7 @@ placed_some ls below place s s' e e' kept h =
       all = λ lt. absurd (omega arith);
     }
 
-pub contains_at : (ls : List ℕ) (k : ℕ) → k < length ls → Contains (variables ls) (variable (get_or ls k 0))
+pub contains_at : (ls : List ℕ) (k : ℕ) → k < length ls → Contains (variables_of_lits ls) (variable (get_or ls k 0))
 contains_at [] k lt = absurd (omega arith)
 contains_at (l ∷ ls) zero lt = (0, omega arith, refl)
 contains_at (l ∷ ls) (suc k) lt = let y = contains_at ls k (omega arith) in (suc y.0, omega (arith, y.1), y.2)
@@ -153,7 +153,7 @@ mapped_unused global names v x (l ∷ ls) e m n =
     true≢false (sym (eq-eqb (variable l) x same) ∙ q.0)))
     (mapped_unused global names v x ls e m.1 q.1)
 
-module _ (s : Session) (c : Search) (v x : ℕ) (search : IsSearch s c) (flat : IsFlat c.parts) (own : s.solver_names v ≡ Some x) (at : global_in c x ≡ v) (unused : InNoClause c.parts.clauses (live_refs c.parts.clauses c.parts.db.refs) c.parts.binary.implied x) where
+module _ (s : Session) (c : Search) (v x : ℕ) (search : IsSearch s c) (flat : HasEmptyTrail c.parts) (own : s.solver_names v ≡ Some x) (at : global_in c x ≡ v) (unused : InNoClause c.parts.clauses (live_refs c.parts.clauses c.parts.db.refs) c.parts.binary.implied x) where
   abbrev all : List LiveClause
   all = solver_clauses (is_redundant c.parts.clauses) c.parts.clauses (live_refs c.parts.clauses c.parts.db.refs) c.parts.binary.implied
 
@@ -192,7 +192,7 @@ module _ (s : Session) (c : Search) (v x : ℕ) (search : IsSearch s c) (flat : 
       go (Some true) e false = false_from_ne_true (s.units (coded v false)) (λ u. true≢false (some_same true false (sym e ∙ unit_holds false u)))
       go (Some false) e false = holds_unit false e
 
-  module _ (t : Session) (p : Parts) (loses : LosesIndex s t v) (free : mentions s.assumed v ≡ false) (freed : Freed c.parts p x) (holds : PartsInvariant p) (none : value_of p.assignment.current x ≡ None) (room : x < length c.parts.assignment.current)
+  module _ (t : Session) (p : Parts) (loses : LosesIndex s t v) (free : mentions s.assumed v ≡ false) (freed : FreesVar c.parts p x) (holds : PartsInvariant p) (none : value_of p.assignment.current x ≡ None) (room : x < length c.parts.assignment.current)
       (word : (assumed : List ℕ) → (Contains assumed x → ⊥) → TrailWordExtendsFor assumed c.parts p) where
     abbrev c' : Search
     c' = record c { parts = p }
@@ -206,7 +206,7 @@ module _ (s : Session) (c : Search) (v x : ℕ) (search : IsSearch s c) (flat : 
     pub freed_moved : SameVarsAndAssumptions c c'
     freed_moved = record { globals = refl; lits = refl; size = freed_word.0.size }
 
-    pub freed_flat : IsFlat p
+    pub freed_flat : HasEmptyTrail p
     freed_flat = record { bottom = ap (λ z. z.starts) freed.trail ∙ flat.bottom; empty = ap (λ z. z.lits) freed.trail ∙ flat.empty }
 
     other_name : (w : ℕ) → s.solver_names (global_in c w) ≡ Some w → w ≢ x → global_in c w ≢ v
@@ -349,7 +349,7 @@ module _ (n : Variables) (steps : List Step) (c : Search) (may : MayFree n steps
         kept = λ j live a. record { live = live; agree = unit_agrees n n1 steps v x (value_of c.parts.assignment.current x) may.stands indexed put j live a; trace = no_step };
       }
 
-      pub frees_one : (new : Variables) (to : List Step) (p : Parts) → GivesUp n1 new steps to v → (data_at n v).assumed ≡ false → Freed c.parts p x → PartsInvariant p → value_of p.assignment.current x ≡ None → x < length c.parts.assignment.current →
+      pub frees_one : (new : Variables) (to : List Step) (p : Parts) → FreesIndex n1 new steps to v → (data_at n v).assumed ≡ false → FreesVar c.parts p x → PartsInvariant p → value_of p.assignment.current x ≡ None → x < length c.parts.assignment.current →
           ((assumed : List ℕ) → (Contains assumed x → ⊥) → TrailWordExtendsFor assumed c.parts p) → FreesSome n new steps to c (record c { parts = p })
       frees_one new to p gone free freed holds none room word =
           let t = session_after to in

@@ -15,7 +15,7 @@ use Rattle.sat_parts.proofs.lemmas.parts.LoadLemmas.{sound_freed}
 use Rattle.sat_parts.proofs.lemmas.parts.WordSteps.{gone_freed, word_goes, begins_refl}
 use Rattle.sat_solver.specs.declared.context.Search.{Search}
 use Rattle.sat_solver.specs.declared.variables.Variables.{Variables}
-use Rattle.sat_solver.specs.unit_simplify.Freed.{MayFree, GivesUp, FreesSome}
+use Rattle.sat_solver.specs.unit_simplify.Freed.{MayFree, FreesIndex, FreesSome}
 use Rattle.sat_solver.specs.unit_simplify.Freeing.{without_var, freed_below, freed_search, MarksAtMost}
 use Rattle.sat_solver.specs.variables.Naming.{PutsUnit}
 use Rattle.sat_solver.specs.variables.Variables.{global_at, data_at}
@@ -131,7 +131,7 @@ module _ (used : List Bool) (c : Search) (x : ℕ) where
 
   module _ (n : Variables) (steps : List Step) (may : MayFree n steps at_x) (v : ℕ) (there : global_at n x ≡ Some v) (n1 : Variables) (put : PutsUnit n n1 v (value_of at_x.parts.assignment.current x)) (unused : InNoClause at_x.parts x) where
     -- one that is given up
-    pub frees_here : (new : Variables) (to : List Step) → GivesUp n1 new steps to v → (data_at n v).assumed ≡ false → get_or used x false ≡ false → x < length at_x.parts.assignment.current → FreesSome n new steps to at_x (freed_search used (x + 1) c)
+    pub frees_here : (new : Variables) (to : List Step) → FreesIndex n1 new steps to v → (data_at n v).assumed ≡ false → get_or used x false ≡ false → x < length at_x.parts.assignment.current → FreesSome n new steps to at_x (freed_search used (x + 1) c)
     frees_here new to gone free unmarked room =
         let p : Parts = at_x.parts in
         let queue : x < length p.vsids.available = omega (arith, room, may.search.stands.holds.below.queue) in

@@ -11,13 +11,13 @@ use Rattle.sat_parts.specs.prop.State.{HasLeftQueue}
 use Rattle.sat_parts.proofs.lemmas.clause.OrderLemmas.{shuffled_refl, shuffled_trans}
 use Rattle.sat_parts.proofs.lemmas.prop.StateLemmas.{true_from_false}
 use Rattle.sat_parts.specs.declared.parts.Parts.{Parts}
-use Rattle.sat_parts.specs.parts.Frame.{Reordered, Swapped}
+use Rattle.sat_parts.specs.parts.Frame.{ReordersLits, SwapsLits}
 use Rattle.sat_parts.specs.parts.Whole.{state, PartsInvariant}
 use Rattle.sat_parts.specs.parts.Words.{TrailWordExtends}
 use Rattle.sat_parts.proofs.lemmas.parts.ShortLemmas.{fresh_unsatisfied}
 use Rattle.sat_parts.proofs.lemmas.parts.WordSteps.{extends_refl, extends_trans}
 use Rattle.sat_solver.specs.unit_simplify.Cutting.{Gathers}
-use Rattle.sat_solver.specs.unit_simplify.Flat.{IsFlat}
+use Rattle.sat_solver.specs.unit_simplify.Flat.{HasEmptyTrail}
 use Rattle.sat_solver.specs.unit_simplify.Looks.{HasTrue}
 
 -- VALUES
@@ -41,14 +41,14 @@ open_not_false values l e f = some_none (not (is_positive l)) (sym f ∙ e)
 
 -- ORDER
 
-pub reordered_refl : (p : Parts) → PartsInvariant p → Reordered p p
+pub reordered_refl : (p : Parts) → PartsInvariant p → ReordersLits p p
 reordered_refl p h = record {
   live = refl;
   kept = record { laid = h.below.asks.clauses.laid; headers = λ o c. refl; lits = λ o c. shuffled_refl (lits_at p.clauses o) };
   binary = refl;
 }
 
-pub reordered_trans : (p q r : Parts) → Reordered p q → Reordered q r → Reordered p r
+pub reordered_trans : (p q r : Parts) → ReordersLits p q → ReordersLits q r → ReordersLits p r
 reordered_trans p q r x y =
     let back : (o : ℕ) → Contains (live_refs p.clauses p.db.refs) o → Contains (live_refs q.clauses q.db.refs) o = λ o c. subst (λ (xs : List ℕ). Contains xs o) (sym x.live) c in
     record {
@@ -61,10 +61,10 @@ reordered_trans p q r x y =
       binary = y.binary ∙ x.binary;
     }
 
-pub moved_there : (p q : Parts) (o : ℕ) → Reordered p q → Contains (live_refs p.clauses p.db.refs) o → Contains (live_refs q.clauses q.db.refs) o
+pub moved_there : (p q : Parts) (o : ℕ) → ReordersLits p q → Contains (live_refs p.clauses p.db.refs) o → Contains (live_refs q.clauses q.db.refs) o
 moved_there p q o x c = subst (λ (xs : List ℕ). Contains xs o) (sym x.live) c
 
-pub moved_size : (p q : Parts) (o : ℕ) → Reordered p q → Contains (live_refs p.clauses p.db.refs) o → size_of q.clauses o ≡ size_of p.clauses o
+pub moved_size : (p q : Parts) (o : ℕ) → ReordersLits p q → Contains (live_refs p.clauses p.db.refs) o → size_of q.clauses o ≡ size_of p.clauses o
 moved_size p q o x c = (x.kept.lits o c).size
 
 -- EXCHANGES
@@ -120,7 +120,7 @@ module _ (p q : Parts) (o kept at : ℕ) (g : Gathers p q o kept at) (le : kept 
   }
 
   -- another one comes to the front
-  module _ (r : Parts) (there : Contains (live_refs p.clauses p.db.refs) o) (lt : at < size_of p.clauses o) (is_open : IsOpenLit p.assignment.current (lit_of q.clauses o at)) (s : Swapped q r o kept at) (holds : PartsInvariant r) (db : r.db ≡ q.db) (word : TrailWordExtends q r) where
+  module _ (r : Parts) (there : Contains (live_refs p.clauses p.db.refs) o) (lt : at < size_of p.clauses o) (is_open : IsOpenLit p.assignment.current (lit_of q.clauses o at)) (s : SwapsLits q r o kept at) (holds : PartsInvariant r) (db : r.db ≡ q.db) (word : TrailWordExtends q r) where
     size : size_of q.clauses o ≡ size_of p.clauses o
     size = moved_size p q o g.moved there
 
@@ -157,7 +157,7 @@ module _ (p q : Parts) (o kept at : ℕ) (g : Gathers p q o kept at) (le : kept 
 -- THE FIRST TWO
 
 -- what is true at level 0 with an empty trail has left the queue
-pub flat_left : (p : Parts) (l : ℕ) → PartsInvariant p → IsFlat p → IsTrueLit p.assignment.current l → HasLeftQueue (state p) l
+pub flat_left : (p : Parts) (l : ℕ) → PartsInvariant p → HasEmptyTrail p → IsTrueLit p.assignment.current l → HasLeftQueue (state p) l
 flat_left p l h flat t =
     let nothing : length p.trail.lits ≡ 0 = ap (λ (xs : List ℕ). length xs) flat.empty in
     elim (h.below.asks.agrees.known l t) [ inl b ↦ absurd (omega (arith, b.within)) | inr r ↦ inr r ]
@@ -166,7 +166,7 @@ module _ (p : Parts) (o : ℕ) (h : PartsInvariant p) (there : Contains (live_re
   long_size : 3 ≤ size_of p.clauses o
   long_size = h.below.asks.clauses.long o there
 
-  pub front_open : IsFlat p → (HasTrue p o → ⊥) → (k : ℕ) → k < 2 → IsOpenLit p.assignment.current (lit_of p.clauses o k)
+  pub front_open : HasEmptyTrail p → (HasTrue p o → ⊥) → (k : ℕ) → k < 2 → IsOpenLit p.assignment.current (lit_of p.clauses o k)
   front_open flat none k lt =
       open_from p.assignment.current (lit_of p.clauses o k)
       (λ t. none (k, (omega (arith, long_size), t)))

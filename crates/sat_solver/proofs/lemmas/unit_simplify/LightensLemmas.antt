@@ -4,14 +4,14 @@ use Rattle.std.proofs.lemmas.List.{get_or-take, length-take-le}
 use Rattle.std.specs.List.{Contains}
 use Rattle.sat_store.specs.clause.Buffer.{lits_at}
 use Rattle.sat_parts.specs.clause.Db.{Db, live_refs}
-use Rattle.sat_parts.specs.clause.Orders.{Shuffled}
+use Rattle.sat_parts.specs.clause.Orders.{IsReordering}
 use Rattle.sat_parts.specs.clause.Stored.{lit_of, size_of}
 use Rattle.sat_parts.specs.prop.Values.{Values, IsOpenLit}
 use Rattle.sat_parts.proofs.lemmas.clause.ListLemmas.{in_without}
 use Rattle.sat_parts.proofs.lemmas.prop.BuildLemmas.{live_in}
 use Rattle.sat_solver.specs.session.Session.{Session}
 use Rattle.sat_parts.specs.declared.parts.Parts.{Parts}
-use Rattle.sat_parts.specs.parts.Frame.{Reordered, Dropped, Shortened, AddsOriginalClause, stores_binary, stores_long}
+use Rattle.sat_parts.specs.parts.Frame.{ReordersLits, DropsLongClause, ShortensLongClause, AddsOriginalClause, stores_binary, stores_long}
 use Rattle.sat_solver.specs.declared.context.Search.{Search}
 use Rattle.sat_solver.specs.cdcl.Joint.{IsSearch}
 use Rattle.sat_solver.specs.unit_simplify.Cutting.{Gathers, PutsPart, puts_long, puts_pair, Replaces}
@@ -29,7 +29,7 @@ open_kept p q x lits values h k lt =
     subst (λ (v : Values). IsOpenLit v.current (lit_of q.clauses x k)) (sym values)
     (subst (λ (ls : List ℕ). IsOpenLit p.assignment.current (get_or ls k 0)) (sym lits) (h k (subst (λ (ls : List ℕ). k < length ls) lits lt)))
 
-open_moved : (p q : Parts) (x : ℕ) → Shuffled (lits_at p.clauses x) (lits_at q.clauses x) → q.assignment ≡ p.assignment → IsOpenClause p x → IsOpenClause q x
+open_moved : (p q : Parts) (x : ℕ) → IsReordering (lits_at p.clauses x) (lits_at q.clauses x) → q.assignment ≡ p.assignment → IsOpenClause p x → IsOpenClause q x
 open_moved p q x order values h k lt =
     let j = order.back k (omega (arith, order.size)) in
     subst (λ (v : Values). IsOpenLit v.current (lit_of q.clauses x k)) (sym values)
@@ -38,20 +38,20 @@ open_moved p q x order values h k lt =
 others_trans : (p q r : Parts) (o : ℕ) → OthersStay p q o → OthersStay q r o → OthersStay p r o
 others_trans p q r o f g x n c = (let b = g x n c in let a = f x n b.0 in (a.0, λ h. b.1 (a.1 h)))
 
-others_dropped : (p q : Parts) (o : ℕ) → Dropped p q o → OthersStay p q o
+others_dropped : (p q : Parts) (o : ℕ) → DropsLongClause p q o → OthersStay p q o
 others_dropped p q o d x n c =
     let y = in_without o x (live_refs p.clauses p.db.refs) (subst (λ (xs : List ℕ). Contains xs x) d.deletes.live c) in
     (y.0, open_kept p q x (d.deletes.put.others x (live_in p.clauses p.db.refs x y.0) n).lits d.same.0.0)
 
-gone_dropped : (p q : Parts) (o : ℕ) → Dropped p q o → Contains (live_refs q.clauses q.db.refs) o → IsOpenClause q o
+gone_dropped : (p q : Parts) (o : ℕ) → DropsLongClause p q o → Contains (live_refs q.clauses q.db.refs) o → IsOpenClause q o
 gone_dropped p q o d c = absurd ((in_without o o (live_refs p.clauses p.db.refs) (subst (λ (xs : List ℕ). Contains xs o) d.deletes.live c)).1 refl)
 
-others_short : (p q : Parts) (o len : ℕ) → Shortened p q o len → OthersStay p q o
+others_short : (p q : Parts) (o len : ℕ) → ShortensLongClause p q o len → OthersStay p q o
 others_short p q o len s x n c =
     let y : Contains (live_refs p.clauses p.db.refs) x = subst (λ (xs : List ℕ). Contains xs x) s.shortens.live (subst (λ (d : Db). Contains (live_refs q.clauses d.refs) x) s.db c) in
     (y, open_kept p q x (s.shortens.others x (live_in p.clauses p.db.refs x y) n).lits s.same.0.0)
 
-others_moved : (p q : Parts) (o : ℕ) → Reordered p q → q.assignment ≡ p.assignment → OthersStay p q o
+others_moved : (p q : Parts) (o : ℕ) → ReordersLits p q → q.assignment ≡ p.assignment → OthersStay p q o
 others_moved p q o m values x n c =
     let y : Contains (live_refs p.clauses p.db.refs) x = subst (λ (xs : List ℕ). Contains xs x) m.live c in
     (y, open_moved p q x (m.kept.lits x y) values)
@@ -71,12 +71,12 @@ pub lightens_none : (s : Session) (c : Search) (o : ℕ) → IsSearch s c → Is
 lightens_none s c o h is_open = record { lighter = lighter_refl s c h; left = λ k. is_open; others = λ p n k. (k, λ x. x) }
 
 -- a clause went
-pub lightens_dropped : (t : Session) (c d : Search) (o : ℕ) → IsStrengthened t c d → Dropped c.parts d.parts o → StrengthensClause t c d o
+pub lightens_dropped : (t : Session) (c d : Search) (o : ℕ) → IsStrengthened t c d → DropsLongClause c.parts d.parts o → StrengthensClause t c d o
 lightens_dropped t c d o l dropped = record { lighter = l; left = gone_dropped c.parts d.parts o dropped; others = others_dropped c.parts d.parts o dropped }
 
 -- a clause lost its false literals
 module _ (t : Session) (c d : Search) (p : Parts) (o len : ℕ) (l : IsStrengthened t c d) (there : Contains (live_refs c.parts.clauses c.parts.db.refs) o) (within : len ≤ size_of c.parts.clauses o) (g : Gathers c.parts p o len (size_of c.parts.clauses o)) (r : Replaces p d.parts o len) where
-  short_open : Shortened p d.parts o len → IsOpenClause d.parts o
+  short_open : ShortensLongClause p d.parts o len → IsOpenClause d.parts o
   short_open s k lt =
       let size : size_of p.clauses o ≡ size_of c.parts.clauses o = moved_size c.parts p o g.moved there in
       let taken : length (take len (lits_at p.clauses o)) ≡ len = length-take-le len (lits_at p.clauses o) (omega (arith, size)) in

@@ -13,7 +13,7 @@ use Rattle.sat_solver.specs.cdcl.Going.{EmitsStepsWith}
 use Rattle.sat_solver.proofs.lemmas.cdcl.AskedLemmas.{leaves_after, kinds_of}
 use Rattle.sat_solver.specs.session.LiveClauses.{with_var}
 use Rattle.sat_solver.specs.session.SolverClauses.{pair, is_open_clause}
-use Rattle.sat_parts.specs.parts.Frame.{Removed}
+use Rattle.sat_parts.specs.parts.Frame.{RemovesBinaries}
 use Rattle.sat_parts.specs.parts.Whole.{PartsInvariant}
 use Rattle.sat_parts.specs.parts.Words.{TrailWordExtends}
 use Rattle.sat_solver.proofs.lemmas.fits.FramedParts.{fits_removed, same_state}
@@ -24,7 +24,7 @@ use Rattle.sat_solver.specs.declared.context.Scratch.{Scratch}
 use Rattle.sat_solver.specs.cdcl.Joint.{assumed_in, global_in, IsSearch, SameAssumedAndNames}
 use Rattle.sat_solver.proofs.lemmas.cdcl.TurnLemmas.{moved_refl, moved_trans}
 use Rattle.sat_solver.proofs.lemmas.clause.ReducingLemmas.{still, still_moved}
-use Rattle.sat_solver.specs.unit_simplify.Flat.{IsFlat, MayRemove, LeavesPairs, IsStrengthened}
+use Rattle.sat_solver.specs.unit_simplify.Flat.{HasEmptyTrail, MayRemove, LeavesPairs, IsStrengthened}
 
 pub lighter_refl : (s : Session) (c : Search) → IsSearch s c → IsStrengthened s c c
 lighter_refl s c h = record { search = h; moved = moved_refl c; word = extends_refl c.parts (assumed_in c); state = (refl, refl, refl); refs = refl }
@@ -38,10 +38,10 @@ lighter_trans s t a b c x y = record {
   refs = y.refs ∙ x.refs;
 }
 
-pub flat_on : (a b : Search) (s : Session) → IsStrengthened s a b → IsFlat a.parts → IsFlat b.parts
+pub flat_on : (a b : Search) (s : Session) → IsStrengthened s a b → HasEmptyTrail a.parts → HasEmptyTrail b.parts
 flat_on a b s x f = record { bottom = ap (λ t. t.starts) x.state.2 ∙ f.bottom; empty = ap (λ t. t.lits) x.state.2 ∙ f.empty }
 
-pub may_remove : (s : Session) (c : Search) → IsSearch s c → IsFlat c.parts → MayRemove c
+pub may_remove : (s : Session) (c : Search) → IsSearch s c → HasEmptyTrail c.parts → MayRemove c
 may_remove s c h flat = record { holds = h.stands.holds; flat = flat; paired = h.stands.fits.paired; names = h.ready.free.names }
 
 -- steps of a search leave what is assumed, and the names
@@ -94,8 +94,8 @@ module _ (s : Session) (c : Search) (may : MayRemove c) where
     pair_there there (suc (suc i)) less = absurd (omega arith)
 
 -- and then they are removed
-pub pairs_removed : (s s' : Session) (c c' : Search) → IsSearch s c → IsFlat c.parts → SameAssumedAndNames s s' → LeavesPairs s' c (length c.parts.binary.implied) 0 → c'.globals ≡ c.globals → c'.assumptions ≡ c.assumptions → c'.analysis ≡ c.analysis → c'.flags ≡ c.flags →
-    PartsInvariant c'.parts → Removed c.parts c'.parts → TrailWordExtends c.parts c'.parts → IsStrengthened s' c c'
+pub pairs_removed : (s s' : Session) (c c' : Search) → IsSearch s c → HasEmptyTrail c.parts → SameAssumedAndNames s s' → LeavesPairs s' c (length c.parts.binary.implied) 0 → c'.globals ≡ c.globals → c'.assumptions ≡ c.assumptions → c'.analysis ≡ c.analysis → c'.flags ≡ c.flags →
+    PartsInvariant c'.parts → RemovesBinaries c.parts c'.parts → TrailWordExtends c.parts c'.parts → IsStrengthened s' c c'
 pairs_removed s s' c c' h flat leaves left globals assumptions analysis flags holds r word =
     let size : length c'.parts.assignment.current ≡ length c.parts.assignment.current = ap (λ a. length a.current) r.state.0 in
     record {

@@ -35,13 +35,13 @@ use Rattle.sat_solver.specs.cdcl.Joint.{assumed_in, IsSearch, SameVarsAndAssumpt
 use Rattle.sat_solver.specs.declared.context.Search.{Search}
 use Rattle.sat_solver.proofs.lemmas.cdcl.TurnLemmas.{moved_refl, moved_trans}
 use Rattle.sat_solver.specs.variables.Shared.{SharesIndices}
-use Rattle.sat_solver.specs.load.Faults.{told_as}
+use Rattle.sat_solver.specs.load.Faults.{reported_as}
 use Rattle.sat_solver.proofs.lemmas.solver.BehindLemmas.{nothing_behind}
-use Rattle.sat_solver.proofs.lemmas.solver.TellingLemmas.{shares_moved}
-use Rattle.sat_solver.specs.unit_simplify.Flat.{IsFlat, StrengthensAll}
+use Rattle.sat_solver.proofs.lemmas.solver.ReportingLemmas.{shares_moved}
+use Rattle.sat_solver.specs.unit_simplify.Flat.{HasEmptyTrail, StrengthensAll}
 use Rattle.sat_solver.specs.unit_simplify.Freed.{MayFree, FreesSome, AreLeft}
 use Rattle.sat_solver.specs.unit_simplify.Looks.{IsOpenClause}
-use Rattle.sat_solver.specs.unit_simplify.Passes.{StandTogether, PassesQuietly, FallsWithoutStore, FallsOr, IsSimplifiedPass}
+use Rattle.sat_solver.specs.unit_simplify.Passes.{StandTogether, PassesQuietly, PassFails, PassFailsOr, IsSimplifiedPass}
 use Rattle.sat_solver.proofs.lemmas.unit_simplify.FreedLemmas.{asked_refl, asked_trans}
 use Rattle.sat_solver.proofs.lemmas.unit_simplify.LighterLemmas.{goes_leaves, flat_on}
 
@@ -109,22 +109,22 @@ module _ {W L : Type 0} {G : Ghosts L} (seen : W → Writer) where
 
   -- FAULTS
 
-  pub falls_goes : {full : Type 0} {learns : Bool} (e : SolverError) (p q : Proof W L G) (P : Unit {0} → List Step → Type 0) → EmitsStepsWith {A = Unit {0}} full learns seen (Err e) p q P → FallsOr full seen e p q
+  pub falls_goes : {full : Type 0} {learns : Bool} (e : SolverError) (p q : Proof W L G) (P : Unit {0} → List Step → Type 0) → EmitsStepsWith {A = Unit {0}} full learns seen (Err e) p q P → PassFailsOr full seen e p q
   falls_goes e p q P g = record { fault = g.ends; steps = g.steps; went = g.went; kept = g.kept; loss = g.loss }
 
   -- what goes wrong where no clause is stored may go wrong where one is
-  pub falls_or : (full : Type 0) (e : SolverError) (p q : Proof W L G) → FallsWithoutStore seen e p q → FallsOr full seen e p q
+  pub falls_or : (full : Type 0) (e : SolverError) (p q : Proof W L G) → PassFails seen e p q → PassFailsOr full seen e p q
   falls_or full e p q h = record { fault = fault_or full e h.fault; steps = h.steps; went = h.went; kept = h.kept; loss = h.loss }
 
-  pub falls_starved : (p : Proof W L G) → FallsWithoutStore seen errors.OutOfMemory p p
+  pub falls_starved : (p : Proof W L G) → PassFails seen errors.OutOfMemory p p
   falls_starved p = record { fault = tt; steps = []; went = adds_none seen p; kept = tt; loss = inl refl }
 
   -- behind what went well
-  pub falls_later : {full : Type 0} (e : SolverError) (p q r : Proof W L G) → ComesByCheckedSteps seen p q → FallsOr full seen e q r → FallsOr full seen e p r
+  pub falls_later : {full : Type 0} (e : SolverError) (p q r : Proof W L G) → ComesByCheckedSteps seen p q → PassFailsOr full seen e q r → PassFailsOr full seen e p r
   falls_later e p q r took f = record { fault = f.fault; steps = f.steps ++ took.0; went = went_behind seen (Unit {0}) e took.0 f.steps p q r (gains_adds seen took.0 p q took.1) f.went; kept = f.kept; loss = loss_later e p q r took.1.taking f.loss }
 
   -- a call over names
-  pub falls_names : (e : NameError) (p q : Proof W L G) → IsFailure e → ((w : Proof W L G) → ComesByCheckedSteps seen w p → EmitsUpTo (ComesByCheckedSteps seen) (NotTaken seen) w e q) → FallsWithoutStore seen (told_as e) p q
+  pub falls_names : (e : NameError) (p q : Proof W L G) → IsFailure e → ((w : Proof W L G) → ComesByCheckedSteps seen w p → EmitsUpTo (ComesByCheckedSteps seen) (NotTaken seen) w e q) → PassFails seen (reported_as e) p q
   falls_names names.OutOfMemory p q f came = (let t = came p ([], gains_none seen p) in record { fault = tt; steps = t.0; went = gains_adds seen t.0 p q t.1; kept = tt; loss = inl t.1.taking })
   falls_names (names.Write cause) p q f came = (let t = came p ([], gains_none seen p) in record { fault = tt; steps = t.0.0; went = t.0.1; kept = t.1; loss = tt })
   falls_names (names.Check fault) p q f came = (let t = came p ([], gains_none seen p) in record { fault = fault_checked _ fault; steps = t.0; went = went_checked seen (Unit {0}) fault t.0 p q t.1; kept = complaint_kept fault q t.2; loss = check_loss fault p q t.1.why })
@@ -132,10 +132,10 @@ module _ {W L : Type 0} {G : Ghosts L} (seen : W → Writer) where
 
   -- SIMPLIFICATION
 
-  pub may_free : (n : Variables) (p : Proof W L G) (c : Search) → StandTogether n p c → IsFlat c.parts → MayFree n (steps_of p) c
+  pub may_free : (n : Variables) (p : Proof W L G) (c : Search) → StandTogether n p c → HasEmptyTrail c.parts → MayFree n (steps_of p) c
   may_free n p c h flat = record { stands = h.stands; search = h.search; shares = h.shares; flat = flat }
 
-  module _ (n n' : Variables) (p q r : Proof W L G) (c d e : Search) (h : StandTogether n p c) (flat : IsFlat c.parts) (g : EmitsSteps {A = Unit {0}} seen (Ok tt) p q (λ _ _. StrengthensAll (session_of q) c d)) where
+  module _ (n n' : Variables) (p q r : Proof W L G) (c d e : Search) (h : StandTogether n p c) (flat : HasEmptyTrail c.parts) (g : EmitsSteps {A = Unit {0}} seen (Ok tt) p q (λ _ _. StrengthensAll (session_of q) c d)) where
     pub lightened : PassesQuietly seen n n p q c d
     lightened = passes_goes tt n p q c d (λ _ _. StrengthensAll (session_of q) c d) h.stands h.shares g g.ends.lighter.search g.ends.lighter.moved g.ends.lighter.word
 

@@ -8,7 +8,7 @@ use Rattle.sat_parts.specs.clause.Stored.{lit_of}
 use Rattle.sat_solver.specs.session.Session.{Session, after, May}
 use Rattle.sat_solver.specs.session.LiveClauses.{with_var}
 use Rattle.sat_parts.specs.declared.parts.Parts.{Parts}
-use Rattle.sat_parts.specs.parts.Frame.{Dropped, SameState}
+use Rattle.sat_parts.specs.parts.Frame.{DropsLongClause, SameState}
 use Rattle.sat_parts.specs.parts.Whole.{PartsInvariant}
 use Rattle.sat_parts.specs.parts.Words.{TrailWordExtends}
 use Rattle.sat_solver.specs.session.Fits.{is_redundant, SessionMatchesParts}
@@ -20,7 +20,7 @@ use Rattle.sat_solver.specs.declared.context.Scratch.{Scratch}
 use Rattle.sat_solver.specs.cdcl.Joint.{assumed_in, global_in, IsSearch, SameAssumedAndNames}
 use Rattle.sat_solver.proofs.lemmas.clause.ReducingLemmas.{still, still_moved}
 use Rattle.sat_solver.specs.unit_simplify.Cuts.{deleted_step}
-use Rattle.sat_solver.specs.unit_simplify.Flat.{IsFlat, IsStrengthened}
+use Rattle.sat_solver.specs.unit_simplify.Flat.{HasEmptyTrail, IsStrengthened}
 use Rattle.sat_solver.specs.unit_simplify.Looks.{HasTrue}
 
 -- the search goes on, where values stay
@@ -38,7 +38,7 @@ lighter_by s t c c' h globals assumptions analysis flags leaves holds fits same 
 
 -- A CLAUSE THAT IS TRUE
 
-module _ (s : Session) (c : Search) (p : Parts) (o : ℕ) (h : IsSearch s c) (flat : IsFlat c.parts) (there : Contains (live_refs c.parts.clauses c.parts.db.refs) o) (has : HasTrue c.parts o) (dropped : Dropped c.parts p o) where
+module _ (s : Session) (c : Search) (p : Parts) (o : ℕ) (h : IsSearch s c) (flat : HasEmptyTrail c.parts) (there : Contains (live_refs c.parts.clauses c.parts.db.refs) o) (has : HasTrue c.parts o) (dropped : DropsLongClause c.parts p o) where
   abbrev mapped : List ℕ
   mapped = map (with_var (global_in c)) (lits_at c.parts.clauses o)
 

@@ -3,7 +3,7 @@ use Rattle.std.proofs.Common.{ℕ, ◌<◌, ◌≡◌, Bool, None, Some, List, [
 use Rattle.std.proofs.lemmas.Bool.{eq-eqb, or_right}
 use Rattle.sat_base.specs.values.Literals.{variable, is_positive}
 use Rattle.sat_base.specs.script.Script.{Among}
-use Rattle.sat_base.specs.script.Judge.{bring_all, with_clause}
+use Rattle.sat_base.specs.script.ScriptState.{bring_all, with_clause}
 use Rattle.sat_base.specs.steps.Steps.{Step, AddClause, Assumptions}
 use Rattle.sat_checker.specs.LiteralSets.{is_tautology, mentions}
 use Rattle.sat_solver.specs.session.Session.{session_after}
@@ -12,12 +12,12 @@ use Rattle.sat_store.specs.variables.Maps.{target}
 use Rattle.sat_solver.specs.variables.Variables.{data_at, global_of, variables_used, AreTidy}
 use Rattle.sat_solver.specs.variables.Naming.{ExtendsNames}
 use Rattle.sat_solver.specs.variables.Refusing.{names_in}
-use Rattle.sat_solver.specs.load.Literals.{named_literal, Image, Images, MapsClause, NoWitness, SameLiterals, BringsLiterals, global_in}
+use Rattle.sat_solver.specs.load.Literals.{user_literal, Image, Images, MapsClause, NoWitness, SameLiterals, BringsLiterals, global_with_index}
 use Rattle.sat_solver.specs.load.Clauses.{BringsClause}
 use Rattle.sat_solver.specs.load.Assumed.{PutsMarks, BringsAssumptions}
 use Rattle.sat_checker.specs.matching.Expected.{Outcome, Adds, Opens, bringing}
 use Rattle.sat_solver.specs.variables.Search.{GivesIndices}
-use Rattle.sat_solver.specs.variables.Calls.{NamesRefineJudge}
+use Rattle.sat_solver.specs.variables.Calls.{NamesEffect}
 use Rattle.sat_solver.specs.declared.variables.Variables.{Variables}
 use Rattle.sat_solver.specs.declared.load.literals.Taken.{Taken}
 use Rattle.sat_solver.specs.variables.Coming.{MayTake}
@@ -39,9 +39,9 @@ clause_literals old mid user t u tidy extends none images maps e =
     (λ x m. subst (Among x) (sym maps.lits) (canonical_more u.order.items x m)) (λ x m. canonical_less u.order.items x (subst (Among x) maps.lits m)) maps.globals
 
 pub clause_added : (old mid : Variables) (from mids to : List Step) (user : List ℕ) (t u : Taken) (both_signs : Bool) → BringsLiterals old mid from mids user t → MapsClause mid u → both_signs ≡ is_tautology u.order.items → u.order ≡ t.order → u.given ≡ t.given
-    → NamesRefineJudge mid mid mids to (with_clause (map named_literal user)) (λ j. Adds (map named_literal user) ∷ []) → to ≡ AddClause u.globals.items ∷ mids → BringsClause old mid from to user u both_signs
+    → NamesEffect mid mid mids to (with_clause (map user_literal user)) (λ j. Adds (map user_literal user) ∷ []) → to ≡ AddClause u.globals.items ∷ mids → BringsClause old mid from to user u both_signs
 clause_added old mid from mids to user t u both_signs takes maps signs order given does e = record {
-  does = does_both old mid mid from mids to (bring_all (names_in user)) (with_clause (map named_literal user)) (bringing (names_in user)) (λ j. Adds (map named_literal user) ∷ []) takes.does does;
+  does = does_both old mid mid from mids to (bring_all (names_in user)) (with_clause (map user_literal user)) (bringing (names_in user)) (λ j. Adds (map user_literal user) ∷ []) takes.does does;
   signs = signs;
   extends = takes.extends;
   images = order_same mid user t u order takes.images;
@@ -54,7 +54,7 @@ clause_added old mid from mids to user t u both_signs takes maps signs order giv
   comes = comes_both (MayTake (names_in user)) from mids to takes.comes (comes_one (MayTake (names_in user)) mids to (AddClause u.globals.items) e refl);
 }
 
-pub assumed_literals : (old mid : Variables) (user : List ℕ) (t u : Taken) → AreTidy mid → ExtendsNames old mid → NoWitness old user → Images mid user t.order.items → u.globals.items ≡ map (with_var (global_in mid)) t.order.items → SameLiterals mid user u.globals.items
+pub assumed_literals : (old mid : Variables) (user : List ℕ) (t u : Taken) → AreTidy mid → ExtendsNames old mid → NoWitness old user → Images mid user t.order.items → u.globals.items ≡ map (with_var (global_with_index mid)) t.order.items → SameLiterals mid user u.globals.items
 assumed_literals old mid user t u tidy extends none images e = same_literals old mid user t.order.items t.order.items u.globals.items tidy extends none images (λ x m. m) (λ x m. m) e
 
 images_kept : (old new : Variables) (user order : List ℕ) → new.global_from_user ≡ old.global_from_user → new.solver_from_global ≡ old.solver_from_global → Images old user order → Images new user order
@@ -78,13 +78,13 @@ extends_marked old new ls put = record {
     none_some : {v : ℕ} → None ≡ Some v → ⊥
     none_some e = cc
 
-pub assumptions_added : (old mid new : Variables) (from mids to : List Step) (user : List ℕ) (t u : Taken) → BringsLiterals old mid from mids user t → PutsMarks mid new u.globals.items → u.globals.items ≡ map (with_var (global_in mid)) t.order.items → u.order ≡ t.order → u.given ≡ t.given
-    → ((o : Outcome) → NamesRefineJudge mid new mids to (λ j. j) (λ j. Opens (map named_literal user) o ∷ [])) → to ≡ Assumptions u.globals.items ∷ mids → BringsAssumptions old new from to user u
+pub assumptions_added : (old mid new : Variables) (from mids to : List Step) (user : List ℕ) (t u : Taken) → BringsLiterals old mid from mids user t → PutsMarks mid new u.globals.items → u.globals.items ≡ map (with_var (global_with_index mid)) t.order.items → u.order ≡ t.order → u.given ≡ t.given
+    → ((o : Outcome) → NamesEffect mid new mids to (λ j. j) (λ j. Opens (map user_literal user) o ∷ [])) → to ≡ Assumptions u.globals.items ∷ mids → BringsAssumptions old new from to user u
 assumptions_added old mid new from mids to user t u takes put globals order given does e = record {
-  does = λ o. does_both old mid new from mids to (bring_all (names_in user)) (λ j. j) (bringing (names_in user)) (λ j. Opens (map named_literal user) o ∷ []) takes.does (does o);
+  does = λ o. does_both old mid new from mids to (bring_all (names_in user)) (λ j. j) (bringing (names_in user)) (λ j. Opens (map user_literal user) o ∷ []) takes.does (does o);
   extends = extends_both old mid new takes.extends (extends_marked mid new u.globals.items put);
   images = images_kept mid new user u.order.items put.users put.solvers (order_same mid user t u order takes.images);
-  globals = globals ∙ ap (λ v. map (with_var (global_in mid)) v.items) (sym order) ∙ ap (λ g. map (with_var (λ x. get_or g.items x 0)) u.order.items) (sym put.globals);
+  globals = globals ∙ ap (λ v. map (with_var (global_with_index mid)) v.items) (sym order) ∙ ap (λ g. map (with_var (λ x. get_or g.items x 0)) u.order.items) (sym put.globals);
   gives = subst (GivesIndices old new (session_after from)) (sym (ap (λ v. v.items) given)) (gives_unseen old mid new (session_after from) t.given.items takes.gives put.solvers);
   between = mids;
   written = e;
@@ -105,14 +105,14 @@ marks_within n ls tidy marked k lt = live_within n (variable (get_or ls k 0)) (m
 pub order_within : (n : Variables) (user order : List ℕ) → AreTidy n → Images n user order → (k : ℕ) → k < length order → variable (get_or order k 0) < length n.globals.items
 order_within n user order tidy images k lt = images_within n user order tidy images (get_or order k 0) (among_place order k lt)
 
-pub mapped_within : (n : Variables) (user order mapped : List ℕ) → AreTidy n → Images n user order → mapped ≡ map (with_var (global_in n)) order → (k : ℕ) → k < length mapped → variable (get_or mapped k 0) < variables_used n
+pub mapped_within : (n : Variables) (user order mapped : List ℕ) → AreTidy n → Images n user order → mapped ≡ map (with_var (global_with_index n)) order → (k : ℕ) → k < length mapped → variable (get_or mapped k 0) < variables_used n
 mapped_within n user order mapped tidy images e k lt =
-    let q = map_among (with_var (global_in n)) (get_or mapped k 0) order (subst (Among (get_or mapped k 0)) e (among_place mapped k lt)) in
+    let q = map_among (with_var (global_with_index n)) (get_or mapped k 0) order (subst (Among (get_or mapped k 0)) e (among_place mapped k lt)) in
     let p = at_place order q.0 q.1 in
     let within = p.1 in
     let c = images.count in
     let i : Image n (get_or user p.0 0) (get_or order p.0 0) = images.each p.0 (omega arith) in
-    let same : variable (get_or mapped k 0) ≡ i.variable_is = ap variable (q.2 ∙ ap (with_var (global_in n)) (sym p.2) ∙ mapped_is n (get_or user p.0 0) (get_or order p.0 0) i tidy) ∙ coded_half i.variable_is (is_positive (get_or user p.0 0)) in
+    let same : variable (get_or mapped k 0) ≡ i.variable_is = ap variable (q.2 ∙ ap (with_var (global_with_index n)) (sym p.2) ∙ mapped_is n (get_or user p.0 0) (get_or order p.0 0) i tidy) ∙ coded_half i.variable_is (is_positive (get_or user p.0 0)) in
     subst (λ v. v < variables_used n) (sym same) (live_within n i.variable_is (tidy.indexed i.variable_is i.index_is i.indexed))
 
 -- LENT LISTS

@@ -5,7 +5,7 @@ use Rattle.std.proofs.lemmas.List.{drop_more, drop_all}
 use Rattle.std.specs.List.{AllByRecursion}
 use Rattle.sat_base.specs.values.Literals.{variable, is_positive}
 use Rattle.sat_base.specs.script.Script.{Among}
-use Rattle.sat_base.specs.script.Judge.{Judge, Sampled}
+use Rattle.sat_base.specs.script.ScriptState.{ScriptState, Sampled}
 use Rattle.sat_base.specs.steps.Steps.{Step, Assumptions}
 use Rattle.sat_checker.specs.LiteralSets.{mentions}
 use Rattle.sat_solver.specs.session.Session.{Session, MayAll, session_after, after}
@@ -16,14 +16,14 @@ use Rattle.sat_solver.specs.variables.Counting.{IsEven}
 use Rattle.sat_solver.specs.variables.Free.{is_free, IsTree}
 use Rattle.sat_checker.specs.matching.Bridge.{Live}
 use Rattle.sat_solver.specs.variables.Live.{given_of}
-use Rattle.sat_solver.specs.variables.Variables.{data_at, user_of, variables_used, AreTidy, AreSaid, AreJudged, IsModeOf, says_unit, is_witness_kept}
-use Rattle.sat_solver.specs.load.Literals.{named_literal, SameLiterals, StandsFor}
+use Rattle.sat_solver.specs.variables.Variables.{data_at, user_of, variables_used, AreTidy, NamesMatchSteps, NamesMatchState, IsModeOf, says_unit, is_witness_kept}
+use Rattle.sat_solver.specs.load.Literals.{user_literal, SameLiterals, StandsFor}
 use Rattle.sat_solver.specs.load.Assumed.{marked_if, MarksAssumed, PutsMarks}
 use Rattle.sat_checker.specs.matching.Checking.{variable_of}
-use Rattle.sat_checker.specs.matching.ProofChecking.{the_checking}
+use Rattle.sat_checker.specs.matching.ProofChecking.{checker_rules}
 use Rattle.sat_checker.specs.matching.Expected.{Outcome, Opens, opens}
 use Rattle.sat_checker.specs.matching.Traces.{no_step, visible}
-use Rattle.sat_solver.specs.variables.Calls.{NamesInvariant, ReachesJudge, NamesRefineJudge}
+use Rattle.sat_solver.specs.variables.Calls.{NamesInvariant, ReachesScriptState, NamesEffect}
 use Rattle.sat_solver.specs.declared.variables.Variables.{Variables}
 use Rattle.sat_solver.proofs.lemmas.variables.NewName.{shape}
 use Rattle.sat_base.proofs.lemmas.script.LiteralValues.{coded_half}
@@ -135,7 +135,7 @@ module _ (old new : Variables) (ls : List ℕ) (tidy : AreTidy old) (live : (v :
           at false t was = t
           at true t was = absurd (true≢false (sym was ∙ live w t))
 
-  pub said_marked : (s : Session) → AreSaid old s → ((v : ℕ) → (after (Assumptions ls) s).variables v ≡ s.variables v) → AreSaid new (after (Assumptions ls) s)
+  pub said_marked : (s : Session) → NamesMatchSteps old s → ((v : ℕ) → (after (Assumptions ls) s).variables v ≡ s.variables v) → NamesMatchSteps new (after (Assumptions ls) s)
   said_marked s said same = record {
     variables = λ w. same w ∙ said.variables w ∙ sym (ap (λ d. shape d (user_of new w)) (put.kept w) ∙ ap (shape (data_at old w)) (user_at w));
     solver_names = λ w. said.solver_names w ∙ ap (λ m. target m.fwd w) (sym put.solvers);
@@ -144,7 +144,7 @@ module _ (old new : Variables) (ls : List ℕ) (tidy : AreTidy old) (live : (v :
     marked = λ w. ap (λ d. d.assumed) (sym (put.kept w));
   }
 
-  pub judged_marked : (j : Judge) (list : Live) → AreJudged old j list → AreJudged new j list
+  pub judged_marked : (j : ScriptState) (list : Live) → NamesMatchState old j list → NamesMatchState new j list
   judged_marked j list judged = record {
     first_unused = judged.first_unused ∙ ap (λ m. length m.fwd + 1) (sym put.users);
     no_zero = judged.no_zero;
@@ -171,19 +171,19 @@ spelt_live n user (x ∷ xs) tidy h v e = go (spelt_live n user xs tidy h.1 v) (
         ap (λ k. (data_at n k).deleted) (sym same) ∙ tidy.indexed i.variable_is i.index_is i.indexed
     go rest false t f = rest f
 
-pub assumptions_written : (old new : Variables) (from to : List Step) (user ls : List ℕ) → NamesInvariant old from → SameLiterals old user ls → PutsMarks old new ls → to ≡ Assumptions ls ∷ from → (o : Outcome) → NamesRefineJudge old new from to (λ j. j) (λ j. Opens (map named_literal user) o ∷ [])
+pub assumptions_written : (old new : Variables) (from to : List Step) (user ls : List ℕ) → NamesInvariant old from → SameLiterals old user ls → PutsMarks old new ls → to ≡ Assumptions ls ∷ from → (o : Outcome) → NamesEffect old new from to (λ j. j) (λ j. Opens (map user_literal user) o ∷ [])
 assumptions_written old new from to user ls stands same put e o = record {
   stands = record {
     tidy = tidy_marked old new ls stands.tidy live put;
-    said = subst (λ steps. AreSaid new (session_after steps)) (sym e) (said_marked old new ls stands.tidy live put (session_after from) stands.said (λ v. known_same (session_after from) ls v (all_known old from user ls stands same)));
+    said = subst (λ steps. NamesMatchSteps new (session_after steps)) (sym e) (said_marked old new ls stands.tidy live put (session_after from) stands.said (λ v. known_same (session_after from) ls v (all_known old from user ls stands same)));
     may = subst MayAll (sym e) (stands.may, tt);
     read = λ u. ap (λ steps. variable_of steps (u + 1)) e ∙ stands.read u ∙ ap (λ m. target m.fwd u) (sym put.users);
   };
-  kept = λ j list a. subst (λ steps. ReachesJudge new from steps j (Opens (map named_literal user) o ∷ [])) (sym e) (record {
+  kept = λ j list a. subst (λ steps. ReachesScriptState new from steps j (Opens (map user_literal user) o ∷ [])) (sym e) (record {
     live = list;
     agree = record {
       judged = judged_marked old new ls stands.tidy live put j list a.judged;
-      bridge = nothing_new the_checking the_checking_sound j from list a.bridge (Assumptions ls) tt (λ v x. cc) (λ n. refl) (λ b h. h) (λ b h. h);
+      bridge = nothing_new checker_rules the_checking_sound j from list a.bridge (Assumptions ls) tt (λ v x. cc) (λ n. refl) (λ b h. h) (λ b h. h);
     };
     trace = visible (opens (same_set old from user ls stands same)) no_step;
   });

@@ -4,7 +4,7 @@ use Rattle.std.proofs.lemmas.Bool.{eqb-true, eq-eqb, ne_eqb, true≢false}
 use Rattle.std.specs.List.{AllByRecursion}
 use Rattle.sat_base.specs.values.Literals.{variable, is_positive, coded, negated}
 use Rattle.sat_base.specs.script.Script.{Literal, Among}
-use Rattle.sat_base.specs.script.Judge.{with_clause}
+use Rattle.sat_base.specs.script.ScriptState.{with_clause}
 use Rattle.sat_base.specs.steps.Steps.{Step, AddClause}
 use Rattle.sat_store.specs.declared.data.SamplingMode.{SamplingMode}
 use Rattle.sat_store.specs.declared.data.SamplingMode.TheVariants as kept
@@ -16,13 +16,13 @@ use Rattle.sat_checker.specs.Contents.{more_if, same_side}
 use Rattle.sat_solver.specs.session.Session.{Session, May, MayAll, session_after, after, knowing_literals, with_fact, with_sorted, with_live}
 use Rattle.sat_solver.specs.session.Session as sessions
 use Rattle.sat_solver.proofs.lemmas.session.StepLemmas.{sessions_are_accepted}
-use Rattle.sat_solver.specs.variables.Variables.{data_at, user_of, solver_of, AreSaid, IsInNoNonUnitClause, mode_in}
-use Rattle.sat_solver.specs.load.Literals.{named_literal, StandsFor, SameLiterals}
+use Rattle.sat_solver.specs.variables.Variables.{data_at, user_of, solver_of, NamesMatchSteps, IsInNoNonUnitClause, checker_mode}
+use Rattle.sat_solver.specs.load.Literals.{user_literal, StandsFor, SameLiterals}
 use Rattle.sat_checker.specs.matching.Checking.{variable_of}
-use Rattle.sat_checker.specs.matching.ProofChecking.{the_checking}
+use Rattle.sat_checker.specs.matching.ProofChecking.{checker_rules}
 use Rattle.sat_checker.specs.matching.Expected.{Spells, SameSet, EachSpelt, Adds, adds}
 use Rattle.sat_checker.specs.matching.Traces.{no_step, visible}
-use Rattle.sat_solver.specs.variables.Calls.{NamesInvariant, ReachesJudge, NamesRefineJudge}
+use Rattle.sat_solver.specs.variables.Calls.{NamesInvariant, ReachesScriptState, NamesEffect}
 use Rattle.sat_solver.specs.declared.variables.Variables.{Variables}
 use Rattle.sat_base.proofs.lemmas.script.LiteralValues.{coded_half, all_map}
 use Rattle.sat_checker.proofs.lemmas.matching.Bridge.{added}
@@ -186,10 +186,10 @@ module _ (n : Variables) (from : List Step) (user clause : List ℕ) (stands : N
       let alive = stands.tidy.named f.variable_is (variable l) name in
       let v : variable code ≡ f.variable_is = ap variable f.is ∙ coded_half f.variable_is (is_positive l) in
       ap (session_after from).variables v ∙ stands.said.variables f.variable_is
-      ∙ ap (λ b. cond b unknown (record { known = true; mode = mode_in (data_at n f.variable_is).sampling_mode; name = user_of n f.variable_is })) alive
+      ∙ ap (λ b. cond b unknown (record { known = true; mode = checker_mode (data_at n f.variable_is).sampling_mode; name = user_of n f.variable_is })) alive
       ∙ made (data_at n f.variable_is).sampling_mode (user_of n f.variable_is) f.sampled name
     where
-      made : (m : SamplingMode) (o : Option ℕ) → m ≡ kept.Sample → o ≡ Some (variable l) → (let x : Variable = record { known = true; mode = mode_in m; name = o } in x) ≡ record { known = true; mode = Sample; name = Some (variable l) }
+      made : (m : SamplingMode) (o : Option ℕ) → m ≡ kept.Sample → o ≡ Some (variable l) → (let x : Variable = record { known = true; mode = checker_mode m; name = o } in x) ≡ record { known = true; mode = Sample; name = Some (variable l) }
       made m o e f = cc
 
   pub all_known : AllByRecursion (λ code. ((session_after from).variables (variable code)).known ≡ true) clause
@@ -198,30 +198,30 @@ module _ (n : Variables) (from : List Step) (user clause : List ℕ) (stands : N
   pub may_add : May (session_after from) (AddClause clause)
   may_add = inr (all_map (λ code. (l : ℕ) × StandsFor n l code × Among l user) (λ code. ((session_after from).variables (variable code)).mode ≡ Sample) clause (λ code x. ap (λ y. y.mode) (at x.0 code x.1)) same.only)
 
-  spells : (l code : ℕ) → StandsFor n l code → Spells (variable_of from) (named_literal l) code
+  spells : (l code : ℕ) → StandsFor n l code → Spells (variable_of from) (user_literal l) code
   spells l code f = record { variable = f.variable_is; named = stands.read (variable l) ∙ f.named; is = f.is }
 
-  spelt : (ls : List ℕ) → AllByRecursion (λ l. (code : ℕ) × StandsFor n l code × Among code clause) ls → EachSpelt (variable_of from) (map named_literal ls) clause
+  spelt : (ls : List ℕ) → AllByRecursion (λ l. (code : ℕ) × StandsFor n l code × Among code clause) ls → EachSpelt (variable_of from) (map user_literal ls) clause
   spelt [] h = tt
   spelt (l ∷ ls) h = ((h.0.0, spells l h.0.0 h.0.1, h.0.2), spelt ls h.1)
 
-  among_named : (l : ℕ) (ls : List ℕ) → Among l ls → Among (named_literal l) (map named_literal ls)
+  among_named : (l : ℕ) (ls : List ℕ) → Among l ls → Among (user_literal l) (map user_literal ls)
   among_named l [] m = absurd m
-  among_named l (x ∷ xs) (inl e) = inl (ap named_literal e)
+  among_named l (x ∷ xs) (inl e) = inl (ap user_literal e)
   among_named l (x ∷ xs) (inr m) = inr (among_named l xs m)
 
-  pub same_set : SameSet (variable_of from) (map named_literal user) clause
+  pub same_set : SameSet (variable_of from) (map user_literal user) clause
   same_set = (
     spelt user same.there,
-    all_map (λ code. (l : ℕ) × StandsFor n l code × Among l user) (λ code. (l : Literal) × Spells (variable_of from) l code × Among l (map named_literal user)) clause
-        (λ code x. (named_literal x.0, spells x.0 code x.1, among_named x.0 user x.2)) same.only,
+    all_map (λ code. (l : ℕ) × StandsFor n l code × Among l user) (λ code. (l : Literal) × Spells (variable_of from) l code × Among l (map user_literal user)) clause
+        (λ code x. (user_literal x.0, spells x.0 code x.1, among_named x.0 user x.2)) same.only,
   )
 
-  pub clause_written : (to : List Step) → to ≡ AddClause clause ∷ from → NamesRefineJudge n n from to (with_clause (map named_literal user)) (λ j. Adds (map named_literal user) ∷ [])
+  pub clause_written : (to : List Step) → to ≡ AddClause clause ∷ from → NamesEffect n n from to (with_clause (map user_literal user)) (λ j. Adds (map user_literal user) ∷ [])
   clause_written to e = record {
     stands = record {
       tidy = stands.tidy;
-      said = subst (λ steps. AreSaid n (session_after steps)) (sym e) (record {
+      said = subst (λ steps. NamesMatchSteps n (session_after steps)) (sym e) (record {
         variables = λ w. added_variables (session_after from) clause w all_known ∙ stands.said.variables w;
         solver_names = λ w. ap (λ f. f w) (added_names (session_after from) clause) ∙ stands.said.solver_names w;
         unused = λ w f r set lt. added_unused (session_after from) clause w (unmentioned n user clause w f same.only) (λ q t m. stands.said.unused w f q t m) r set lt;
@@ -231,7 +231,7 @@ module _ (n : Variables) (from : List Step) (user clause : List ℕ) (stands : N
       may = subst MayAll (sym e) (stands.may, may_add);
       read = λ u. ap (λ steps. variable_of steps (u + 1)) e ∙ stands.read u;
     };
-    kept = λ j live a. subst (λ steps. ReachesJudge n from steps (with_clause (map named_literal user) j) (Adds (map named_literal user) ∷ [])) (sym e) (record {
+    kept = λ j live a. subst (λ steps. ReachesScriptState n from steps (with_clause (map user_literal user) j) (Adds (map user_literal user) ∷ [])) (sym e) (record {
       live = live;
       agree = record {
         judged = record {
@@ -247,11 +247,11 @@ module _ (n : Variables) (from : List Step) (user clause : List ℕ) (stands : N
           increasing = a.judged.increasing;
           modes = a.judged.modes;
         };
-        bridge = added the_checking the_checking_sound j from live a.bridge (map named_literal user) clause accepted same_set;
+        bridge = added checker_rules the_checking_sound j from live a.bridge (map user_literal user) clause accepted same_set;
       };
       trace = visible (adds same_set) no_step;
     });
   }
     where
-      accepted : the_checking.Accepts from (AddClause clause)
+      accepted : checker_rules.Accepts from (AddClause clause)
       accepted = (sessions_are_accepted (AddClause clause ∷ from) (stands.may, may_add)).0.1

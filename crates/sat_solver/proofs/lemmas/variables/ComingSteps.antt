@@ -13,7 +13,7 @@ use Rattle.sat_solver.specs.variables.Coming.{ForgetsIdle, IsDue, IsNextSolver, 
 use Rattle.sat_solver.specs.variables.Naming.{ExtendsNames}
 use Rattle.sat_solver.specs.variables.Refusing.{IsAssumed, names_in}
 use Rattle.sat_solver.specs.variables.Search.{IsUnseen}
-use Rattle.sat_solver.specs.variables.Variables.{AreSaid, AreTidy, data_at, global_of}
+use Rattle.sat_solver.specs.variables.Variables.{NamesMatchSteps, AreTidy, data_at, global_of}
 use Rattle.sat_solver.specs.declared.variables.Variables.{Variables}
 use Rattle.sat_solver.proofs.lemmas.session.ComingLemmas.{comes_none, comes_one, comes_both, comes_map}
 
@@ -64,7 +64,7 @@ due_set user sample earlier (ChangeSamplingMode v mode) h = absurd (true≢false
 due_set user sample earlier step h = h
 
 -- a name came in, was hidden, and its variable may have gone
-pub comes_hidden : {A E : Type 0} (r : Result A E) (n : Variables) (from mids hides to : List Step) (v : ℕ) → AreSaid n (session_after hides) → OnlyAllowedSteps IsDue from mids → hides ≡ UserVarName v None ∷ mids → OnOk r (ForgetsIdle n hides to v) → OnOk r (OnlyAllowedSteps MayHide from to)
+pub comes_hidden : {A E : Type 0} (r : Result A E) (n : Variables) (from mids hides to : List Step) (v : ℕ) → NamesMatchSteps n (session_after hides) → OnlyAllowedSteps IsDue from mids → hides ≡ UserVarName v None ∷ mids → OnOk r (ForgetsIdle n hides to v) → OnOk r (OnlyAllowedSteps MayHide from to)
 comes_hidden (Err e) n from mids hides to v said brought hidden gone = tt
 comes_hidden (Ok x) n from mids hides to v said brought hidden gone = comes_both MayHide from hides to (comes_both MayHide from mids hides (comes_map IsDue MayHide due_hide from mids brought) (comes_one MayHide mids hides (UserVarName v None) hidden refl)) (elim gone [
   | inl e ↦ comes_one MayHide hides to (DeleteVar v) e.0 (record { before = mids; last = hidden; without = said.solver_names v ∙ e.1 })
@@ -72,8 +72,8 @@ comes_hidden (Ok x) n from mids hides to v said brought hidden gone = comes_both
 ])
 
 -- a name that isn't assumed came in and was hidden: its variable isn't assumed either
-pub hidden_unmarked : (n m h : Variables) (from mids hides : List Step) (user v : ℕ) → AreTidy n → AreSaid n (session_after from) → ExtendsNames n m → IsUnseen n m from mids → (IsAssumed n user → ⊥) → global_of m user ≡ Some v →
-    AreSaid h (session_after hides) → hides ≡ UserVarName v None ∷ mids → (data_at h v).assumed ≡ false
+pub hidden_unmarked : (n m h : Variables) (from mids hides : List Step) (user v : ℕ) → AreTidy n → NamesMatchSteps n (session_after from) → ExtendsNames n m → IsUnseen n m from mids → (IsAssumed n user → ⊥) → global_of m user ≡ Some v →
+    NamesMatchSteps h (session_after hides) → hides ≡ UserVarName v None ∷ mids → (data_at h v).assumed ≡ false
 hidden_unmarked n m h from mids hides user v tidy said extends unseen free named then hidden =
     sym (then.marked v) ∙ ap (λ ss. mentions (session_after ss).assumed v) hidden ∙ ap (λ ls. mentions ls v) unseen.search.assumed ∙ said.marked v ∙ before (global_of n user) refl
   where
@@ -92,7 +92,7 @@ hidden_by (UserVarName v None ∷ steps) = Some v
 hidden_by steps = None
 
 -- it has gone, unless it has an index
-pub leaves_none : {A E : Type 0} (r : Result A E) (n : Variables) (mids hides to : List Step) (v : ℕ) → AreSaid n (session_after hides) → hides ≡ UserVarName v None ∷ mids → (data_at n v).assumed ≡ false → OnOk r (ForgetsIdle n hides to v) → OnOk r (LeavesNoneIdle to)
+pub leaves_none : {A E : Type 0} (r : Result A E) (n : Variables) (mids hides to : List Step) (v : ℕ) → NamesMatchSteps n (session_after hides) → hides ≡ UserVarName v None ∷ mids → (data_at n v).assumed ≡ false → OnOk r (ForgetsIdle n hides to v) → OnOk r (LeavesNoneIdle to)
 leaves_none (Err e) n mids hides to v said hidden free gone = tt
 leaves_none (Ok x) n mids hides to v said hidden free gone = λ w h. elim gone [
   | inl e ↦ none-some w (sym (ap hidden_by e.0) ∙ ap hidden_by h.last)

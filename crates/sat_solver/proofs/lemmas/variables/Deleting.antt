@@ -2,7 +2,7 @@
 use Rattle.std.proofs.Common.{ℕ, ◌+◌, ◌≡◌, ◌≢◌, Bool, true, false, not, ◌&&◌, cond, eqb, ltb, lt-ltb, List, [], ◌∷◌, length, get_or, Option, Some, None, is_some, refl, sym, ◌∙◌, ap, subst, arith}
 use Rattle.std.proofs.lemmas.Bool.{eqb-true, eqb-false, eq-eqb, ne_eqb}
 use Rattle.sat_base.specs.values.Literals.{variable, coded}
-use Rattle.sat_base.specs.script.Judge.{Judge, Sampled, identity_of}
+use Rattle.sat_base.specs.script.ScriptState.{ScriptState, Sampled, identity_of}
 use Rattle.sat_base.specs.steps.Steps.{Step, DeleteVar}
 use Rattle.sat_store.specs.declared.data.SamplingMode.TheVariants as kept
 use Rattle.sat_store.specs.variables.VarData.{unused_variable}
@@ -15,12 +15,12 @@ use Rattle.sat_solver.specs.variables.Counting.{IsEven}
 use Rattle.sat_solver.specs.variables.Free.{is_free, IsTree}
 use Rattle.sat_checker.specs.matching.Bridge.{Live, IsBridge}
 use Rattle.sat_solver.specs.variables.Live.{given_of, given}
-use Rattle.sat_solver.specs.variables.Variables.{data_at, global_of, user_of, solver_of, variables_used, AreTidy, mode_in, variable_at, AreSaid, IsModeOf, AreJudged, says_unit, is_witness_kept}
+use Rattle.sat_solver.specs.variables.Variables.{data_at, global_of, user_of, solver_of, variables_used, AreTidy, checker_mode, checker_variable_at, NamesMatchSteps, IsModeOf, NamesMatchState, says_unit, is_witness_kept}
 use Rattle.sat_solver.specs.variables.Naming.{PutsDeleted}
 use Rattle.sat_checker.specs.matching.Checking.{variable_of}
-use Rattle.sat_checker.specs.matching.ProofChecking.{the_checking}
+use Rattle.sat_checker.specs.matching.ProofChecking.{checker_rules}
 use Rattle.sat_checker.specs.matching.Traces.{no_step, silent}
-use Rattle.sat_solver.specs.variables.Calls.{NamesInvariant, ReachesJudge, DoesNothing}
+use Rattle.sat_solver.specs.variables.Calls.{NamesInvariant, ReachesScriptState, DoesNothing}
 use Rattle.sat_solver.specs.variables.Search.{ForgetsUnits}
 use Rattle.sat_solver.specs.declared.variables.Variables.{Variables}
 use Rattle.sat_solver.proofs.lemmas.variables.NewName.{shape, and_false}
@@ -140,7 +140,7 @@ module _ (old new : Variables) (v : ℕ) (tidy : AreTidy old) (alive : (data_at 
               sym (ap (λ d. ltb w (variables_used new) && d.deleted) x ∙ ap (λ b. b && true) (lt-ltb w (variables_used new) (omega arith)))
           go false t x = tidy.free_globals w ∙ ap (λ n. ltb w n && (data_at old w).deleted) (sym put.count) ∙ sym (ap (λ d. ltb w (variables_used new) && d.deleted) x)
 
-  pub said_deleted : (s : Session) → AreSaid old s → mentions s.assumed v ≡ false → AreSaid new (after (DeleteVar v) s)
+  pub said_deleted : (s : Session) → NamesMatchSteps old s → mentions s.assumed v ≡ false → NamesMatchSteps new (after (DeleteVar v) s)
   said_deleted s said unmarked = record {
     variables = λ w. go w (eqb w v) (put.kept w);
     solver_names = λ w. said.solver_names w ∙ ap (λ m. target m.fwd w) (sym put.solvers);
@@ -160,11 +160,11 @@ module _ (old new : Variables) (v : ℕ) (tidy : AreTidy old) (alive : (data_at 
       marked w true t x = ap (mentions s.assumed) (eqb-true w v t) ∙ unmarked ∙ sym (ap (λ d. d.assumed) x)
       marked w false t x = said.marked w ∙ sym (ap (λ d. d.assumed) x)
 
-      go : (w : ℕ) (b : Bool) → data_at new w ≡ cond b unused_variable (data_at old w) → cond b unknown (s.variables w) ≡ variable_at new w
+      go : (w : ℕ) (b : Bool) → data_at new w ≡ cond b unused_variable (data_at old w) → cond b unknown (s.variables w) ≡ checker_variable_at new w
       go w true x = sym (ap (λ d. shape d (user_of new w)) x)
       go w false x = said.variables w ∙ sym (ap (λ d. shape d (user_of new w)) x ∙ ap (shape (data_at old w)) (user_at w))
 
-  pub judged_deleted : (j : Judge) (live : Live) (steps : List Step) → IsBridge the_checking j steps (without v live) → AreJudged old j live → AreJudged new j (without v live)
+  pub judged_deleted : (j : ScriptState) (live : Live) (steps : List Step) → IsBridge checker_rules j steps (without v live) → NamesMatchState old j live → NamesMatchState new j (without v live)
   judged_deleted j live steps bridge judged = record {
     first_unused = judged.first_unused ∙ ap (λ m. length m.fwd + 1) (sym put.users);
     no_zero = judged.no_zero;
@@ -209,29 +209,29 @@ module _ (old new : Variables) (v : ℕ) (tidy : AreTidy old) (alive : (data_at 
           go true x = subst (λ d. IsModeOf d.sampling_mode (get_or j.modes i Sampled)) (sym x) tt
           go false x = subst (λ d. IsModeOf d.sampling_mode (get_or j.modes i Sampled)) (sym x) (judged.modes w i (was w i e))
 
-pub may_delete : (old : Variables) (v : ℕ) (s : Session) → AreTidy old → AreSaid old s → (data_at old v).deleted ≡ false → user_of old v ≡ None → solver_of old v ≡ None → (data_at old v).assumed ≡ false → MayForget s v
+pub may_delete : (old : Variables) (v : ℕ) (s : Session) → AreTidy old → NamesMatchSteps old s → (data_at old v).deleted ≡ false → user_of old v ≡ None → solver_of old v ≡ None → (data_at old v).assumed ≡ false → MayForget s v
 may_delete old v s tidy said alive nameless noindex unmarked = record {
   known = ap (λ x. x.known) at;
   nameless = ap (λ x. x.name) at ∙ nameless;
-  hidden = ap (λ x. x.mode) at ∙ ap mode_in (tidy.hidden v alive nameless);
+  hidden = ap (λ x. x.mode) at ∙ ap checker_mode (tidy.hidden v alive nameless);
   unused = said.unused v noindex;
   not_assumed = said.marked v ∙ unmarked;
 }
   where
-    at : s.variables v ≡ record { known = true; mode = mode_in (data_at old v).sampling_mode; name = user_of old v }
-    at = said.variables v ∙ ap (λ b. cond b unknown (record { known = true; mode = mode_in (data_at old v).sampling_mode; name = user_of old v })) alive
+    at : s.variables v ≡ record { known = true; mode = checker_mode (data_at old v).sampling_mode; name = user_of old v }
+    at = said.variables v ∙ ap (λ b. cond b unknown (record { known = true; mode = checker_mode (data_at old v).sampling_mode; name = user_of old v })) alive
 
 pub var_deleted : (old new : Variables) (from to : List Step) (v : ℕ) → NamesInvariant old from → (data_at old v).deleted ≡ false → user_of old v ≡ None → solver_of old v ≡ None → (data_at old v).assumed ≡ false → PutsDeleted old new v
     → to ≡ DeleteVar v ∷ from → DoesNothing old new from to
 var_deleted old new from to v stands alive nameless noindex unmarked put e = record {
   stands = record {
     tidy = tidy_deleted old new v stands.tidy alive nameless noindex put;
-    said = subst (λ steps. AreSaid new (session_after steps)) (sym e) (said_deleted old new v stands.tidy alive nameless noindex put (session_after from) stands.said (stands.said.marked v ∙ unmarked));
+    said = subst (λ steps. NamesMatchSteps new (session_after steps)) (sym e) (said_deleted old new v stands.tidy alive nameless noindex put (session_after from) stands.said (stands.said.marked v ∙ unmarked));
     may = subst MayAll (sym e) (stands.may, may_delete old v (session_after from) stands.tidy stands.said alive nameless noindex unmarked);
     read = λ u. ap (λ steps. variable_of steps (u + 1)) e ∙ stands.read u ∙ ap (λ m. target m.fwd u) (sym put.users);
   };
-  kept = λ j live a. subst (λ steps. ReachesJudge new from steps j []) (sym e) (
-      let b = deleted the_checking the_checking_sound j from live a.bridge v accepted in
+  kept = λ j live a. subst (λ steps. ReachesScriptState new from steps j []) (sym e) (
+      let b = deleted checker_rules the_checking_sound j from live a.bridge v accepted in
       record {
         live = without v live;
         agree = record { judged = judged_deleted old new v stands.tidy alive nameless noindex put j live (DeleteVar v ∷ from) b a.judged; bridge = b };
@@ -239,7 +239,7 @@ var_deleted old new from to v stands alive nameless noindex unmarked put e = rec
       });
 }
   where
-    accepted : the_checking.Accepts from (DeleteVar v)
+    accepted : checker_rules.Accepts from (DeleteVar v)
     accepted = (sessions_are_accepted (DeleteVar v ∷ from) (stands.may, may_delete old v (session_after from) stands.tidy stands.said alive nameless noindex unmarked)).0.1
 
 -- the search sees that units are forgotten

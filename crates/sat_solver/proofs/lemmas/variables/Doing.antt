@@ -1,24 +1,24 @@
 -- Calls after one another.
 use Rattle.std.proofs.Common.{List, [], ◌++◌, subst, Result, Ok, Err, OnOk}
 use Rattle.std.proofs.lemmas.List.{append-nil}
-use Rattle.sat_base.specs.script.Judge.{Judge}
+use Rattle.sat_base.specs.script.ScriptState.{ScriptState}
 use Rattle.sat_base.specs.steps.Steps.{Step}
 use Rattle.sat_checker.specs.matching.Expected.{Expected}
 use Rattle.sat_checker.specs.matching.Traces.{HasTrace, no_step}
-use Rattle.sat_checker.specs.matching.ProofChecking.{the_checking}
+use Rattle.sat_checker.specs.matching.ProofChecking.{checker_rules}
 use Rattle.sat_checker.proofs.lemmas.matching.Traces.{traces_both}
-use Rattle.sat_solver.specs.variables.Calls.{NamesInvariant, NamesRefineJudge, DoesNothing, HasJudge}
+use Rattle.sat_solver.specs.variables.Calls.{NamesInvariant, NamesEffect, DoesNothing, HasScriptState}
 use Rattle.sat_solver.specs.declared.variables.Variables.{Variables}
 
 pub does_none : (n : Variables) (log : List Step) → NamesInvariant n log → DoesNothing n n log log
 does_none n log stands = record { stands = stands; kept = λ j live a. record { live = live; agree = a; trace = no_step } }
 
 -- some state of the judge is what names and steps say behind a call, where one was before it
-pub judged_by : {old new : Variables} {from to : List Step} {f : Judge → Judge} {es : Judge → List Expected} → NamesRefineJudge old new from to f es → HasJudge old from → HasJudge new to
+pub judged_by : {old new : Variables} {from to : List Step} {f : ScriptState → ScriptState} {es : ScriptState → List Expected} → NamesEffect old new from to f es → HasScriptState old from → HasScriptState new to
 judged_by {f = f} d h = let k = d.kept h.0 h.1 h.2 in (f h.0, k.live, k.agree)
 
 -- one call, then another
-pub does_both : (old mid new : Variables) (from mids to : List Step) (f g : Judge → Judge) (es fs : Judge → List Expected) → NamesRefineJudge old mid from mids f es → NamesRefineJudge mid new mids to g fs → NamesRefineJudge old new from to (λ j. g (f j)) (λ j. es j ++ fs (f j))
+pub does_both : (old mid new : Variables) (from mids to : List Step) (f g : ScriptState → ScriptState) (es fs : ScriptState → List Expected) → NamesEffect old mid from mids f es → NamesEffect mid new mids to g fs → NamesEffect old new from to (λ j. g (f j)) (λ j. es j ++ fs (f j))
 does_both old mid new from mids to f g es fs one two = record {
   stands = two.stands;
   kept = λ j live a.
@@ -27,14 +27,14 @@ does_both old mid new from mids to f g es fs one two = record {
       record { live = l.live; agree = l.agree; trace = traces_both k.trace l.trace };
 }
 
-pub ok_both : {E : Type 0} (r : Result Unit E) (old mid new : Variables) (from mids to : List Step) (f g : Judge → Judge) (es fs : Judge → List Expected) → NamesRefineJudge old mid from mids f es → OnOk r (NamesRefineJudge mid new mids to g fs) → OnOk r (NamesRefineJudge old new from to (λ j. g (f j)) (λ j. es j ++ fs (f j)))
+pub ok_both : {E : Type 0} (r : Result Unit E) (old mid new : Variables) (from mids to : List Step) (f g : ScriptState → ScriptState) (es fs : ScriptState → List Expected) → NamesEffect old mid from mids f es → OnOk r (NamesEffect mid new mids to g fs) → OnOk r (NamesEffect old new from to (λ j. g (f j)) (λ j. es j ++ fs (f j)))
 ok_both (Ok x) old mid new from mids to f g es fs one two = does_both old mid new from mids to f g es fs one two
 ok_both (Err e) old mid new from mids to f g es fs one two = tt
 
 -- a call that the judge doesn't see, behind another
-pub ok_after : {E : Type 0} (r : Result Unit E) (old mid new : Variables) (from mids to : List Step) (f : Judge → Judge) (es : Judge → List Expected) → NamesRefineJudge old mid from mids f es → OnOk r (DoesNothing mid new mids to) → OnOk r (NamesRefineJudge old new from to f es)
+pub ok_after : {E : Type 0} (r : Result Unit E) (old mid new : Variables) (from mids to : List Step) (f : ScriptState → ScriptState) (es : ScriptState → List Expected) → NamesEffect old mid from mids f es → OnOk r (DoesNothing mid new mids to) → OnOk r (NamesEffect old new from to f es)
 ok_after (Ok x) old mid new from mids to f es one two = let both = does_both old mid new from mids to f (λ j. j) es (λ j. []) one two in record {
   stands = both.stands;
-  kept = λ j live a. let k = both.kept j live a in record { live = k.live; agree = k.agree; trace = subst (HasTrace the_checking from to) (append-nil (es j)) k.trace };
+  kept = λ j live a. let k = both.kept j live a in record { live = k.live; agree = k.agree; trace = subst (HasTrace checker_rules from to) (append-nil (es j)) k.trace };
 }
 ok_after (Err x) old mid new from mids to f es one two = tt

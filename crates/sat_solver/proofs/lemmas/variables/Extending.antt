@@ -5,7 +5,7 @@ use Rattle.sat_store.specs.declared.data.SamplingMode.TheVariants as kept
 use Rattle.sat_store.specs.variables.VarData.{user_variable, unused_variable}
 use Rattle.sat_store.specs.variables.Maps.{target}
 use Rattle.sat_solver.specs.variables.Variables.{data_at, global_of, AreTidy}
-use Rattle.sat_solver.specs.variables.Naming.{IsRoom, PutsName, ExtendsNames, AreFresh}
+use Rattle.sat_solver.specs.variables.Naming.{IsRoom, PutsName, ExtendsNames, VariablesAreKeptOrNew}
 use Rattle.sat_solver.specs.declared.variables.Variables.{Variables}
 
 none_some : {x : ℕ} {o : Option ℕ} → o ≡ None → o ≡ Some x → ⊥
@@ -50,11 +50,11 @@ extends_kept old new users items = record {
 }
 
 -- variables of names that stay, or come in
-pub are_fresh : (old new : Variables) → ExtendsNames old new → AreFresh old new
+pub are_fresh : (old new : Variables) → ExtendsNames old new → VariablesAreKeptOrNew old new
 are_fresh old new x = record { same = λ u v w e f. some_same f (x.stays u v e).0; fresh = x.fresh }
 
 -- behind a call by which names at most go
-pub fresh_only : (old mid new : Variables) → AreFresh old mid → ((u v : ℕ) → global_of new u ≡ Some v → global_of mid u ≡ Some v) → AreFresh old new
+pub fresh_only : (old mid new : Variables) → VariablesAreKeptOrNew old mid → ((u v : ℕ) → global_of new u ≡ Some v → global_of mid u ≡ Some v) → VariablesAreKeptOrNew old new
 fresh_only old mid new x only = record { same = λ u v w e f. x.same u v w e (only u w f); fresh = λ u v e f. x.fresh u v e (only u v f) }
 
 pub extends_named : (old new : Variables) (user v : ℕ) → AreTidy old → IsRoom old user v → global_of old user ≡ None → PutsName old new user v → ExtendsNames old new

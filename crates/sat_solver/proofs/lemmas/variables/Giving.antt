@@ -10,7 +10,7 @@ use Rattle.sat_checker.specs.LiteralSets.{mentions}
 use Rattle.sat_store.specs.variables.Maps.{AreInverse, target}
 use Rattle.sat_solver.specs.session.Session.{Session, session_after}
 use Rattle.sat_solver.specs.variables.Variables.{global_at, user_of, solver_of, says_unit}
-use Rattle.sat_solver.specs.variables.Naming.{PutsIndex, KeepsOthers, AreFresh}
+use Rattle.sat_solver.specs.variables.Naming.{PutsIndex, KeepsOthers, VariablesAreKeptOrNew}
 use Rattle.sat_solver.specs.variables.Search.{KeepsSearch, KeepsUnits, IsUnseen, IsLeftOn, IsAlike, ForgetsUnits, IsGiven, GivenApart, HasGiven, GivesIndices}
 use Rattle.sat_solver.specs.declared.variables.solver_vars.Given.{Given}
 use Rattle.sat_solver.specs.declared.variables.Variables.{Variables}
@@ -177,7 +177,7 @@ units_forgotten a b from to v inverse none users f u w d e =
     and_true false = refl
 
 -- names that came in freshly, behind a call that leaves them all
-pub ok_fresh : {A E : Type 0} (r : Result A E) (a b c : Variables) → AreFresh a b → OnOk r (c.global_from_user ≡ b.global_from_user) → OnOk r (AreFresh a c)
+pub ok_fresh : {A E : Type 0} (r : Result A E) (a b c : Variables) → VariablesAreKeptOrNew a b → OnOk r (c.global_from_user ≡ b.global_from_user) → OnOk r (VariablesAreKeptOrNew a c)
 ok_fresh (Ok x) a b c fresh e = fresh_only a b c fresh (λ u v f. sym (ap (λ m. target m.fwd u) e) ∙ f)
 ok_fresh (Err x) a b c fresh e = tt
 

@@ -1,8 +1,8 @@
 -- A variable that loses its name.
 use Rattle.std.proofs.Common.{ℕ, ◌+◌, ◌≡◌, ◌≢◌, Bool, true, false, not, ◌&&◌, cond, eqb, ltb, lt-ltb, List, [], ◌∷◌, length, get_or, Option, Some, None, is_some, refl, sym, ◌∙◌, ap, subst, arith}
 use Rattle.std.proofs.lemmas.Bool.{eqb-true, eqb-false, eq-eqb, ne_eqb, true≢false}
-use Rattle.sat_base.proofs.lemmas.script.JudgeStates.{filtered_order}
-use Rattle.sat_base.specs.script.Judge.{Judge, Sampled, identity_of, without_name}
+use Rattle.sat_base.proofs.lemmas.script.ScriptStates.{filtered_order}
+use Rattle.sat_base.specs.script.ScriptState.{ScriptState, Sampled, identity_of, without_name}
 use Rattle.sat_base.specs.steps.Steps.{Step, UserVarName}
 use Rattle.sat_checker.specs.Fold.{Holds}
 use Rattle.sat_store.specs.declared.data.VarData.{VarData}
@@ -16,13 +16,13 @@ use Rattle.sat_solver.specs.variables.Counting.{IsEven}
 use Rattle.sat_solver.specs.variables.Free.{is_free, IsTree}
 use Rattle.sat_checker.specs.matching.Bridge.{Live}
 use Rattle.sat_solver.specs.variables.Live.{given_of, given}
-use Rattle.sat_solver.specs.variables.Variables.{data_at, global_of, user_of, names_used, variables_used, AreTidy, mode_in, variable_at, AreSaid, IsModeOf, AreJudged, says_unit, is_witness_kept}
+use Rattle.sat_solver.specs.variables.Variables.{data_at, global_of, user_of, names_used, variables_used, AreTidy, checker_mode, checker_variable_at, NamesMatchSteps, IsModeOf, NamesMatchState, says_unit, is_witness_kept}
 use Rattle.sat_solver.specs.variables.Naming.{PutsHidden, KeepsOthers}
 use Rattle.sat_checker.specs.matching.Checking.{is_variable, variable_of}
-use Rattle.sat_checker.specs.matching.ProofChecking.{the_checking}
+use Rattle.sat_checker.specs.matching.ProofChecking.{checker_rules}
 use Rattle.sat_checker.specs.matching.Expected.{NoName, no_name}
 use Rattle.sat_checker.specs.matching.Traces.{no_step, visible}
-use Rattle.sat_solver.specs.variables.Calls.{NamesInvariant, ReachesJudge, NamesRefineJudge}
+use Rattle.sat_solver.specs.variables.Calls.{NamesInvariant, ReachesScriptState, NamesEffect}
 use Rattle.sat_solver.specs.variables.Search.{KeepsSearch, IsUnseen}
 use Rattle.sat_solver.specs.declared.variables.Variables.{Variables}
 use Rattle.sat_solver.proofs.lemmas.variables.MapLemmas.{some_within}
@@ -124,7 +124,7 @@ module _ (old new : Variables) (user v : ℕ) (tidy : AreTidy old) (had : global
               sym (ap (λ o. ltb u (names_used new) && not (is_some o)) x ∙ ap (λ b. b && true) (lt-ltb u (names_used new) (omega arith)))
           go false t x = tidy.free_users u ∙ ap (λ n. ltb u n && not (is_some (global_of old u))) (sym put.users.fwd_watermark) ∙ sym (ap (λ o. ltb u (names_used new) && not (is_some o)) x)
 
-  pub said_hidden : (s : Session) → AreSaid old s → AreSaid new (after (UserVarName v None) s)
+  pub said_hidden : (s : Session) → NamesMatchSteps old s → NamesMatchSteps new (after (UserVarName v None) s)
   said_hidden s said = record {
     variables = variables;
     solver_names = λ w. said.solver_names w ∙ ap (λ m. target m.fwd w) (sym put.solvers);
@@ -146,19 +146,19 @@ module _ (old new : Variables) (user v : ℕ) (tidy : AreTidy old) (had : global
       mark_kept : (w : ℕ) → (data_at old w).assumed ≡ (data_at new w).assumed
       mark_kept w = same w (λ d. d.assumed) refl
 
-      variables : (w : ℕ) → cond (eqb w v) (record (s.variables v) { mode = Hide; name = None }) (s.variables w) ≡ variable_at new w
+      variables : (w : ℕ) → cond (eqb w v) (record (s.variables v) { mode = Hide; name = None }) (s.variables w) ≡ checker_variable_at new w
       variables w = go (eqb w v) (put.kept w) (put.users.bwd w)
         where
-          here : (b : Bool) → b ≡ false → (let z : Variable = cond b unknown (record { known = true; mode = mode_in (data_at old v).sampling_mode; name = user_of old v }) in record z { mode = Hide; name = None }) ≡ cond b unknown (record { known = true; mode = Hide; name = None })
+          here : (b : Bool) → b ≡ false → (let z : Variable = cond b unknown (record { known = true; mode = checker_mode (data_at old v).sampling_mode; name = user_of old v }) in record z { mode = Hide; name = None }) ≡ cond b unknown (record { known = true; mode = Hide; name = None })
           here false e = refl
           here true e = absurd (true≢false e)
 
           go : (b : Bool) → data_at new w ≡ cond b (record (data_at old v) { sampling_mode = kept.Hide }) (data_at old w) → user_of new w ≡ cond b None (user_of old w)
-              → cond b (record (s.variables v) { mode = Hide; name = None }) (s.variables w) ≡ variable_at new w
+              → cond b (record (s.variables v) { mode = Hide; name = None }) (s.variables w) ≡ checker_variable_at new w
           go true x y = ap {A = Variable} (λ z. record z { mode = Hide; name = None }) (said.variables v) ∙ here (data_at old v).deleted alive ∙ sym (ap (λ d. shape d (user_of new w)) x ∙ ap (shape (record (data_at old v) { sampling_mode = kept.Hide })) y)
           go false x y = said.variables w ∙ sym (ap (λ d. shape d (user_of new w)) x ∙ ap (shape (data_at old w)) y)
 
-  pub judged_hidden : (j : Judge) (live : Live) → AreJudged old j live → AreJudged new (without_name (user + 1) j) live
+  pub judged_hidden : (j : ScriptState) (live : Live) → NamesMatchState old j live → NamesMatchState new (without_name (user + 1) j) live
   judged_hidden j live judged = record {
     first_unused = judged.first_unused ∙ ap (λ n. n + 1) (sym put.users.fwd_watermark);
     no_zero = removed_found (user + 1) j.in_use 0 (λ x. omega arith) ∙ judged.no_zero;
@@ -187,10 +187,10 @@ module _ (old new : Variables) (user v : ℕ) (tidy : AreTidy old) (had : global
           go true x = subst (λ d. IsModeOf d.sampling_mode (get_or j.modes i Sampled)) (sym x) tt
           go false x = subst (λ d. IsModeOf d.sampling_mode (get_or j.modes i Sampled)) (sym x) (judged.modes w i e)
 
-  pub may_hide : (s : Session) → AreSaid old s → (s.variables v).name ≢ None
+  pub may_hide : (s : Session) → NamesMatchSteps old s → (s.variables v).name ≢ None
   may_hide s said e = none_some (sym (ap (λ x. x.name) (said.variables v)) ∙ e) (at (data_at old v).deleted alive)
     where
-      at : (b : Bool) → b ≡ false → (let z : Variable = cond b unknown (record { known = true; mode = mode_in (data_at old v).sampling_mode; name = user_of old v }) in z).name ≡ Some user
+      at : (b : Bool) → b ≡ false → (let z : Variable = cond b unknown (record { known = true; mode = checker_mode (data_at old v).sampling_mode; name = user_of old v }) in z).name ≡ Some user
       at false f = name
       at true f = absurd (true≢false f)
 
@@ -206,19 +206,19 @@ module _ (old new : Variables) (user v : ℕ) (tidy : AreTidy old) (had : global
       go false t x = others (global_of old u) refl (λ e. eqb-false u user t (some_same (tidy.users.back u v e) name)) ∙ sym x
 
 pub name_hidden : (old new : Variables) (from to : List Step) (user v : ℕ) → NamesInvariant old from → global_of old user ≡ Some v → PutsHidden old new user v
-    → to ≡ UserVarName v None ∷ from → NamesRefineJudge old new from to (without_name (user + 1)) (λ j. NoName (user + 1) ∷ [])
+    → to ≡ UserVarName v None ∷ from → NamesEffect old new from to (without_name (user + 1)) (λ j. NoName (user + 1) ∷ [])
 name_hidden old new from to user v stands had put e = record {
   stands = record {
     tidy = tidy_hidden old new user v stands.tidy had put;
-    said = subst (λ steps. AreSaid new (session_after steps)) (sym e) (said_hidden old new user v stands.tidy had put (session_after from) stands.said);
+    said = subst (λ steps. NamesMatchSteps new (session_after steps)) (sym e) (said_hidden old new user v stands.tidy had put (session_after from) stands.said);
     may = subst MayAll (sym e) (stands.may, may_hide old new user v stands.tidy had put (session_after from) stands.said);
     read = λ u. ap (λ steps. variable_of steps (u + 1)) e ∙ read_hidden old new user v stands.tidy had put (variable_of from) stands.read u;
   };
-  kept = λ j live a. subst (λ steps. ReachesJudge new from steps (without_name (user + 1) j) (NoName (user + 1) ∷ [])) (sym e) (record {
+  kept = λ j live a. subst (λ steps. ReachesScriptState new from steps (without_name (user + 1) j) (NoName (user + 1) ∷ [])) (sym e) (record {
     live = live;
     agree = record {
       judged = judged_hidden old new user v stands.tidy had put j live a.judged;
-      bridge = unnamed the_checking the_checking_sound j from live a.bridge (user + 1) v at accepted;
+      bridge = unnamed checker_rules the_checking_sound j from live a.bridge (user + 1) v at accepted;
     };
     trace = visible (no_name at) no_step;
   });
@@ -227,7 +227,7 @@ name_hidden old new from to user v stands had put e = record {
     at : variable_of from (user + 1) ≡ Some v
     at = stands.read user ∙ had
 
-    accepted : the_checking.Accepts from (UserVarName v None)
+    accepted : checker_rules.Accepts from (UserVarName v None)
     accepted = (sessions_are_accepted (UserVarName v None ∷ from) (stands.may, may_hide old new user v stands.tidy had put (session_after from) stands.said)).0.1
 
 pub hidden_unseen : (old new : Variables) (from to : List Step) (user v : ℕ) → PutsHidden old new user v → to ≡ UserVarName v None ∷ from → IsUnseen old new from to

@@ -3,7 +3,7 @@ use Rattle.std.proofs.Common.{ℕ, ◌+◌, ◌<◌, ◌≤◌, ◌≡◌, max, 
 use Rattle.std.proofs.lemmas.Bool.{eqb-true, eqb-false, eq-eqb, lt-ltb, true≢false}
 use Rattle.std.proofs.lemmas.List.{append-nil}
 use Rattle.sat_base.specs.values.Literals.{coded}
-use Rattle.sat_base.specs.script.Judge.{Judge, Sampled}
+use Rattle.sat_base.specs.script.ScriptState.{ScriptState, Sampled}
 use Rattle.sat_base.specs.steps.Steps.{Step, SolverVarName}
 use Rattle.sat_store.specs.variables.VarData.{unused_variable}
 use Rattle.sat_store.specs.variables.Maps.{AreInverse, target}
@@ -15,17 +15,17 @@ use Rattle.sat_solver.proofs.lemmas.variables.Counts.{mapped_one_more, mapped_on
 use Rattle.sat_solver.specs.variables.Free.{is_free, IsTree}
 use Rattle.sat_checker.specs.matching.Bridge.{Live}
 use Rattle.sat_solver.specs.variables.Live.{given_of}
-use Rattle.sat_solver.specs.variables.Variables.{data_at, user_of, solver_of, global_at, indices_used, variables_used, AreTidy, mode_in, variable_at, AreSaid, IsModeOf, AreJudged, says_unit, IsUnitOf, IsInNoNonUnitClause, is_witness_kept}
+use Rattle.sat_solver.specs.variables.Variables.{data_at, user_of, solver_of, global_at, indices_used, variables_used, AreTidy, checker_mode, checker_variable_at, NamesMatchSteps, IsModeOf, NamesMatchState, says_unit, IsUnitOf, IsInNoNonUnitClause, is_witness_kept}
 use Rattle.sat_solver.specs.variables.Naming.{PutsIndex, IsNextIndex}
 use Rattle.sat_solver.specs.variables.Search.{KeepsSearch}
 use Rattle.sat_solver.specs.variables.Indexing.{Indexes, Unindexes}
 use Rattle.sat_solver.specs.declared.variables.solver_vars.Given.{Given}
-use Rattle.sat_checker.specs.matching.ProofChecking.{the_checking}
+use Rattle.sat_checker.specs.matching.ProofChecking.{checker_rules}
 use Rattle.sat_checker.specs.matching.Traces.{no_step, silent}
-use Rattle.sat_solver.specs.variables.Calls.{NamesInvariant, ReachesJudge, DoesNothing}
+use Rattle.sat_solver.specs.variables.Calls.{NamesInvariant, ReachesScriptState, DoesNothing}
 use Rattle.sat_checker.specs.matching.Checking.{variable_of}
 use Rattle.sat_solver.specs.declared.variables.Variables.{Variables}
-use Rattle.sat_solver.proofs.lemmas.variables.JudgeLemmas.{same_below}
+use Rattle.sat_solver.proofs.lemmas.variables.ScriptStateLemmas.{same_below}
 use Rattle.sat_solver.proofs.lemmas.variables.MapLemmas.{some_within}
 use Rattle.sat_solver.proofs.lemmas.variables.NewName.{shape, and_false}
 use Rattle.sat_solver.proofs.lemmas.variables.NextIndices.{index_below}
@@ -35,7 +35,7 @@ use Rattle.sat_checker.proofs.lemmas.matching.Bridge.{nothing_new}
 use Rattle.sat_checker.proofs.lemmas.matching.CheckerIsSound.{the_checking_sound}
 
 -- the judge sees names and data alone
-pub judged_same : (old new : Variables) (j : Judge) (live : Live) → new.global_from_user ≡ old.global_from_user → new.var_data ≡ old.var_data → AreJudged old j live → AreJudged new j live
+pub judged_same : (old new : Variables) (j : ScriptState) (live : Live) → new.global_from_user ≡ old.global_from_user → new.var_data ≡ old.var_data → NamesMatchState old j live → NamesMatchState new j live
 judged_same old new j live users items judged =
     let at : (v : ℕ) → data_at new v ≡ data_at old v = λ v. ap (λ d. get_or d.items v unused_variable) items in
     record {
@@ -158,7 +158,7 @@ module _ (old new : Variables) (v x : ℕ) (there : Bool) (tidy : AreTidy old) (
                   ∙ ap (λ n. ltb y n && not (is_some (global_at old y))) (sym used)
                   ∙ sym (ap (λ o. ltb y (indices_used new) && not (is_some o)) g)
 
-  pub said_index : (s : Session) → AreSaid old s → (there ≡ false → IsUnitOf old s v) → (there ≡ false → IsInNoNonUnitClause s v) → AreSaid new (after (SolverVarName v (cond there (Some x) None)) s)
+  pub said_index : (s : Session) → NamesMatchSteps old s → (there ≡ false → IsUnitOf old s v) → (there ≡ false → IsInNoNonUnitClause s v) → NamesMatchSteps new (after (SolverVarName v (cond there (Some x) None)) s)
   said_index s said its_unit its_unused = by_case there refl
     where
       unit_at : (w : ℕ) → solver_of new w ≡ None → IsUnitOf new s w
@@ -188,23 +188,23 @@ module _ (old new : Variables) (v x : ℕ) (there : Bool) (tidy : AreTidy old) (
       names : (c : Bool) → there ≡ c → (w : ℕ) → cond (eqb w v) (cond c (Some x) None) (s.solver_names w) ≡ solver_of new w
       names c e w = ap (cond (eqb w v) (cond c (Some x) None)) (said.solver_names w) ∙ ap (λ d. cond (eqb w v) (cond d (Some x) None) (solver_of old w)) (sym e) ∙ sym (put.solvers w)
 
-      same : (w : ℕ) → variable_at old w ≡ variable_at new w
+      same : (w : ℕ) → checker_variable_at old w ≡ checker_variable_at new w
       same w = sym (ap (λ d. shape d (user_of new w)) (kept_at w) ∙ ap (shape (data_at old w)) (user_at w))
 
-      by_case : (c : Bool) → there ≡ c → AreSaid new (after (SolverVarName v (cond c (Some x) None)) s)
+      by_case : (c : Bool) → there ≡ c → NamesMatchSteps new (after (SolverVarName v (cond c (Some x) None)) s)
       by_case false e = record { variables = λ w. said.variables w ∙ same w; solver_names = names false e; unused = unused_at; units = unit_at; marked = mark_at }
       by_case true e = record { variables = λ w. known w ∙ same w; solver_names = names true e; unused = unused_at; units = unit_at; marked = mark_at }
         where
-          known : (w : ℕ) → cond (eqb v w || false) (record (s.variables w) { known = true }) (s.variables w) ≡ variable_at old w
+          known : (w : ℕ) → cond (eqb v w || false) (record (s.variables w) { known = true }) (s.variables w) ≡ checker_variable_at old w
           known w = go (eqb v w) refl
             where
-              go : (b : Bool) → eqb v w ≡ b → cond (b || false) (record (s.variables w) { known = true }) (s.variables w) ≡ variable_at old w
+              go : (b : Bool) → eqb v w ≡ b → cond (b || false) (record (s.variables w) { known = true }) (s.variables w) ≡ checker_variable_at old w
               go false t = said.variables w
               go true t =
                   let here : (data_at old w).deleted ≡ false = ap (λ k. (data_at old k).deleted) (sym (eqb-true v w t)) ∙ alive in
                   ap {A = Variable} (λ z. record z { known = true }) (said.variables w) ∙ still (data_at old w).deleted here
                 where
-                  still : (d : Bool) → d ≡ false → (let z : Variable = cond d unknown (record { known = true; mode = mode_in (data_at old w).sampling_mode; name = user_of old w }) in record z { known = true }) ≡ cond d unknown (record { known = true; mode = mode_in (data_at old w).sampling_mode; name = user_of old w })
+                  still : (d : Bool) → d ≡ false → (let z : Variable = cond d unknown (record { known = true; mode = checker_mode (data_at old w).sampling_mode; name = user_of old w }) in record z { known = true }) ≡ cond d unknown (record { known = true; mode = checker_mode (data_at old w).sampling_mode; name = user_of old w })
                   still false f = refl
                   still true f = absurd (true≢false f)
 
@@ -221,15 +221,15 @@ pub index_put : (old new : Variables) (from to : List Step) (v x : ℕ) (there :
 index_put old new from to v x there stands alive low had fresh room its_unit its_unused put e = record {
   stands = record {
     tidy = tidy_index old new v x there stands.tidy alive low had fresh room put;
-    said = subst (λ steps. AreSaid new (session_after steps)) (sym e) (said_index old new v x there stands.tidy alive low had fresh room put (session_after from) stands.said its_unit its_unused);
+    said = subst (λ steps. NamesMatchSteps new (session_after steps)) (sym e) (said_index old new v x there stands.tidy alive low had fresh room put (session_after from) stands.said its_unit its_unused);
     may = subst MayAll (sym e) (stands.may, tt);
     read = λ u. ap (λ steps. variable_of steps (u + 1)) e ∙ stands.read u ∙ ap (λ m. target m.fwd u) (sym put.users);
   };
-  kept = λ j live a. subst (λ steps. ReachesJudge new from steps j []) (sym e) (record {
+  kept = λ j live a. subst (λ steps. ReachesScriptState new from steps j []) (sym e) (record {
     live = live;
     agree = record {
       judged = judged_same old new j live put.users put.kept a.judged;
-      bridge = nothing_new the_checking the_checking_sound j from live a.bridge (SolverVarName v (cond there (Some x) None)) tt (λ w y. cc) (λ n. refl) (λ b h. h) (λ b h. h);
+      bridge = nothing_new checker_rules the_checking_sound j from live a.bridge (SolverVarName v (cond there (Some x) None)) tt (λ w y. cc) (λ n. refl) (λ b h. h) (λ b h. h);
     };
     trace = silent refl no_step;
   });

@@ -3,8 +3,8 @@ use Rattle.std.proofs.Common.{ℕ, ◌+◌, ◌<◌, ◌≡◌, ◌≢◌, Bool,
 use Rattle.std.proofs.Math.ListN.{length-set}
 use Rattle.std.proofs.lemmas.List.{get_or_past, get_or-set_same, get_or-set_other}
 use Rattle.std.proofs.lemmas.Bool.{eqb-true, eqb-false, true≢false, false_from_ne_true, cases_lt}
-use Rattle.sat_base.specs.script.Judge.{Judge, Sampled, Witnessed, identity_of, or_zero, with_mode}
-use Rattle.sat_base.specs.script.Judge as judged
+use Rattle.sat_base.specs.script.ScriptState.{ScriptState, Sampled, Witnessed, identity_of, or_zero, with_mode}
+use Rattle.sat_base.specs.script.ScriptState as judged
 use Rattle.sat_base.specs.steps.Steps.{Step, ChangeSamplingMode}
 use Rattle.sat_checker.specs.Fold.{Holds}
 use Rattle.sat_store.specs.declared.data.VarData.{VarData}
@@ -19,16 +19,16 @@ use Rattle.sat_solver.specs.variables.Counting.{IsEven}
 use Rattle.sat_solver.specs.variables.Free.{is_free, IsTree}
 use Rattle.sat_checker.specs.matching.Bridge.{Live, IsBridge}
 use Rattle.sat_solver.specs.variables.Live.{given_of, given}
-use Rattle.sat_solver.specs.variables.Variables.{data_at, global_of, user_of, variables_used, AreTidy, mode_in, variable_at, AreSaid, IsModeOf, AreJudged, mode_for, judged_mode, says_unit, is_witness_kept}
+use Rattle.sat_solver.specs.variables.Variables.{data_at, global_of, user_of, variables_used, AreTidy, checker_mode, checker_variable_at, NamesMatchSteps, IsModeOf, NamesMatchState, mode_for, script_mode, says_unit, is_witness_kept}
 use Rattle.sat_solver.specs.variables.Naming.{PutsMode}
 use Rattle.sat_checker.specs.matching.Checking.{variable_of}
 use Rattle.sat_solver.specs.variables.Coming.{mode_said, TurnsMode}
-use Rattle.sat_checker.specs.matching.ProofChecking.{the_checking}
+use Rattle.sat_checker.specs.matching.ProofChecking.{checker_rules}
 use Rattle.sat_checker.specs.matching.Traces.{no_step, silent}
-use Rattle.sat_solver.specs.variables.Calls.{NamesInvariant, ReachesJudge, NamesRefineJudge}
+use Rattle.sat_solver.specs.variables.Calls.{NamesInvariant, ReachesScriptState, NamesEffect}
 use Rattle.sat_solver.specs.variables.Search.{KeepsSearch, IsUnseen}
 use Rattle.sat_solver.specs.declared.variables.Variables.{Variables}
-use Rattle.sat_solver.proofs.lemmas.variables.JudgeLemmas.{given_has}
+use Rattle.sat_solver.proofs.lemmas.variables.ScriptStateLemmas.{given_has}
 use Rattle.sat_solver.proofs.lemmas.variables.NewName.{shape, none_or}
 use Rattle.sat_checker.proofs.lemmas.matching.Bridge.{nothing_new}
 use Rattle.sat_checker.proofs.lemmas.matching.CheckerIsSound.{the_checking_sound}
@@ -145,7 +145,7 @@ module _ (old new : Variables) (user v : ℕ) (sample : Bool) (tidy : AreTidy ol
           go true x = not_hide sample (sym (ap (λ d. d.sampling_mode) x) ∙ h)
           go false x = tidy.shown w u (sym (user_at w) ∙ e) (sym (ap (λ d. d.sampling_mode) x) ∙ h)
 
-  pub said_mode : (s : Session) → AreSaid old s → AreSaid new (after (ChangeSamplingMode v sample) s)
+  pub said_mode : (s : Session) → NamesMatchSteps old s → NamesMatchSteps new (after (ChangeSamplingMode v sample) s)
   said_mode s said = record {
     variables = variables;
     solver_names = λ w. said.solver_names w ∙ ap (λ m. target m.fwd w) (sym put.solvers);
@@ -167,19 +167,19 @@ module _ (old new : Variables) (user v : ℕ) (sample : Bool) (tidy : AreTidy ol
       mark_kept : (w : ℕ) → (data_at old w).assumed ≡ (data_at new w).assumed
       mark_kept w = same w (λ d. d.assumed) refl
 
-      variables : (w : ℕ) → cond (eqb w v) (record (s.variables v) { mode = cond sample Sample Witness }) (s.variables w) ≡ variable_at new w
+      variables : (w : ℕ) → cond (eqb w v) (record (s.variables v) { mode = cond sample Sample Witness }) (s.variables w) ≡ checker_variable_at new w
       variables w = go (eqb w v) refl (put.kept w)
         where
-          here : (c b : Bool) → b ≡ false → (let z : Variable = cond b unknown (record { known = true; mode = mode_in (data_at old v).sampling_mode; name = user_of old v }) in record z { mode = cond c Sample Witness }) ≡ cond b unknown (record { known = true; mode = mode_in (mode_for c); name = user_of old v })
+          here : (c b : Bool) → b ≡ false → (let z : Variable = cond b unknown (record { known = true; mode = checker_mode (data_at old v).sampling_mode; name = user_of old v }) in record z { mode = cond c Sample Witness }) ≡ cond b unknown (record { known = true; mode = checker_mode (mode_for c); name = user_of old v })
           here true false e = refl
           here false false e = refl
           here c true e = absurd (true≢false e)
 
-          go : (b : Bool) → eqb w v ≡ b → data_at new w ≡ cond b (record (data_at old v) { sampling_mode = mode_for sample }) (data_at old w) → cond b (record (s.variables v) { mode = cond sample Sample Witness }) (s.variables w) ≡ variable_at new w
+          go : (b : Bool) → eqb w v ≡ b → data_at new w ≡ cond b (record (data_at old v) { sampling_mode = mode_for sample }) (data_at old w) → cond b (record (s.variables v) { mode = cond sample Sample Witness }) (s.variables w) ≡ checker_variable_at new w
           go true t x = ap {A = Variable} (λ z. record z { mode = cond sample Sample Witness }) (said.variables v) ∙ here sample (data_at old v).deleted alive ∙ sym (ap (λ d. shape d (user_of new w)) x ∙ ap (shape (record (data_at old v) { sampling_mode = mode_for sample })) (user_at w ∙ ap (user_of old) (eqb-true w v t)))
           go false t x = said.variables w ∙ sym (ap (λ d. shape d (user_of new w)) x ∙ ap (shape (data_at old w)) (user_at w))
 
-  pub judged_with_mode : (j : Judge) (live : Live) → AreJudged old j live → AreJudged new (with_mode (judged_mode sample) (user + 1) j) live
+  pub judged_with_mode : (j : ScriptState) (live : Live) → NamesMatchState old j live → NamesMatchState new (with_mode (script_mode sample) (user + 1) j) live
   judged_with_mode j live judged = record {
     first_unused = judged.first_unused ∙ ap (λ m. length m.fwd + 1) (sym put.users);
     no_zero = judged.no_zero;
@@ -189,7 +189,7 @@ module _ (old new : Variables) (user v : ℕ) (sample : Bool) (tidy : AreTidy ol
     below = judged.below;
     distinct = judged.distinct;
     identities = (let b = put.count in let r = judged.identities in omega arith);
-    modes_count = length-set j.modes (or_zero (identity_of j (user + 1))) (judged_mode sample) ∙ judged.modes_count;
+    modes_count = length-set j.modes (or_zero (identity_of j (user + 1))) (script_mode sample) ∙ judged.modes_count;
     increasing = judged.increasing;
     modes = modes;
   }
@@ -200,33 +200,33 @@ module _ (old new : Variables) (user v : ℕ) (sample : Bool) (tidy : AreTidy ol
       at : or_zero (identity_of j (user + 1)) ≡ its.0
       at = ap or_zero (judged.names user ∙ ap (given_of live) had ∙ its.1)
 
-      fits : (c : Bool) → IsModeOf (mode_for c) (judged_mode c)
+      fits : (c : Bool) → IsModeOf (mode_for c) (script_mode c)
       fits true = refl
       fits false = refl
 
-      modes : (w i : ℕ) → given live w ≡ Some i → IsModeOf (data_at new w).sampling_mode (get_or (set j.modes (or_zero (identity_of j (user + 1))) (judged_mode sample)) i Sampled)
+      modes : (w i : ℕ) → given live w ≡ Some i → IsModeOf (data_at new w).sampling_mode (get_or (set j.modes (or_zero (identity_of j (user + 1))) (script_mode sample)) i Sampled)
       modes w i e = go (eqb w v) refl (put.kept w)
         where
           go : (b : Bool) → eqb w v ≡ b → data_at new w ≡ cond b (record (data_at old v) { sampling_mode = mode_for sample }) (data_at old w)
-              → IsModeOf (data_at new w).sampling_mode (get_or (set j.modes (or_zero (identity_of j (user + 1))) (judged_mode sample)) i Sampled)
+              → IsModeOf (data_at new w).sampling_mode (get_or (set j.modes (or_zero (identity_of j (user + 1))) (script_mode sample)) i Sampled)
           go true t x =
               let same : its.0 ≡ i = one (sym its.1 ∙ ap (given live) (sym (eqb-true w v t)) ∙ e) in
               let lt : i < j.identity_count = given_has (λ k. k < j.identity_count) live w i judged.below e in
               let n = judged.modes_count in
-              let here : get_or (set j.modes (or_zero (identity_of j (user + 1))) (judged_mode sample)) i Sampled ≡ judged_mode sample =
-              ap (λ k. get_or (set j.modes k (judged_mode sample)) i Sampled) (at ∙ same) ∙ get_or-set_same j.modes i (judged_mode sample) Sampled (omega arith) in
-              subst (λ d. IsModeOf d.sampling_mode (get_or (set j.modes (or_zero (identity_of j (user + 1))) (judged_mode sample)) i Sampled)) (sym x)
+              let here : get_or (set j.modes (or_zero (identity_of j (user + 1))) (script_mode sample)) i Sampled ≡ script_mode sample =
+              ap (λ k. get_or (set j.modes k (script_mode sample)) i Sampled) (at ∙ same) ∙ get_or-set_same j.modes i (script_mode sample) Sampled (omega arith) in
+              subst (λ d. IsModeOf d.sampling_mode (get_or (set j.modes (or_zero (identity_of j (user + 1))) (script_mode sample)) i Sampled)) (sym x)
               (subst (IsModeOf (mode_for sample)) (sym here) (fits sample))
             where
               one : {a b : ℕ} → Some a ≡ Some b → a ≡ b
               one p = cc
           go false t x =
               let differ : i ≢ or_zero (identity_of j (user + 1)) = λ y. eqb-false w v t (judged.distinct w v its.0 (e ∙ ap Some (y ∙ at)) its.1) in
-              subst (λ d. IsModeOf d.sampling_mode (get_or (set j.modes (or_zero (identity_of j (user + 1))) (judged_mode sample)) i Sampled)) (sym x)
-              (subst (IsModeOf (data_at old w).sampling_mode) (sym (get_or-set_other j.modes (or_zero (identity_of j (user + 1))) i (judged_mode sample) Sampled differ)) (judged.modes w i e))
+              subst (λ d. IsModeOf d.sampling_mode (get_or (set j.modes (or_zero (identity_of j (user + 1))) (script_mode sample)) i Sampled)) (sym x)
+              (subst (IsModeOf (data_at old w).sampling_mode) (sym (get_or-set_other j.modes (or_zero (identity_of j (user + 1))) i (script_mode sample) Sampled differ)) (judged.modes w i e))
 
 -- modes mean nothing to the bridge
-bridged : (j : Judge) (steps : List Step) (live : Live) (mode : judged.Mode) (name : ℕ) → IsBridge the_checking j steps live → IsBridge the_checking (with_mode mode name j) steps live
+bridged : (j : ScriptState) (steps : List Step) (live : Live) (mode : judged.NameMode) (name : ℕ) → IsBridge checker_rules j steps live → IsBridge checker_rules (with_mode mode name j) steps live
 bridged j steps live mode number b = record {
   accepted = b.accepted;
   once = b.once;
@@ -240,46 +240,46 @@ bridged j steps live mode number b = record {
   back = b.back;
 }
 
-pub known_at : (old : Variables) (v : ℕ) (s : Session) → AreSaid old s → (data_at old v).deleted ≡ false → (s.variables v).known ≡ true
-known_at old v s said alive = ap (λ x. x.known) (said.variables v) ∙ ap (λ b. (let z : Variable = cond b unknown (record { known = true; mode = mode_in (data_at old v).sampling_mode; name = user_of old v }) in z).known) alive
+pub known_at : (old : Variables) (v : ℕ) (s : Session) → NamesMatchSteps old s → (data_at old v).deleted ≡ false → (s.variables v).known ≡ true
+known_at old v s said alive = ap (λ x. x.known) (said.variables v) ∙ ap (λ b. (let z : Variable = cond b unknown (record { known = true; mode = checker_mode (data_at old v).sampling_mode; name = user_of old v }) in z).known) alive
 
-pub may_mode : (old : Variables) (user v : ℕ) (s : Session) → AreTidy old → AreSaid old s → global_of old user ≡ Some v → (s.variables v).known ≡ true
+pub may_mode : (old : Variables) (user v : ℕ) (s : Session) → AreTidy old → NamesMatchSteps old s → global_of old user ≡ Some v → (s.variables v).known ≡ true
 may_mode old user v s tidy said had = known_at old v s said (tidy.named v user (tidy.users.back user v had))
 
-pub mode_kept : (old : Variables) (from : List Step) (user v : ℕ) (sample : Bool) → NamesInvariant old from → global_of old user ≡ Some v → (data_at old v).sampling_mode ≡ mode_for sample → NamesRefineJudge old old from from (with_mode (judged_mode sample) (user + 1)) (λ j. [])
+pub mode_kept : (old : Variables) (from : List Step) (user v : ℕ) (sample : Bool) → NamesInvariant old from → global_of old user ≡ Some v → (data_at old v).sampling_mode ≡ mode_for sample → NamesEffect old old from from (with_mode (script_mode sample) (user + 1)) (λ j. [])
 mode_kept old from user v sample stands had e = record {
   stands = stands;
   kept = λ j live a. record {
     live = live;
     agree = record {
       judged = judged_with_mode old old user v sample stands.tidy had (same_mode old v (mode_for sample) stands.tidy e) j live a.judged;
-      bridge = bridged j from live (judged_mode sample) (user + 1) a.bridge;
+      bridge = bridged j from live (script_mode sample) (user + 1) a.bridge;
     };
     trace = no_step;
   };
 }
 
 pub mode_set : (old new : Variables) (from to : List Step) (user v : ℕ) (sample : Bool) → NamesInvariant old from → global_of old user ≡ Some v → PutsMode old new v (mode_for sample)
-    → to ≡ ChangeSamplingMode v sample ∷ from → NamesRefineJudge old new from to (with_mode (judged_mode sample) (user + 1)) (λ j. [])
+    → to ≡ ChangeSamplingMode v sample ∷ from → NamesEffect old new from to (with_mode (script_mode sample) (user + 1)) (λ j. [])
 mode_set old new from to user v sample stands had put e = record {
   stands = record {
     tidy = tidy_mode old new user v sample stands.tidy had put;
-    said = subst (λ steps. AreSaid new (session_after steps)) (sym e) (said_mode old new user v sample stands.tidy had put (session_after from) stands.said);
+    said = subst (λ steps. NamesMatchSteps new (session_after steps)) (sym e) (said_mode old new user v sample stands.tidy had put (session_after from) stands.said);
     may = subst MayAll (sym e) (stands.may, may_mode old user v (session_after from) stands.tidy stands.said had);
     read = λ u. ap (λ steps. variable_of steps (u + 1)) e ∙ stands.read u ∙ ap (λ m. target m.fwd u) (sym put.users);
   };
-  kept = λ j live a. subst (λ steps. ReachesJudge new from steps (with_mode (judged_mode sample) (user + 1) j) []) (sym e) (record {
+  kept = λ j live a. subst (λ steps. ReachesScriptState new from steps (with_mode (script_mode sample) (user + 1) j) []) (sym e) (record {
     live = live;
     agree = record {
       judged = judged_with_mode old new user v sample stands.tidy had put j live a.judged;
-      bridge = bridged j (ChangeSamplingMode v sample ∷ from) live (judged_mode sample) (user + 1)
-          (nothing_new the_checking the_checking_sound j from live a.bridge (ChangeSamplingMode v sample) accepted (λ w y. cc) (λ n. refl) (λ b h. h) (λ b h. h));
+      bridge = bridged j (ChangeSamplingMode v sample ∷ from) live (script_mode sample) (user + 1)
+          (nothing_new checker_rules the_checking_sound j from live a.bridge (ChangeSamplingMode v sample) accepted (λ w y. cc) (λ n. refl) (λ b h. h) (λ b h. h));
     };
     trace = silent refl no_step;
   });
 }
   where
-    accepted : the_checking.Accepts from (ChangeSamplingMode v sample)
+    accepted : checker_rules.Accepts from (ChangeSamplingMode v sample)
     accepted = (sessions_are_accepted (ChangeSamplingMode v sample ∷ from) (stands.may, may_mode old user v (session_after from) stands.tidy stands.said had)).0.1
 
 pub mode_unseen : (old new : Variables) (from to : List Step) (v : ℕ) (mode : SamplingMode) (sample : Bool) → PutsMode old new v mode → to ≡ ChangeSamplingMode v sample ∷ from → IsUnseen old new from to
@@ -292,7 +292,7 @@ mode_unseen old new from to v mode sample put e = record {
 
 -- MODES THAT A STEP SAYS
 
-mode_back : (m : SamplingMode) (sample : Bool) → mode_in m ≡ mode_said sample → m ≡ mode_for sample
+mode_back : (m : SamplingMode) (sample : Bool) → checker_mode m ≡ mode_said sample → m ≡ mode_for sample
 mode_back kept.Sample true e = refl
 mode_back kept.Sample false e = absurd (let d : Sample ≡ Witness = e in cc)
 mode_back kept.Witness true e = absurd (let d : Witness ≡ Sample = e in cc)
@@ -305,7 +305,7 @@ pub turns_mode : (n : Variables) (from : List Step) (user v : ℕ) (sample : Boo
 turns_mode n from user v sample stands had differs e = differs (mode_back (data_at n v).sampling_mode sample (sym (ap (λ (x : Variable). x.mode) (stands.said.variables v) ∙ ap (λ b. (cond b unknown live).mode) (stands.tidy.named v user (stands.tidy.users.back user v had))) ∙ e))
   where
     live : Variable
-    live = record { known = true; mode = mode_in (data_at n v).sampling_mode; name = user_of n v }
+    live = record { known = true; mode = checker_mode (data_at n v).sampling_mode; name = user_of n v }
 
 -- which mode a variable has
 pub sample_other : (sample : Bool) → sample ≡ false → kept.Sample ≡ mode_for sample → ⊥

@@ -3,15 +3,15 @@ use Rattle.std.proofs.Common.{ℕ, ◌+◌, ◌/◌, ◌<◌, ◌≡◌, map, Bo
 use Rattle.std.proofs.lemmas.Bool.{eqb-true, eqb-false, eq-eqb, ne_eqb}
 use Rattle.std.specs.List.{AllByRecursion}
 use Rattle.sat_base.specs.script.Script.{Literal, Among}
-use Rattle.sat_base.specs.script.Judge.{Judge, identity_in, identity_of, or_zero, over, with_clause}
+use Rattle.sat_base.specs.script.ScriptState.{ScriptState, identity_in, identity_of, or_zero, over, with_clause}
 use Rattle.sat_base.specs.values.Literals.{coded}
 use Rattle.sat_base.specs.steps.Steps.{Step, UserVarName}
-use Rattle.sat_checker.specs.matching.Checking.{variable_of, Checking, IsSound}
+use Rattle.sat_checker.specs.matching.Checking.{variable_of, CheckerRules, IsSound}
 use Rattle.sat_checker.specs.matching.Bridge.{Live, IsBridge}
 use Rattle.sat_solver.specs.variables.Observing.{observed}
 use Rattle.sat_base.proofs.lemmas.script.LiteralValues.{placed_found, all_map, all_at, coded_half}
 
-pub named_again : (k : Checking) → IsSound k → (j : Judge) (earlier : List Step) (live : Live) → IsBridge k j earlier live → (name v index i : ℕ) → index + 1 ≡ name → Among (v, i) live → ((m : ℕ) → variable_of earlier m ≡ Some v → ⊥)
+pub named_again : (k : CheckerRules) → IsSound k → (j : ScriptState) (earlier : List Step) (live : Live) → IsBridge k j earlier live → (name v index i : ℕ) → index + 1 ≡ name → Among (v, i) live → ((m : ℕ) → variable_of earlier m ≡ Some v → ⊥)
     → k.Accepts earlier (UserVarName v (Some index)) → IsBridge k (observed name i j) (UserVarName v (Some index) ∷ earlier) live
 named_again k sound j earlier live bridge name v index i is there hidden acc = record {
   accepted = (bridge.accepted, acc);
@@ -53,11 +53,11 @@ named_again k sound j earlier live bridge name v index i is there hidden acc = r
     one m n w false x false y e f = bridge.distinct m n w e f
 
 -- a name in use has an identity that was given
-abbrev pub InUse : Judge → List Literal → Type 0
+abbrev pub InUse : ScriptState → List Literal → Type 0
 InUse j ls = AllByRecursion (λ l. (i : ℕ) × (identity_of j l.name ≡ Some i)) ls
 
 -- once unsat is recorded, a clause is left out of the proof
-pub left_out : (k : Checking) → IsSound k → (j : Judge) (earlier : List Step) (live : Live) → IsBridge k j earlier live → k.unsat earlier ≡ true → (ls : List Literal) → InUse j ls → IsBridge k (with_clause ls j) earlier live
+pub left_out : (k : CheckerRules) → IsSound k → (j : ScriptState) (earlier : List Step) (live : Live) → IsBridge k j earlier live → k.unsat earlier ≡ true → (ls : List Literal) → InUse j ls → IsBridge k (with_clause ls j) earlier live
 left_out k sound j earlier live bridge u ls used = record {
   accepted = bridge.accepted;
   once = bridge.once;

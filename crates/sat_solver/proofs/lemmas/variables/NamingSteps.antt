@@ -3,35 +3,35 @@ use Rattle.std.proofs.Common.{ℕ, suc, ◌+◌, ◌-◌, ◌<◌, ◌≤◌, �
 use Rattle.std.proofs.lemmas.Bool.{eq-eqb}
 use Rattle.std.proofs.lemmas.List.{get_or_past}
 use Rattle.sat_base.specs.values.Literals.{var_limit}
-use Rattle.sat_base.specs.script.Judge.{with_name, names_from}
+use Rattle.sat_base.specs.script.ScriptState.{with_name, names_from}
 use Rattle.sat_base.specs.steps.Steps.{Step, UserVarName}
 use Rattle.sat_checker.specs.Fold.{Holds}
 use Rattle.sat_checker.specs.Stored.{Variable, unknown}
 use Rattle.sat_solver.specs.session.Session.{May, MayAll, session_after}
 use Rattle.sat_solver.proofs.lemmas.session.StepLemmas.{sessions_are_accepted}
-use Rattle.sat_solver.specs.variables.Variables.{data_at, global_of, user_of, names_used, AreSaid, variable_at, mode_in}
+use Rattle.sat_solver.specs.variables.Variables.{data_at, global_of, user_of, names_used, NamesMatchSteps, checker_variable_at, checker_mode}
 use Rattle.sat_solver.specs.variables.Naming.{IsRoom, PutsName}
 use Rattle.sat_checker.specs.matching.Checking.{variable_of}
-use Rattle.sat_checker.specs.matching.ProofChecking.{the_checking}
+use Rattle.sat_checker.specs.matching.ProofChecking.{checker_rules}
 use Rattle.sat_checker.specs.matching.Expected.{NewName, new_name}
 use Rattle.sat_checker.specs.matching.Traces.{HasTrace, no_step, visible}
-use Rattle.sat_solver.specs.variables.Calls.{NamesInvariant, Agree, NamesOne, NamesAll}
+use Rattle.sat_solver.specs.variables.Calls.{NamesInvariant, NamesAgree, NamesOne, NamesAll}
 use Rattle.sat_solver.specs.declared.variables.Variables.{Variables}
 use Rattle.sat_solver.proofs.lemmas.variables.NewName.{tidy_named, may_name, said_named, judged_named}
-use Rattle.sat_solver.proofs.lemmas.variables.JudgeLemmas.{next_same}
+use Rattle.sat_solver.proofs.lemmas.variables.ScriptStateLemmas.{next_same}
 use Rattle.sat_checker.proofs.lemmas.matching.Bridge.{named_new}
 use Rattle.sat_solver.specs.variables.Search.{KeepsSearch}
 use Rattle.sat_solver.proofs.lemmas.variables.Giving.{unseen_same, unseen_both}
 use Rattle.sat_solver.proofs.lemmas.variables.Extending.{extends_same, extends_both, extends_named}
 use Rattle.sat_checker.proofs.lemmas.matching.CheckerIsSound.{the_checking_sound}
 use Rattle.sat_solver.specs.variables.Coming.{IsDue}
-use Rattle.sat_solver.specs.variables.Room.{live_count, HasRoom, LeavesRoom}
+use Rattle.sat_solver.specs.variables.VariableRoom.{live_count, HasVariablesFor, LeavesRoom}
 use Rattle.sat_solver.proofs.lemmas.variables.NextVariables.{next_variable}
 use Rattle.sat_solver.proofs.lemmas.variables.RoomLemmas.{live_named, room_one, room_below, room_less}
 use Rattle.sat_solver.proofs.lemmas.session.ComingLemmas.{comes_none, comes_one, comes_both}
 
 -- what the steps say a variable is, where the checker knows it
-pub known_as : (steps : List Step) (n : Variables) (v : ℕ) → MayAll steps → AreSaid n (session_after steps) → the_checking.knows steps v ≡ (variable_at n v).known
+pub known_as : (steps : List Step) (n : Variables) (v : ℕ) → MayAll steps → NamesMatchSteps n (session_after steps) → checker_rules.knows steps v ≡ (checker_variable_at n v).known
 known_as steps n v may said = ap (λ f. (f v).known) (sessions_are_accepted steps may).1.variables ∙ ap (λ x. x.known) (said.variables v)
 
 pub step_may : (old : Variables) (from : List Step) (user v : ℕ) → NamesInvariant old from → global_of old user ≡ None → IsRoom old user v → user ≤ names_used old → v < var_limit → (new : Variables) → PutsName old new user v → May (session_after from) (UserVarName v (Some user))
@@ -42,16 +42,16 @@ pub name_given : (old new : Variables) (from to : List Step) (user v : ℕ) → 
 name_given old new from to user v stands free within room small put e = record {
   stands = record {
     tidy = tidy_named old new user v stands.tidy room free within small put;
-    said = subst (λ steps. AreSaid new (session_after steps)) (sym e) (said_named old new user v stands.tidy room free within small put (session_after from) stands.said);
+    said = subst (λ steps. NamesMatchSteps new (session_after steps)) (sym e) (said_named old new user v stands.tidy room free within small put (session_after from) stands.said);
     may = subst MayAll (sym e) (stands.may, step_may old from user v stands free room within small new put);
     read = λ u. ap (λ steps. variable_of steps (u + 1)) e ∙ ap (λ b. cond b (Some v) (variable_of from (u + 1))) (next_same user u) ∙ ap (cond (eqb u user) (Some v)) (stands.read u) ∙ sym (put.users.fwd u);
   };
   named = put.users.fwd;
   used = put.users.fwd_watermark;
   step = e;
-  kept = λ j live a. subst (λ steps. Agree new steps (with_name (user + 1) j) ((v, j.identity_count) ∷ live)) (sym e) (record {
+  kept = λ j live a. subst (λ steps. NamesAgree new steps (with_name (user + 1) j) ((v, j.identity_count) ∷ live)) (sym e) (record {
     judged = judged_named old new user v stands.tidy room free within small put j live a.judged;
-    bridge = named_new the_checking the_checking_sound j from live a.bridge (user + 1) v user refl not_known accepted;
+    bridge = named_new checker_rules the_checking_sound j from live a.bridge (user + 1) v user refl not_known accepted;
   });
   unknown = not_known;
   live = live_named old new user v room put;
@@ -65,10 +65,10 @@ name_given old new from to user v stands free within room small put e = record {
   };
 }
   where
-    not_known : the_checking.knows from v ≡ false
-    not_known = known_as from old v stands.may stands.said ∙ ap (λ b. (let x : Variable = cond b unknown (record { known = true; mode = mode_in (data_at old v).sampling_mode; name = user_of old v }) in x).known) room.unused
+    not_known : checker_rules.knows from v ≡ false
+    not_known = known_as from old v stands.may stands.said ∙ ap (λ b. (let x : Variable = cond b unknown (record { known = true; mode = checker_mode (data_at old v).sampling_mode; name = user_of old v }) in x).known) room.unused
 
-    accepted : the_checking.Accepts from (UserVarName v (Some user))
+    accepted : checker_rules.Accepts from (UserVarName v (Some user))
     accepted = (sessions_are_accepted (UserVarName v (Some user) ∷ from) (stands.may, step_may old from user v stands free room within small new put)).0.1
 
 pub none_brought : (n : Variables) (log : List Step) → NamesInvariant n log → NamesAll n n log log []
@@ -85,7 +85,7 @@ one_then old mid new from mids to user v names one rest = record {
       record {
         live = k.live;
         agree = k.agree;
-        trace = visible (new_name refl one.unknown) (subst (λ steps. HasTrace the_checking steps to (map NewName names)) one.step k.trace);
+        trace = visible (new_name refl one.unknown) (subst (λ steps. HasTrace checker_rules steps to (map NewName names)) one.step k.trace);
       };
 }
 
@@ -107,7 +107,7 @@ pub record Coming (old now : Variables) (from log : List Step) (user index : ℕ
   pub stands : NamesInvariant now log
   pub used : names_used now ≡ index
   pub low : index ≤ user
-  pub room : (us : List ℕ) → HasRoom old (user ∷ us) → HasRoom now (user ∷ us)
+  pub room : (us : List ℕ) → HasVariablesFor old (user ∷ us) → HasVariablesFor now (user ∷ us)
   pub rest : (new : Variables) (to : List Step) → NamesAll now new log to (names_from (user + 1 - index) (index + 1)) → NamesAll old new from to (names_from (user + 1 - names_used old) (names_used old + 1))
 
 pub none_yet : (old : Variables) (from : List Step) (user index : ℕ) → NamesInvariant old from → index ≡ names_used old → names_used old ≤ user → Coming old old from from user index
@@ -133,7 +133,7 @@ pub last_room : (old mid new : Variables) (from mids to : List Step) (user v : �
 last_room old mid new from mids to user v c one us h = room_one mid new user v (unused mid user c.used) (let b = c.used in omega arith) one.named one.used one.live us (c.room us h)
 
 -- there is a variable for each name that is left
-pub room_left : (old mid : Variables) (from mids : List Step) (user index : ℕ) (us : List ℕ) → Coming old mid from mids user index → HasRoom old (user ∷ us) → live_count mid < var_limit
+pub room_left : (old mid : Variables) (from mids : List Step) (user index : ℕ) (us : List ℕ) → Coming old mid from mids user index → HasVariablesFor old (user ∷ us) → live_count mid < var_limit
 room_left old mid from mids user index us c h = room_less mid user us (get_or_past mid.global_from_user.fwd user None (let a = c.used in let b = c.low in omega arith)) (c.room us h)
 
 pub last_named : (mid new : Variables) (mids to : List Step) (user v : ℕ) → NamesOne mid new mids to user v → global_of new user ≡ Some v

@@ -4,8 +4,8 @@ use Rattle.std.proofs.lemmas.Bool.{eqb-true, eqb-false, eq-eqb, ne_eqb, cases_lt
 use Rattle.std.proofs.lemmas.List.{get_or_past}
 use Rattle.std.specs.List.{AllByRecursion}
 use Rattle.sat_base.specs.values.Literals.{var_limit}
-use Rattle.sat_base.proofs.lemmas.script.JudgeStates.{placed_order}
-use Rattle.sat_base.specs.script.Judge.{Judge, Named, Sampled, identity_in, identity_of, with_name}
+use Rattle.sat_base.proofs.lemmas.script.ScriptStates.{placed_order}
+use Rattle.sat_base.specs.script.ScriptState.{ScriptState, Named, Sampled, identity_in, identity_of, with_name}
 use Rattle.sat_base.specs.steps.Steps.{UserVarName}
 use Rattle.sat_store.specs.declared.data.VarData.{VarData}
 use Rattle.sat_store.specs.declared.data.SamplingMode.TheVariants as kept
@@ -17,13 +17,13 @@ use Rattle.sat_solver.specs.variables.Counting.{IsEven}
 use Rattle.sat_solver.specs.variables.Free.{is_free, IsTree}
 use Rattle.sat_checker.specs.matching.Bridge.{Live}
 use Rattle.sat_solver.specs.variables.Live.{given, given_of}
-use Rattle.sat_solver.specs.variables.Variables.{data_at, global_of, user_of, solver_of, global_at, names_used, variables_used, indices_used, AreTidy, mode_in, variable_at, AreSaid, IsModeOf, AreJudged, says_unit, is_witness_kept}
+use Rattle.sat_solver.specs.variables.Variables.{data_at, global_of, user_of, solver_of, global_at, names_used, variables_used, indices_used, AreTidy, checker_mode, checker_variable_at, NamesMatchSteps, IsModeOf, NamesMatchState, says_unit, is_witness_kept}
 use Rattle.sat_solver.specs.variables.Naming.{IsRoom, PutsName}
 use Rattle.sat_solver.specs.declared.variables.Variables.{Variables}
 use Rattle.sat_solver.proofs.lemmas.variables.MapLemmas.{pushed}
 use Rattle.sat_solver.proofs.lemmas.variables.Counts.{links_even}
 use Rattle.sat_base.proofs.lemmas.script.LiteralValues.{placed_found}
-use Rattle.sat_solver.proofs.lemmas.variables.JudgeLemmas.{eqb_turned, same_below, apart_from, given_has}
+use Rattle.sat_solver.proofs.lemmas.variables.ScriptStateLemmas.{eqb_turned, same_below, apart_from, given_has}
 
 none_some : {x : ℕ} {o : Option ℕ} → o ≡ None → o ≡ Some x → ⊥
 none_some e f = cc
@@ -45,7 +45,7 @@ pub nameless : (n : Variables) (v : ℕ) → AreTidy n → (data_at n v).deleted
 nameless n v tidy d = is_none (user_of n v) (λ u e. true≢false (sym d ∙ tidy.named v u e))
 
 abbrev pub shape : VarData → Option ℕ → Variable
-shape d u = cond d.deleted unknown (record { known = true; mode = mode_in d.sampling_mode; name = u })
+shape d u = cond d.deleted unknown (record { known = true; mode = checker_mode d.sampling_mode; name = u })
 
 module _ (old new : Variables) (user v : ℕ) (tidy : AreTidy old) (room : IsRoom old user v) (free : global_of old user ≡ None) (within : user ≤ names_used old) (small : v < var_limit) (put : PutsName old new user v) where
   pub tidy_named : AreTidy new
@@ -156,7 +156,7 @@ module _ (old new : Variables) (user v : ℕ) (tidy : AreTidy old) (room : IsRoo
       free_solvers x = ap (λ f. is_free f x) put.free_solvers ∙ tidy.free_solvers x ∙ ap (λ m. ltb x (length m.bwd) && not (is_some (target m.bwd x))) (sym put.solvers)
 
   -- the name may be given to the variable
-  pub may_name : (s : Session) → AreSaid old s → MayName s v user
+  pub may_name : (s : Session) → NamesMatchSteps old s → MayName s v user
   may_name s said = record {
     free = λ w e. none_some free (tidy.users.forth user w (name_at w (sym (ap (λ x. x.name) (said.variables w)) ∙ e)));
     nameless = ap (λ x. x.name) at;
@@ -164,16 +164,16 @@ module _ (old new : Variables) (user v : ℕ) (tidy : AreTidy old) (room : IsRoo
   }
     where
       at : s.variables v ≡ unknown
-      at = said.variables v ∙ ap (λ b. cond b unknown (record { known = true; mode = mode_in (data_at old v).sampling_mode; name = user_of old v })) room.unused
+      at = said.variables v ∙ ap (λ b. cond b unknown (record { known = true; mode = checker_mode (data_at old v).sampling_mode; name = user_of old v })) room.unused
 
-      name_at : (w : ℕ) → (variable_at old w).name ≡ Some user → user_of old w ≡ Some user
+      name_at : (w : ℕ) → (checker_variable_at old w).name ≡ Some user → user_of old w ≡ Some user
       name_at w e = go (data_at old w).deleted e
         where
-          go : (b : Bool) → (let x : Variable = cond b unknown (record { known = true; mode = mode_in (data_at old w).sampling_mode; name = user_of old w }) in x).name ≡ Some user → user_of old w ≡ Some user
+          go : (b : Bool) → (let x : Variable = cond b unknown (record { known = true; mode = checker_mode (data_at old w).sampling_mode; name = user_of old w }) in x).name ≡ Some user → user_of old w ≡ Some user
           go true x = cc
           go false x = x
 
-  pub said_named : (s : Session) → AreSaid old s → AreSaid new (after (UserVarName v (Some user)) s)
+  pub said_named : (s : Session) → NamesMatchSteps old s → NamesMatchSteps new (after (UserVarName v (Some user)) s)
   said_named s said = record {
     variables = variables;
     solver_names = λ w. said.solver_names w ∙ ap (λ m. target m.fwd w) (sym put.solvers);
@@ -195,17 +195,17 @@ module _ (old new : Variables) (user v : ℕ) (tidy : AreTidy old) (room : IsRoo
       mark_kept : (w : ℕ) → (data_at old w).assumed ≡ (data_at new w).assumed
       mark_kept w = same w (λ d. d.assumed) refl
 
-      variables : (w : ℕ) → (after (UserVarName v (Some user)) s).variables w ≡ variable_at new w
+      variables : (w : ℕ) → (after (UserVarName v (Some user)) s).variables w ≡ checker_variable_at new w
       variables w = go (eqb w v) refl (put.users.bwd w) (put.kept w)
         where
           go : (b : Bool) → eqb w v ≡ b → user_of new w ≡ cond b (Some user) (user_of old w) → data_at new w ≡ cond b user_variable (data_at old w)
-              → cond b (record (s.variables v) { known = true; name = Some user }) (s.variables w) ≡ variable_at new w
+              → cond b (record (s.variables v) { known = true; name = Some user }) (s.variables w) ≡ checker_variable_at new w
           go true t x y =
-              let at : s.variables v ≡ unknown = said.variables v ∙ ap (λ b. cond b unknown (record { known = true; mode = mode_in (data_at old v).sampling_mode; name = user_of old v })) room.unused in
+              let at : s.variables v ≡ unknown = said.variables v ∙ ap (λ b. cond b unknown (record { known = true; mode = checker_mode (data_at old v).sampling_mode; name = user_of old v })) room.unused in
               ap {A = Variable} (λ z. record z { known = true; name = Some user }) at ∙ sym (ap (λ d. shape d (user_of new w)) y ∙ ap (shape user_variable) x)
           go false t x y = said.variables w ∙ sym (ap (λ d. shape d (user_of new w)) y ∙ ap (shape (data_at old w)) x)
 
-  pub judged_named : (j : Judge) (live : Live) → AreJudged old j live → AreJudged new (with_name (user + 1) j) ((v, j.identity_count) ∷ live)
+  pub judged_named : (j : ScriptState) (live : Live) → NamesMatchState old j live → NamesMatchState new (with_name (user + 1) j) ((v, j.identity_count) ∷ live)
   judged_named j live judged = record {
     first_unused = let a = judged.first_unused in let b = put.users.fwd_watermark in omega arith;
     no_zero = placed_found here j.in_use 0 ∙ ap (λ b. cond b (Some j.identity_count) (identity_in j.in_use 0)) (ne_eqb (user + 1) 0 (λ x. omega arith)) ∙ judged.no_zero;

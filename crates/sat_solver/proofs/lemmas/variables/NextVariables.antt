@@ -9,7 +9,7 @@ use Rattle.sat_solver.specs.session.Session.{Session}
 use Rattle.sat_solver.specs.variables.Coming.{IsNextVariable, IsNextSolver}
 use Rattle.sat_solver.specs.variables.Free.{is_free, IsLowest}
 use Rattle.sat_solver.specs.variables.Naming.{IsRoom, IsNextIndex}
-use Rattle.sat_solver.specs.variables.Variables.{AreTidy, AreSaid, data_at, user_of, global_at, names_used, variables_used, mode_in}
+use Rattle.sat_solver.specs.variables.Variables.{AreTidy, NamesMatchSteps, data_at, user_of, global_at, names_used, variables_used, checker_mode}
 use Rattle.sat_solver.specs.declared.variables.Variables.{Variables}
 use Rattle.sat_solver.proofs.lemmas.variables.NewName.{none_or}
 
@@ -46,10 +46,10 @@ pub ruleset finding_room = (room_own, room_freed, room_new)
 
 -- WHAT THE STEPS SAY
 
-known_of : (n : Variables) (s : Session) (w : ℕ) → AreSaid n s → (s.variables w).known ≡ not (data_at n w).deleted
+known_of : (n : Variables) (s : Session) (w : ℕ) → NamesMatchSteps n s → (s.variables w).known ≡ not (data_at n w).deleted
 known_of n s w said = ap (λ x. x.known) (said.variables w) ∙ go (data_at n w).deleted
   where
-    go : (b : Bool) → (let x : Variable = cond b unknown (record { known = true; mode = mode_in (data_at n w).sampling_mode; name = user_of n w }) in x).known ≡ not b
+    go : (b : Bool) → (let x : Variable = cond b unknown (record { known = true; mode = checker_mode (data_at n w).sampling_mode; name = user_of n w }) in x).known ≡ not b
     go true = refl
     go false = refl
 
@@ -61,7 +61,7 @@ not_gone : (b : Bool) → not b ≡ true → b ≡ false
 not_gone false e = refl
 not_gone true e = absurd (true≢false (sym e))
 
-pub next_variable : (n : Variables) (s : Session) (user v : ℕ) → AreSaid n s → IsRoom n user v → IsNextVariable s user v
+pub next_variable : (n : Variables) (s : Session) (user v : ℕ) → NamesMatchSteps n s → IsRoom n user v → IsNextVariable s user v
 next_variable n s user v said room = (
   λ e. room.own (not_live (data_at n user).deleted (sym (known_of n s user said) ∙ e)),
   λ e. (
@@ -70,7 +70,7 @@ next_variable n s user v said room = (
   ),
 )
 
-pub next_solver : (n : Variables) (s : Session) (x : ℕ) → AreTidy n → AreSaid n s → IsNextIndex n x → IsNextSolver s (Some x)
+pub next_solver : (n : Variables) (s : Session) (x : ℕ) → AreTidy n → NamesMatchSteps n s → IsNextIndex n x → IsNextSolver s (Some x)
 next_solver n s x tidy said next = (
   λ v e. free v (sym (said.solver_names v) ∙ e),
   λ y lt. (let p = none_or (global_at n y) (next.lowest y lt) in (p.0, said.solver_names p.0 ∙ tidy.solvers.forth p.0 y p.1)),

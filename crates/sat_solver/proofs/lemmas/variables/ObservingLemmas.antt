@@ -4,8 +4,8 @@ use Rattle.std.proofs.lemmas.Bool.{eqb-true, eqb-false, eq-eqb, ne_eqb, cases_lt
 use Rattle.std.proofs.lemmas.List.{append-nil, get_or-set_same, get_or-set_other}
 use Rattle.std.proofs.Math.ListN.{length-set}
 use Rattle.sat_base.specs.script.Script.{Among}
-use Rattle.sat_base.proofs.lemmas.script.JudgeStates.{placed_order}
-use Rattle.sat_base.specs.script.Judge.{Judge, Named, Sampled, Witnessed, identity_in, identity_of}
+use Rattle.sat_base.proofs.lemmas.script.ScriptStates.{placed_order}
+use Rattle.sat_base.specs.script.ScriptState.{ScriptState, Named, Sampled, Witnessed, identity_in, identity_of}
 use Rattle.sat_base.specs.steps.Steps.{Step, UserVarName, ChangeSamplingMode}
 use Rattle.sat_checker.specs.Fold.{Holds}
 use Rattle.sat_checker.specs.Stored.{Hide, Witness, Variable, unknown}
@@ -20,19 +20,19 @@ use Rattle.sat_solver.specs.variables.Counting.{IsEven, count_to, mapped_count}
 use Rattle.sat_solver.specs.variables.Free.{is_free, IsTree}
 use Rattle.sat_solver.specs.variables.Live.{given, given_of}
 use Rattle.sat_checker.specs.matching.Checking.{variable_of}
-use Rattle.sat_checker.specs.matching.ProofChecking.{the_checking}
-use Rattle.sat_solver.specs.variables.Calls.{NamesInvariant, Agree}
+use Rattle.sat_checker.specs.matching.ProofChecking.{checker_rules}
+use Rattle.sat_solver.specs.variables.Calls.{NamesInvariant, NamesAgree}
 use Rattle.sat_solver.specs.variables.Naming.{IsNextUser, NamesFull, NoneLeft, PutsObserved, KeepsNames}
 use Rattle.sat_solver.specs.variables.Observing.{observed, Observes, all_named, one_more, IsHidden, NamesHidden, NamesAllHidden}
 use Rattle.sat_solver.specs.variables.Search.{KeepsSearch, IsUnseen}
-use Rattle.sat_solver.specs.variables.Variables.{data_at, global_of, user_of, names_used, variables_used, AreTidy, mode_in, variable_at, AreSaid, IsModeOf, AreJudged, says_unit}
+use Rattle.sat_solver.specs.variables.Variables.{data_at, global_of, user_of, names_used, variables_used, AreTidy, checker_mode, checker_variable_at, NamesMatchSteps, IsModeOf, NamesMatchState, says_unit}
 use Rattle.sat_solver.specs.declared.variables.Variables.{Variables}
 use Rattle.sat_checker.proofs.lemmas.matching.Bridge.{nothing_new}
 use Rattle.sat_checker.proofs.lemmas.matching.CheckerIsSound.{the_checking_sound}
 use Rattle.sat_solver.proofs.lemmas.variables.Counts.{links_even, count_full, count_fewer, count_reach, count_le, count_mapped}
 use Rattle.sat_solver.proofs.lemmas.variables.Giving.{unseen_same, unseen_both}
 use Rattle.sat_base.proofs.lemmas.script.LiteralValues.{placed_found}
-use Rattle.sat_solver.proofs.lemmas.variables.JudgeLemmas.{same_below, given_has, next_same}
+use Rattle.sat_solver.proofs.lemmas.variables.ScriptStateLemmas.{same_below, given_has, next_same}
 use Rattle.sat_solver.proofs.lemmas.variables.ModeChanges.{live_within}
 use Rattle.sat_solver.proofs.lemmas.variables.NamedAgain.{named_again}
 use Rattle.sat_solver.proofs.lemmas.variables.NewName.{and_false, nameless, none_or, shape}
@@ -198,10 +198,10 @@ module _ (old new : Variables) (user v : ℕ) (tidy : AreTidy old) (here : IsHid
               ∙ ap (λ b. b && not (is_some (global_of old u))) (same_below u (names_used old) (names_used new) (λ z. omega arith) (λ z. omega arith))
               ∙ sym (ap (λ o. ltb u (names_used new) && not (is_some o)) y)
 
-  module _ (s : Session) (said : AreSaid old s) where
+  module _ (s : Session) (said : NamesMatchSteps old s) where
     at : s.variables v ≡ record { known = true; mode = Hide; name = None }
-    at = said.variables v ∙ ap (λ b. cond b unknown (record { known = true; mode = mode_in (data_at old v).sampling_mode; name = user_of old v })) here.live
-        ∙ ap (λ m. (let x : Variable = record { known = true; mode = mode_in m; name = user_of old v } in x)) (tidy.hidden v here.live here.nameless)
+    at = said.variables v ∙ ap (λ b. cond b unknown (record { known = true; mode = checker_mode (data_at old v).sampling_mode; name = user_of old v })) here.live
+        ∙ ap (λ m. (let x : Variable = record { known = true; mode = checker_mode m; name = user_of old v } in x)) (tidy.hidden v here.live here.nameless)
         ∙ ap (λ o. (let x : Variable = record { known = true; mode = Hide; name = o } in x)) here.nameless
 
     abbrev witnessed : Session
@@ -222,10 +222,10 @@ module _ (old new : Variables) (user v : ℕ) (tidy : AreTidy old) (here : IsHid
       not_hidden = λ e. (let z : Witness ≡ Hide = sym (ap (λ x. x.mode) at_mode) ∙ e in cc);
     }
       where
-        name_at : (w : ℕ) → (variable_at old w).name ≡ Some user → user_of old w ≡ Some user
+        name_at : (w : ℕ) → (checker_variable_at old w).name ≡ Some user → user_of old w ≡ Some user
         name_at w e = go (data_at old w).deleted e
           where
-            go : (b : Bool) → (let x : Variable = cond b unknown (record { known = true; mode = mode_in (data_at old w).sampling_mode; name = user_of old w }) in x).name ≡ Some user → user_of old w ≡ Some user
+            go : (b : Bool) → (let x : Variable = cond b unknown (record { known = true; mode = checker_mode (data_at old w).sampling_mode; name = user_of old w }) in x).name ≡ Some user → user_of old w ≡ Some user
             go true x = cc
             go false x = x
 
@@ -236,7 +236,7 @@ module _ (old new : Variables) (user v : ℕ) (tidy : AreTidy old) (here : IsHid
         free w true t e = none_has v (ap (λ b. (cond b (record (s.variables v) { mode = Witness }) (s.variables w)).name) (sym t) ∙ e)
         free w false t e = none_has w (ap (λ b. (cond b (record (s.variables v) { mode = Witness }) (s.variables w)).name) (sym t) ∙ e)
 
-    pub said_observed : AreSaid new (after (UserVarName v (Some user)) witnessed)
+    pub said_observed : NamesMatchSteps new (after (UserVarName v (Some user)) witnessed)
     said_observed = record {
       variables = variables;
       solver_names = λ w. said.solver_names w ∙ ap (λ m. target m.fwd w) (sym put.solvers);
@@ -252,7 +252,7 @@ module _ (old new : Variables) (user v : ℕ) (tidy : AreTidy old) (here : IsHid
             go true t y = ap (λ k. f (data_at old k)) (eqb-true w v t) ∙ sym e ∙ sym (ap f y)
             go false t y = sym (ap f y)
 
-        variables : (w : ℕ) → cond (eqb w v) (record (witnessed.variables v) { known = true; name = Some user }) (witnessed.variables w) ≡ variable_at new w
+        variables : (w : ℕ) → cond (eqb w v) (record (witnessed.variables v) { known = true; name = Some user }) (witnessed.variables w) ≡ checker_variable_at new w
         variables w = go (eqb w v) refl (put.users.bwd w) (put.kept w)
           where
             now : (b : Bool) → b ≡ false → (let z : Variable = record { known = true; mode = Witness; name = Some user } in z) ≡ cond b unknown (record { known = true; mode = Witness; name = Some user })
@@ -260,12 +260,12 @@ module _ (old new : Variables) (user v : ℕ) (tidy : AreTidy old) (here : IsHid
             now true e = absurd (true≢false e)
 
             go : (b : Bool) → eqb w v ≡ b → user_of new w ≡ cond b (Some user) (user_of old w) → data_at new w ≡ cond b (record (data_at old v) { sampling_mode = kept.Witness }) (data_at old w)
-                → cond b (record (witnessed.variables v) { known = true; name = Some user }) (witnessed.variables w) ≡ variable_at new w
+                → cond b (record (witnessed.variables v) { known = true; name = Some user }) (witnessed.variables w) ≡ checker_variable_at new w
             go true t x y = ap {A = Variable} (λ z. record z { known = true; name = Some user }) at_mode ∙ now (data_at old v).deleted here.live
                 ∙ sym (ap (λ d. shape d (user_of new w)) y ∙ ap (shape (record (data_at old v) { sampling_mode = kept.Witness })) x)
             go false t x y = ap (λ b. cond b (record (s.variables v) { mode = Witness }) (s.variables w)) t ∙ said.variables w ∙ sym (ap (λ d. shape d (user_of new w)) y ∙ ap (shape (data_at old w)) x)
 
-  pub judged_observed : (j : Judge) (live : Live) (i : ℕ) → AreJudged old j live → given live v ≡ Some i → AreJudged new (observed (user + 1) i j) live
+  pub judged_observed : (j : ScriptState) (live : Live) (i : ℕ) → NamesMatchState old j live → given live v ≡ Some i → NamesMatchState new (observed (user + 1) i j) live
   judged_observed j live i judged its = record {
     first_unused = let a = judged.first_unused in let b = put.users.fwd_watermark in omega arith;
     no_zero = placed_found it j.in_use 0 ∙ ap (λ b. cond b (Some i) (identity_in j.in_use 0)) (ne_eqb (user + 1) 0 (λ x. omega arith)) ∙ judged.no_zero;
@@ -311,7 +311,7 @@ module _ (old new : Variables) (user v : ℕ) (tidy : AreTidy old) (here : IsHid
 -- A NAME FOR A HIDDEN VARIABLE
 
 -- no name has a hidden variable
-pub nameless_in : (n : Variables) (from : List Step) (v : ℕ) (j : Judge) (live : Live) → NamesInvariant n from → Agree n from j live → IsHidden n v → (name : ℕ) → variable_of from name ≡ Some v → ⊥
+pub nameless_in : (n : Variables) (from : List Step) (v : ℕ) (j : ScriptState) (live : Live) → NamesInvariant n from → NamesAgree n from j live → IsHidden n v → (name : ℕ) → variable_of from name ≡ Some v → ⊥
 nameless_in n from v j live stands agree here zero e = (let p = agree.bridge.named 0 v e in none_some agree.judged.no_zero p.1)
 nameless_in n from v j live stands agree here (suc m) e =
     none_some here.nameless (stands.tidy.users.back m v (sym (stands.read m) ∙ ap (variable_of from) (let q : m + 1 ≡ suc m = omega arith in q) ∙ e))
@@ -324,7 +324,7 @@ module _ (old new : Variables) (from to : List Step) (user v : ℕ) (stands : Na
   name_hidden_var = record {
     stands = record {
       tidy = tidy_observed old new user v stands.tidy here next put;
-      said = subst (λ ss. AreSaid new (session_after ss)) (sym written) (said_observed old new user v stands.tidy here next put (session_after from) stands.said);
+      said = subst (λ ss. NamesMatchSteps new (session_after ss)) (sym written) (said_observed old new user v stands.tidy here next put (session_after from) stands.said);
       may = subst MayAll (sym written) may_both;
       read = λ u. ap (λ ss. variable_of ss (u + 1)) written ∙ ap (λ b. cond b (Some v) (variable_of from (u + 1))) (next_same user u) ∙ ap (cond (eqb u user) (Some v)) (stands.read u) ∙ sym (put.users.fwd u);
     };
@@ -334,9 +334,9 @@ module _ (old new : Variables) (from to : List Step) (user v : ℕ) (stands : Na
     deleted = deleted_at old new user v stands.tidy here next put;
     count = put.count;
     names = λ u w e. go u w e (eqb u user) refl (put.users.fwd u);
-    kept = λ j live i agree its. subst (λ ss. Agree new ss (observed (user + 1) i j) live) (sym written) (record {
+    kept = λ j live i agree its. subst (λ ss. NamesAgree new ss (observed (user + 1) i j) live) (sym written) (record {
       judged = judged_observed old new user v stands.tidy here next put j live i agree.judged its;
-      bridge = named_again the_checking the_checking_sound j (ChangeSamplingMode v false ∷ from) live (bridge_mode j live agree.bridge) (user + 1) v user i refl (given_among live v i its)
+      bridge = named_again checker_rules the_checking_sound j (ChangeSamplingMode v false ∷ from) live (bridge_mode j live agree.bridge) (user + 1) v user i refl (given_among live v i its)
           (λ m e. nameless_in old from v j live stands agree here m e) accepted;
     });
     unseen = record {
@@ -351,14 +351,14 @@ module _ (old new : Variables) (from to : List Step) (user v : ℕ) (stands : Na
       go u w e true t x = absurd (none_some (ap (global_of old) (eqb-true u user t) ∙ next.unused) e)
       go u w e false t x = x ∙ e
 
-      accepted_mode : the_checking.Accepts from (ChangeSamplingMode v false)
+      accepted_mode : checker_rules.Accepts from (ChangeSamplingMode v false)
       accepted_mode = (sessions_are_accepted (ChangeSamplingMode v false ∷ from) may_both.0).0.1
 
-      accepted : the_checking.Accepts (ChangeSamplingMode v false ∷ from) (UserVarName v (Some user))
+      accepted : checker_rules.Accepts (ChangeSamplingMode v false ∷ from) (UserVarName v (Some user))
       accepted = (sessions_are_accepted (UserVarName v (Some user) ∷ ChangeSamplingMode v false ∷ from) may_both).0.1
 
-      bridge_mode : (j : Judge) (live : Live) → IsBridge the_checking j from live → IsBridge the_checking j (ChangeSamplingMode v false ∷ from) live
-      bridge_mode j live b = nothing_new the_checking the_checking_sound j from live b (ChangeSamplingMode v false) accepted_mode (λ w y. cc) (λ n. refl) (λ c h. h) (λ c h. h)
+      bridge_mode : (j : ScriptState) (live : Live) → IsBridge checker_rules j from live → IsBridge checker_rules j (ChangeSamplingMode v false ∷ from) live
+      bridge_mode j live b = nothing_new checker_rules the_checking_sound j from live b (ChangeSamplingMode v false) accepted_mode (λ w y. cc) (λ n. refl) (λ c h. h) (λ c h. h)
 
 -- ALL HIDDEN VARIABLES
 
@@ -369,7 +369,7 @@ pub record Observing (old now : Variables) (from steps : List Step) (users : Lis
   pub names : KeepsNames old now
   pub unseen : IsUnseen old now from steps
   pub count : variables_used now ≡ variables_used old
-  pub kept : (j : Judge) (live : Live) → Agree old from j live → (m : Judge) × Agree now steps m live × ((to : List Step) (k : Judge) (more : List ℕ) → Observes index steps m live to k more → Observes 0 from j live to k (users ++ more))
+  pub kept : (j : ScriptState) (live : Live) → NamesAgree old from j live → (m : ScriptState) × NamesAgree now steps m live × ((to : List Step) (k : ScriptState) (more : List ℕ) → Observes index steps m live to k more → Observes 0 from j live to k (users ++ more))
 
 pub observing_begins : (old : Variables) (from : List Step) → NamesInvariant old from → Observing old old from from [] 0
 observing_begins old from stands = record {
@@ -392,7 +392,7 @@ observing_passes old now from steps users index o shown = record {
   kept = λ j live a. let x = o.kept j live a in (x.0, x.1, λ to k more t. x.2 to k more (higher t));
 }
   where
-    higher : {s t : List Step} {j k : Judge} {live : Live} {us : List ℕ} → Observes (index + 1) s j live t k us → Observes index s j live t k us
+    higher : {s t : List Step} {j k : ScriptState} {live : Live} {us : List ℕ} → Observes (index + 1) s j live t k us → Observes index s j live t k us
     higher all_named = all_named
     higher (one_more v i user le g n l o) = one_more v i user (omega (arith, le)) g n l o
 

@@ -1,24 +1,24 @@
 -- Names of mode witness.
 use Rattle.std.proofs.Common.{ℕ, ◌+◌, ◌≡◌, ◌≢◌, false, not, List, get_or, Option, Some, None, is_some, refl, sym, ◌∙◌, ap}
 use Rattle.std.proofs.lemmas.Bool.{true≢false}
-use Rattle.sat_base.specs.script.Judge.{Judge, Sampled, Witnessed, Refusal, PastLimit, WitnessName, identity_of, is_witness, has_witness, refused_literal}
-use Rattle.sat_base.specs.script.Judge as judged
+use Rattle.sat_base.specs.script.ScriptState.{ScriptState, Sampled, Witnessed, Refusal, PastLimit, WitnessName, identity_of, is_witness, has_witness, refused_literal}
+use Rattle.sat_base.specs.script.ScriptState as judged
 use Rattle.sat_store.specs.declared.data.SamplingMode.{SamplingMode}
 use Rattle.sat_store.specs.declared.data.SamplingMode.TheVariants as kept
 use Rattle.sat_checker.specs.matching.Bridge.{Live}
 use Rattle.sat_solver.specs.variables.Live.{given, given_of}
-use Rattle.sat_solver.specs.variables.Variables.{data_at, global_of, AreTidy, IsModeOf, AreJudged, is_witness_kept}
+use Rattle.sat_solver.specs.variables.Variables.{data_at, global_of, AreTidy, IsModeOf, NamesMatchState, is_witness_kept}
 use Rattle.sat_solver.specs.variables.Refusing.{names_in, IsAssumed}
 use Rattle.sat_solver.specs.load.Literals.{IsSampled}
 use Rattle.sat_solver.specs.declared.variables.Variables.{Variables}
 use Rattle.sat_solver.proofs.lemmas.variables.NewName.{none_or}
 
-mode_same : (m : SamplingMode) (q : judged.Mode) → m ≢ kept.Hide → IsModeOf m q → is_witness_kept m ≡ is_witness q
+mode_same : (m : SamplingMode) (q : judged.NameMode) → m ≢ kept.Hide → IsModeOf m q → is_witness_kept m ≡ is_witness q
 mode_same kept.Sample q n h = sym (ap is_witness h)
 mode_same kept.Witness q n h = sym (ap is_witness h)
 mode_same kept.Hide q n h = absurd (n refl)
 
-pub witness_some : (n : Variables) (user v : ℕ) → AreTidy n → global_of n user ≡ Some v → (j : Judge) (live : Live) → AreJudged n j live → is_witness_kept (data_at n v).sampling_mode ≡ has_witness j (identity_of j (user + 1))
+pub witness_some : (n : Variables) (user v : ℕ) → AreTidy n → global_of n user ≡ Some v → (j : ScriptState) (live : Live) → NamesMatchState n j live → is_witness_kept (data_at n v).sampling_mode ≡ has_witness j (identity_of j (user + 1))
 witness_some n user v tidy e j live judged =
     let name = tidy.users.back user v e in
     let i = none_or (given live v) (λ x. true≢false (sym (judged.in_use v ∙ ap not (tidy.named v user name)) ∙ ap is_some x)) in
@@ -27,7 +27,7 @@ witness_some n user v tidy e j live judged =
 
 -- what is left of the literals decides
 abbrev pub IsLeft : Variables → List ℕ → List ℕ → Type 0
-IsLeft n all rest = (j : Judge) (live : Live) → AreJudged n j live → refused_literal j (names_in all) ≡ refused_literal j (names_in rest)
+IsLeft n all rest = (j : ScriptState) (live : Live) → NamesMatchState n j live → refused_literal j (names_in all) ≡ refused_literal j (names_in rest)
 
 sampled_kept : (m : SamplingMode) → m ≢ kept.Hide → is_witness_kept m ≡ false → m ≡ kept.Sample
 sampled_kept kept.Sample n e = refl
@@ -44,7 +44,7 @@ sampled_some n user v tidy e w x f =
 
 -- where no variable may be of mode witness, no name is
 module _ (n : Variables) (tidy : AreTidy n) (user : ℕ) (plain : n.witnessed ≡ false) where
-  pub plain_judged : (j : Judge) (live : Live) → AreJudged n j live → false ≡ has_witness j (identity_of j (user + 1))
+  pub plain_judged : (j : ScriptState) (live : Live) → NamesMatchState n j live → false ≡ has_witness j (identity_of j (user + 1))
   plain_judged j live judged = go (global_of n user) refl
     where
       go : (o : Option ℕ) → global_of n user ≡ o → false ≡ has_witness j (identity_of j (user + 1))

@@ -15,7 +15,7 @@ use Rattle.sat_solver.specs.variables.Counting.{count_to}
 use Rattle.sat_solver.specs.variables.Failing.{IsFailure, Limits}
 use Rattle.sat_solver.specs.variables.Free.{is_free}
 use Rattle.sat_solver.specs.variables.Naming.{IsRoom, NoneLeft, PutsName}
-use Rattle.sat_solver.specs.variables.Room.{live_count, is_listed, reach, coming, is_hidden_name, hidden_count, HasRoom, SaysRoom, users_in}
+use Rattle.sat_solver.specs.variables.VariableRoom.{live_count, is_listed, reach, coming, is_hidden_name, hidden_count, HasVariablesFor, SaysRoom, users_in}
 use Rattle.sat_solver.specs.variables.Variables.{AreTidy, data_at, global_of, names_used, variables_used}
 use Rattle.sat_solver.proofs.lemmas.variables.Counts.{count_zero, count_changed, count_suc, count_same, count_reach, count_more, count_le, count_full, count_some, count_not}
 
@@ -76,7 +76,7 @@ hidden_here n user us free = ap (λ o. not (is_some o) && is_listed (user ∷ us
 
 -- one that isn't in use takes a variable
 pub room_one : (old new : Variables) (user v : ℕ) → global_of old user ≡ None → user ≤ names_used old → ((u : ℕ) → global_of new u ≡ cond (eqb u user) (Some v) (global_of old u)) → names_used new ≡ max (names_used old) (user + 1) → live_count new ≡ live_count old + 1
-    → (us : List ℕ) → HasRoom old (user ∷ us) → HasRoom new us
+    → (us : List ℕ) → HasVariablesFor old (user ∷ us) → HasVariablesFor new us
 room_one old new user v free low named used live us h = elim (cases_lt user (names_used old)) [ inl lt ↦ again lt | inr le ↦ first le ]
   where
     top : reach (max (names_used old) (user + 1)) us ≡ reach (names_used new) us
@@ -88,7 +88,7 @@ room_one old new user v free low named used live us h = elim (cases_lt user (nam
     others : (k : ℕ) → k ≢ user → is_hidden_name old (user ∷ us) k ≡ is_hidden_name new us k
     others k ne = hidden_other old user k us (λ e. ne (sym e)) ∙ ap (λ o. not (is_some o) && is_listed us k) (sym (named k ∙ ap (λ b. cond b (Some v) (global_of old k)) (ne_eqb k user ne)))
 
-    again : user < names_used old → HasRoom new us
+    again : user < names_used old → HasVariablesFor new us
     again lt =
         let same : names_used new ≡ names_used old = omega arith in
         let c = count_more (names_used old) user (is_hidden_name new us) (is_hidden_name old (user ∷ us)) lt here (hidden_here old user us free) others in
@@ -96,7 +96,7 @@ room_one old new user v free low named used live us h = elim (cases_lt user (nam
         let t = top in
         omega arith
 
-    first : names_used old ≤ user → HasRoom new us
+    first : names_used old ≤ user → HasVariablesFor new us
     first le =
         let at : names_used old ≡ user = omega arith in
         let same : names_used new ≡ suc (names_used old) = omega arith in
@@ -108,21 +108,21 @@ room_one old new user v free low named used live us h = elim (cases_lt user (nam
         omega arith
 
 -- those below one that was never used come in with it
-pub room_below : (n : Variables) (w user : ℕ) (us : List ℕ) → names_used n ≤ w → w ≤ user → HasRoom n (user ∷ us) → HasRoom n (w ∷ user ∷ us)
+pub room_below : (n : Variables) (w user : ℕ) (us : List ℕ) → names_used n ≤ w → w ≤ user → HasVariablesFor n (user ∷ us) → HasVariablesFor n (w ∷ user ∷ us)
 room_below n w user us low le h =
     let top : reach (max (max (names_used n) (w + 1)) (user + 1)) us ≡ reach (max (names_used n) (user + 1)) us = ap (λ k. reach k us) (omega arith) in
     let same = count_same (names_used n) (is_hidden_name n (w ∷ user ∷ us)) (is_hidden_name n (user ∷ us)) (λ k lt. hidden_other n w k (user ∷ us) (λ e. omega arith)) in
     omega arith
 
 -- there is one for a name that isn't in use
-pub room_less : (n : Variables) (user : ℕ) (us : List ℕ) → global_of n user ≡ None → HasRoom n (user ∷ us) → live_count n < var_limit
+pub room_less : (n : Variables) (user : ℕ) (us : List ℕ) → global_of n user ≡ None → HasVariablesFor n (user ∷ us) → live_count n < var_limit
 room_less n user us free h = elim (cases_lt user (names_used n)) [
   | inl lt ↦ (let s = count_some (names_used n) user (is_hidden_name n (user ∷ us)) lt (hidden_here n user us free) in omega arith)
   | inr le ↦ (let r = reach_low us (max (names_used n) (user + 1)) in omega arith)
 ]
 
 -- one in use takes none
-pub room_none : (n : Variables) (user v : ℕ) (us : List ℕ) → user < names_used n → global_of n user ≡ Some v → HasRoom n (user ∷ us) → HasRoom n us
+pub room_none : (n : Variables) (user v : ℕ) (us : List ℕ) → user < names_used n → global_of n user ≡ Some v → HasVariablesFor n (user ∷ us) → HasVariablesFor n us
 room_none n user v us lt e h =
     let top : reach (max (names_used n) (user + 1)) us ≡ reach (names_used n) us = ap (λ k. reach k us) (omega arith) in
     let same = count_same (names_used n) (is_hidden_name n (user ∷ us)) (is_hidden_name n us) each in
@@ -135,7 +135,7 @@ room_none n user v us lt e h =
     ]
 
 -- where names and variables stay, so does the room
-pub room_same : (old new : Variables) (us : List ℕ) → new.global_from_user ≡ old.global_from_user → new.var_data ≡ old.var_data → HasRoom old us → HasRoom new us
+pub room_same : (old new : Variables) (us : List ℕ) → new.global_from_user ≡ old.global_from_user → new.var_data ≡ old.var_data → HasVariablesFor old us → HasVariablesFor new us
 room_same old new us users kept h =
     let live : live_count new ≡ live_count old = ap (λ d. count_to (length d.items) (λ v. not (get_or d.items v unused_variable).deleted)) kept in
     let more : reach (names_used new) us - names_used new + count_to (names_used new) (is_hidden_name new us) ≡ reach (names_used old) us - names_used old + count_to (names_used old) (is_hidden_name old us) =
@@ -143,8 +143,8 @@ room_same old new us users kept h =
     omega arith
 
 -- for the next of these literals and those behind it
-pub room_at : (n : Variables) (all : List ℕ) (index user : ℕ) → index < length all → user ≡ variable (get_or all index 0) → HasRoom n (users_in (drop index all)) → HasRoom n (user ∷ users_in (drop (index + 1) all))
-room_at n all index user lt at h = subst (HasRoom n) (ap users_in (drop_more all index 0 lt) ∙ ap (λ u. u ∷ users_in (drop (index + 1) all)) (sym at)) h
+pub room_at : (n : Variables) (all : List ℕ) (index user : ℕ) → index < length all → user ≡ variable (get_or all index 0) → HasVariablesFor n (users_in (drop index all)) → HasVariablesFor n (user ∷ users_in (drop (index + 1) all))
+room_at n all index user lt at h = subst (HasVariablesFor n) (ap users_in (drop_more all index 0 lt) ∙ ap (λ u. u ∷ users_in (drop (index + 1) all)) (sym at)) h
 
 -- FAULTS
 
@@ -265,7 +265,7 @@ one_hidden n user lt free =
     here = ap (λ b. not b && is_listed (user ∷ []) user) free ∙ ap (λ b. b || false) (eq-eqb user user refl)
 
 -- what a test of a count says
-says_room : (n : Variables) (us : List ℕ) (b : Bool) → (b ≡ true → HasRoom n us) → (b ≡ false → HasRoom n us → ⊥) → SaysRoom b n us
+says_room : (n : Variables) (us : List ℕ) (b : Bool) → (b ≡ true → HasVariablesFor n us) → (b ≡ false → HasVariablesFor n us → ⊥) → SaysRoom b n us
 says_room n us true fits lacks = fits refl
 says_room n us false fits lacks = lacks refl
 
@@ -282,20 +282,20 @@ says_hidden n user left lt free all = says_room n (user ∷ []) (ltb 0 left)
     lt' : user < names_used n
     lt' = lt
 
-pub fits_used : (n : Variables) (user : ℕ) → AreTidy n → user < names_used n → is_some (global_of n user) ≡ true → HasRoom n (user ∷ [])
+pub fits_used : (n : Variables) (user : ℕ) → AreTidy n → user < names_used n → is_some (global_of n user) ≡ true → HasVariablesFor n (user ∷ [])
 fits_used n user tidy lt some = let o = one_used n user lt some in let m = live_most n tidy in omega arith
 
 -- as there is room for all of them at once
-pub fits_all : (n : Variables) (lits : List ℕ) (top left : ℕ) → top ≡ reach (names_used n) (users_in lits) → left + live_count n ≡ var_limit → top - names_used n ≤ left → length lits ≤ left - (top - names_used n) → HasRoom n (users_in lits)
+pub fits_all : (n : Variables) (lits : List ℕ) (top left : ℕ) → top ≡ reach (names_used n) (users_in lits) → left + live_count n ≡ var_limit → top - names_used n ≤ left → length lits ≤ left - (top - names_used n) → HasVariablesFor n (users_in lits)
 fits_all n lits top left is all low le = let m = hidden_most n (users_in lits) in let l = length-map lits variable in omega arith
 
 pub counts_small : (n : Variables) (us : List ℕ) → AreTidy n → hidden_count n us ≤ var_limit
 counts_small n us tidy = let m = count_le (names_used n) (is_hidden_name n us) in let r = tidy.reach in let w = tidy.within in omega arith
 
-pub said_room : (n : Variables) (us : List ℕ) (b : Bool) → SaysRoom b n us → b ≡ true → HasRoom n us
+pub said_room : (n : Variables) (us : List ℕ) (b : Bool) → SaysRoom b n us → b ≡ true → HasVariablesFor n us
 said_room n us true h e = h
 said_room n us false h e = absurd (true≢false (sym e))
 
-pub said_none : (n : Variables) (us : List ℕ) (b : Bool) → SaysRoom b n us → b ≡ false → HasRoom n us → ⊥
+pub said_none : (n : Variables) (us : List ℕ) (b : Bool) → SaysRoom b n us → b ≡ false → HasVariablesFor n us → ⊥
 said_none n us true h e = absurd (true≢false e)
 said_none n us false h e = h

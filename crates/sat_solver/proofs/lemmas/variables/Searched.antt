@@ -11,10 +11,10 @@ use Rattle.sat_checker.specs.Contents.{more_if, less_if, same_side}
 use Rattle.sat_solver.specs.session.Session.{Session, May, MayAll, session_after, after, with_fact, with_facts, with_sorted, with_live, without_live, knowing_literals}
 use Rattle.sat_solver.specs.session.Session as sessions
 use Rattle.sat_solver.proofs.lemmas.session.StepLemmas.{sessions_are_accepted}
-use Rattle.sat_solver.specs.variables.Variables.{data_at, solver_of, AreTidy, AreSaid, IsInNoNonUnitClause}
+use Rattle.sat_solver.specs.variables.Variables.{data_at, solver_of, AreTidy, NamesMatchSteps, IsInNoNonUnitClause}
 use Rattle.sat_checker.specs.matching.Bridge.{IsBridge}
 use Rattle.sat_checker.specs.matching.Checking.{variable_of}
-use Rattle.sat_checker.specs.matching.ProofChecking.{the_checking}
+use Rattle.sat_checker.specs.matching.ProofChecking.{checker_rules}
 use Rattle.sat_solver.specs.variables.Searching.{AreIndexed, IsOfSearch, SearchesStand, SearchesAgree}
 use Rattle.sat_solver.specs.declared.variables.Variables.{Variables}
 use Rattle.sat_checker.proofs.lemmas.matching.Bridge.{nothing_new}
@@ -117,10 +117,10 @@ leaves_less n r set s = record {
 leaves_known : (n : Variables) (ls : List ℕ) (s : Session) → AllByRecursion (λ l. (s.variables (variable l)).known ≡ true) ls → Leaves n s (knowing_literals ls s)
 leaves_known n ls s h = record { variables = λ v. known_same s ls v h; solver_names = refl; assumed = refl; units = λ v e b. refl; unused = λ v e k. k }
 
-known_indexed : (n : Variables) (ls : List ℕ) (s : Session) → AreTidy n → AreSaid n s → AreIndexed n ls → AllByRecursion (λ l. (s.variables (variable l)).known ≡ true) ls
+known_indexed : (n : Variables) (ls : List ℕ) (s : Session) → AreTidy n → NamesMatchSteps n s → AreIndexed n ls → AllByRecursion (λ l. (s.variables (variable l)).known ≡ true) ls
 known_indexed n ls s tidy said = all_map (λ l. (x : ℕ) × (solver_of n (variable l) ≡ Some x)) (λ l. (s.variables (variable l)).known ≡ true) ls (λ l i. known_at n (variable l) s said (tidy.indexed (variable l) i.0 i.1))
 
-step_leaves : (n : Variables) (step : Step) (s : Session) → AreTidy n → AreSaid n s → IsOfSearch n step → Leaves n s (after step s)
+step_leaves : (n : Variables) (step : Step) (s : Session) → AreTidy n → NamesMatchSteps n s → IsOfSearch n step → Leaves n s (after step s)
 step_leaves n (AtClause r c hs) s tidy said h =
     let l = leaves_both n s (knowing_literals c s) (sessions.with_live_clause r c (knowing_literals c s)) (leaves_known n c s (known_indexed n c s tidy said h)) (leaves_clause n r c (knowing_literals c s) h) in
     record { variables = l.variables; solver_names = l.solver_names; assumed = l.assumed; units = l.units; unused = l.unused }
@@ -138,7 +138,7 @@ step_leaves n (FailedAssumptions core hashes) s tidy said h = record { variables
 step_leaves n End s tidy said h = record { variables = λ v. refl; solver_names = refl; assumed = refl; units = λ v e b. refl; unused = λ v e k. k }
 step_leaves n _ s tidy said h = absurd h
 
-said_kept : (n : Variables) (s t : Session) → Leaves n s t → AreSaid n s → AreSaid n t
+said_kept : (n : Variables) (s t : Session) → Leaves n s t → NamesMatchSteps n s → NamesMatchSteps n t
 said_kept n s t l said = record {
   variables = λ v. l.variables v ∙ said.variables v;
   solver_names = λ v. ap (λ f. f v) l.solver_names ∙ said.solver_names v;
@@ -168,15 +168,15 @@ searches_stand n steps step stands may h = record {
 pub searches_agree : SearchesAgree
 searches_agree n steps step stands may h j live a = record { judged = a.judged; bridge = go step h accepted }
   where
-    accepted : the_checking.Accepts steps step
+    accepted : checker_rules.Accepts steps step
     accepted = (sessions_are_accepted (step ∷ steps) (stands.may, may)).0.1
 
-    go : (step : Step) → IsOfSearch n step → the_checking.Accepts steps step → IsBridge the_checking j (step ∷ steps) live
-    go (AtClause r c hs) h acc = nothing_new the_checking the_checking_sound j steps live a.bridge (AtClause r c hs) acc (λ v e. cc) (λ m. refl) (λ b k. k) (λ b k. k)
-    go (UnitClauses us) h acc = nothing_new the_checking the_checking_sound j steps live a.bridge (UnitClauses us) acc (λ v e. cc) (λ m. refl) (λ b k. k) (λ b k. k)
-    go (DeleteClause c proof) h acc = nothing_new the_checking the_checking_sound j steps live a.bridge (DeleteClause c proof) acc (λ v e. cc) (λ m. refl) (λ b k. k) (λ b k. k)
-    go (ChangeHashBits bits) h acc = nothing_new the_checking the_checking_sound j steps live a.bridge (ChangeHashBits bits) acc (λ v e. cc) (λ m. refl) (λ b k. k) (λ b k. k)
-    go (Model ls) h acc = nothing_new the_checking the_checking_sound j steps live a.bridge (Model ls) acc (λ v e. cc) (λ m. refl) (λ b k. k) (λ b k. k)
-    go (FailedAssumptions core hashes) h acc = nothing_new the_checking the_checking_sound j steps live a.bridge (FailedAssumptions core hashes) acc (λ v e. cc) (λ m. refl) (λ b k. k) (λ b k. k)
-    go End h acc = nothing_new the_checking the_checking_sound j steps live a.bridge End acc (λ v e. cc) (λ m. refl) (λ b k. k) (λ b k. k)
+    go : (step : Step) → IsOfSearch n step → checker_rules.Accepts steps step → IsBridge checker_rules j (step ∷ steps) live
+    go (AtClause r c hs) h acc = nothing_new checker_rules the_checking_sound j steps live a.bridge (AtClause r c hs) acc (λ v e. cc) (λ m. refl) (λ b k. k) (λ b k. k)
+    go (UnitClauses us) h acc = nothing_new checker_rules the_checking_sound j steps live a.bridge (UnitClauses us) acc (λ v e. cc) (λ m. refl) (λ b k. k) (λ b k. k)
+    go (DeleteClause c proof) h acc = nothing_new checker_rules the_checking_sound j steps live a.bridge (DeleteClause c proof) acc (λ v e. cc) (λ m. refl) (λ b k. k) (λ b k. k)
+    go (ChangeHashBits bits) h acc = nothing_new checker_rules the_checking_sound j steps live a.bridge (ChangeHashBits bits) acc (λ v e. cc) (λ m. refl) (λ b k. k) (λ b k. k)
+    go (Model ls) h acc = nothing_new checker_rules the_checking_sound j steps live a.bridge (Model ls) acc (λ v e. cc) (λ m. refl) (λ b k. k) (λ b k. k)
+    go (FailedAssumptions core hashes) h acc = nothing_new checker_rules the_checking_sound j steps live a.bridge (FailedAssumptions core hashes) acc (λ v e. cc) (λ m. refl) (λ b k. k) (λ b k. k)
+    go End h acc = nothing_new checker_rules the_checking_sound j steps live a.bridge End acc (λ v e. cc) (λ m. refl) (λ b k. k) (λ b k. k)
     go _ h acc = absurd h

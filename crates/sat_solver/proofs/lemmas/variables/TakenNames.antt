@@ -4,7 +4,7 @@ use Rattle.std.proofs.lemmas.Bool.{eqb-true, eq-eqb, ne_eqb, cases_eq, true≢fa
 use Rattle.std.proofs.lemmas.List.{drop_more, drop_all}
 use Rattle.sat_base.specs.values.Literals.{variable, is_positive, coded}
 use Rattle.sat_base.specs.script.Script.{Among}
-use Rattle.sat_base.specs.script.Judge.{bring_in, bring_all, new_names}
+use Rattle.sat_base.specs.script.ScriptState.{bring_in, bring_all, new_names}
 use Rattle.sat_store.specs.declared.data.SamplingMode.TheVariants as kept
 use Rattle.sat_store.specs.variables.Maps.{AreInverse, target}
 use Rattle.sat_checker.specs.LiteralSets.{is_among, canonical}
@@ -19,9 +19,9 @@ use Rattle.sat_solver.specs.declared.variables.solver_vars.Given.{Given}
 use Rattle.sat_solver.specs.declared.load.literals.Taken.{Taken}
 use Rattle.sat_solver.specs.variables.Naming.{ExtendsNames}
 use Rattle.sat_solver.specs.variables.Refusing.{names_in}
-use Rattle.sat_solver.specs.load.Literals.{StandsFor, SameLiterals, Image, Images, NoWitness, global_in, BringsLiterals}
+use Rattle.sat_solver.specs.load.Literals.{StandsFor, SameLiterals, Image, Images, NoWitness, global_with_index, BringsLiterals}
 use Rattle.sat_checker.specs.matching.Expected.{NewName, bringing}
-use Rattle.sat_solver.specs.variables.Calls.{NamesInvariant, NamesRefineJudge, Brought}
+use Rattle.sat_solver.specs.variables.Calls.{NamesInvariant, NamesEffect, BringsInUnseen}
 use Rattle.sat_solver.specs.declared.variables.Variables.{Variables}
 use Rattle.sat_solver.proofs.lemmas.variables.MapLemmas.{pushed, some_within}
 use Rattle.sat_base.proofs.lemmas.script.LiteralValues.{all_from, coded_half}
@@ -37,7 +37,7 @@ use Rattle.sat_solver.proofs.lemmas.variables.Giving.{keeps_same, keeps_both, gi
 
 -- the names of these literals are brought in
 abbrev pub Brings : Variables → Variables → List Step → List Step → List ℕ → Type 0
-Brings old new from to lits = NamesRefineJudge old new from to (bring_all (names_in lits)) (bringing (names_in lits))
+Brings old new from to lits = NamesEffect old new from to (bring_all (names_in lits)) (bringing (names_in lits))
 
 -- so many literals were taken, and those that are left come in by what is said of them
 pub record Taking (old now : Variables) (from steps : List Step) (all : List ℕ) (index : ℕ) (items : List ℕ) (given : List Given) : Type 0 where
@@ -56,7 +56,7 @@ image_stays old new l code e stays i = record { variable_is = i.variable_is; ind
 
 -- one literal's name and index
 pub one_taken : (old now mid new : Variables) (from log mids to : List Step) (all items next : List ℕ) (before after : List Given) (index l v x code : ℕ) → Taking old now from log all index items before → index < length all → l ≡ get_or all index 0
-    → Brought now mid log mids (variable l) → global_of mid (variable l) ≡ Some v → Indexes mid new mids to before after v x → code ≡ coded x (is_positive l) → next ≡ items ++ code ∷ [] → Taking old new from to all (index + 1) next after
+    → BringsInUnseen now mid log mids (variable l) → global_of mid (variable l) ≡ Some v → Indexes mid new mids to before after v x → code ≡ coded x (is_positive l) → next ≡ items ++ code ∷ [] → Taking old new from to all (index + 1) next after
 one_taken old now mid new from log mids to all items next before after index l v x code t lt at brought named indexes is e = record {
   first = t.first;
   stands = indexes.does.stands;
@@ -136,10 +136,10 @@ no_witness_at n (x ∷ xs) l h (inl e) = subst (λ y. (v : ℕ) → global_of n 
 no_witness_at n (x ∷ xs) l h (inr m) = no_witness_at n xs l h.1 m
 
 -- the proof's literal for one of the search's
-pub mapped_is : (n : Variables) (l code : ℕ) (i : Image n l code) → AreTidy n → with_var (global_in n) code ≡ coded i.variable_is (is_positive l)
+pub mapped_is : (n : Variables) (l code : ℕ) (i : Image n l code) → AreTidy n → with_var (global_with_index n) code ≡ coded i.variable_is (is_positive l)
 mapped_is n l code i tidy =
-    ap (with_var (global_in n)) i.is
-    ∙ ap (λ k. 2 * global_in n k + coded i.index_is (is_positive l) % 2) (coded_half i.index_is (is_positive l))
+    ap (with_var (global_with_index n)) i.is
+    ∙ ap (λ k. 2 * global_with_index n k + coded i.index_is (is_positive l) % 2) (coded_half i.index_is (is_positive l))
     ∙ ap (λ k. 2 * k + coded i.index_is (is_positive l) % 2) (tidy.globals i.index_is i.variable_is (tidy.solvers.back i.variable_is i.index_is i.indexed))
     ∙ sign (is_positive l)
   where
@@ -158,16 +158,16 @@ map_among f y (x ∷ xs) (inl e) = (x, inl refl, e)
 map_among f y (x ∷ xs) (inr m) = let p = map_among f y xs m in (p.0, inr p.1, p.2)
 
 -- literals that have the same members as those in order, over the proof's variables
-pub same_literals : (old new : Variables) (user order set clause : List ℕ) → AreTidy new → ExtendsNames old new → NoWitness old user → Images new user order → ((x : ℕ) → Among x order → Among x set) → ((x : ℕ) → Among x set → Among x order) → clause ≡ map (with_var (global_in new)) set → SameLiterals new user clause
+pub same_literals : (old new : Variables) (user order set clause : List ℕ) → AreTidy new → ExtendsNames old new → NoWitness old user → Images new user order → ((x : ℕ) → Among x order → Among x set) → ((x : ℕ) → Among x set → Among x order) → clause ≡ map (with_var (global_with_index new)) set → SameLiterals new user clause
 same_literals old new user order set clause tidy extends none images more less e = record {
   there = all_from (λ l. (code : ℕ) × StandsFor new l code × Among code clause) user (λ l m.
       let p = at_place user l m in
       let lt = p.1 in
       let c = images.count in
       let image = subst (λ x. Image new x (get_or order p.0 0)) p.2 (images.each p.0 p.1) in
-      (with_var (global_in new) (get_or order p.0 0), stands_for l (get_or order p.0 0) m image, subst (Among (with_var (global_in new) (get_or order p.0 0))) (sym e) (among_map (with_var (global_in new)) (get_or order p.0 0) set (more (get_or order p.0 0) (among_place order p.0 (omega arith))))));
+      (with_var (global_with_index new) (get_or order p.0 0), stands_for l (get_or order p.0 0) m image, subst (Among (with_var (global_with_index new) (get_or order p.0 0))) (sym e) (among_map (with_var (global_with_index new)) (get_or order p.0 0) set (more (get_or order p.0 0) (among_place order p.0 (omega arith))))));
   only = all_from (λ code. (l : ℕ) × StandsFor new l code × Among l user) clause (λ code m.
-      let q = map_among (with_var (global_in new)) code set (subst (Among code) e m) in
+      let q = map_among (with_var (global_with_index new)) code set (subst (Among code) e m) in
       let p = at_place order q.0 (less q.0 q.1) in
       let lt = p.1 in
       let c = images.count in
@@ -177,7 +177,7 @@ same_literals old new user order set clause tidy extends none images more less e
       (get_or user p.0 0, subst (StandsFor new (get_or user p.0 0)) (sym q.2) (stands_for (get_or user p.0 0) q.0 there image), there));
 }
   where
-    stands_for : (l code : ℕ) → Among l user → Image new l code → StandsFor new l (with_var (global_in new) code)
+    stands_for : (l code : ℕ) → Among l user → Image new l code → StandsFor new l (with_var (global_with_index new) code)
     stands_for l code m i = record { variable_is = i.variable_is; index_is = i.index_is; named = i.named; indexed = i.indexed; sampled = go (global_of old (variable l)) refl; is = mapped_is new l code i tidy }
       where
         go : (o : Option ℕ) → global_of old (variable l) ≡ o → (data_at new i.variable_is).sampling_mode ≡ kept.Sample

@@ -3,7 +3,7 @@ use Rattle.std.proofs.Common.{ℕ, zero, suc, ◌+◌, ◌-◌, ◌*◌, ◌/◌
 use Rattle.std.proofs.lemmas.Bool.{eqb-true, eqb-false, eq-eqb, ne_eqb, true≢false, or_left, or_right, cases_eq, cases_lt}
 use Rattle.std.proofs.lemmas.List.{get_or_past, get_or_append_left, get_or-append_right, take_all}
 use Rattle.sat_base.specs.values.Literals.{var_limit}
-use Rattle.sat_solver.specs.variables.Free.{node_at, is_free, doubled, Powers, empty, power, IsTree, IsChild, IsLowest, CopiesLeaves, IsCounted}
+use Rattle.sat_solver.specs.variables.Free.{tree_node_at, is_free, doubled, Powers, empty, power, IsTree, IsChild, IsLowest, CopiesLeaves, IsCounted}
 use Rattle.sat_solver.specs.declared.variables.free.FreeIndices.{FreeIndices}
 use Rattle.sat_solver.specs.variables.Counting.{count_to}
 use Rattle.sat_solver.proofs.lemmas.variables.Counts.{count_zero, count_same, count_reach, count_changed, count_some, count_le}
@@ -67,9 +67,9 @@ up_root zero l a b = let e = doubled_zero in up_zero l ∙ omega arith
 up_root (suc h) l a b = let e = doubled_suc h in up_suc h l ∙ up_root h (l / 2) (omega arith) (omega arith)
 
 -- above a node of the set, all are
-ancestor : (f : FreeIndices) → IsTree f → (h l : ℕ) → node_at f.nodes.items l ≡ true → l < 2 * f.room → 0 < up h l → node_at f.nodes.items (up h l) ≡ true
-ancestor f tree zero l e lt pos = ap (node_at f.nodes.items) (up_zero l) ∙ e
-ancestor f tree (suc h) l e lt pos = ap (node_at f.nodes.items) (up_suc h l) ∙ ancestor f tree h (l / 2) here (omega arith) (subst (λ x. 0 < x) (up_suc h l) pos)
+ancestor : (f : FreeIndices) → IsTree f → (h l : ℕ) → tree_node_at f.nodes.items l ≡ true → l < 2 * f.room → 0 < up h l → tree_node_at f.nodes.items (up h l) ≡ true
+ancestor f tree zero l e lt pos = ap (tree_node_at f.nodes.items) (up_zero l) ∙ e
+ancestor f tree (suc h) l e lt pos = ap (tree_node_at f.nodes.items) (up_suc h l) ∙ ancestor f tree h (l / 2) here (omega arith) (subst (λ x. 0 < x) (up_suc h l) pos)
   where
     zero_up : (k : ℕ) → up k 0 ≡ 0
     zero_up zero = up_zero 0
@@ -78,13 +78,13 @@ ancestor f tree (suc h) l e lt pos = ap (node_at f.nodes.items) (up_suc h l) ∙
     some : 0 < l / 2
     some = elim (cases_eq (l / 2) 0) [ inl z ↦ (let q : up (suc h) l ≡ 0 = up_suc h l ∙ ap (up h) z ∙ zero_up h in absurd (omega arith)) | inr n ↦ omega arith ]
 
-    here : node_at f.nodes.items (l / 2) ≡ true
+    here : tree_node_at f.nodes.items (l / 2) ≡ true
     here = tree.inner (l / 2) some (omega arith) ∙ either
       where
-        either : (node_at f.nodes.items (2 * (l / 2)) || node_at f.nodes.items (2 * (l / 2) + 1)) ≡ true
+        either : (tree_node_at f.nodes.items (2 * (l / 2)) || tree_node_at f.nodes.items (2 * (l / 2) + 1)) ≡ true
         either = elim (cases_eq l (2 * (l / 2))) [
-          | inl even ↦ or_left (node_at f.nodes.items (2 * (l / 2))) (node_at f.nodes.items (2 * (l / 2) + 1)) (ap (node_at f.nodes.items) (sym even) ∙ e)
-          | inr odd ↦ or_right (node_at f.nodes.items (2 * (l / 2))) (node_at f.nodes.items (2 * (l / 2) + 1)) (ap (node_at f.nodes.items) (let q : 2 * (l / 2) + 1 ≡ l = omega arith in q) ∙ e)
+          | inl even ↦ or_left (tree_node_at f.nodes.items (2 * (l / 2))) (tree_node_at f.nodes.items (2 * (l / 2) + 1)) (ap (tree_node_at f.nodes.items) (sym even) ∙ e)
+          | inr odd ↦ or_right (tree_node_at f.nodes.items (2 * (l / 2))) (tree_node_at f.nodes.items (2 * (l / 2) + 1)) (ap (tree_node_at f.nodes.items) (let q : 2 * (l / 2) + 1 ≡ l = omega arith in q) ∙ e)
         ]
 
 -- NOTHING IS FREE
@@ -99,11 +99,11 @@ past f i tree le = let s = tree.size in get_or_past f.nodes.items (f.room + i) f
 pub none_empty : (f : FreeIndices) → IsTree f → f.room ≡ 0 → (i : ℕ) → is_free f i ≡ false
 none_empty f tree e i = past f i tree (omega arith)
 
-pub none_root : (f : FreeIndices) → IsTree f → f.room ≡ doubled f.height → node_at f.nodes.items 1 ≡ false → (i : ℕ) → is_free f i ≡ false
+pub none_root : (f : FreeIndices) → IsTree f → f.room ≡ doubled f.height → tree_node_at f.nodes.items 1 ≡ false → (i : ℕ) → is_free f i ≡ false
 none_root f tree p e i = elim (cases_lt i f.room) [
   | inl lt ↦ bool_false (is_free f i) (λ t.
       let root : up f.height (f.room + i) ≡ 1 = up_root f.height (f.room + i) (omega arith) (omega arith) in
-      true≢false (sym (ap (node_at f.nodes.items) (sym root) ∙ ancestor f tree f.height (f.room + i) t (omega arith) (omega arith)) ∙ e))
+      true≢false (sym (ap (tree_node_at f.nodes.items) (sym root) ∙ ancestor f tree f.height (f.room + i) t (omega arith) (omega arith)) ∙ e))
   | inr le ↦ past f i tree le
 ]
 
@@ -116,10 +116,10 @@ pub record Descends (f : FreeIndices) (level at : ℕ) : Type 0 where
   pub depth : level ≤ f.height
   pub low : doubled level ≤ at
   pub high : at < 2 * doubled level
-  pub holds : node_at f.nodes.items at ≡ true
-  pub left : (l : ℕ) → f.room ≤ l → l < 2 * f.room → up (f.height - level) l < at → node_at f.nodes.items l ≡ false
+  pub holds : tree_node_at f.nodes.items at ≡ true
+  pub left : (l : ℕ) → f.room ≤ l → l < 2 * f.room → up (f.height - level) l < at → tree_node_at f.nodes.items l ≡ false
 
-pub at_root : (f : FreeIndices) → IsTree f → f.room ≡ doubled f.height → node_at f.nodes.items 1 ≡ true → Descends f 0 1
+pub at_root : (f : FreeIndices) → IsTree f → f.room ≡ doubled f.height → tree_node_at f.nodes.items 1 ≡ true → Descends f 0 1
 at_root f tree p e = record {
   tree = tree;
   full = p;
@@ -147,7 +147,7 @@ goes_down f level at child d lt c = record {
     above : (l : ℕ) → up (f.height - level) l ≡ up (f.height - (level + 1)) l / 2
     above l = ap (λ k. up k l) (let e : f.height - level ≡ suc (f.height - (level + 1)) = omega arith in e) ∙ up_next (f.height - (level + 1)) l
 
-    left : (l : ℕ) → f.room ≤ l → l < 2 * f.room → up (f.height - (level + 1)) l < child → node_at f.nodes.items l ≡ false
+    left : (l : ℕ) → f.room ≤ l → l < 2 * f.room → up (f.height - (level + 1)) l < child → tree_node_at f.nodes.items l ≡ false
     left l a b u = elim (cases_lt (up (f.height - (level + 1)) l / 2) at) [
       | inl low ↦ d.left l a b (subst (λ x. x < at) (sym (above l)) low)
       | inr high ↦ elim c.is [
@@ -157,7 +157,7 @@ goes_down f level at child d lt c = record {
             let same : up (f.height - (level + 1)) l ≡ 2 * at = omega arith in
             let pos = d.low in
             let z = below_doubled level in
-            bool_false (node_at f.nodes.items l) (λ t. true≢false (sym (ancestor f d.tree (f.height - (level + 1)) l t b (omega arith)) ∙ ap (node_at f.nodes.items) same ∙ e.1)))
+            bool_false (tree_node_at f.nodes.items l) (λ t. true≢false (sym (ancestor f d.tree (f.height - (level + 1)) l t b (omega arith)) ∙ ap (tree_node_at f.nodes.items) same ∙ e.1)))
       ]
     ]
 
@@ -165,7 +165,7 @@ pub inner : (f : FreeIndices) (level at : ℕ) → Descends f level at → level
 inner f level at d lt = let a = d.high in let e = doubled_more level in let m = doubled_le (level + 1) f.height (omega arith) in let r = d.full in omega arith
 
 -- the children of a node that holds
-pub some_below : (f : FreeIndices) (level at : ℕ) → Descends f level at → level < f.height → (node_at f.nodes.items (2 * at) || node_at f.nodes.items (2 * at + 1)) ≡ true
+pub some_below : (f : FreeIndices) (level at : ℕ) → Descends f level at → level < f.height → (tree_node_at f.nodes.items (2 * at) || tree_node_at f.nodes.items (2 * at + 1)) ≡ true
 some_below f level at d lt = sym (d.tree.inner at (let a = d.low in let z = below_doubled level in omega arith) (inner f level at d lt)) ∙ d.holds
 
 pub small : (f : FreeIndices) → IsTree f → f.room ≤ var_limit
@@ -190,7 +190,7 @@ leaf_place f level at d le =
 
 pub arrives : (f : FreeIndices) (level at i : ℕ) → Descends f level at → f.height ≤ level → i ≡ at - f.room → IsLowest f i
 arrives f level at i d le e = let p = leaf_place f level at d le in let p0 = p.0 in let p1 = p.1 in record {
-  free = ap (node_at f.nodes.items) (let q : f.room + i ≡ at = omega arith in q) ∙ d.holds;
+  free = ap (tree_node_at f.nodes.items) (let q : f.room + i ≡ at = omega arith in q) ∙ d.holds;
   lowest = λ k lt. d.left (f.room + k) (omega arith) (omega arith) (let u : up (f.height - level) (f.room + k) ≡ f.room + k = ap (λ x. up x (f.room + k)) (let z : f.height - level ≡ 0 = omega arith in z) ∙ up_zero (f.room + k) in omega arith);
 }
 
@@ -223,8 +223,8 @@ counted_small f tree = let l = count_le f.room (is_free f) in let c = tree.count
 -- the leaf has this value, and all nodes are as those below say but the one above this one
 pub record Mends (room : ℕ) (first nodes : List Bool) (leaf : ℕ) (value : Bool) (at : ℕ) : Type 0 where
   pub size : length nodes ≡ length first
-  pub leaves : (l : ℕ) → room ≤ l → node_at nodes l ≡ cond (eqb l leaf) value (node_at first l)
-  pub inner : (q : ℕ) → 0 < q → q < room → q ≢ at / 2 → node_at nodes q ≡ (node_at nodes (2 * q) || node_at nodes (2 * q + 1))
+  pub leaves : (l : ℕ) → room ≤ l → tree_node_at nodes l ≡ cond (eqb l leaf) value (tree_node_at first l)
+  pub inner : (q : ℕ) → 0 < q → q < room → q ≢ at / 2 → tree_node_at nodes q ≡ (tree_node_at nodes (2 * q) || tree_node_at nodes (2 * q + 1))
   pub some : 0 < at
   pub within : at < 2 * room
 
@@ -252,7 +252,7 @@ mended f g index value at tree lt room height count m le = (
         go false e = ne_eqb (f.room + i) (f.room + index) (λ q. eqb-false i index e (omega arith))
 
     free : (i : ℕ) → is_free g i ≡ cond (eqb i index) value (is_free f i)
-    free i = ap (λ r. node_at g.nodes.items (r + i)) room ∙ m.leaves (f.room + i) (omega arith) ∙ ap (λ b. cond b value (is_free f i)) (same i)
+    free i = ap (λ r. tree_node_at g.nodes.items (r + i)) room ∙ m.leaves (f.room + i) (omega arith) ∙ ap (λ b. cond b value (is_free f i)) (same i)
 
     counted : IsCounted g
     counted =
@@ -264,12 +264,12 @@ mended f g index value at tree lt room height count m le = (
         all ∙ ap (λ r. count_to r (is_free g)) (sym room)
 
 -- a node that stays leaves all above it right
-pub mended_early : (room : ℕ) (first nodes : List Bool) (leaf : ℕ) (value : Bool) (at : ℕ) → Mends room first nodes leaf value at → 1 < at → node_at nodes (at / 2) ≡ (node_at nodes (2 * (at / 2)) || node_at nodes (2 * (at / 2) + 1)) → Mends room first nodes leaf value 1
+pub mended_early : (room : ℕ) (first nodes : List Bool) (leaf : ℕ) (value : Bool) (at : ℕ) → Mends room first nodes leaf value at → 1 < at → tree_node_at nodes (at / 2) ≡ (tree_node_at nodes (2 * (at / 2)) || tree_node_at nodes (2 * (at / 2) + 1)) → Mends room first nodes leaf value 1
 mended_early room first nodes leaf value at m more fresh = record {
   size = m.size;
   leaves = m.leaves;
   inner = λ q pos lt ne. elim (cases_eq q (at / 2)) [
-    | inl e ↦ subst (λ z. node_at nodes z ≡ (node_at nodes (2 * z) || node_at nodes (2 * z + 1))) (sym e) fresh
+    | inl e ↦ subst (λ z. tree_node_at nodes z ≡ (tree_node_at nodes (2 * z) || tree_node_at nodes (2 * z + 1))) (sym e) fresh
     | inr n ↦ m.inner q pos lt n
   ];
   some = omega arith;
@@ -281,21 +281,21 @@ mended_early room first nodes leaf value at m more fresh = record {
 -- leaves are as they were, and all nodes from this one on are as those below say
 pub record Renews (room : ℕ) (first nodes : List Bool) (from : ℕ) : Type 0 where
   pub size : length nodes ≡ length first
-  pub leaves : (l : ℕ) → room ≤ l → node_at nodes l ≡ node_at first l
-  pub inner : (q : ℕ) → from ≤ q → 0 < q → q < room → node_at nodes q ≡ (node_at nodes (2 * q) || node_at nodes (2 * q + 1))
+  pub leaves : (l : ℕ) → room ≤ l → tree_node_at nodes l ≡ tree_node_at first l
+  pub inner : (q : ℕ) → from ≤ q → 0 < q → q < room → tree_node_at nodes q ≡ (tree_node_at nodes (2 * q) || tree_node_at nodes (2 * q + 1))
 
 -- LEAVES MOVE
 
 -- so many leaves were copied
 pub record Copies (first nodes : List Bool) (room index : ℕ) : Type 0 where
   pub size : length nodes ≡ length first
-  pub there : (i : ℕ) → i < index → node_at nodes (2 * room + i) ≡ node_at first (room + i)
-  pub kept : (q : ℕ) → q < 2 * room → node_at nodes q ≡ node_at first q
-  pub past : (q : ℕ) → 3 * room ≤ q → node_at nodes q ≡ node_at first q
+  pub there : (i : ℕ) → i < index → tree_node_at nodes (2 * room + i) ≡ tree_node_at first (room + i)
+  pub kept : (q : ℕ) → q < 2 * room → tree_node_at nodes q ≡ tree_node_at first q
+  pub past : (q : ℕ) → 3 * room ≤ q → tree_node_at nodes q ≡ tree_node_at first q
 
 -- in a list of twice the length the leaves are the same
-pub grown : (f g h : FreeIndices) (wide : List Bool) → IsTree f → f.room ≡ doubled f.height → length wide ≡ 4 * f.room → ((q : ℕ) → node_at wide q ≡ node_at f.nodes.items q) → CopiesLeaves wide g.nodes.items f.room → g.room ≡ 2 * f.room → ((i : ℕ) → is_free h i ≡ is_free g i) → (i : ℕ) → is_free h i ≡ is_free f i
-grown f g h wide tree p size same c room leaves i = leaves i ∙ ap (λ r. node_at g.nodes.items (r + i)) room ∙ elim (cases_lt i f.room) [
+pub grown : (f g h : FreeIndices) (wide : List Bool) → IsTree f → f.room ≡ doubled f.height → length wide ≡ 4 * f.room → ((q : ℕ) → tree_node_at wide q ≡ tree_node_at f.nodes.items q) → CopiesLeaves wide g.nodes.items f.room → g.room ≡ 2 * f.room → ((i : ℕ) → is_free h i ≡ is_free g i) → (i : ℕ) → is_free h i ≡ is_free f i
+grown f g h wide tree p size same c room leaves i = leaves i ∙ ap (λ r. tree_node_at g.nodes.items (r + i)) room ∙ elim (cases_lt i f.room) [
   | inl lt ↦ c.there i lt ∙ same (f.room + i)
   | inr le ↦ c.kept (2 * f.room + i) (omega arith) ∙ same (2 * f.room + i) ∙ get_or_past f.nodes.items (2 * f.room + i) false (let s = tree.size in omega arith) ∙ sym (get_or_past f.nodes.items (f.room + i) false (let s = tree.size in omega arith))
 ]
@@ -308,7 +308,7 @@ grown_powers f g tree n lt room height =
     power (omega (arith, ap doubled height)) (omega arith)
 
 -- no leaf that came is in the set
-pub grown_counted : (f g : FreeIndices) (wide : List Bool) → IsTree f → f.room ≡ doubled f.height → length wide ≡ 4 * f.room → ((q : ℕ) → node_at wide q ≡ node_at f.nodes.items q) → CopiesLeaves wide g.nodes.items f.room → g.room ≡ 2 * f.room → g.count ≡ f.count → IsCounted g
+pub grown_counted : (f g : FreeIndices) (wide : List Bool) → IsTree f → f.room ≡ doubled f.height → length wide ≡ 4 * f.room → ((q : ℕ) → tree_node_at wide q ≡ tree_node_at f.nodes.items q) → CopiesLeaves wide g.nodes.items f.room → g.room ≡ 2 * f.room → g.count ≡ f.count → IsCounted g
 grown_counted f g wide tree p size same c room count =
     count ∙ tree.counted ∙ sym (count_reach f.room g.room (is_free f) (omega arith) (λ k le. past f k tree le))
     ∙ count_same g.room (is_free f) (is_free g) (λ i lt. sym (grown f g g wide tree p size same c room (λ k. refl) i))
@@ -320,15 +320,15 @@ nothing_free f tree e i = bool_false (is_free f i) (λ t. elim (cases_lt i f.roo
   | inr le ↦ true≢false (sym t ∙ past f i tree le)
 ])
 
-nothing_above : (f : FreeIndices) → IsTree f → f.count ≡ 0 → (n q : ℕ) → 2 * f.room ≤ q + n → 0 < q → node_at f.nodes.items q ≡ false
+nothing_above : (f : FreeIndices) → IsTree f → f.count ≡ 0 → (n q : ℕ) → 2 * f.room ≤ q + n → 0 < q → tree_node_at f.nodes.items q ≡ false
 nothing_above f tree e zero q le pos = get_or_past f.nodes.items q false (let s = tree.size in omega arith)
 nothing_above f tree e (suc n) q le pos = elim (cases_lt q f.room) [
-  | inl lt ↦ tree.inner q pos lt ∙ ap (λ b. b || node_at f.nodes.items (2 * q + 1)) (nothing_above f tree e n (2 * q) (omega arith) (omega arith)) ∙ nothing_above f tree e n (2 * q + 1) (omega arith) (omega arith)
-  | inr past ↦ ap (node_at f.nodes.items) (let s : q ≡ f.room + (q - f.room) = omega arith in s) ∙ nothing_free f tree e (q - f.room)
+  | inl lt ↦ tree.inner q pos lt ∙ ap (λ b. b || tree_node_at f.nodes.items (2 * q + 1)) (nothing_above f tree e n (2 * q) (omega arith) (omega arith)) ∙ nothing_above f tree e n (2 * q + 1) (omega arith) (omega arith)
+  | inr past ↦ ap (tree_node_at f.nodes.items) (let s : q ≡ f.room + (q - f.room) = omega arith in s) ∙ nothing_free f tree e (q - f.room)
 ]
 
-module _ (f g : FreeIndices) (tree : IsTree f) (some : f.room ≡ 0 → ⊥) (lt : f.room < var_limit) (size : length g.nodes.items ≡ 4 * f.room) (same : (q : ℕ) → node_at g.nodes.items q ≡ node_at f.nodes.items q) (room : g.room ≡ 2 * f.room) (height : g.height ≡ f.height + 1) (count : g.count ≡ f.count) (empty_set : f.count ≡ 0) where
-  nothing_wide : (q : ℕ) → 0 < q → node_at g.nodes.items q ≡ false
+module _ (f g : FreeIndices) (tree : IsTree f) (some : f.room ≡ 0 → ⊥) (lt : f.room < var_limit) (size : length g.nodes.items ≡ 4 * f.room) (same : (q : ℕ) → tree_node_at g.nodes.items q ≡ tree_node_at f.nodes.items q) (room : g.room ≡ 2 * f.room) (height : g.height ≡ f.height + 1) (count : g.count ≡ f.count) (empty_set : f.count ≡ 0) where
+  nothing_wide : (q : ℕ) → 0 < q → tree_node_at g.nodes.items q ≡ false
   nothing_wide q pos = same q ∙ nothing_above f tree empty_set (2 * f.room) q (omega arith) pos
 
   -- a tree of no free index grows as it is
@@ -340,14 +340,14 @@ module _ (f g : FreeIndices) (tree : IsTree f) (some : f.room ≡ 0 → ⊥) (lt
     size = omega arith;
     powers = grown_powers f g tree some lt room height;
     counted = count ∙ tree.counted ∙ sym (count_reach f.room g.room (is_free f) (omega arith) (λ k le. past f k tree le)) ∙ count_same g.room (is_free f) (is_free g) (λ i w. sym (empty_same i));
-    inner = λ q pos w. nothing_wide q pos ∙ sym (ap (λ b. b || node_at g.nodes.items (2 * q + 1)) (nothing_wide (2 * q) (omega arith)) ∙ nothing_wide (2 * q + 1) (omega arith));
+    inner = λ q pos w. nothing_wide q pos ∙ sym (ap (λ b. b || tree_node_at g.nodes.items (2 * q + 1)) (nothing_wide (2 * q) (omega arith)) ∙ nothing_wide (2 * q + 1) (omega arith));
   }
 
 pub height_fits : (f : FreeIndices) → IsTree f → (f.room ≡ 0 → ⊥) → f.height < var_limit
 height_fits f tree n = let p = full f tree n in let s = small f tree in let b = below_doubled f.height in omega arith
 
 -- one leaf
-pub tree_one : (f g : FreeIndices) → IsTree f → f.room ≡ 0 → g.room ≡ 1 → g.height ≡ 0 → g.count ≡ f.count → length g.nodes.items ≡ 2 → ((q : ℕ) → node_at g.nodes.items q ≡ node_at f.nodes.items q) → IsTree g
+pub tree_one : (f g : FreeIndices) → IsTree f → f.room ≡ 0 → g.room ≡ 1 → g.height ≡ 0 → g.count ≡ f.count → length g.nodes.items ≡ 2 → ((q : ℕ) → tree_node_at g.nodes.items q ≡ tree_node_at f.nodes.items q) → IsTree g
 tree_one f g tree none room height count size same = record {
   size = omega arith;
   powers = power (room ∙ sym doubled_zero ∙ ap doubled (sym height)) (omega arith);
@@ -374,7 +374,7 @@ default [] i x y lt = absurd (omega arith)
 default (z ∷ zs) zero x y lt = refl
 default (z ∷ zs) (suc i) x y lt = default zs i x y (omega arith)
 
-pub node_is : (f : FreeIndices) (b : Bool) → IsTree f → (f.room ≡ 0 → ⊥) → b ≡ get_or f.nodes.items 1 b → node_at f.nodes.items 1 ≡ b
+pub node_is : (f : FreeIndices) (b : Bool) → IsTree f → (f.room ≡ 0 → ⊥) → b ≡ get_or f.nodes.items 1 b → tree_node_at f.nodes.items 1 ≡ b
 node_is f b tree n e = default f.nodes.items 1 false b (let s = tree.size in let r = some in omega arith) ∙ sym e
   where
     some : 0 < f.room

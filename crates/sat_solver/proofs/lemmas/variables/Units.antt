@@ -1,7 +1,7 @@
 -- The value of a unit is noted.
 use Rattle.std.proofs.Common.{ℕ, ◌+◌, ◌≡◌, ◌≢◌, Bool, true, false, not, ◌&&◌, cond, eqb, ltb, List, length, get_or, Option, Some, None, is_some, refl, sym, ◌∙◌, ap, subst, arith}
 use Rattle.std.proofs.lemmas.Bool.{eqb-true, true≢false}
-use Rattle.sat_base.specs.script.Judge.{Judge, Sampled}
+use Rattle.sat_base.specs.script.ScriptState.{ScriptState, Sampled}
 use Rattle.sat_base.specs.steps.Steps.{Step}
 use Rattle.sat_store.specs.declared.data.VarData.{VarData}
 use Rattle.sat_store.specs.variables.VarData.{unused_variable}
@@ -10,9 +10,9 @@ use Rattle.sat_solver.specs.variables.Counting.{IsEven}
 use Rattle.sat_solver.specs.variables.Free.{is_free, IsTree}
 use Rattle.sat_checker.specs.matching.Bridge.{Live}
 use Rattle.sat_solver.specs.variables.Live.{given_of}
-use Rattle.sat_solver.specs.variables.Variables.{data_at, user_of, solver_of, variables_used, AreTidy, AreJudged, IsModeOf, says_unit, is_witness_kept}
+use Rattle.sat_solver.specs.variables.Variables.{data_at, user_of, solver_of, variables_used, AreTidy, NamesMatchState, IsModeOf, says_unit, is_witness_kept}
 use Rattle.sat_solver.specs.variables.Naming.{SameMaps, PutsUnit}
-use Rattle.sat_solver.specs.variables.Calls.{NamesInvariant, Agree}
+use Rattle.sat_solver.specs.variables.Calls.{NamesInvariant, NamesAgree}
 use Rattle.sat_solver.specs.declared.variables.Variables.{Variables}
 use Rattle.sat_solver.proofs.lemmas.variables.NewName.{shape}
 
@@ -47,7 +47,7 @@ module _ (old new : Variables) (tidy : AreTidy old) (maps : SameMaps old new) (d
     free_solvers = λ x. ap (λ f. is_free f x) maps.free_solvers ∙ tidy.free_solvers x ∙ ap (λ m. ltb x (length m.bwd) && not (is_some (target m.bwd x))) (sym maps.solvers);
   }
 
-  pub judged_data : (j : Judge) (list : Live) → AreJudged old j list → AreJudged new j list
+  pub judged_data : (j : ScriptState) (list : Live) → NamesMatchState old j list → NamesMatchState new j list
   judged_data j list judged = record {
     first_unused = judged.first_unused ∙ ap (λ m. length m.fwd + 1) (sym maps.users);
     no_zero = judged.no_zero;
@@ -109,5 +109,5 @@ module _ (old new : Variables) (steps : List Step) (v x : ℕ) (value : Option B
       seen : (w : ℕ) → shape (data_at new w) (user_of new w) ≡ shape (data_at old w) (user_of old w)
       seen w = ap (shape (data_at new w)) (ap (λ m. target m.bwd w) put.maps.users) ∙ same w (λ d. shape d (user_of old w)) refl
 
-  pub unit_agrees : (j : Judge) (live : Live) → Agree old steps j live → Agree new steps j live
+  pub unit_agrees : (j : ScriptState) (live : Live) → NamesAgree old steps j live → NamesAgree new steps j live
   unit_agrees j live a = record { judged = judged_data old new stands.tidy put.maps deleted_same mode_same gone_same j live a.judged; bridge = a.bridge }

@@ -3,7 +3,7 @@ use Rattle.std.proofs.lemmas.Result.{err_from_is_err_and}
 use Rattle.sat_base.specs.steps.Steps.{DeleteClause, Satisfied}
 use Rattle.sat_solver.specs.session.LiveClauses.{with_var}
 use Rattle.sat_solver.specs.proof.ProofView.{steps_of}
-use Rattle.sat_solver.specs.session.Naming.{global_of}
+use Rattle.sat_solver.specs.session.Naming.{global_of_index}
 use Rattle.sat_solver.proofs.lemmas.cdcl.GoingLemmas.{goes_starved, goes_step, goes_broken}
 use Rattle.sat_solver.proofs.load.delete_satisfied.Goals as goal
 
@@ -14,8 +14,8 @@ returns-in_err-map_lits g c =
 
 pub returns : goal.returns
 returns g c =
-    let same : c.deref.result.now ≡ map (with_var (global_of c.args.globals.now)) c.args.lits.now = c.deref.ensures.value ∙ c.in_ok-map_lits.ensures in
-    goes_step g.W.CountedWrite.seen tt c.args.proof.now c.step.new.self (DeleteClause c.deref.result.now Satisfied) (λ _ _. steps_of c.step.new.self ≡ DeleteClause (map (with_var (global_of c.args.globals.now)) c.args.lits.now) Satisfied ∷ steps_of c.args.proof.now)
+    let same : c.deref.result.now ≡ map (with_var (global_of_index c.args.globals.now)) c.args.lits.now = c.deref.ensures.value ∙ c.in_ok-map_lits.ensures in
+    goes_step g.W.CountedWrite.seen tt c.args.proof.now c.step.new.self (DeleteClause c.deref.result.now Satisfied) (λ _ _. steps_of c.step.new.self ≡ DeleteClause (map (with_var (global_of_index c.args.globals.now)) c.args.lits.now) Satisfied ∷ steps_of c.args.proof.now)
     tt refl c.in_ok-step.ensures.keeps c.in_ok-step.ensures.records (c.in_ok-step.ensures.records.history ∙ ap (λ (ls : List ℕ). DeleteClause ls Satisfied ∷ steps_of c.args.proof.now) same)
 
 pub returns-in_err-step : goal.returns-in_err-step

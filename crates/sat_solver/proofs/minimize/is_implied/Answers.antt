@@ -8,7 +8,7 @@ use Rattle.sat_parts.specs.prop.Ready.{state_of}
 use Rattle.sat_parts.specs.prop.State.{State, node}
 use Rattle.sat_solver.specs.analyze_conflict.Work.{Work}
 use Rattle.sat_solver.specs.analyze_conflict.Marks.{causes_at, IsReasoned}
-use Rattle.sat_solver.specs.analyze_conflict.Minimal.{AreMarked, Searching, MarksMore, Undoes, used_up, Followed, followed}
+use Rattle.sat_solver.specs.analyze_conflict.Minimal.{AreMarked, MinimizationInvariant, MarksMore, Undoes, used_up, Followed, followed}
 use Rattle.sat_solver.proofs.lemmas.analyze_conflict.Minimizing.{Follows, front_at, more_refl, more_trans, searching_start, searching_next, search_step}
 use Rattle.sat_solver.proofs.lemmas.analyze_conflict.Sums.{total, followed_total}
 use Rattle.sat_solver.proofs.lemmas.analyze_conflict.Undoing.{undone}
@@ -25,8 +25,8 @@ loop-at-init c =
     let n_is : length c.used-top.result.now ≡ length w.used = ap (λ (xs : List ℕ). length xs) c.used-top.ensures in
     let e : c.use_up.new.self ≡ used_up (negated c.args.lit) w = c.in_ok-use_up.ensures ∙ ap (λ l. used_up l w) c.not.ensures in
     record {
-      searching = subst (λ n. Searching words s conflict first c.args.low c.use_up.new.self n) (sym n_is)
-          (subst (λ (x : Work). Searching words s conflict first c.args.low x (length w.used)) (sym e) (searching_start words s conflict first c.args.low w c.args.lit c.requires.searching c.requires.may));
+      searching = subst (λ n. MinimizationInvariant words s conflict first c.args.low c.use_up.new.self n) (sym n_is)
+          (subst (λ (x : Work). MinimizationInvariant words s conflict first c.args.low x (length w.used)) (sym e) (searching_start words s conflict first c.args.low w c.args.lit c.requires.searching c.requires.may));
       more = subst (λ (x : Work). MarksMore (used_up (negated c.args.lit) w) x) (sym e) (more_refl (used_up (negated c.args.lit) w));
       top = n_is;
     }
@@ -39,7 +39,7 @@ reason-reason-requires c =
     let first : ℕ = get_or c.args.analysis.now.clause 0 0 in
     let w : Work = c.loop-at.analysis in
     let at : ℕ = c.loop-at.at in
-    let h : Searching words s conflict first c.args.low w at = c.loop-at.invariant.searching in
+    let h : MinimizationInvariant words s conflict first c.args.low w at = c.loop-at.invariant.searching in
     let lt : at < length w.used = omega (arith, c.loop-at-test.true, ap (λ (xs : List ℕ). length xs) c.used.ensures) in
     let x : IsReasoned s 0 (get_or w.used at 0) = h.reasons at lt in
     let next_is : c.index-used-at.result ≡ get_or w.used at 0 =
@@ -55,7 +55,7 @@ lits-requires-clause-clause c = λ o is.
     let first : ℕ = get_or c.args.analysis.now.clause 0 0 in
     let w : Work = c.loop-at.analysis in
     let at : ℕ = c.loop-at.at in
-    let h : Searching words s conflict first c.args.low w at = c.loop-at.invariant.searching in
+    let h : MinimizationInvariant words s conflict first c.args.low w at = c.loop-at.invariant.searching in
     let lt : at < length w.used = omega (arith, c.loop-at-test.true, ap (λ (xs : List ℕ). length xs) c.used.ensures) in
     let x : IsReasoned s 0 (get_or w.used at 0) = h.reasons at lt in
     let next_is : c.index-used-at.result ≡ get_or w.used at 0 =
@@ -72,7 +72,7 @@ lits-requires-clause-some c = λ o is.
     let first : ℕ = get_or c.args.analysis.now.clause 0 0 in
     let w : Work = c.loop-at.analysis in
     let at : ℕ = c.loop-at.at in
-    let h : Searching words s conflict first c.args.low w at = c.loop-at.invariant.searching in
+    let h : MinimizationInvariant words s conflict first c.args.low w at = c.loop-at.invariant.searching in
     let lt : at < length w.used = omega (arith, c.loop-at-test.true, ap (λ (xs : List ℕ). length xs) c.used.ensures) in
     let x : IsReasoned s 0 (get_or w.used at 0) = h.reasons at lt in
     let next_is : c.index-used-at.result ≡ get_or w.used at 0 =
@@ -89,7 +89,7 @@ follow-requires-clause-nodes c = λ k b.
     let first : ℕ = get_or c.args.analysis.now.clause 0 0 in
     let w : Work = c.loop-at.analysis in
     let at : ℕ = c.loop-at.at in
-    let h : Searching words s conflict first c.args.low w at = c.loop-at.invariant.searching in
+    let h : MinimizationInvariant words s conflict first c.args.low w at = c.loop-at.invariant.searching in
     let lt : at < length w.used = omega (arith, c.loop-at-test.true, ap (λ (xs : List ℕ). length xs) c.used.ensures) in
     let x : IsReasoned s 0 (get_or w.used at 0) = h.reasons at lt in
     let next_is : c.index-used-at.result ≡ get_or w.used at 0 =
@@ -108,7 +108,7 @@ undo-requires-clause-top c =
     let first : ℕ = get_or c.args.analysis.now.clause 0 0 in
     let w : Work = c.loop-at.analysis in
     let at : ℕ = c.loop-at.at in
-    let h : Searching words s conflict first c.args.low w at = c.loop-at.invariant.searching in
+    let h : MinimizationInvariant words s conflict first c.args.low w at = c.loop-at.invariant.searching in
     let lt : at < length w.used = omega (arith, c.loop-at-test.true, ap (λ (xs : List ℕ). length xs) c.used.ensures) in
     let x : IsReasoned s 0 (get_or w.used at 0) = h.reasons at lt in
     let next_is : c.index-used-at.result ≡ get_or w.used at 0 =
@@ -132,7 +132,7 @@ undo-requires-clause-flags c = λ k b.
     let first : ℕ = get_or c.args.analysis.now.clause 0 0 in
     let w : Work = c.loop-at.analysis in
     let at : ℕ = c.loop-at.at in
-    let h : Searching words s conflict first c.args.low w at = c.loop-at.invariant.searching in
+    let h : MinimizationInvariant words s conflict first c.args.low w at = c.loop-at.invariant.searching in
     let lt : at < length w.used = omega (arith, c.loop-at-test.true, ap (λ (xs : List ℕ). length xs) c.used.ensures) in
     let x : IsReasoned s 0 (get_or w.used at 0) = h.reasons at lt in
     let next_is : c.index-used-at.result ≡ get_or w.used at 0 =
@@ -156,7 +156,7 @@ returns-then-not-branch c =
     let first : ℕ = get_or c.args.analysis.now.clause 0 0 in
     let w : Work = c.loop-at.analysis in
     let at : ℕ = c.loop-at.at in
-    let h : Searching words s conflict first c.args.low w at = c.loop-at.invariant.searching in
+    let h : MinimizationInvariant words s conflict first c.args.low w at = c.loop-at.invariant.searching in
     let lt : at < length w.used = omega (arith, c.loop-at-test.true, ap (λ (xs : List ℕ). length xs) c.used.ensures) in
     let x : IsReasoned s 0 (get_or w.used at 0) = h.reasons at lt in
     let next_is : c.index-used-at.result ≡ get_or w.used at 0 =
@@ -181,7 +181,7 @@ loop-at-smaller c =
     let first : ℕ = get_or c.args.analysis.now.clause 0 0 in
     let w : Work = c.loop-at.analysis in
     let at : ℕ = c.loop-at.at in
-    let h : Searching words s conflict first c.args.low w at = c.loop-at.invariant.searching in
+    let h : MinimizationInvariant words s conflict first c.args.low w at = c.loop-at.invariant.searching in
     let lt : at < length w.used = omega (arith, c.loop-at-test.true, ap (λ (xs : List ℕ). length xs) c.used.ensures) in
     let x : IsReasoned s 0 (get_or w.used at 0) = h.reasons at lt in
     let next_is : c.index-used-at.result ≡ get_or w.used at 0 =
@@ -207,7 +207,7 @@ loop-at-preserved c =
     let first : ℕ = get_or c.args.analysis.now.clause 0 0 in
     let w : Work = c.loop-at.analysis in
     let at : ℕ = c.loop-at.at in
-    let h : Searching words s conflict first c.args.low w at = c.loop-at.invariant.searching in
+    let h : MinimizationInvariant words s conflict first c.args.low w at = c.loop-at.invariant.searching in
     let lt : at < length w.used = omega (arith, c.loop-at-test.true, ap (λ (xs : List ℕ). length xs) c.used.ensures) in
     let x : IsReasoned s 0 (get_or w.used at 0) = h.reasons at lt in
     let next_is : c.index-used-at.result ≡ get_or w.used at 0 =

@@ -3,15 +3,15 @@ use Rattle.std.proofs.lemmas.Bool.{MatchBool-at_true, MatchBool-at_false}
 use Rattle.std.proofs.lemmas.List.{get_or_read}
 use Rattle.sat_base.specs.values.Literals.{variable, negated}
 use Rattle.sat_parts.specs.declared.prop.graph.Reason.{Reason}
-use Rattle.sat_parts.specs.prop.Graphs.{node_of, is_unit}
+use Rattle.sat_parts.specs.prop.Graphs.{node_of, is_unit_reason}
 use Rattle.sat_parts.specs.prop.Causes.{falsified}
 use Rattle.sat_parts.specs.prop.Ready.{state_of}
 use Rattle.sat_parts.specs.prop.Values.{IsFalseLit}
 use Rattle.sat_parts.specs.prop.State.{State, node}
 use Rattle.sat_solver.specs.analyze_conflict.Work.{Work}
-use Rattle.sat_solver.specs.analyze_conflict.Derivation.{IsAsserting, AreGrounds}
+use Rattle.sat_solver.specs.analyze_conflict.Derivation.{IsAsserting, IsUnorderedDerivation}
 use Rattle.sat_solver.specs.analyze_conflict.Involved.{KeepsResolved}
-use Rattle.sat_solver.specs.analyze_conflict.Minimal.{Searching, MarksMore, SameWork, used_up, Minimal, MayStart}
+use Rattle.sat_solver.specs.analyze_conflict.Minimal.{MinimizationInvariant, MarksMore, SameWork, used_up, Minimal, MayStart}
 use Rattle.sat_solver.proofs.lemmas.analyze_conflict.Minimized.{minimal_start, may_start, minimal_grounds, false_variable}
 use Rattle.sat_solver.proofs.lemmas.analyze_conflict.Loops.{HasAccepted, Goes, split, in_rest, not_first, lower_here, same_itself, goes_kept, goes_dropped, front_refl, lower_rest, minimal_asserting, minimal_among, cut_rest}
 use Rattle.sat_solver.proofs.minimize.minimize_clause.Goals as goal
@@ -19,7 +19,7 @@ use Rattle.sat_solver.proofs.minimize.minimize_clause.Goals.{then-is_unit, then-
 
 -- what a search that succeeded says
 abbrev Implied : (words : List ℕ) (s : State) (conflict : List ℕ) (low : ℕ) (w new : Work) (lit : ℕ) → Type 0
-Implied words s conflict low w new lit = MarksMore (used_up (negated lit) w) new × Searching words s conflict (get_or w.clause 0 0) low new (length new.used)
+Implied words s conflict low w new lit = MarksMore (used_up (negated lit) w) new × MinimizationInvariant words s conflict (get_or w.clause 0 0) low new (length new.used)
 
 pub loop-at-init : goal.loop-at-init
 loop-at-init c =
@@ -84,7 +84,7 @@ is_implied-requires-clause-may c =
     get_or_read c.clause-in-loop-at.result.now at c.index-clause-at.result (omega (arith, lt, ap (λ (xs : List ℕ). length xs) c.clause-in-loop-at.ensures)) c.index-clause-at.is 0
     ∙ ap (λ (xs : List ℕ). get_or xs at 0) c.clause-in-loop-at.ensures in
     let r_is : c.reason-reason.result ≡ (node s (get_or w.clause at 0)).reason = c.reason-reason.ensures ∙ ap (λ v. (node_of c.args.graph.now v).reason) (c.var.ensures ∙ ap (λ l. variable l) lit_is) in
-    let caused : is_unit (node s (get_or w.clause at 0)).reason ≡ false = ap (λ (r : Reason). is_unit r) (sym r_is) ∙ sym c.is_unit.ensures ∙ c.if-is_unit.false in
+    let caused : is_unit_reason (node s (get_or w.clause at 0)).reason ≡ false = ap (λ (r : Reason). is_unit_reason r) (sym r_is) ∙ sym c.is_unit.ensures ∙ c.if-is_unit.false in
     subst (λ l. MayStart s w l) (sym lit_is)
     (may_start words s conflict first low (take kept w.clause ++ get_or w.clause at 0 ∷ drop (at + 1) w.clause) w (get_or w.clause at 0) c.requires.can.agrees
     (split words s conflict first low kept at w.clause w h) (in_rest kept at w.clause h.behind h.within) (not_first words s conflict first low kept at w.clause w h) caused)
@@ -127,7 +127,7 @@ loop-at-preserved c =
           let both : Implied words s conflict low w new c.index-clause-at.result =
           MatchBool-at_true (Implied words s conflict low w new c.index-clause-at.result) (SameWork w new) v.if-not-branch.false v.in_ok-is_implied.ensures in
           let more : MarksMore (used_up (negated (get_or w.clause at 0)) w) new = subst (λ l. MarksMore (used_up (negated l) w) new) lit_is both.0 in
-          let searching : Searching words s conflict first low new (length new.used) = subst (λ z. Searching words s conflict z low new (length new.used)) c.loop-at.invariant.first both.1 in
+          let searching : MinimizationInvariant words s conflict first low new (length new.used) = subst (λ z. MinimizationInvariant words s conflict z low new (length new.used)) c.loop-at.invariant.first both.1 in
           subst (λ n. Goes words s conflict first low n (at + 1) (length w.clause) c.args.analysis.now c.if-is_unit.analysis) (sym v.kept-is)
           (subst (λ (x : Work). Goes words s conflict first low kept (at + 1) (length w.clause) c.args.analysis.now x) (sym v.analysis-is)
           (goes_dropped words s conflict first low kept at c.args.analysis.now w new c.loop-at.invariant.front h more searching))
@@ -176,7 +176,7 @@ returns-clause-grounds c =
     let used : c.cut.new.self.used ≡ w.used = ap (λ (x : Work). x.used) c.cut.ensures in
     let flags : c.cut.new.self.flags ≡ w.flags = ap (λ (x : Work). x.flags) c.cut.ensures in
     let ff : IsFalseLit s.values first = c.requires.resolved.asserting.fails 0 c.requires.resolved.asserting.some in
-    subst (λ (xs : List ℕ). AreGrounds words s conflict xs c.cut.new.self.used) (sym clause) (subst (λ (us : List ℕ). AreGrounds words s conflict (take kept w.clause) us) (sym used)
+    subst (λ (xs : List ℕ). IsUnorderedDerivation words s conflict xs c.cut.new.self.used) (sym clause) (subst (λ (us : List ℕ). IsUnorderedDerivation words s conflict (take kept w.clause) us) (sym used)
     (minimal_grounds words s conflict first low (take kept w.clause) w c.requires.can c.requires.fails ff m))
 
 pub returns-clause-among : goal.returns-clause-among

@@ -1,5 +1,5 @@
 use Rattle.std.proofs.Common.{◌≡◌, ◌-◌, ◌<◌, ◌≤◌}
-use Rattle.sat_solver.specs.schedule.Climbing.{HasCome}
+use Rattle.sat_solver.specs.schedule.Climbing.{AskReachesRound}
 use Rattle.sat_solver.specs.schedule.Rounds.{AreRounds}
 use Rattle.sat_solver.specs.schedule.Solving.{words_in, values_in, ComesByRounds, Restarted, ReducedAt, RoundOf}
 use Rattle.sat_solver.specs.solver.Joined.{IsJoined}
@@ -13,7 +13,7 @@ invariant-loop-steps g l = record {
   most : values_in l.core ≡ values_in l.fn.core;
   before : l.fn.steps ≤ l.steps;
   within : l.steps ≤ l.end;
-  come : values_in l.fn.core < 63 → HasCome words_in l.core (values_in l.fn.core) l.fn.steps l.steps l.restarts.next l.restarts.sequence;
+  come : values_in l.fn.core < 63 → AskReachesRound words_in l.core (values_in l.fn.core) l.fn.steps l.steps l.restarts.next l.restarts.sequence;
   goes : ComesByRounds g.W.CountedWrite.seen l.fn.core l.fn.names (l.steps - l.fn.steps) l.core l.names;
   rounds : AreRounds Restarted (ReducedAt g.W.CountedWrite.seen) (RoundOf g.W.CountedWrite.seen) l.fn.core l.fn.names l.fn.restarts l.fn.steps l.core l.names l.restarts l.steps;
 }

@@ -7,7 +7,7 @@ use Rattle.std.proofs.lemmas.Bool.{cases_eq, cases_lt}
 use Rattle.std.specs.List.{Contains, All}
 use Rattle.sat_base.specs.values.Literals.{var_limit}
 use Rattle.sat_store.specs.clause.Header.{Header, header_of}
-use Rattle.sat_store.specs.clause.Buffer.{header_at, lits_at, IsClause, Apart, HoldsClauses, SameClauseAt, ChangesAt, AppendsClause}
+use Rattle.sat_store.specs.clause.Buffer.{header_at, lits_at, IsClause, HaveNoCommonWord, HoldsClauses, SameClauseAt, ChangesAt, AppendsClause}
 
 -- the clause's length is its header's and that of its literals
 
@@ -53,12 +53,12 @@ kept v w p c longer same =
 same_len : (v w : List ℕ) (p : ℕ) → SameClauseAt v w p → get_or w (p + 2) 0 ≡ get_or v (p + 2) 0
 same_len v w p keeps = sym (header_len w p) ∙ ap (λ (h : Header). h.len) keeps.header ∙ header_len v p
 
-still_apart : (v w : List ℕ) (p q : ℕ) → Apart v p q → get_or w (p + 2) 0 ≤ get_or v (p + 2) 0 → get_or w (q + 2) 0 ≤ get_or v (q + 2) 0 → Apart w p q
-unfolding Apart
+still_apart : (v w : List ℕ) (p q : ℕ) → HaveNoCommonWord v p q → get_or w (p + 2) 0 ≤ get_or v (p + 2) 0 → get_or w (q + 2) 0 ≤ get_or v (q + 2) 0 → HaveNoCommonWord w p q
+unfolding HaveNoCommonWord
 still_apart v w p q apart a b = elim apart [ inl before ↦ inl (omega arith) | inr behind ↦ inr (omega arith) ]
 
-pub others_kept : (v w : List ℕ) (o : ℕ) → length w ≡ length v → ((i : ℕ) → i < o → get_or w i 0 ≡ get_or v i 0) → ((i : ℕ) → o + 3 + get_or v (o + 2) 0 ≤ i → get_or w i 0 ≡ get_or v i 0) → (p : ℕ) → IsClause v p → Apart v o p → SameClauseAt v w p
-unfolding Apart
+pub others_kept : (v w : List ℕ) (o : ℕ) → length w ≡ length v → ((i : ℕ) → i < o → get_or w i 0 ≡ get_or v i 0) → ((i : ℕ) → o + 3 + get_or v (o + 2) 0 ≤ i → get_or w i 0 ≡ get_or v i 0) → (p : ℕ) → IsClause v p → HaveNoCommonWord v o p → SameClauseAt v w p
+unfolding HaveNoCommonWord
 others_kept v w o size below above p c apart = elim apart [
   | inl before ↦ kept v w p c (omega arith) (λ i h k. above i (omega arith))
   | inr behind ↦ kept v w p c (omega arith) (λ i h k. below i (omega arith))
@@ -67,7 +67,7 @@ others_kept v w o size below above p c apart = elim apart [
 -- a write within the words of the clause at o, which is at most as long as before
 pub changes_at : (v w : List ℕ) (o : ℕ) → IsClause v o → IsClause w o → length w ≡ length v → get_or w (o + 2) 0 ≤ get_or v (o + 2) 0 → ((i : ℕ) → i < o → get_or w i 0 ≡ get_or v i 0) → ((i : ℕ) → o + 3 + get_or v (o + 2) 0 ≤ i → get_or w i 0 ≡ get_or v i 0) → ChangesAt v w o
 changes_at v w o was now size shorter below above =
-    let others : (p : ℕ) → IsClause v p → Apart v o p → SameClauseAt v w p = others_kept v w o size below above in
+    let others : (p : ℕ) → IsClause v p → HaveNoCommonWord v o p → SameClauseAt v w p = others_kept v w o size below above in
     let no_longer : (live : List ℕ) → Contains live o → HoldsClauses v live → (p : ℕ) → Contains live p → get_or w (p + 2) 0 ≤ get_or v (p + 2) 0 = λ live has laid p c. elim (cases_eq p o) [
       | inl same ↦ subst (λ (x : ℕ). get_or w (x + 2) 0 ≤ get_or v (x + 2) 0) (sym same) shorter
       | inr other ↦ omega (arith, same_len v w p (others p (laid.clauses p c) (laid.apart o p has c (λ e. other (sym e)))))
@@ -318,8 +318,8 @@ wrote_clause v a f ls =
       behind = λ k. let e : length v + 3 + k ≡ length v + suc (suc (suc k)) = omega arith in ap (λ (i : ℕ). get_or (v ++ new) i 0) e ∙ get_or-append-add v new (suc (suc (suc k))) 0;
     }
 
-apart_behind : (v w : List ℕ) (p : ℕ) → IsClause v p → SameClauseAt v w p → Apart w p (length v) × Apart w (length v) p
-unfolding Apart
+apart_behind : (v w : List ℕ) (p : ℕ) → IsClause v p → SameClauseAt v w p → HaveNoCommonWord w p (length v) × HaveNoCommonWord w (length v) p
+unfolding HaveNoCommonWord
 apart_behind v w p c keeps =
     let n : get_or w (p + 2) 0 ≡ get_or v (p + 2) 0 = same_len v w p keeps in
     (inl (omega (arith, c.whole)), inr (omega (arith, c.whole)))
@@ -356,10 +356,10 @@ added_clause v w a f ls h wrote small fit is =
                 let keeps_o : SameClauseAt v w o = others o (laid.clauses o old_o) in
                 let keeps_p : SameClauseAt v w p = others p (laid.clauses p old_p) in
                 still_apart v w o p (laid.apart o p old_o old_p differ) (omega (arith, same_len v w o keeps_o)) (omega (arith, same_len v w p keeps_p))
-            | inr new_p ↦ subst (Apart w o) (sym (single (length v) p new_p)) (apart_behind v w o (laid.clauses o old_o) (others o (laid.clauses o old_o))).0
+            | inr new_p ↦ subst (HaveNoCommonWord w o) (sym (single (length v) p new_p)) (apart_behind v w o (laid.clauses o old_o) (others o (laid.clauses o old_o))).0
           ]
           | inr new_o ↦ elim (Contains-append_cases live (length v ∷ []) p has_p) [
-            | inl old_p ↦ subst (λ (x : ℕ). Apart w x p) (sym (single (length v) o new_o)) (apart_behind v w p (laid.clauses p old_p) (others p (laid.clauses p old_p))).1
+            | inl old_p ↦ subst (λ (x : ℕ). HaveNoCommonWord w x p) (sym (single (length v) o new_o)) (apart_behind v w p (laid.clauses p old_p) (others p (laid.clauses p old_p))).1
             | inr new_p ↦ absurd (differ (single (length v) o new_o ∙ sym (single (length v) p new_p)))
           ]
         ];

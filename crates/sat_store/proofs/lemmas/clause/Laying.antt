@@ -4,7 +4,7 @@ use Rattle.std.proofs.lemmas.List.{get_or_default}
 use Rattle.std.specs.List.{Contains, All}
 use Rattle.sat_base.specs.values.Literals.{var_limit}
 use Rattle.sat_store.specs.clause.Header.{Header}
-use Rattle.sat_store.specs.clause.Buffer.{header_at, lits_at, IsClause, Apart, HoldsClauses, SameClauseAt, ChangesAt, AppendsClause}
+use Rattle.sat_store.specs.clause.Buffer.{header_at, lits_at, IsClause, HaveNoCommonWord, HoldsClauses, SameClauseAt, ChangesAt, AppendsClause}
 use Rattle.sat_store.proofs.lemmas.clause.BufferLemmas.{lits_count, lit_there, header_len}
 
 -- nothing is live in an empty buffer
@@ -47,7 +47,7 @@ clause_within words o clause = omega (arith, lits_count words o clause, clause.w
 
 -- of two live clauses the words of the first end before those of the second begin
 pub ends_before : (words live : List ℕ) (o p : ℕ) → HoldsClauses words live → Contains live o → Contains live p → o < p → o + 3 + length (lits_at words o) ≤ p
-unfolding Apart
+unfolding HaveNoCommonWord
 ends_before words live o p laid has_o has_p lt =
     let n : length (lits_at words o) ≡ get_or words (o + 2) 0 = lits_count words o (laid.clauses o has_o) in
     elim (laid.apart o p has_o has_p (λ e. omega arith)) [ inl before ↦ omega arith | inr behind ↦ omega arith ]

@@ -1,13 +1,13 @@
 use Rattle.std.proofs.Common.{ℕ, ◌≡◌, ◌++◌, List, length, ap, arith}
 use Rattle.std.proofs.lemmas.Grind.{common_steps}
 use Rattle.certify.specs.answers.Answers.{s_satisfiable, s_unsatisfiable, s_unknown}
-use Rattle.certify.specs.answers.AnswerReading.{first_line}
+use Rattle.certify.specs.answers.AnswerReading.{first_answer_line}
 use Rattle.certify.specs.declared.answers.read.AnswerKind.{AnswerKind}
 use Rattle.certify.specs.declared.answers.read.AnswerKind.TheVariants as kind
 use Rattle.certify.proofs.answers.read.read_kind.Goals as goal
 
 none : (bytes : List ℕ) → ((tail : List ℕ) → bytes ≡ s_satisfiable ++ tail → ⊥) → ((tail : List ℕ) → bytes ≡ s_unsatisfiable ++ tail → ⊥) → ((tail : List ℕ) → bytes ≡ s_unknown ++ tail → ⊥)
-    → (k : AnswerKind) (tail : List ℕ) → bytes ≡ first_line k ++ tail → ⊥
+    → (k : AnswerKind) (tail : List ℕ) → bytes ≡ first_answer_line k ++ tail → ⊥
 none bytes s u n kind.Sat = s
 none bytes s u n kind.Unsat = u
 none bytes s u n kind.Unknown = n

@@ -1,8 +1,8 @@
 use Rattle.std.proofs.lemmas.Result.{err_from_is_err_and}
 use Rattle.certify.specs.answers.AnswerForms.{named_literals}
 use Rattle.certify.specs.confirm.Lines.{outcome_in}
-use Rattle.certify.specs.confirm.Sessions.{stream_in}
-use Rattle.certify.proofs.lemmas.confirm.SessionMet.{unshown, shown_closes}
+use Rattle.certify.specs.confirm.ConfirmStates.{stream_in}
+use Rattle.certify.proofs.lemmas.confirm.ConfirmStateMet.{unshown, shown_closes}
 use Rattle.certify.proofs.confirm.commands.close.Goals as goal
 
 pub returns-in_err-show-clause-confirms : goal.returns-in_err-show-clause-confirms

@@ -5,7 +5,7 @@ use Rattle.certify.specs.answers.AnswerForms.{named_literals}
 use Rattle.certify.specs.confirm.Streams.{Confirms, stream_of}
 use Rattle.certify.specs.confirm.Confirming.{MeetsContent}
 use Rattle.certify.specs.script.Commands.{kind_of}
-use Rattle.certify.proofs.lemmas.confirm.SessionMet.{expects_one}
+use Rattle.certify.proofs.lemmas.confirm.ConfirmStateMet.{expects_one}
 use Rattle.certify.proofs.confirm.commands.expect_content.Goals as goal
 
 pub returns-in-Clause-clause-confirms : goal.returns-in-Clause-clause-confirms

@@ -4,8 +4,8 @@ use Rattle.certify.specs.answers.AnswerForms.{named_literals}
 use Rattle.certify.specs.answers.AnswerReading.{outcome_of}
 use Rattle.certify.specs.confirm.Streams.{Confirms}
 use Rattle.certify.specs.confirm.Confirming.{MeetsShown}
-use Rattle.certify.specs.confirm.Sessions.{stream_in}
-use Rattle.certify.proofs.lemmas.confirm.SessionMet.{shows_model, shows_core, shows_nothing}
+use Rattle.certify.specs.confirm.ConfirmStates.{stream_in}
+use Rattle.certify.proofs.lemmas.confirm.ConfirmStateMet.{shows_model, shows_core, shows_nothing}
 use Rattle.certify.proofs.confirm.commands.show.Goals as goal
 
 pub returns-in-Sat-clause-confirms : goal.returns-in-Sat-clause-confirms

@@ -6,7 +6,7 @@ use Rattle.certify.specs.declared.verdict.Why.TheVariants.{AnswerDiffers}
 use Rattle.certify.specs.confirm.SpeltLiterals.{AllAmong, AnswersWhether}
 use Rattle.certify.specs.judge.Names.{ListsUsed}
 use Rattle.certify.specs.confirm.Comparing.{Compares, ComparesLine, due_of}
-use Rattle.certify.proofs.lemmas.confirm.Compared.{if_ok, model_unlisted, model_told}
+use Rattle.certify.proofs.lemmas.confirm.Compared.{if_ok, model_unlisted, model_reported}
 use Rattle.certify.proofs.confirm.expect.fits.Goals as goal
 
 pub returns-in-NewName : goal.returns-in-NewName
@@ -47,4 +47,4 @@ returns-else-not-branch c =
     let both = subst (λ (b : Bool). AnswersWhether b (ListsUsed names line × AllAmong ask line)) c.if-not-branch.false c.in_ok-is_line-in-Model.ensures in
     subst (λ (d : Expected). IfOk c.compare_line.result (Compares (due_of d) c.args.known (step_of c.args.step.now))) (sym c.in-Model.is)
     (if_ok c.compare_line.result (ComparesLine c.args.known line (step_of c.args.step.now)) (Compares (due_of (code.Model c.in-Model.names c.in-Model.ask c.in-Model.line)) c.args.known (step_of c.args.step.now))
-    (λ r told. model_told c.args.known (step_of c.args.step.now) names ask line r both.0 both.1 told) c.compare_line.ensures)
+    (λ r told. model_reported c.args.known (step_of c.args.step.now) names ask line r both.0 both.1 told) c.compare_line.ensures)

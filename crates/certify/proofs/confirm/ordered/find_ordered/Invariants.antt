@@ -3,7 +3,7 @@ use Rattle.sat_base.specs.steps.StepReading.{reader_name, reader_source}
 use Rattle.sat_checker.specs.CheckerView.{kernel_of}
 use Rattle.certify.specs.declared.confirm.variables.NamedVars.{NamedVars}
 use Rattle.certify.specs.confirm.Awaiting.{PassesUnordered}
-use Rattle.certify.specs.confirm.Streams.{Confirms, StepsGoOn, bytes_left, stream_of}
+use Rattle.certify.specs.confirm.Streams.{Confirms, StepsGoOn, most_bytes_left, stream_of}
 use Rattle.certify.proofs.confirm.ordered.find_ordered.Given as goal
 
 abbrev pub invariant-loop-awaited : goal.invariant-loop-awaited
@@ -14,4 +14,4 @@ invariant-loop-awaited g l = record {
 }
 
 abbrev pub decreases-loop-awaited : goal.decreases-loop-awaited
-decreases-loop-awaited g l = bytes_left (reader_source g.R.CountedRead.seen l.steps)
+decreases-loop-awaited g l = most_bytes_left (reader_source g.R.CountedRead.seen l.steps)

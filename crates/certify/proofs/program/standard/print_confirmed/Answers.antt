@@ -1,12 +1,12 @@
 use Rattle.std.proofs.Common.{◌≡◌, ◌++◌, ◌∙◌, List, ℕ, [], append-nil, ap, sym, subst, rules}
 use Rattle.sat_base.specs.device.Device.{WriterBreaks, WriterTakes}
 use Rattle.sat_base.proofs.lemmas.device.Writes.{took_more}
-use Rattle.sat_checker.specs.matching.ProofChecking.{the_checking}
+use Rattle.sat_checker.specs.matching.ProofChecking.{checker_rules}
 use Rattle.certify.specs.confirm.Matches.{Matches}
 use Rattle.certify.specs.program.Printing.{IsAnswered, verdict_text}
 use Rattle.sat_base.specs.script.Language.{reading}
 use Rattle.certify.specs.declared.verdict.Verdict.TheVariants.{Yes}
-use Rattle.certify.proofs.lemmas.program.PrintedVerdicts.{prefix_cut, prefix_line, prefix_told, prefix_whole}
+use Rattle.certify.proofs.lemmas.program.PrintedVerdicts.{prefix_cut, prefix_line, prefix_reported, prefix_whole}
 use Rattle.certify.proofs.lemmas.run.Stopping.{bytes_taken}
 use Rattle.certify.proofs.program.standard.print_confirmed.Goals as goal
 
@@ -20,8 +20,8 @@ returns-clause-printed g c =
     let text = c.args.script.now in
     let written = c.requires in
     let printed = c.deref-2.result.now in
-    let matches = subst (λ (s : List ℕ). Matches the_checking reading text s c.deref-3.result.now) (sym c.deref-2.ensures.value)
-    (subst (λ (s : List ℕ). Matches the_checking reading text c.args.written.now.answers.items s) (sym c.deref-3.ensures.value) written.matches) in
+    let matches = subst (λ (s : List ℕ). Matches checker_rules reading text s c.deref-3.result.now) (sym c.deref-2.ensures.value)
+    (subst (λ (s : List ℕ). Matches checker_rules reading text c.args.written.now.answers.items s) (sym c.deref-3.ensures.value) written.matches) in
     let yes : c.in_ok-verdict.verdict ≡ Yes = c.in_ok-verdict.ensures.exact.1 matches in
     let last = verdict_text Yes in
     let is_last = c.deref-4.ensures.value ∙ c.in_ok-verdict.ensures.line ∙ ap (λ (xs : List ℕ). xs ++ verdict_text c.in_ok-verdict.verdict) c.new-line.ensures.items ∙ ap verdict_text yes in
@@ -47,7 +47,7 @@ returns-in_err-verdict-clause-prefix g c =
     let seen = g.O.CountedWrite.seen in
     let a = seen c.args.output.now in
     let b = seen c.write_out.new.output in
-    prefix_told c.args.script.now c.args.written.now.answers.items c.requires.answered a b (subst (WriterTakes a b) c.deref.ensures.value c.in_ok-write_out.ensures.takes)
+    prefix_reported c.args.script.now c.args.written.now.answers.items c.requires.answered a b (subst (WriterTakes a b) c.deref.ensures.value c.in_ok-write_out.ensures.takes)
 
 pub returns-in_err-write_out-2-clause-prefix : goal.returns-in_err-write_out-2-clause-prefix
 returns-in_err-write_out-2-clause-prefix g c =
@@ -57,8 +57,8 @@ returns-in_err-write_out-2-clause-prefix g c =
     let d = seen c.write_out-2.new.output in
     let text = c.args.script.now in
     let written = c.requires in
-    let matches = subst (λ (s : List ℕ). Matches the_checking reading text s c.deref-3.result.now) (sym c.deref-2.ensures.value)
-    (subst (λ (s : List ℕ). Matches the_checking reading text c.args.written.now.answers.items s) (sym c.deref-3.ensures.value) written.matches) in
+    let matches = subst (λ (s : List ℕ). Matches checker_rules reading text s c.deref-3.result.now) (sym c.deref-2.ensures.value)
+    (subst (λ (s : List ℕ). Matches checker_rules reading text c.args.written.now.answers.items s) (sym c.deref-3.ensures.value) written.matches) in
     let yes : c.in_ok-verdict.verdict ≡ Yes = c.in_ok-verdict.ensures.exact.1 matches in
     let is_last = c.deref-4.ensures.value ∙ c.in_ok-verdict.ensures.line ∙ ap (λ (xs : List ℕ). xs ++ verdict_text c.in_ok-verdict.verdict) c.new-line.ensures.items ∙ ap verdict_text yes in
     prefix_line text c.args.written.now.answers.items written.answered a b d (subst (WriterTakes a b) c.deref.ensures.value c.in_ok-write_out.ensures.takes)
@@ -73,8 +73,8 @@ returns-in_err-flush_out-clause-prefix g c =
     let f = seen c.flush_out.new.output in
     let text = c.args.script.now in
     let written = c.requires in
-    let matches = subst (λ (s : List ℕ). Matches the_checking reading text s c.deref-3.result.now) (sym c.deref-2.ensures.value)
-    (subst (λ (s : List ℕ). Matches the_checking reading text c.args.written.now.answers.items s) (sym c.deref-3.ensures.value) written.matches) in
+    let matches = subst (λ (s : List ℕ). Matches checker_rules reading text s c.deref-3.result.now) (sym c.deref-2.ensures.value)
+    (subst (λ (s : List ℕ). Matches checker_rules reading text c.args.written.now.answers.items s) (sym c.deref-3.ensures.value) written.matches) in
     let yes : c.in_ok-verdict.verdict ≡ Yes = c.in_ok-verdict.ensures.exact.1 matches in
     let is_last = c.deref-4.ensures.value ∙ c.in_ok-verdict.ensures.line ∙ ap (λ (xs : List ℕ). xs ++ verdict_text c.in_ok-verdict.verdict) c.new-line.ensures.items ∙ ap verdict_text yes in
     prefix_whole text c.args.written.now.answers.items written.answered a b d f (subst (WriterTakes a b) c.deref.ensures.value c.in_ok-write_out.ensures.takes)
@@ -89,8 +89,8 @@ returns-clause-prefix g c =
     let f = seen c.flush_out.new.output in
     let text = c.args.script.now in
     let written = c.requires in
-    let matches = subst (λ (s : List ℕ). Matches the_checking reading text s c.deref-3.result.now) (sym c.deref-2.ensures.value)
-    (subst (λ (s : List ℕ). Matches the_checking reading text c.args.written.now.answers.items s) (sym c.deref-3.ensures.value) written.matches) in
+    let matches = subst (λ (s : List ℕ). Matches checker_rules reading text s c.deref-3.result.now) (sym c.deref-2.ensures.value)
+    (subst (λ (s : List ℕ). Matches checker_rules reading text c.args.written.now.answers.items s) (sym c.deref-3.ensures.value) written.matches) in
     let yes : c.in_ok-verdict.verdict ≡ Yes = c.in_ok-verdict.ensures.exact.1 matches in
     let is_last = c.deref-4.ensures.value ∙ c.in_ok-verdict.ensures.line ∙ ap (λ (xs : List ℕ). xs ++ verdict_text c.in_ok-verdict.verdict) c.new-line.ensures.items ∙ ap verdict_text yes in
     prefix_whole text c.args.written.now.answers.items written.answered a b d f (subst (WriterTakes a b) c.deref.ensures.value c.in_ok-write_out.ensures.takes)

@@ -2,7 +2,7 @@ use Rattle.std.proofs.Common.{ℕ, ◌∙◌, List, Some, Bor, ap, sym}
 use Rattle.std.specs.Global.{Vec}
 use Rattle.sat_base.specs.device.Device.{Reader, Writer}
 use Rattle.sat_base.specs.device.Counting.{reader_of, writer_of}
-use Rattle.certify.proofs.lemmas.program.PrintedVerdicts.{malformed_told, run_written}
+use Rattle.certify.proofs.lemmas.program.PrintedVerdicts.{malformed_reported, run_written}
 use Rattle.certify.proofs.program.standard.run_in_memory.Goals as goal
 
 pub returns-in-Ok : goal.returns-in-Ok
@@ -21,7 +21,7 @@ returns-in-Ok c =
     c.in-Ok.ensures.backed in
     record {
       malformed = c.is_some.ensures
-          ∙ malformed_told c.in-Ok.summary (reader_of remaining c.new-3.result) (reader_of remaining c.run.new.script) c.args.script.now told c.in-Ok.ensures.answered (λ t h. h.2.malformed);
+          ∙ malformed_reported c.in-Ok.summary (reader_of remaining c.new-3.result) (reader_of remaining c.run.new.script) c.args.script.now told c.in-Ok.ensures.answered (λ t h. h.2.malformed);
       answered = written.0;
       matches = written.1;
     }

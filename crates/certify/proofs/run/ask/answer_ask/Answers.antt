@@ -4,7 +4,7 @@ use Rattle.sat_base.specs.device.Device.{WriterBreaks, WriterTakes}
 use Rattle.sat_base.specs.script.Script.{Ask}
 use Rattle.certify.specs.answers.AnswerForms.{named_literals}
 use Rattle.sat_checker.specs.matching.Expected.{Unknown}
-use Rattle.certify.proofs.lemmas.run.SessionCalls.{answers_say, ask_cut, ask_told, asked_of, memory_says, nothing_stops, solver_says, sought_writes, takes_none, took_both}
+use Rattle.certify.proofs.lemmas.run.RunStateCalls.{answers_say, ask_cut, ask_reported, asked_of, memory_says, nothing_stops, solver_says, sought_writes, takes_none, took_both}
 use Rattle.certify.specs.run.SolverCalls.{proof_in}
 use Rattle.sat_solver.specs.solver.Whole.{HasFullStore}
 use Rattle.certify.specs.run.SolverCalls.{LacksFor, RefusedForRoom}
@@ -64,7 +64,7 @@ returns-in_err-assume-clause-stops g c left =
     let u = g.A.CountedWrite.seen c.args.answers.now in
     let v = g.A.CountedWrite.seen c.write_answer.new.answers in
     let told = subst (λ (text : List ℕ). WriterTakes u v text) c.deref.ensures.value c.in_ok-write_answer.ensures.takes in
-    rw p.1 (λ j live means free. ask_told g.C.CountedWrite.seen c.args.session.now c.ask.new.solver c.args.literals.now c.ask.new.page.text.items c.in_ok-report.report u v c.in_ok-report.ensures.sought left j live means free told)
+    rw p.1 (λ j live means free. ask_reported g.C.CountedWrite.seen c.args.session.now c.ask.new.solver c.args.literals.now c.ask.new.page.text.items c.in_ok-report.report u v c.in_ok-report.ensures.sought left j live means free told)
 
 pub returns-in_err-push-clause-stops : goal.returns-in_err-push-clause-stops
 returns-in_err-push-clause-stops g c left =
@@ -72,7 +72,7 @@ returns-in_err-push-clause-stops g c left =
     let u = g.A.CountedWrite.seen c.args.answers.now in
     let v = g.A.CountedWrite.seen c.write_answer.new.answers in
     let told = subst (λ (text : List ℕ). WriterTakes u v text) c.deref.ensures.value c.in_ok-write_answer.ensures.takes in
-    rw p.1 (λ j live means free. ask_told g.C.CountedWrite.seen c.args.session.now c.ask.new.solver c.args.literals.now c.ask.new.page.text.items c.in_ok-report.report u v c.in_ok-report.ensures.sought left j live means free told)
+    rw p.1 (λ j live means free. ask_reported g.C.CountedWrite.seen c.args.session.now c.ask.new.solver c.args.literals.now c.ask.new.page.text.items c.in_ok-report.report u v c.in_ok-report.ensures.sought left j live means free told)
 
 pub returns-in_err-write_answer-clause-cause : goal.returns-in_err-write_answer-clause-cause
 returns-in_err-write_answer-clause-cause g c =

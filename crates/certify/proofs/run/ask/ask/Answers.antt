@@ -1,8 +1,8 @@
 use Rattle.std.proofs.lemmas.Result.{err_from_is_err_and}
 use Rattle.sat_checker.specs.matching.Expected.{Unknown}
-use Rattle.certify.proofs.lemmas.run.SessionCalls.{did_ready, fails_then, memory_fails, searched_ready, sought_took, allowed_still}
+use Rattle.certify.proofs.lemmas.run.RunStateCalls.{did_ready, fails_then, memory_fails, searched_ready, sought_took, allowed_still}
 use Rattle.sat_base.specs.script.Script.{Ask}
-use Rattle.sat_solver.specs.variables.Room.{users_in}
+use Rattle.sat_solver.specs.variables.VariableRoom.{users_in}
 use Rattle.sat_solver.specs.solver.Whole.{HasFullStore}
 use Rattle.certify.specs.answers.AnswerForms.{named_literals}
 use Rattle.certify.specs.run.SolverCalls.{LacksFor, RefusedForRoom}
@@ -16,10 +16,10 @@ returns-in_err-report-clause-fails g c =
     let p = err_from_is_err_and c.from_residual-in_err-report.result c.from_residual-in_err-report.ensures.1 in
     rw (p.1, p.2) (fails_then g.C.CountedWrite.seen c.in_err-report.field-0.0 c.args.solver.now c.assume.new.solver c.search.new.solver (c.in_ok-assume.ensures.assumed.did Unknown).took c.in_err-report.ensures.fails)
 
-pub returns-in_err-tell-clause-fails : goal.returns-in_err-tell-clause-fails
-returns-in_err-tell-clause-fails g c =
-    let p = err_from_is_err_and c.from_residual-in_err-tell.result c.from_residual-in_err-tell.ensures.1 in
-    rw (p.1, p.2) (memory_fails g.C.CountedWrite.seen c.in_err-tell.field-0.0 c.args.solver.now c.search.new.solver c.in_err-tell.ensures.memory
+pub returns-in_err-push_answer-clause-fails : goal.returns-in_err-push_answer-clause-fails
+returns-in_err-push_answer-clause-fails g c =
+    let p = err_from_is_err_and c.from_residual-in_err-push_answer.result c.from_residual-in_err-push_answer.ensures.1 in
+    rw (p.1, p.2) (memory_fails g.C.CountedWrite.seen c.in_err-push_answer.field-0.0 c.args.solver.now c.search.new.solver c.in_err-push_answer.ensures.memory
     (sought_took g.C.CountedWrite.seen c.args.solver.now c.assume.new.solver c.search.new.solver c.args.literals.now c.args.budget c.in_ok-report.report c.in_ok-assume.ensures.assumed c.in_ok-report.ensures.searched))
 
 pub returns-clause-allowed : goal.returns-clause-allowed
@@ -29,8 +29,8 @@ returns-clause-allowed g c =
 pub returns-clause-ready : goal.returns-clause-ready
 returns-clause-ready g c = searched_ready g.C.CountedWrite.seen c.args.budget c.in_ok-report.report c.assume.new.solver c.search.new.solver c.in_ok-report.ensures.searched
 
-pub tell-requires-clause-ready : goal.tell-requires-clause-ready
-tell-requires-clause-ready g c = searched_ready g.C.CountedWrite.seen c.args.budget c.in_ok-report.report c.assume.new.solver c.search.new.solver c.in_ok-report.ensures.searched
+pub push_answer-requires-clause-ready : goal.push_answer-requires-clause-ready
+push_answer-requires-clause-ready g c = searched_ready g.C.CountedWrite.seen c.args.budget c.in_ok-report.report c.assume.new.solver c.search.new.solver c.in_ok-report.ensures.searched
 
 pub search-requires : goal.search-requires
 search-requires g c = did_ready g.C.CountedWrite.seen c.args.solver.now c.assume.new.solver _ _ c.requires.ready (c.in_ok-assume.ensures.assumed.did Unknown)
@@ -47,7 +47,7 @@ returns-in_err-report-clause-cause g c =
     let p = err_from_is_err_and c.from_residual-in_err-report.result c.from_residual-in_err-report.ensures.1 in
     rw (p.1, p.2) (caused_map c.in_err-report.field-0.0 (HasFullStore c.search.new.solver) ⊥ (HasFullStore c.search.new.solver) (LacksFor c.args.solver.now c.search.new.solver (Ask (named_literals c.args.literals.now))) (λ x. x) (λ x. absurd x) c.in_err-report.ensures.cause)
 
-pub returns-in_err-tell-clause-cause : goal.returns-in_err-tell-clause-cause
-returns-in_err-tell-clause-cause g c =
-    let p = err_from_is_err_and c.from_residual-in_err-tell.result c.from_residual-in_err-tell.ensures.1 in
-    rw (p.1, p.2) (memory_caused c.in_err-tell.field-0.0 (HasFullStore c.search.new.solver) (LacksFor c.args.solver.now c.search.new.solver (Ask (named_literals c.args.literals.now))) c.in_err-tell.ensures.memory)
+pub returns-in_err-push_answer-clause-cause : goal.returns-in_err-push_answer-clause-cause
+returns-in_err-push_answer-clause-cause g c =
+    let p = err_from_is_err_and c.from_residual-in_err-push_answer.result c.from_residual-in_err-push_answer.ensures.1 in
+    rw (p.1, p.2) (memory_caused c.in_err-push_answer.field-0.0 (HasFullStore c.search.new.solver) (LacksFor c.args.solver.now c.search.new.solver (Ask (named_literals c.args.literals.now))) c.in_err-push_answer.ensures.memory)

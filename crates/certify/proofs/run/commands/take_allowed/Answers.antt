@@ -1,8 +1,8 @@
 use Rattle.std.proofs.Common.{sym, subst}
 use Rattle.std.proofs.lemmas.Result.{err_from_is_err_and}
 use Rattle.certify.specs.declared.judge.names.Names.{Names}
-use Rattle.certify.specs.judge.Names.{NamesStand}
-use Rattle.certify.proofs.lemmas.run.SessionCalls.{carried_stops, memory_says, on_err}
+use Rattle.certify.specs.judge.Names.{NamesHaveState}
+use Rattle.certify.proofs.lemmas.run.RunStateCalls.{carried_stops, memory_says, on_err}
 use Rattle.certify.specs.run.Standing.{spelled_by}
 use Rattle.sat_solver.specs.solver.Whole.{HasFullStore}
 use Rattle.certify.specs.run.SolverCalls.{LacksFor}
@@ -16,7 +16,7 @@ returns-in_err-accept-clause-written g c =
     rw p.1 (memory_says g.C.CountedWrite.seen _ (g.A.CountedWrite.seen c.args.answers.now) (g.A.CountedWrite.seen c.carry_out.new.answers) c.args.session.now.solver c.carry_out.new.session.solver p.2 w.0 w.1)
 
 pub returns-clause-names : goal.returns-clause-names
-returns-clause-names g c = λ j d s l. c.in_ok-accept.ensures j d (subst (λ (n : Names). NamesStand n j) (sym c.carry_out.ensures.names) s) l
+returns-clause-names g c = λ j d s l. c.in_ok-accept.ensures j d (subst (λ (n : Names). NamesHaveState n j) (sym c.carry_out.ensures.names) s) l
 
 pub returns-in_err-carry_out-clause-stops : goal.returns-in_err-carry_out-clause-stops
 returns-in_err-carry_out-clause-stops g c left = on_err _ _ (c.in_err-carry_out.ensures.stops left)

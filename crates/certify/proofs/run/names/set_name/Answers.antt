@@ -1,9 +1,9 @@
 use Rattle.std.proofs.Common.{◌+◌, [], ◌∷◌}
-use Rattle.sat_base.specs.script.Judge.{accepted}
+use Rattle.sat_base.specs.script.ScriptState.{accepted}
 use Rattle.certify.specs.run.Obeying.{command_to, due_to, may_to}
 use Rattle.certify.proofs.lemmas.run.CallFaults.{name_caused, name_fails, name_fault}
 use Rattle.certify.proofs.lemmas.run.Obeys.{name_obeyed}
-use Rattle.certify.proofs.lemmas.run.SessionCalls.{did_ready}
+use Rattle.certify.proofs.lemmas.run.RunStateCalls.{did_ready}
 use Rattle.certify.proofs.run.names.set_name.Goals as goal
 
 pub fault_of-requires : goal.fault_of-requires

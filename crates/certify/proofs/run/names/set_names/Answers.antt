@@ -4,7 +4,7 @@ use Rattle.std.proofs.lemmas.Result.{err_from_is_err_and}
 use Rattle.sat_solver.specs.variables.Refusing.{names_in}
 use Rattle.certify.specs.run.Obeying.{Obeyed, command_to}
 use Rattle.certify.proofs.lemmas.run.Obeys.{none_obeyed, names_obeyed, name_more}
-use Rattle.certify.proofs.lemmas.run.SessionCalls.{fails_then}
+use Rattle.certify.proofs.lemmas.run.RunStateCalls.{fails_then}
 use Rattle.certify.proofs.lemmas.run.Caused.{names_caused}
 use Rattle.certify.proofs.run.names.set_names.Goals as goal
 

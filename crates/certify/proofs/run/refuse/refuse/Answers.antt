@@ -6,7 +6,7 @@ use Rattle.certify.specs.judge.Names.{refusal_in}
 use Rattle.certify.specs.run.Unfinished.{TookAnswersFront}
 use Rattle.std.proofs.lemmas.Result.{err_from_is_err_and}
 use Rattle.certify.specs.run.SolverCalls.{proof_in}
-use Rattle.certify.proofs.lemmas.run.SessionCalls.{err_map, memory_says, on_err, took_none, written_of}
+use Rattle.certify.proofs.lemmas.run.RunStateCalls.{err_map, memory_says, on_err, took_none, written_of}
 use Rattle.certify.proofs.lemmas.run.Stopping.{front_none, front_refused}
 use Rattle.certify.specs.Devices.{OneFailed}
 use Rattle.certify.proofs.lemmas.run.Caused.{memory_caused, unwritten_if}

@@ -1,8 +1,8 @@
 use Rattle.std.proofs.Common.{true, subst}
 use Rattle.std.proofs.lemmas.Result.{err_from_is_err_and}
-use Rattle.sat_base.specs.script.Judge.{start}
+use Rattle.sat_base.specs.script.ScriptState.{start}
 use Rattle.certify.specs.declared.script.stream.Next.{Next}
-use Rattle.certify.specs.script.Ahead.{source_in}
+use Rattle.certify.specs.script.LastPiece.{source_in}
 use Rattle.sat_base.specs.script.Language.{reading, written}
 use Rattle.certify.specs.script.Streaming.{Arrives}
 use Rattle.certify.proofs.lemmas.confirm.Streams.{passes_fewer}

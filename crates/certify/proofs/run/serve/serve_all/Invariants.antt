@@ -1,6 +1,6 @@
-use Rattle.sat_base.specs.script.Judge.{start}
-use Rattle.certify.specs.confirm.Streams.{bytes_left}
-use Rattle.certify.specs.script.Ahead.{IsNotAtEnd, source_in}
+use Rattle.sat_base.specs.script.ScriptState.{start}
+use Rattle.certify.specs.confirm.Streams.{most_bytes_left}
+use Rattle.certify.specs.script.LastPiece.{IsNotAtEnd, source_in}
 use Rattle.sat_base.specs.script.Language.{reading, written}
 use Rattle.certify.specs.run.ServedScript.{ServesThrough}
 use Rattle.certify.proofs.run.serve.serve_all.Given as goal
@@ -13,4 +13,4 @@ invariant-loop-next g l = record {
 }
 
 abbrev pub decreases-loop-next : goal.decreases-loop-next
-decreases-loop-next g l = bytes_left (source_in g.S.CountedRead.seen l.script l.stream.ahead)
+decreases-loop-next g l = most_bytes_left (source_in g.S.CountedRead.seen l.script l.stream.ahead)

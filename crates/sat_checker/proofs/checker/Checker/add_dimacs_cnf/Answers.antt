@@ -1,5 +1,5 @@
 use Rattle.sat_checker.specs.CheckerView.{seen_of}
-use Rattle.sat_checker.proofs.lemmas.telling.Somebody.{dimacs_faults}
+use Rattle.sat_checker.proofs.lemmas.listeners.Somebody.{dimacs_faults}
 use Rattle.sat_checker.proofs.checker.Checker.add_dimacs_cnf.Goals as goal
 
 pub returns-clause-faults : goal.returns-clause-faults

@@ -2,9 +2,9 @@ use Rattle.std.proofs.Common.{rules, arith}
 use Rattle.std.proofs.lemmas.Result.{err_from_is_err_and}
 use Rattle.sat_checker.specs.CheckerView.{seen_of}
 use Rattle.sat_checker.specs.ClausesView.{after_additions}
-use Rattle.sat_checker.specs.telling.ProcessingView.{HearsEach}
+use Rattle.sat_checker.specs.listeners.ProcessingView.{HearsEach}
 use Rattle.sat_checker.proofs.lemmas.checker.Additions.{added_one, added_stops, added_all}
-use Rattle.sat_checker.proofs.lemmas.telling.Somebody.{clauses_faults}
+use Rattle.sat_checker.proofs.lemmas.listeners.Somebody.{clauses_faults}
 use Rattle.sat_checker.proofs.checker.Checker.add_formula.Goals as goal
 
 pub loop-clause-preserved : goal.loop-clause-preserved

@@ -4,7 +4,7 @@ use Rattle.sat_base.specs.dimacs.Parsing.{Progress, IsSoundSoFar}
 use Rattle.sat_base.proofs.lemmas.device.Given.{gave_none, gave_more, gave_still, gave_to_end, not_ended, few_front, calls_within, calls_upto}
 use Rattle.sat_base.proofs.lemmas.dimacs.Parsed.{stands_of, piece_given, sound_none}
 use Rattle.sat_checker.specs.CheckerView.{seen_of}
-use Rattle.sat_checker.specs.telling.ProcessingView.{HearsEach}
+use Rattle.sat_checker.specs.listeners.ProcessingView.{HearsEach}
 use Rattle.sat_checker.proofs.lemmas.checker.Texts.{start, no_clauses, piece_added, sound_after, piece_answers, end_answers, read_answers}
 use Rattle.sat_checker.proofs.checker.Checker.add_text.Goals as goal
 

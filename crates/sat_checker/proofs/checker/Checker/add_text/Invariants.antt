@@ -1,12 +1,12 @@
 use Rattle.std.proofs.Common.{◌≡◌, ◌+◌, ◌<◌, ◌≤◌, false, length, List, ℕ, Ok}
 use Rattle.sat_base.specs.device.Device.{GaveFront}
-use Rattle.sat_base.specs.dimacs.Dimacs.{dimacs, settled}
+use Rattle.sat_base.specs.dimacs.Dimacs.{dimacs, up_to_last_blank}
 use Rattle.sat_base.specs.dimacs.Parsing.{IsSoundSoFar}
 use Rattle.sat_base.specs.steps.Steps.{Step}
 use Rattle.sat_base.proofs.lemmas.dimacs.Parsed.{HasAccepted as HasFed}
 use Rattle.sat_checker.specs.CheckerView.{has_failed, kernel_of, seen_of, HasAccepted}
-use Rattle.sat_checker.specs.KernelView.{looks_of}
-use Rattle.sat_checker.specs.telling.ProcessingView.{HearsEach}
+use Rattle.sat_checker.specs.KernelView.{kernel_looks}
+use Rattle.sat_checker.specs.listeners.ProcessingView.{HearsEach}
 use Rattle.sat_checker.specs.ClausesView.{AnswersClauses}
 use Rattle.sat_checker.proofs.checker.Checker.add_text.Given as goal
 
@@ -15,11 +15,11 @@ abbrev pub invariant-loop : goal.invariant-loop
 invariant-loop g l = record {
   well : has_failed (seen_of l.fn.self) ≡ false;
   bytes : (text : List ℕ) × HasFed text l.parser × GaveFront (g.R.CountedRead.seen l.fn.reader) (g.R.CountedRead.seen l.reader) text × (l.counter ≤ length text)
-      × (l.parser.taken ≡ (dimacs (settled text)).clauses);
+      × (l.parser.taken ≡ (dimacs (up_to_last_blank text)).clauses);
   sound : IsSoundSoFar l.parser;
   open_yet : 0 < l.counter → (g.R.CountedRead.seen l.reader).ended ≡ false;
   failures : (g.R.CountedRead.seen l.reader).failures ≡ (g.R.CountedRead.seen l.fn.reader).failures;
   calls : (g.R.CountedRead.seen l.reader).calls ≡ (g.R.CountedRead.seen l.fn.reader).calls + l.counter;
-  rise : looks_of (kernel_of l.fn.self) ≤ looks_of (kernel_of l.self);
+  rise : kernel_looks (kernel_of l.fn.self) ≤ kernel_looks (kernel_of l.self);
   added : (before : _) (begun : _) (earlier : List Step) → HasAccepted (HearsEach g.P.ProofProcessor.takes g.T.ProofTranscriptProcessor.reads) before begun (seen_of l.fn.self) earlier → AnswersClauses (HearsEach g.P.ProofProcessor.takes g.T.ProofTranscriptProcessor.reads) before begun (Ok tt) (seen_of l.fn.self) (seen_of l.self) l.parser.taken earlier;
 }

@@ -4,8 +4,8 @@ use Rattle.sat_base.specs.steps.StepText.{SpellsStep}
 use Rattle.sat_base.specs.steps.StepViews.{step_of}
 use Rattle.sat_checker.specs.inner.ProofSteps.{at_source}
 use Rattle.sat_checker.specs.CheckerView.{seen_with}
-use Rattle.sat_checker.specs.telling.Hearing.{HearsFirst}
-use Rattle.sat_checker.specs.telling.ProcessingView.{HearsEach}
+use Rattle.sat_checker.specs.listeners.Hearing.{HearsFirst}
+use Rattle.sat_checker.specs.listeners.ProcessingView.{HearsEach}
 use Rattle.sat_checker.proofs.lemmas.checker.Proofs.{unread_answer, step_stops, step_takes, calls_of, starved_going, error_of_err}
 use Rattle.sat_checker.proofs.checker.Checker.check_next.Goals as goal
 

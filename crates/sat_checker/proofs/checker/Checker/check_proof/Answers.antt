@@ -1,8 +1,8 @@
 use Rattle.sat_checker.specs.CheckerView.{seen_of}
-use Rattle.sat_checker.specs.telling.Hearing.{hearers}
-use Rattle.sat_checker.specs.telling.ProcessingView.{HearsEach}
-use Rattle.sat_checker.proofs.lemmas.telling.Alone.{stands_up, proof_down}
-use Rattle.sat_checker.proofs.lemmas.telling.Somebody.{proof_faults}
+use Rattle.sat_checker.specs.listeners.Hearing.{hearers}
+use Rattle.sat_checker.specs.listeners.ProcessingView.{HearsEach}
+use Rattle.sat_checker.proofs.lemmas.listeners.Alone.{stands_up, proof_down}
+use Rattle.sat_checker.proofs.lemmas.listeners.Somebody.{proof_faults}
 use Rattle.sat_checker.proofs.checker.Checker.check_proof.Goals as goal
 
 pub returns-clause-proof : goal.returns-clause-proof

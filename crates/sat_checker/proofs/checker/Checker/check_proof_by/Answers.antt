@@ -2,8 +2,8 @@ use Rattle.std.proofs.Common.{ap, subst, rules}
 use Rattle.sat_base.specs.device.Reading.{Source}
 use Rattle.sat_checker.specs.CheckerView.{seen_with}
 use Rattle.sat_checker.specs.ProofView.{AnswersProof}
-use Rattle.sat_checker.specs.telling.Hearing.{HearsFirst}
-use Rattle.sat_checker.specs.telling.ProcessingView.{HearsEach}
+use Rattle.sat_checker.specs.listeners.Hearing.{HearsFirst}
+use Rattle.sat_checker.specs.listeners.ProcessingView.{HearsEach}
 use Rattle.sat_checker.proofs.checker.Checker.check_proof_by.Goals as goal
 
 pub returns-clause-proof : goal.returns-clause-proof

@@ -1,9 +1,9 @@
 use Rattle.sat_base.specs.steps.StepViews.{step_of}
 use Rattle.sat_checker.specs.CheckerView.{seen_of}
-use Rattle.sat_checker.specs.telling.Hearing.{hearers}
-use Rattle.sat_checker.specs.telling.ProcessingView.{HearsEach}
-use Rattle.sat_checker.proofs.lemmas.telling.Alone.{stands_up, step_down}
-use Rattle.sat_checker.proofs.lemmas.telling.Somebody.{step_faults}
+use Rattle.sat_checker.specs.listeners.Hearing.{hearers}
+use Rattle.sat_checker.specs.listeners.ProcessingView.{HearsEach}
+use Rattle.sat_checker.proofs.lemmas.listeners.Alone.{stands_up, step_down}
+use Rattle.sat_checker.proofs.lemmas.listeners.Somebody.{step_faults}
 use Rattle.sat_checker.proofs.checker.Checker.check_step.Goals as goal
 
 pub returns-clause-tells : goal.returns-clause-tells

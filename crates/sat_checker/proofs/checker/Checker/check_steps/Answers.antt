@@ -2,8 +2,8 @@ use Rattle.std.proofs.Common.{[], ◌∷◌, ◌++◌, refl, ◌∙◌, arith}
 use Rattle.std.proofs.lemmas.Result.{err_from_is_err_and}
 use Rattle.sat_base.specs.steps.StepReading.{reader_source}
 use Rattle.sat_checker.specs.CheckerView.{seen_with}
-use Rattle.sat_checker.specs.telling.Hearing.{HearsFirst}
-use Rattle.sat_checker.specs.telling.ProcessingView.{HearsEach}
+use Rattle.sat_checker.specs.listeners.Hearing.{HearsFirst}
+use Rattle.sat_checker.specs.listeners.ProcessingView.{HearsEach}
 use Rattle.sat_checker.specs.inner.ProofSteps.{at_source}
 use Rattle.sat_checker.specs.ProofView.{taken_after}
 use Rattle.sat_checker.specs.declared.error.CheckerError.TheVariants.{OutOfMemory}

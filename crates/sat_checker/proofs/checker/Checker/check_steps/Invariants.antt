@@ -5,9 +5,9 @@ use Rattle.sat_base.specs.steps.Steps.{Step}
 use Rattle.sat_base.specs.steps.StepReading.{reader_source, reader_name}
 use Rattle.sat_base.specs.steps.StepReading.{has_reader_failed as is_stopped}
 use Rattle.sat_checker.specs.CheckerView.{has_failed, kernel_of, seen_with, HasAccepted}
-use Rattle.sat_checker.specs.KernelView.{looks_of}
-use Rattle.sat_checker.specs.telling.Hearing.{HearsFirst}
-use Rattle.sat_checker.specs.telling.ProcessingView.{HearsEach}
+use Rattle.sat_checker.specs.KernelView.{kernel_looks}
+use Rattle.sat_checker.specs.listeners.Hearing.{HearsFirst}
+use Rattle.sat_checker.specs.listeners.ProcessingView.{HearsEach}
 use Rattle.sat_checker.specs.inner.ProofSteps.{CountsReads, TakesStepsBeforeEnd, at_source, bytes_left}
 use Rattle.sat_checker.proofs.checker.Checker.check_steps.Given as goal
 
@@ -19,7 +19,7 @@ invariant-loop g l = record {
   bound : (reader_source g.R.CountedRead.seen l.steps).reads ≤ most_reads;
   calls : CountsReads (reader_source g.R.CountedRead.seen l.fn.steps) (reader_source g.R.CountedRead.seen l.steps);
   unended : AtEnd (reader_source g.R.CountedRead.seen l.steps) → ⊥;
-  rise : looks_of (kernel_of l.fn.self) ≤ looks_of (kernel_of l.self);
+  rise : kernel_looks (kernel_of l.fn.self) ≤ kernel_looks (kernel_of l.self);
   passed : (before : _) (begun : _) (earlier : List Step) → HasAccepted (HearsFirst g.O.ProofProcessor.takes (HearsEach g.P.ProofProcessor.takes g.T.ProofTranscriptProcessor.reads)) before begun (seen_with l.fn.own l.fn.self) earlier
       → (steps : List Step) × TakesStepsBeforeEnd (HearsFirst g.O.ProofProcessor.takes (HearsEach g.P.ProofProcessor.takes g.T.ProofTranscriptProcessor.reads)) before begun (at_source (seen_with l.fn.own l.fn.self) (reader_source g.R.CountedRead.seen l.fn.steps)) (at_source (seen_with l.own l.self) (reader_source g.R.CountedRead.seen l.steps)) earlier steps;
 }

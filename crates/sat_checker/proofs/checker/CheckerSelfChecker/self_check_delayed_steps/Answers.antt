@@ -1,8 +1,8 @@
 use Rattle.sat_checker.specs.CheckerView.{seen_of}
-use Rattle.sat_checker.specs.telling.Hearing.{hearers}
-use Rattle.sat_checker.specs.telling.ProcessingView.{HearsEach}
-use Rattle.sat_checker.proofs.lemmas.telling.Alone.{stands_up, delayed_down}
-use Rattle.sat_checker.proofs.lemmas.telling.Somebody.{delayed_faults}
+use Rattle.sat_checker.specs.listeners.Hearing.{hearers}
+use Rattle.sat_checker.specs.listeners.ProcessingView.{HearsEach}
+use Rattle.sat_checker.proofs.lemmas.listeners.Alone.{stands_up, delayed_down}
+use Rattle.sat_checker.proofs.lemmas.listeners.Somebody.{delayed_faults}
 use Rattle.sat_checker.proofs.checker.CheckerSelfChecker.self_check_delayed_steps.Goals as goal
 
 pub returns-clause-tells : goal.returns-clause-tells

@@ -2,7 +2,7 @@ use Rattle.std.proofs.Common.{map, refl, sym, subst, arith}
 use Rattle.std.proofs.lemmas.Result.{IfOk-weaker}
 use Rattle.sat_checker.specs.Stored.{StoredUnit}
 use Rattle.sat_checker.specs.inner.Reasons.{ExplainsCheck}
-use Rattle.sat_checker.specs.inner.Room.{signed}
+use Rattle.sat_checker.specs.inner.AssumedRoom.{signed}
 use Rattle.sat_checker.proofs.lemmas.state.Checks.{checked_as, short_as}
 use Rattle.std.proofs.lemmas.Grind.{common_steps}
 use Rattle.sat_checker.proofs.formula.Formula.check.Goals as goal

@@ -1,6 +1,6 @@
 use Rattle.std.proofs.Common.{◌∙◌, sym, ap}
 use Rattle.sat_checker.specs.inner.FormulaView.{RestOfStored, refiled_in}
-use Rattle.sat_checker.specs.inner.Room.{LiteralsAndRoom}
+use Rattle.sat_checker.specs.inner.AssumedRoom.{LiteralsAndRoom}
 use Rattle.sat_checker.proofs.lemmas.state.InRoom.{marks_kept, stays_through, judged_over, exact_over}
 use Rattle.sat_checker.proofs.lemmas.state.Models.{met_fits}
 use Rattle.sat_checker.proofs.lemmas.variables.Keeping.{match_true}

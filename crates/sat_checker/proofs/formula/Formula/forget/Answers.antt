@@ -3,7 +3,7 @@ use Rattle.std.specs.Prelude.{◌==◌}
 use Rattle.sat_base.specs.values.Literals.{variable}
 use Rattle.sat_checker.specs.inner.SlotView.{slot_ids}
 use Rattle.sat_checker.specs.inner.FormulaView.{RestOfStored}
-use Rattle.sat_checker.specs.inner.Room.{HasRoomForStored}
+use Rattle.sat_checker.specs.inner.AssumedRoom.{HasStoredRoom}
 use Rattle.sat_checker.specs.inner.UnitView.{UnitsAndRoom}
 use Rattle.sat_checker.specs.inner.StoreView.{refiled}
 use Rattle.sat_checker.proofs.lemmas.formula.Numbering.{numbered_left}
@@ -15,6 +15,6 @@ returns c = λ f k. record {
   units = ap (λ (w : UnitsAndRoom). w.units) c.forget.ensures ∙ ap (filter (λ u. not (variable u.literal == c.args.var))) k.units;
   status = ap (λ (s : RestOfStored). record s { var_deleted = true }) k.status;
   numbered = numbered_left (λ u. not (variable u.literal == c.args.var)) (slot_ids (refiled c.args.self.now.store).clauses) f.units c.args.self.now.status.last f.next_id k.numbered;
-  room = subst (λ r. HasRoomForStored r f.clauses) (sym (ap (λ (w : UnitsAndRoom). w.room) c.forget.ensures)) k.room;
+  room = subst (λ r. HasStoredRoom r f.clauses) (sym (ap (λ (w : UnitsAndRoom). w.room) c.forget.ensures)) k.room;
   marks = k.marks;
 }

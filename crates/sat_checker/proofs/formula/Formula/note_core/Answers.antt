@@ -3,9 +3,9 @@ use Rattle.std.proofs.lemmas.Result.{IfOk-from_err}
 use Rattle.sat_base.specs.values.Literals.{negated}
 use Rattle.sat_checker.specs.LiteralSets.{canonical}
 use Rattle.sat_checker.specs.announcements.Announcements.{FailedAssumptions}
-use Rattle.sat_checker.specs.announcements.Needed.{ground, propagations}
+use Rattle.sat_checker.specs.announcements.Needed.{conflict_causes, propagations}
 use Rattle.sat_checker.specs.inner.Reasons.{named}
-use Rattle.sat_checker.proofs.lemmas.telling.Noting.{on_ok}
+use Rattle.sat_checker.proofs.lemmas.listeners.Noting.{on_ok}
 use Rattle.std.proofs.lemmas.Grind.{common_steps}
 use Rattle.sat_checker.proofs.formula.Formula.note_core.Goals as goal
 
@@ -16,7 +16,7 @@ pub list-requires-clause-canonical : goal.list-requires-clause-canonical
 list-requires-clause-canonical c = c.deref.ensures.value ∙ c.in_ok-copy_canonical.ensures.set
 
 pub list-requires-clause-explained : goal.list-requires-clause-explained
-list-requires-clause-explained c = λ whole. (ground (map negated c.args.denied.now ++ map (λ u. u.literal) c.args.self.now.units.units) (named (c.requires.explained whole).0 c.args.self.now.store.clauses), (c.requires.explained whole).1)
+list-requires-clause-explained c = λ whole. (conflict_causes (map negated c.args.denied.now ++ map (λ u. u.literal) c.args.self.now.units.units) (named (c.requires.explained whole).0 c.args.self.now.store.clauses), (c.requires.explained whole).1)
 
 pub returns-in_err-copy_canonical-clause-noted : goal.returns-in_err-copy_canonical-clause-noted
 returns-in_err-copy_canonical-clause-noted c = IfOk-from_err c.from_residual.result _ c.from_residual.ensures.0

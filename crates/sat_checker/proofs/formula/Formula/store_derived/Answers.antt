@@ -5,7 +5,7 @@ use Rattle.sat_checker.specs.inner.FormulaView.{RestOfStored}
 use Rattle.sat_checker.specs.declared.announce.announcing.Change.{Change}
 use Rattle.sat_checker.proofs.lemmas.formula.Changes.{spent_as}
 use Rattle.sat_checker.proofs.lemmas.sets.Canonical.{canonical_tautology}
-use Rattle.sat_checker.proofs.lemmas.telling.Noting.{derived_noted}
+use Rattle.sat_checker.proofs.lemmas.listeners.Noting.{derived_noted}
 use Rattle.sat_checker.proofs.formula.Formula.store_derived.Goals as goal
 
 pub returns-clause-stored : goal.returns-clause-stored

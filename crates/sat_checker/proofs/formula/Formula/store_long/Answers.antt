@@ -1,6 +1,6 @@
 use Rattle.std.proofs.Common.{◌∙◌, ap, Ok, Err}
 use Rattle.std.proofs.lemmas.Result.{err_from_is_err_and, IfOk-from_err}
-use Rattle.sat_checker.specs.telling.AnnouncingView.{stored_as}
+use Rattle.sat_checker.specs.listeners.AnnouncingView.{stored_as}
 use Rattle.sat_checker.specs.declared.announce.announcing.Change.{Change}
 use Rattle.sat_checker.proofs.lemmas.formula.Changes.{long_change}
 use Rattle.sat_checker.proofs.lemmas.formula.Storing.{long_stored, long_refused}

@@ -6,7 +6,7 @@ use Rattle.sat_checker.specs.inner.InTurn.{PassBehind}
 use Rattle.sat_checker.proofs.lemmas.variables.Keeping.{match_true, match_false}
 use Rattle.sat_checker.proofs.lemmas.state.Units.{passed, stopped, spent_then, finished, failed, accepted_behind, back_behind}
 use Rattle.sat_checker.proofs.lemmas.state.Checks.{checks_as}
-use Rattle.sat_checker.proofs.lemmas.telling.NotedUnits.{noted_more, noted_all, none_noted, twice_then, twice_end, twice_rest}
+use Rattle.sat_checker.proofs.lemmas.listeners.NotedUnits.{noted_more, noted_all, none_noted, twice_then, twice_end, twice_rest}
 use Rattle.std.proofs.lemmas.Grind.{common_steps}
 use Rattle.sat_checker.proofs.formula.Formula.store_units.Goals as goal
 

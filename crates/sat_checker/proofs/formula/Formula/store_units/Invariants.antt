@@ -2,9 +2,9 @@ use Rattle.std.proofs.Common.{◌≤◌, ◌+◌, ◌*◌, drop}
 use Rattle.sat_checker.specs.Looks.{literal_count}
 use Rattle.sat_checker.specs.Stored.{Stored}
 use Rattle.sat_checker.specs.inner.FormulaView.{KeepsFormula}
-use Rattle.sat_checker.specs.telling.AnnouncingView.{AreLong}
+use Rattle.sat_checker.specs.listeners.AnnouncingView.{AreLong}
 use Rattle.sat_checker.proofs.lemmas.state.Units.{Left}
-use Rattle.sat_checker.proofs.lemmas.telling.NotedUnits.{Noted}
+use Rattle.sat_checker.proofs.lemmas.listeners.NotedUnits.{Noted}
 use Rattle.sat_checker.proofs.formula.Formula.store_units.Given as goal
 
 -- the units that are left are judged by what is kept now

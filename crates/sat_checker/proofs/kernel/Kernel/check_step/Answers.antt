@@ -1,13 +1,13 @@
 use Rattle.std.proofs.Common.{ℕ, sym, ◌+◌, ◌≤◌, inl, refl, subst, arith}
 use Rattle.sat_base.specs.steps.StepViews.{step_of}
 use Rattle.sat_checker.specs.Accepts.{ready_after}
-use Rattle.sat_checker.specs.KernelView.{looks_of}
+use Rattle.sat_checker.specs.KernelView.{kernel_looks}
 use Rattle.sat_checker.specs.Looks.{most_looks}
 use Rattle.sat_checker.specs.CheckerView.{seen}
-use Rattle.sat_checker.specs.telling.Hearing.{hearers, HearsFirst}
-use Rattle.sat_checker.specs.telling.ProcessingView.{HearsEach}
-use Rattle.sat_checker.proofs.lemmas.telling.Heard.{none_there}
-use Rattle.sat_checker.proofs.lemmas.telling.Taken.{delayed_stops, settled_goes_on, stops_judges, goes_on_judges, stops_looks}
+use Rattle.sat_checker.specs.listeners.Hearing.{hearers, HearsFirst}
+use Rattle.sat_checker.specs.listeners.ProcessingView.{HearsEach}
+use Rattle.sat_checker.proofs.lemmas.listeners.Heard.{none_there}
+use Rattle.sat_checker.proofs.lemmas.listeners.Taken.{delayed_stops, settled_goes_on, stops_judges, goes_on_judges, stops_looks}
 use Rattle.sat_checker.proofs.kernel.Kernel.check_step.Goals as goal
 
 pub returns-in-Err-clause-tells : goal.returns-in-Err-clause-tells
@@ -41,7 +41,7 @@ returns-in-Ok-clause-judges g c = λ steps s.
 pub returns-in-Ok-clause-looks : goal.returns-in-Ok-clause-looks
 returns-in-Ok-clause-looks g c = λ steps s.
     let a = c.in-Ok.ensures.judges steps s in
-    subst (λ n. looks_of c.step.new.self ≤ n + most_looks (ready_after steps) (step_of c.args.step.now)) a.1 (c.step.ensures.looks steps a.2)
+    subst (λ n. kernel_looks c.step.new.self ≤ n + most_looks (ready_after steps) (step_of c.args.step.now)) a.1 (c.step.ensures.looks steps a.2)
 
 pub returns-then-self-clause-goes_on : goal.returns-then-self-clause-goes_on
 returns-then-self-clause-goes_on g c = tt
@@ -70,10 +70,10 @@ as_much : (a : ℕ) → a ≤ a
 as_much a = omega arith
 
 pub returns-then-self-clause-rise : goal.returns-then-self-clause-rise
-returns-then-self-clause-rise g c = as_much (looks_of c.args.self.now)
+returns-then-self-clause-rise g c = as_much (kernel_looks c.args.self.now)
 
 pub returns-in-Err-clause-rise : goal.returns-in-Err-clause-rise
-returns-in-Err-clause-rise g c = subst (λ n. looks_of c.args.self.now ≤ n) (sym c.settle.ensures.looks) (as_much (looks_of c.args.self.now))
+returns-in-Err-clause-rise g c = subst (λ n. kernel_looks c.args.self.now ≤ n) (sym c.settle.ensures.looks) (as_much (kernel_looks c.args.self.now))
 
 pub returns-in-Ok-clause-rise : goal.returns-in-Ok-clause-rise
-returns-in-Ok-clause-rise g c = subst (λ n. n ≤ looks_of c.step.new.self) c.settle.ensures.looks c.step.ensures.rise
+returns-in-Ok-clause-rise g c = subst (λ n. n ≤ kernel_looks c.step.new.self) c.settle.ensures.looks c.step.ensures.rise

@@ -1,5 +1,5 @@
 use Rattle.std.proofs.Common.{refl}
-use Rattle.sat_checker.proofs.lemmas.telling.Settling.{is_none_none}
+use Rattle.sat_checker.proofs.lemmas.listeners.Settling.{is_none_none}
 use Rattle.sat_checker.proofs.kernel.Kernel.settle.Goals as goal
 
 pub returns-then-is_none-clause-judges : goal.returns-then-is_none-clause-judges

@@ -1,6 +1,6 @@
 use Rattle.std.proofs.Common.{refl, sym, ◌∙◌}
 use Rattle.sat_checker.specs.Storing.{settled}
-use Rattle.sat_checker.proofs.lemmas.telling.Taken.{settled_stands, turned, turned_none, turned_spent, unsettled_judges}
+use Rattle.sat_checker.proofs.lemmas.listeners.Taken.{settled_stands, turned, turned_none, turned_spent, unsettled_judges}
 use Rattle.sat_checker.proofs.kernel.Kernel.settle_alone.Goals as goal
 
 pub returns-in_default-clause-judges : goal.returns-in_default-clause-judges

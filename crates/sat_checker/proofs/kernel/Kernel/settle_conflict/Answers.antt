@@ -1,10 +1,10 @@
 use Rattle.std.proofs.Common.{refl, sym, ap, inl, ◌∙◌}
 use Rattle.sat_checker.specs.Storing.{settled}
-use Rattle.sat_checker.specs.telling.AnnouncementView.{variables_of}
-use Rattle.sat_checker.specs.telling.Hearing.{hearers, HearsFirst}
-use Rattle.sat_checker.specs.telling.ProcessingView.{HearsEach}
-use Rattle.sat_checker.proofs.lemmas.telling.Heard.{same_itself}
-use Rattle.sat_checker.proofs.lemmas.telling.Taken.{leaves_conflict, settled_stands, turned, turned_none, turned_spent, unsettled_judges, unsettled_tells, untold_judges, conflict_heard, conflict_broken, delayed_ok, delayed_err}
+use Rattle.sat_checker.specs.listeners.AnnouncementView.{variables_of}
+use Rattle.sat_checker.specs.listeners.Hearing.{hearers, HearsFirst}
+use Rattle.sat_checker.specs.listeners.ProcessingView.{HearsEach}
+use Rattle.sat_checker.proofs.lemmas.listeners.Heard.{same_itself}
+use Rattle.sat_checker.proofs.lemmas.listeners.Taken.{leaves_conflict, settled_stands, turned, turned_none, turned_spent, unsettled_judges, unsettled_tells, untold_judges, conflict_heard, conflict_broken, delayed_ok, delayed_err}
 use Rattle.sat_checker.proofs.kernel.Kernel.settle_conflict.Goals as goal
 
 pub returns-in-Ok-clause-tells : goal.returns-in-Ok-clause-tells

@@ -1,16 +1,16 @@
 use Rattle.std.proofs.Common.{◌+◌, ◌≤◌, refl, sym, subst, rules}
 use Rattle.sat_base.specs.steps.StepViews.{step_of}
 use Rattle.sat_checker.specs.Accepts.{ready_after}
-use Rattle.sat_checker.specs.KernelView.{looks_of}
+use Rattle.sat_checker.specs.KernelView.{kernel_looks}
 use Rattle.sat_checker.specs.Looks.{most_looks}
 use Rattle.sat_checker.specs.announcements.Announcements.{announced}
-use Rattle.sat_checker.specs.inner.TellingSteps.{announced_by, changed_by, put_back, was_of}
+use Rattle.sat_checker.specs.inner.NotifyingSteps.{announced_by, changed_by, put_back, was_of}
 use Rattle.sat_checker.specs.inner.VariablesView.{variable_at}
-use Rattle.sat_checker.specs.telling.Hearing.{hearers, HearsFirst}
-use Rattle.sat_checker.specs.telling.ProcessingView.{HearsEach}
+use Rattle.sat_checker.specs.listeners.Hearing.{hearers, HearsFirst}
+use Rattle.sat_checker.specs.listeners.ProcessingView.{HearsEach}
 use Rattle.sat_checker.proofs.lemmas.announcements.Long.{after_any}
 use Rattle.sat_checker.proofs.lemmas.variables.Keeping.{match_true, match_false}
-use Rattle.sat_checker.proofs.lemmas.telling.Taken.{ready_kept, noted_told, taken_on, refused_judges, refused_tells, short_judges, short_tells, taken_judges, taken_tells}
+use Rattle.sat_checker.proofs.lemmas.listeners.Taken.{ready_kept, noted_reported, taken_on, refused_judges, refused_tells, short_judges, short_tells, taken_judges, taken_tells}
 use Rattle.sat_checker.proofs.kernel.Kernel.step.Goals as goal
 
 pub take_in-requires-clause-well : goal.take_in-requires-clause-well
@@ -34,7 +34,7 @@ returns-in-Ok-true-clause-tells g c = λ before begun steps s.
     taken_tells c.args.self.now steps s.kernel c.requires.well c.requires.settled (step_of c.args.step.now) (HearsFirst g.O.ProofProcessor.takes (HearsEach g.P.ProofProcessor.takes g.T.ProofTranscriptProcessor.reads)) before begun (hearers c.args.own.now c.args.others.now) (s.heard c.requires.well)
     _ turned.0 turned.1 (announced (ready_after steps) (step_of c.args.step.now)) refl (changed_by (variable_at c.args.self.now.state.variables) (step_of c.args.step.now)) refl c.take_in.new.self (hearers c.take_in.new.own c.take_in.new.others) c.take_in.result
     (c.take_in.ensures told (λ h.
-    noted_told c.begin.new.self c.step.new.notes c.args.hears (step_of c.args.step.now) (ready_after steps) (variable_at c.args.self.now.state.variables) (variable_at c.step.new.self.variables) (was_of c.changed-was.result) c.begin.ensures.hears c.begin.ensures.none c.changed-was.ensures
+    noted_reported c.begin.new.self c.step.new.notes c.args.hears (step_of c.args.step.now) (ready_after steps) (variable_at c.args.self.now.state.variables) (variable_at c.step.new.self.variables) (was_of c.changed-was.result) c.begin.ensures.hears c.begin.ensures.none c.changed-was.ensures
     (c.in-Ok-true.ensures.noted (search rules) (ready_after steps) k (after_any steps)) h))
 
 pub returns-in-Ok-true-clause-goes_on : goal.returns-in-Ok-true-clause-goes_on
@@ -70,10 +70,10 @@ returns-in-Err-clause-looks g c = λ steps s. c.step.ensures.looks.most (ready_a
 
 pub returns-in-Ok-true-clause-looks : goal.returns-in-Ok-true-clause-looks
 returns-in-Ok-true-clause-looks g c = λ steps s.
-    subst (λ n. n ≤ looks_of c.args.self.now + most_looks (ready_after steps) (step_of c.args.step.now)) (sym (c.take_in.ensures _ (λ h. refl)).0.looks) (c.step.ensures.looks.most (ready_after steps) (ready_kept c.args.self.now steps s c.requires.well c.requires.settled))
+    subst (λ n. n ≤ kernel_looks c.args.self.now + most_looks (ready_after steps) (step_of c.args.step.now)) (sym (c.take_in.ensures _ (λ h. refl)).0.looks) (c.step.ensures.looks.most (ready_after steps) (ready_kept c.args.self.now steps s c.requires.well c.requires.settled))
 
 pub returns-in-Ok-true-clause-rise : goal.returns-in-Ok-true-clause-rise
-returns-in-Ok-true-clause-rise g c = subst (λ n. looks_of c.args.self.now ≤ n) (sym (c.take_in.ensures _ (λ h. refl)).0.looks) c.step.ensures.looks.rise
+returns-in-Ok-true-clause-rise g c = subst (λ n. kernel_looks c.args.self.now ≤ n) (sym (c.take_in.ensures _ (λ h. refl)).0.looks) c.step.ensures.looks.rise
 
 pub returns-in-Ok-false-clause-rise : goal.returns-in-Ok-false-clause-rise
 returns-in-Ok-false-clause-rise g c = c.step.ensures.looks.rise

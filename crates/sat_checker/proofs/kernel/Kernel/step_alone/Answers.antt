@@ -2,7 +2,7 @@ use Rattle.std.proofs.Common.{refl, rules}
 use Rattle.sat_base.specs.steps.StepViews.{step_of}
 use Rattle.sat_checker.specs.Accepts.{ready_after}
 use Rattle.sat_checker.proofs.lemmas.variables.Keeping.{match_true, match_false}
-use Rattle.sat_checker.proofs.lemmas.telling.Taken.{ready_kept, refused_judges, short_alone, step_stands}
+use Rattle.sat_checker.proofs.lemmas.listeners.Taken.{ready_kept, refused_judges, short_alone, step_stands}
 use Rattle.sat_checker.proofs.kernel.Kernel.step_alone.Goals as goal
 
 pub returns-in-Ok-true-clause-judges : goal.returns-in-Ok-true-clause-judges

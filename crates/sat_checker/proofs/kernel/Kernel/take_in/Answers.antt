@@ -1,11 +1,11 @@
 use Rattle.std.proofs.Common.{refl, sym, ap, ◌∙◌, subst, rules}
 use Rattle.sat_checker.specs.CheckerView.{seen}
-use Rattle.sat_checker.specs.inner.TellingSteps.{announced_by, put_back, was_of, TellsAndKeepsState}
+use Rattle.sat_checker.specs.inner.NotifyingSteps.{announced_by, put_back, was_of, NotifiesAndKeepsState}
 use Rattle.sat_checker.specs.inner.VariablesView.{variable_at}
-use Rattle.sat_checker.specs.telling.Hearing.{hearers, HearsAll, HearsFirst}
-use Rattle.sat_checker.specs.telling.ProcessingView.{HearsEach}
-use Rattle.sat_checker.proofs.lemmas.telling.Heard.{all_quiet}
-use Rattle.sat_checker.proofs.lemmas.telling.Taken.{taken_from}
+use Rattle.sat_checker.specs.listeners.Hearing.{hearers, HearsAll, HearsFirst}
+use Rattle.sat_checker.specs.listeners.ProcessingView.{HearsEach}
+use Rattle.sat_checker.proofs.lemmas.listeners.Heard.{all_quiet}
+use Rattle.sat_checker.proofs.lemmas.listeners.Taken.{taken_from}
 use Rattle.sat_checker.proofs.kernel.Kernel.take_in.Goals as goal
 
 pub returns-then-not-hears : goal.returns-then-not-hears
@@ -20,10 +20,10 @@ returns-then-is_empty g c = λ told is. (
   (c.requires.well, search rules, subst (λ ts. HearsAll (HearsFirst g.O.ProofProcessor.takes (HearsEach g.P.ProofProcessor.takes g.T.ProofTranscriptProcessor.reads)) ts (hearers c.args.own.now c.args.others.now) (hearers c.args.own.now c.args.others.now)) (sym (is c.if-not-hears.false ∙ ap (announced_by (put_back (was_of c.args.was.now) (variable_at c.args.self.now.state.variables))) (c.is_empty.ensures c.if-is_empty.true))) refl),
 )
 
-pub tell-requires-clause-recorded : goal.tell-requires-clause-recorded
-tell-requires-clause-recorded g c = search rules
+pub notify-requires-clause-recorded : goal.notify-requires-clause-recorded
+notify-requires-clause-recorded g c = search rules
 
 pub returns : goal.returns
 returns g c = λ told is.
-    subst (λ ts. TellsAndKeepsState (HearsFirst g.O.ProofProcessor.takes (HearsEach g.P.ProofProcessor.takes g.T.ProofTranscriptProcessor.reads)) ts c.tell.result (seen c.args.self.now (hearers c.args.own.now c.args.others.now)) (seen c.tell.new.self (hearers c.tell.new.own c.tell.new.others))) (sym (is c.if-not-hears.false))
-    (taken_from (HearsFirst g.O.ProofProcessor.takes (HearsEach g.P.ProofProcessor.takes g.T.ProofTranscriptProcessor.reads)) _ c.args.self.now _ (hearers c.args.own.now c.args.others.now) c.tell.new.self (hearers c.tell.new.own c.tell.new.others) c.tell.result refl refl c.tell.ensures)
+    subst (λ ts. NotifiesAndKeepsState (HearsFirst g.O.ProofProcessor.takes (HearsEach g.P.ProofProcessor.takes g.T.ProofTranscriptProcessor.reads)) ts c.notify.result (seen c.args.self.now (hearers c.args.own.now c.args.others.now)) (seen c.notify.new.self (hearers c.notify.new.own c.notify.new.others))) (sym (is c.if-not-hears.false))
+    (taken_from (HearsFirst g.O.ProofProcessor.takes (HearsEach g.P.ProofProcessor.takes g.T.ProofTranscriptProcessor.reads)) _ c.args.self.now _ (hearers c.args.own.now c.args.others.now) c.notify.new.self (hearers c.notify.new.own c.notify.new.others) c.notify.result refl refl c.notify.ensures)

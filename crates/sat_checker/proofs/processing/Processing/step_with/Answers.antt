@@ -1,5 +1,5 @@
 use Rattle.std.proofs.Common.{inl}
-use Rattle.sat_checker.proofs.lemmas.telling.Heard.{none_there}
+use Rattle.sat_checker.proofs.lemmas.listeners.Heard.{none_there}
 use Rattle.sat_checker.proofs.processing.Processing.step_with.Goals as goal
 
 pub returns-else-is_quiet : goal.returns-else-is_quiet

@@ -1,7 +1,7 @@
 use Rattle.std.proofs.Common.{◌+◌, ◌-◌, ◌≡◌, ◌∙◌, refl, sym, ap, subst, arith, get_or}
 use Rattle.std.proofs.lemmas.Bool.{true≢false, both_ways}
 use Rattle.sat_checker.specs.Looks.{literal_count}
-use Rattle.sat_checker.specs.inner.Room.{LiteralsAndRoom, HasRoomForStored}
+use Rattle.sat_checker.specs.inner.AssumedRoom.{LiteralsAndRoom, HasStoredRoom}
 use Rattle.sat_checker.proofs.lemmas.propagation.Walking.{Extends-itself, Extends-further}
 use Rattle.sat_checker.proofs.lemmas.state.InTurn.{supposed_more, passing_none, behind_judged, behind_passing, behind_refused, passing_all, looks_then, looks_end}
 use Rattle.sat_checker.proofs.lemmas.store.Entries.{on_err}
@@ -21,7 +21,7 @@ loop-place-init c = record {
 pub returns-in_err-passes-clause-short : goal.returns-in_err-passes-clause-short
 returns-in_err-passes-clause-short c = on_err c.from_residual.result _ (λ f k h.
     let room = ap (λ (t : LiteralsAndRoom). t.room) c.suppose.ensures ∙ c.loop-place.invariant.same f k h in
-    c.in_err-passes.ensures.short f k (subst (λ r. HasRoomForStored r f.clauses) (sym room) h))
+    c.in_err-passes.ensures.short f k (subst (λ r. HasStoredRoom r f.clauses) (sym room) h))
 
 pub returns-in_err-passes-clause-extends : goal.returns-in_err-passes-clause-extends
 returns-in_err-passes-clause-extends c = Extends-further c.args.assigned.now c.suppose.new.assigned c.passes.new.assigned (supposed_more c.args.assigned.now c.loop-place.assigned c.suppose.new.assigned _ c.loop-place.invariant.extends c.suppose.ensures) c.passes.ensures.extends
@@ -72,10 +72,10 @@ loop-place-preserved c = record {
       c.suppose.new.assigned (c.loop-place.invariant.same f k h) c.stand_in_room.ensures.paired c.suppose.ensures c.split_at.result.0.now c.split_at.ensures.front c.in_ok-passes.field-0 c.in_ok-passes.ensures.exact in
       behind_passing c.args.store.now c.args.assigned.now.room f units (place - 1) place c.loop-place.assigned unit c.index-units-place-in-loop-place.result some c.loop-place-test.true is' c.index-units-place-in-loop-place.is passing
       c.suppose.new.assigned (c.loop-place.invariant.same f k h) c.stand_in_room.ensures.paired c.suppose.ensures (place + 1 - 1) (omega arith) c.passes.new.assigned
-      (c.passes.ensures.same f k (subst (λ r. HasRoomForStored r f.clauses) (sym (ap (λ (t : LiteralsAndRoom). t.room) c.suppose.ensures ∙ c.loop-place.invariant.same f k h)) h)) (exact.0 c.if-not-branch.false);
+      (c.passes.ensures.same f k (subst (λ r. HasStoredRoom r f.clauses) (sym (ap (λ (t : LiteralsAndRoom). t.room) c.suppose.ensures ∙ c.loop-place.invariant.same f k h)) h)) (exact.0 c.if-not-branch.false);
   same = λ f k h.
       let room = ap (λ (t : LiteralsAndRoom). t.room) c.suppose.ensures ∙ c.loop-place.invariant.same f k h in
-      ap (λ (t : LiteralsAndRoom). t.room) (c.passes.ensures.same f k (subst (λ r. HasRoomForStored r f.clauses) (sym room) h)) ∙ room;
+      ap (λ (t : LiteralsAndRoom). t.room) (c.passes.ensures.same f k (subst (λ r. HasStoredRoom r f.clauses) (sym room) h)) ∙ room;
   extends = Extends-further c.args.assigned.now c.suppose.new.assigned c.passes.new.assigned (supposed_more c.args.assigned.now c.loop-place.assigned c.suppose.new.assigned _ c.loop-place.invariant.extends c.suppose.ensures) c.passes.ensures.extends;
   looks = λ f k. looks_then c.args.looks.now c.loop-place.looks c.passes.new.looks c.loop-place.place (literal_count f) c.loop-place.invariant.some (c.loop-place.invariant.looks f k) (c.passes.ensures.looks.most f k);
   rise = omega (arith, c.loop-place.invariant.rise, c.passes.ensures.looks.rise);

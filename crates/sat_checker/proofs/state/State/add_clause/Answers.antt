@@ -3,7 +3,7 @@ use Rattle.std.proofs.lemmas.Bool.{true≢false}
 use Rattle.std.proofs.lemmas.Result.{err_from_is_err_and, IfOk-from_err}
 use Rattle.sat_checker.specs.inner.FormulaView.{RestOfStored}
 use Rattle.sat_checker.proofs.lemmas.state.Keeping.{sampling_kept, added, added_spent, decides_err}
-use Rattle.sat_checker.proofs.lemmas.telling.Noting.{input_noted, unsat_noted}
+use Rattle.sat_checker.proofs.lemmas.listeners.Noting.{input_noted, unsat_noted}
 use Rattle.std.proofs.lemmas.Grind.{common_steps}
 use Rattle.sat_checker.proofs.state.State.add_clause.Goals as goal
 

@@ -5,7 +5,7 @@ use Rattle.sat_checker.specs.Looks.{literal_count}
 use Rattle.sat_checker.specs.inner.Reasons.{noted_length}
 use Rattle.sat_checker.proofs.lemmas.state.Checks.{checks_as, kept_beside}
 use Rattle.sat_checker.proofs.lemmas.state.Keeping.{decides_err}
-use Rattle.sat_checker.proofs.lemmas.telling.Noting.{looks_judged, looks_noted}
+use Rattle.sat_checker.proofs.lemmas.listeners.Noting.{looks_judged, looks_noted}
 use Rattle.std.proofs.lemmas.Grind.{common_steps}
 use Rattle.sat_checker.proofs.state.State.at_clause.Goals as goal
 

@@ -5,7 +5,7 @@ use Rattle.sat_base.specs.steps.Steps.{DeleteClause}
 use Rattle.sat_base.specs.steps.StepViews.{deletion_of}
 use Rattle.sat_checker.specs.Accepts.{effect}
 use Rattle.sat_checker.proofs.lemmas.state.Keeping.{deleted_kept}
-use Rattle.sat_checker.proofs.lemmas.telling.Noting.{deletion_noted}
+use Rattle.sat_checker.proofs.lemmas.listeners.Noting.{deletion_noted}
 use Rattle.sat_checker.proofs.lemmas.variables.Keeping.{match_true, match_false}
 use Rattle.std.proofs.lemmas.Grind.{common_steps}
 use Rattle.sat_checker.proofs.state.State.delete_clause.Goals as goal

@@ -7,7 +7,7 @@ use Rattle.sat_checker.specs.inner.Reasons.{noted_length}
 use Rattle.sat_checker.proofs.lemmas.state.Refiled.{loosened}
 use Rattle.sat_checker.proofs.lemmas.state.Checks.{checks_as, kept_beside}
 use Rattle.sat_checker.proofs.lemmas.state.Keeping.{within_assumed}
-use Rattle.sat_checker.proofs.lemmas.telling.Noting.{looks_judged, looks_followed}
+use Rattle.sat_checker.proofs.lemmas.listeners.Noting.{looks_judged, looks_followed}
 use Rattle.std.proofs.lemmas.Grind.{common_steps}
 use Rattle.sat_checker.proofs.state.State.failed_assumptions.Goals as goal
 

@@ -2,7 +2,7 @@ use Rattle.std.proofs.Common.{ap}
 use Rattle.sat_base.specs.steps.StepViews.{step_of}
 use Rattle.sat_checker.specs.announcements.Announcements.{announced}
 use Rattle.sat_checker.proofs.lemmas.state.Kinds.{decided_as, within_as, announced_as}
-use Rattle.sat_checker.proofs.lemmas.telling.Noting.{nothing_noted}
+use Rattle.sat_checker.proofs.lemmas.listeners.Noting.{nothing_noted}
 use Rattle.sat_checker.proofs.state.State.step.Goals as goal
 
 pub returns-in-SolverVarName-clause-decides : goal.returns-in-SolverVarName-clause-decides

@@ -4,7 +4,7 @@ use Rattle.sat_checker.specs.Storing.{with_literals_known}
 use Rattle.sat_checker.specs.inner.Marks.{IsIncreasing}
 use Rattle.sat_checker.proofs.lemmas.sets.Canonical.{canonical_increasing}
 use Rattle.sat_checker.proofs.lemmas.state.Keeping.{derived, turns_then}
-use Rattle.sat_checker.proofs.lemmas.telling.Noting.{noted_behind, on_ok}
+use Rattle.sat_checker.proofs.lemmas.listeners.Noting.{noted_behind, on_ok}
 use Rattle.std.proofs.lemmas.Grind.{common_steps}
 use Rattle.sat_checker.proofs.state.State.store_derived.Goals as goal
 

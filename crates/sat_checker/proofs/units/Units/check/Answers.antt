@@ -2,7 +2,7 @@ use Rattle.std.proofs.Common.{ℕ, ◌≡◌, ◌∙◌, false, map, ap}
 use Rattle.sat_checker.specs.LiteralSets.{is_among}
 use Rattle.sat_checker.specs.Stored.{StoredUnit}
 use Rattle.sat_checker.specs.inner.Reasons.{ExplainsCheck}
-use Rattle.sat_checker.specs.inner.Room.{LiteralsAndRoom, signed}
+use Rattle.sat_checker.specs.inner.AssumedRoom.{LiteralsAndRoom, signed}
 use Rattle.sat_checker.specs.inner.UnitView.{UnitsAndRoom}
 use Rattle.sat_checker.proofs.lemmas.announcements.Listing.{explained_units}
 use Rattle.sat_checker.proofs.lemmas.store.Keeping.{checked, short_checked, under_premise}

@@ -1,6 +1,6 @@
 use Rattle.std.proofs.Common.{◌-◌, ◌++◌, ◌∷◌, [], ◌≡◌, ◌∙◌, length, sym, ap, subst, arith}
 use Rattle.sat_checker.specs.Stored.{StoredUnit}
-use Rattle.sat_checker.specs.inner.Room.{LiteralsAndRoom}
+use Rattle.sat_checker.specs.inner.AssumedRoom.{LiteralsAndRoom}
 use Rattle.sat_checker.specs.inner.UnitView.{UnitsAndRoom, UnitsInvariant}
 use Rattle.sat_checker.proofs.lemmas.store.Units.{among_units, units_more}
 use Rattle.sat_checker.proofs.units.Units.push.Goals as goal

@@ -4,7 +4,7 @@ use Rattle.std.proofs.lemmas.Result.{err_from_is_err_and}
 use Rattle.std.proofs.lemmas.List.{drop_more, drop_all}
 use Rattle.sat_base.specs.values.Literals.{negated}
 use Rattle.sat_checker.specs.LiteralSets.{is_among}
-use Rattle.sat_checker.specs.inner.Room.{LiteralsAndRoom, HasRoomFor, RoomStays}
+use Rattle.sat_checker.specs.inner.AssumedRoom.{LiteralsAndRoom, HasClauseRoom, RoomStays}
 use Rattle.sat_checker.proofs.lemmas.sets.Rooms.{room_stays, room_there, stays_further}
 use Rattle.sat_checker.proofs.lemmas.state.Rooms.{roomy_item}
 use Rattle.sat_checker.proofs.units.assigned.make_room_for.Goals as goal
@@ -21,7 +21,7 @@ loop-lit-preserved c =
     record {
       room = λ room stays h.
           c.loop-lit.invariant.room room (stays_further old.room new.room room more stays)
-          (subst (HasRoomFor room) (sym (drop_more c.args.clause.now i x c.loop-lit-test.true ∙ ap (λ y. y ∷ drop (i + 1) c.args.clause.now) (sym c.lit-item.is))) ((stays x there, stays (negated x) (sym (c.stand_in_room.ensures.paired x) ∙ there)), h));
+          (subst (HasClauseRoom room) (sym (drop_more c.args.clause.now i x c.loop-lit-test.true ∙ ap (λ y. y ∷ drop (i + 1) c.args.clause.now) (sym c.lit-item.is))) ((stays x there, stays (negated x) (sym (c.stand_in_room.ensures.paired x) ∙ there)), h));
       literals = ap (λ (t : LiteralsAndRoom). t.literals) c.in_ok-make_room.ensures.ok ∙ c.loop-lit.invariant.literals;
       stays = stays_further c.args.assigned.now.room old.room new.room c.loop-lit.invariant.stays more;
     }
@@ -29,7 +29,7 @@ loop-lit-preserved c =
 pub returns-clause-room : goal.returns-clause-room
 returns-clause-room c =
     let room = c.loop-lit.assigned.room in
-    c.loop-lit.invariant.room room (λ l h. h) (subst (HasRoomFor room) (sym (drop_all c.loop-lit.lit-index c.args.clause.now c.loop-lit-test.false)) tt)
+    c.loop-lit.invariant.room room (λ l h. h) (subst (HasClauseRoom room) (sym (drop_all c.loop-lit.lit-index c.args.clause.now c.loop-lit-test.false)) tt)
 
 pub returns-in_err-make_room-clause-short : goal.returns-in_err-make_room-clause-short
 returns-in_err-make_room-clause-short c =

@@ -1,6 +1,6 @@
 use Rattle.std.proofs.Common.{◌≡◌, drop}
 use Rattle.sat_checker.specs.Accepts.{VariablesApart}
-use Rattle.sat_checker.specs.inner.Room.{RoomStays}
+use Rattle.sat_checker.specs.inner.AssumedRoom.{RoomStays}
 use Rattle.sat_checker.proofs.units.valuation.assume_apart.Given as goal
 
 -- the literals from the place on are assumed

@@ -2,7 +2,7 @@ use Rattle.std.proofs.Common.{◌++◌, [], None, Some, refl, sym, subst}
 use Rattle.sat_hints.specs.Lines.{line_text}
 use Rattle.sat_hints.specs.declared.checking.Checking.{Checking}
 use Rattle.sat_hints.specs.inner.Judging.{TakesNext}
-use Rattle.sat_hints.specs.inner.LineReading.{line_of, ReadsLine}
+use Rattle.sat_hints.specs.inner.LineReading.{line_of_view, BeginsWithHintLine}
 use Rattle.sat_hints.proofs.lemmas.Holding.{reads_none, reads_more}
 use Rattle.sat_hints.proofs.lemmas.InPlace.{line_off, reads_line, reads_fault, reads_then, reads_still}
 use Rattle.sat_hints.proofs.checking.Checking.feed_in_place.Goals as goal
@@ -13,8 +13,8 @@ loop-head-init c = record { ready = c.requires.ready; empty = c.requires.empty; 
 pub returns-in-Some-clause-reads : goal.returns-in-Some-clause-reads
 returns-in-Some-clause-reads c =
     let d = c.loop-head.invariant.done in
-    let line = line_of c.line.result in
-    let read : ReadsLine c.loop-head.rest.now line c.in-Ok-Some.behind.now = subst (λ l. ReadsLine c.loop-head.rest.now l c.in-Ok-Some.behind.now) (sym c.line.ensures) (rw c.in-Ok-Some.field-0-is at c.in-Ok-Some.ensures) in
+    let line = line_of_view c.line.result in
+    let read : BeginsWithHintLine c.loop-head.rest.now line c.in-Ok-Some.behind.now = subst (λ l. BeginsWithHintLine c.loop-head.rest.now l c.in-Ok-Some.behind.now) (sym c.line.ensures) (rw c.in-Ok-Some.field-0-is at c.in-Ok-Some.ensures) in
     let new : Checking = record c.loop-head.self { lists = c.read_line.new.self; judge = c.take.new.self } in
     let t : TakesNext (Some c.in-Some.why) c.loop-head.self.judge c.take.new.self line = rw c.in-Some.is at c.in_ok-why-in-Ok-Some.ensures.takes in
     let h = reads_line (Some c.in-Some.why) c.loop-head.self new c.loop-head.rest.now c.in-Ok-Some.behind.now line c.loop-head.invariant.empty refl refl read t in
@@ -23,8 +23,8 @@ returns-in-Some-clause-reads c =
 pub loop-head-preserved : goal.loop-head-preserved
 loop-head-preserved c =
     let d = c.loop-head.invariant.done in
-    let line = line_of c.line.result in
-    let read : ReadsLine c.loop-head.rest.now line c.in-Ok-Some.behind.now = subst (λ l. ReadsLine c.loop-head.rest.now l c.in-Ok-Some.behind.now) (sym c.line.ensures) (rw c.in-Ok-Some.field-0-is at c.in-Ok-Some.ensures) in
+    let line = line_of_view c.line.result in
+    let read : BeginsWithHintLine c.loop-head.rest.now line c.in-Ok-Some.behind.now = subst (λ l. BeginsWithHintLine c.loop-head.rest.now l c.in-Ok-Some.behind.now) (sym c.line.ensures) (rw c.in-Ok-Some.field-0-is at c.in-Ok-Some.ensures) in
     let new : Checking = record c.loop-head.self { lists = c.read_line.new.self; judge = c.take.new.self } in
     let t : TakesNext None c.loop-head.self.judge c.take.new.self line = rw c.in-None.is at c.in_ok-why-in-Ok-Some.ensures.takes in
     let h = reads_line None c.loop-head.self new c.loop-head.rest.now c.in-Ok-Some.behind.now line c.loop-head.invariant.empty refl refl read t in

@@ -1,7 +1,7 @@
 use Rattle.std.proofs.Common.{◌≡◌, refl, sym, ap, ◌∙◌, subst}
 use Rattle.sat_checker.specs.LiteralSets.{canonical}
 use Rattle.sat_checker.specs.SortedSets.{IsIncreasing}
-use Rattle.sat_checker.specs.inner.Room.{LiteralsAndRoom, HasRoomFor, RoomStays}
+use Rattle.sat_checker.specs.inner.AssumedRoom.{LiteralsAndRoom, HasClauseRoom, RoomStays}
 use Rattle.sat_checker.proofs.lemmas.sets.Canonical.{canonical_increasing}
 use Rattle.sat_hints.specs.inner.Standing.{AddsStandingClause}
 use Rattle.sat_hints.proofs.lemmas.Taken.{room_stored}
@@ -21,7 +21,7 @@ returns c =
       nothing = c.make_room_for.ensures.literals ∙ ap (λ (t : LiteralsAndRoom). t.literals) c.allow.ensures ∙ c.requires.ready.nothing;
       room =
           room_stored old.standing c.push.new.self c.args.id (canonical c.args.clause.now) old.assumed.room room adds c.requires.ready.room (subst (λ (t : LiteralsAndRoom). RoomStays t.room room) c.allow.ensures c.make_room_for.ensures.stays)
-          (subst (HasRoomFor room) set c.in_ok-make_room_for.ensures.room);
+          (subst (HasClauseRoom room) set c.in_ok-make_room_for.ensures.room);
       least = refl;
       empty = refl;
       cores = refl;

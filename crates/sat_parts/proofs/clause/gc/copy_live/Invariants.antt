@@ -1,5 +1,5 @@
-use Rattle.sat_parts.specs.clause.Collected.{Copying}
+use Rattle.sat_parts.specs.clause.Collected.{CopyInvariant}
 use Rattle.sat_parts.proofs.clause.gc.copy_live.Given as goal
 
 abbrev pub invariant-loop-at : goal.invariant-loop-at
-invariant-loop-at l = Copying l.clauses l.fn.db.refs l.to l.refs.items l.at
+invariant-loop-at l = CopyInvariant l.clauses l.fn.db.refs l.to l.refs.items l.at

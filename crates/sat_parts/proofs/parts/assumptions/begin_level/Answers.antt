@@ -2,7 +2,7 @@ use Rattle.std.proofs.Common.{ℕ, ◌≡◌, ◌+◌, sym, subst, length, inr, 
 use Rattle.std.specs.Prelude.{OnOk}
 use Rattle.sat_parts.specs.prop.State.{State}
 use Rattle.sat_parts.specs.prop.TrailWord.{decided_on}
-use Rattle.sat_parts.specs.parts.Assumed.{IsPlaced, variables}
+use Rattle.sat_parts.specs.parts.Assumed.{IsPlaced, variables_of_lits}
 use Rattle.sat_parts.specs.parts.Frame.{KeepsTo}
 use Rattle.sat_parts.specs.parts.Whole.{state}
 use Rattle.sat_parts.proofs.lemmas.parts.AssumeLemmas.{placed_next, among_variables}
@@ -29,4 +29,4 @@ returns-clause-placed c =
 pub returns-clause-word : goal.returns-clause-word
 returns-clause-word c =
     let a = c.args.assumptions.now in
-    c.assume.ensures.word (variables a.lits.items) (inr (among_variables a.lits.items a.place c.args.lit c.requires.next c.requires.is))
+    c.assume.ensures.word (variables_of_lits a.lits.items) (inr (among_variables a.lits.items a.place c.args.lit c.requires.next c.requires.is))

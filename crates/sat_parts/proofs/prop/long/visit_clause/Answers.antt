@@ -1,6 +1,6 @@
 use Rattle.std.proofs.lemmas.Grind.{common_steps}
 use Rattle.std.proofs.Common.{◌≡◌, ◌*◌, ◌<◌, length, arith}
-use Rattle.sat_parts.specs.clause.Orders.{Shuffles}
+use Rattle.sat_parts.specs.clause.Orders.{PermutesClause}
 use Rattle.sat_parts.specs.clause.Stored.{lit_of, size_of}
 use Rattle.sat_parts.proofs.lemmas.clause.OrderLemmas.{shuffles_trans, shuffles_swap, below_shuffled}
 use Rattle.sat_parts.proofs.prop.long.visit_clause.Goals as goal
@@ -11,9 +11,9 @@ find_open-at-requires-clause-below c =
 
 pub add_watch-requires : goal.add_watch-requires
 add_watch-requires c =
-    let p : Shuffles c.args.clauses.now c.orient.new.clauses c.args.cref = c.orient.ensures.shuffles in
+    let p : PermutesClause c.args.clauses.now c.orient.new.clauses c.args.cref = c.orient.ensures.shuffles in
     let long : size_of c.orient.new.clauses c.args.cref ≡ size_of c.args.clauses.now c.args.cref = p.lits.size in
-    let e : Shuffles c.args.clauses.now c.swap_lits.new.self c.args.cref =
+    let e : PermutesClause c.args.clauses.now c.swap_lits.new.self c.args.cref =
     shuffles_trans c.args.clauses.now c.orient.new.clauses c.swap_lits.new.self c.args.cref p
     (shuffles_swap c.orient.new.clauses c.swap_lits.new.self c.args.cref 1 c.find_open-at.result (omega (arith, c.requires.long)) (omega arith)
     c.swap_lits.ensures.header c.swap_lits.ensures.lits c.swap_lits.ensures.others) in

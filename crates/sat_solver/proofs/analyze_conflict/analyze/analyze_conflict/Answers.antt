@@ -7,7 +7,7 @@ use Rattle.sat_parts.specs.prop.Ready.{state_of}
 use Rattle.sat_parts.specs.prop.State.{State}
 use Rattle.sat_parts.proofs.lemmas.clause.ListLemmas.{place_in}
 use Rattle.sat_solver.specs.analyze_conflict.Work.{Work}
-use Rattle.sat_solver.specs.analyze_conflict.Derivation.{AreGrounds, IsAsserting, IsDerivation, PutsSecond}
+use Rattle.sat_solver.specs.analyze_conflict.Derivation.{IsUnorderedDerivation, IsAsserting, IsDerivation, PutsSecond}
 use Rattle.sat_solver.specs.analyze_conflict.Minimal.{FallsBefore}
 use Rattle.sat_solver.proofs.lemmas.analyze_conflict.Codes.{reasoned_variable}
 use Rattle.sat_solver.proofs.lemmas.analyze_conflict.Minimized.{false_variable}
@@ -25,7 +25,7 @@ returns-clause-learns c =
     let w : Work = c.minimize_clause.new.analysis in
     let w' : Work = c.put_second.new.self in
     let asserting : IsAsserting s w.clause = c.in_ok-minimize_clause.ensures.asserting in
-    let grounds : AreGrounds words s conflict w.clause w.used = c.in_ok-minimize_clause.ensures.grounds in
+    let grounds : IsUnorderedDerivation words s conflict w.clause w.used = c.in_ok-minimize_clause.ensures.grounds in
     let before : c.clear_flags.new.self.used ≡ w.used = ap (λ (x : Work). x.used) c.clear_flags.ensures.same in
     let order : IsPermutation w.used c.order_used.new.self.used = subst (λ (us : List ℕ). IsPermutation us c.order_used.new.self.used) before c.in_ok-order_used.ensures.permutation in
     let derivation : IsDerivation words s conflict w.clause c.order_used.new.self.used =

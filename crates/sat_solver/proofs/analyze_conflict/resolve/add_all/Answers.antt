@@ -1,6 +1,6 @@
 use Rattle.std.proofs.Common.{ℕ, ◌∙◌, List, sym, ap, subst}
 use Rattle.sat_parts.specs.clause.Glue.{HaveNodes}
-use Rattle.sat_solver.specs.analyze_conflict.Work.{with_literals}
+use Rattle.sat_solver.specs.analyze_conflict.Work.{with_met_literals}
 use Rattle.sat_solver.proofs.lemmas.analyze_conflict.TwoParts.{nodes_first, nodes_second, with_both}
 use Rattle.sat_solver.proofs.analyze_conflict.resolve.add_all.Goals as goal
 
@@ -12,6 +12,6 @@ add_long-requires-clause-nodes c = nodes_second c.args.graph.now c.parts.result.
 
 pub returns : goal.returns
 returns c =
-    c.in_ok-add_long.ensures ∙ ap (with_literals c.args.graph.now c.args.top c.parts.result.1.now) c.in_ok-add_own.ensures.meets
+    c.in_ok-add_long.ensures ∙ ap (with_met_literals c.args.graph.now c.args.top c.parts.result.1.now) c.in_ok-add_own.ensures.meets
     ∙ sym (with_both c.args.graph.now c.args.top c.parts.result.0.now c.parts.result.1.now c.args.analysis.now)
-    ∙ ap (λ (ls : List ℕ). with_literals c.args.graph.now c.args.top ls c.args.analysis.now) c.parts.ensures
+    ∙ ap (λ (ls : List ℕ). with_met_literals c.args.graph.now c.args.top ls c.args.analysis.now) c.parts.ensures

@@ -5,8 +5,8 @@ use Rattle.sat_parts.specs.prop.Causes.{falsified}
 use Rattle.sat_parts.specs.prop.Ready.{state_of}
 use Rattle.sat_parts.specs.prop.State.{State, current_level, lit_at}
 use Rattle.sat_solver.specs.analyze_conflict.Work.{Work, passed_by, with_first}
-use Rattle.sat_solver.specs.analyze_conflict.Derivation.{Resolved}
-use Rattle.sat_solver.specs.analyze_conflict.Involved.{Collected}
+use Rattle.sat_solver.specs.analyze_conflict.Derivation.{ResolutionResult}
+use Rattle.sat_solver.specs.analyze_conflict.Involved.{CollectionResult}
 use Rattle.sat_solver.proofs.lemmas.analyze_conflict.Codes.{some_flagged, last_place, place_variable}
 use Rattle.sat_solver.proofs.lemmas.analyze_conflict.Collecting.{collected}
 use Rattle.sat_solver.proofs.lemmas.analyze_conflict.Resolution.{IsLastFlagged}
@@ -33,7 +33,7 @@ returns-clause-resolved c =
     c.in_ok-put_first.ensures
     ∙ ap (λ l. with_first l c.pass_by.new.self) (c.not.ensures ∙ ap (λ l. negated l) l_is)
     ∙ ap (λ (w : Work). with_first (negated (lit_at s p)) w) (c.pass_by.ensures ∙ ap (λ l. passed_by l c.args.analysis.now) l_is) in
-    subst (λ (w : Work). Resolved c.args.clauses.now s (falsified c.args.clauses.now c.args.conflict.now) w) (sym e)
+    subst (λ (w : Work). ResolutionResult c.args.clauses.now s (falsified c.args.clauses.now c.args.conflict.now) w) (sym e)
     (finished c.args.clauses.now s (falsified c.args.clauses.now c.args.conflict.now) c.args.analysis.now p c.args.before c.requires.can c.requires.resolving c.requires.one last here)
 
 pub returns-clause-collected : goal.returns-clause-collected
@@ -51,5 +51,5 @@ returns-clause-collected c =
     c.in_ok-put_first.ensures
     ∙ ap (λ l. with_first l c.pass_by.new.self) (c.not.ensures ∙ ap (λ l. negated l) l_is)
     ∙ ap (λ (w : Work). with_first (negated (lit_at s p)) w) (c.pass_by.ensures ∙ ap (λ l. passed_by l c.args.analysis.now) l_is) in
-    subst (λ (w : Work). Collected c.args.clauses.now s c.args.conflict.now w) (sym e)
+    subst (λ (w : Work). CollectionResult c.args.clauses.now s c.args.conflict.now w) (sym e)
     (collected c.args.clauses.now s c.args.conflict.now c.args.analysis.now (with_first (negated (lit_at s p)) (passed_by (lit_at s p) c.args.analysis.now)) c.args.before c.requires.collecting refl refl refl)

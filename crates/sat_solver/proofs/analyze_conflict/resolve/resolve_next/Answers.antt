@@ -6,9 +6,9 @@ use Rattle.sat_parts.specs.prop.Causes.{causes, falsified}
 use Rattle.sat_parts.specs.prop.Graphs.{node_of}
 use Rattle.sat_parts.specs.prop.Ready.{state_of}
 use Rattle.sat_parts.specs.prop.State.{State, node, current_level, lit_at}
-use Rattle.sat_solver.specs.analyze_conflict.Work.{Work, with_literals, taken_up}
-use Rattle.sat_solver.specs.analyze_conflict.Marks.{causes_at, Resolving}
-use Rattle.sat_solver.specs.analyze_conflict.Involved.{Collecting}
+use Rattle.sat_solver.specs.analyze_conflict.Work.{Work, with_met_literals, taken_up}
+use Rattle.sat_solver.specs.analyze_conflict.Marks.{causes_at, ResolutionInvariant}
+use Rattle.sat_solver.specs.analyze_conflict.Involved.{CollectionInvariant}
 use Rattle.sat_solver.proofs.lemmas.analyze_conflict.Codes.{some_flagged, last_place, place_variable, taken_stands, before_nodes}
 use Rattle.sat_solver.proofs.lemmas.analyze_conflict.Collecting.{collecting_taken}
 use Rattle.sat_solver.proofs.lemmas.analyze_conflict.Resolution.{IsLastFlagged, Taken, taken, resolved}
@@ -110,17 +110,17 @@ returns c =
     let ls_is : c.lits.result ≡ causes_at c.args.clauses.now s (lit_at s p) = c.lits.ensures ∙ ap (λ (r : Reason). causes c.args.clauses.now r) r_is in
     let up : c.take_up.new.self ≡ taken_up (node s (lit_at s p)).reason (lit_at s p) c.args.analysis.now =
     c.in_ok-take_up.ensures ∙ ap (λ m. taken_up c.reason-reason.result m c.args.analysis.now) l_is ∙ ap (λ (r : Reason). taken_up r (lit_at s p) c.args.analysis.now) r_is in
-    let e : c.add_all.new.analysis ≡ with_literals c.args.graph.now (current_level s) (causes_at c.args.clauses.now s (lit_at s p)) (taken_up (node s (lit_at s p)).reason (lit_at s p) c.args.analysis.now) =
+    let e : c.add_all.new.analysis ≡ with_met_literals c.args.graph.now (current_level s) (causes_at c.args.clauses.now s (lit_at s p)) (taken_up (node s (lit_at s p)).reason (lit_at s p) c.args.analysis.now) =
     c.in_ok-add_all.ensures
-    ∙ ap (λ n. with_literals c.args.graph.now n c.lits.result c.take_up.new.self) c.current_level.ensures.level
-    ∙ ap (λ (xs : List ℕ). with_literals c.args.graph.now (current_level s) xs c.take_up.new.self) ls_is
-    ∙ ap (λ (w : Work). with_literals c.args.graph.now (current_level s) (causes_at c.args.clauses.now s (lit_at s p)) w) up in
+    ∙ ap (λ n. with_met_literals c.args.graph.now n c.lits.result c.take_up.new.self) c.current_level.ensures.level
+    ∙ ap (λ (xs : List ℕ). with_met_literals c.args.graph.now (current_level s) xs c.take_up.new.self) ls_is
+    ∙ ap (λ (w : Work). with_met_literals c.args.graph.now (current_level s) (causes_at c.args.clauses.now s (lit_at s p)) w) up in
     record {
       next = (
         last.before,
-        subst (λ (w : Work). Resolving c.args.clauses.now s (falsified c.args.clauses.now c.args.conflict.now) w p) (sym e)
+        subst (λ (w : Work). ResolutionInvariant c.args.clauses.now s (falsified c.args.clauses.now c.args.conflict.now) w p) (sym e)
             (resolved c.args.clauses.now s (falsified c.args.clauses.now c.args.conflict.now) c.args.analysis.now p c.args.before c.requires.can c.requires.resolving c.requires.two last here),
-        subst (λ (w : Work). Collecting c.args.clauses.now s c.args.conflict.now w p) (sym e)
+        subst (λ (w : Work). CollectionInvariant c.args.clauses.now s c.args.conflict.now w p) (sym e)
             (collecting_taken c.args.clauses.now s c.args.conflict.now c.args.analysis.now p c.args.before c.requires.can.agrees c.requires.collecting last c.requires.resolving.marks.within c.requires.resolving.marks.size
             (λ k lt. c.requires.can.before p k t.first t.within lt) t.other),
       );

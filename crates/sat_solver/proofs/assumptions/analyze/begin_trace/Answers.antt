@@ -6,10 +6,10 @@ use Rattle.sat_parts.specs.prop.Causes.{causes}
 use Rattle.sat_parts.specs.prop.Graphs.{node_of}
 use Rattle.sat_parts.specs.prop.Ready.{state_of}
 use Rattle.sat_parts.specs.prop.State.{State, node, lit_at}
-use Rattle.sat_solver.specs.analyze_conflict.Work.{Work, with_literals, begun_core}
+use Rattle.sat_solver.specs.analyze_conflict.Work.{Work, with_met_literals, begun_core}
 use Rattle.sat_solver.specs.analyze_conflict.Marks.{causes_at, depth}
 use Rattle.sat_solver.specs.analyze_conflict.Minimal.{used_up}
-use Rattle.sat_solver.specs.assumptions.Failing.{Tracing}
+use Rattle.sat_solver.specs.assumptions.Failing.{TraceInvariant}
 use Rattle.sat_solver.proofs.lemmas.analyze_conflict.Codes.{taken_stands, before_nodes}
 use Rattle.sat_solver.proofs.lemmas.analyze_conflict.Minimized.{false_variable}
 use Rattle.sat_solver.proofs.lemmas.analyze_conflict.Tracing.{Found, found, traced_first}
@@ -61,10 +61,10 @@ returns c =
     let ls_is : c.lits.result ≡ causes_at words s c.args.failed = c.lits.ensures ∙ ap (λ (r : Reason). causes words r) r_is in
     let up : c.use_up.new.self ≡ used_up (negated c.args.failed) (begun_core c.args.failed w) =
     c.in_ok-use_up.ensures ∙ ap (λ l. used_up l c.begin_core.new.self) c.not.ensures ∙ ap (λ (v : Work). used_up (negated c.args.failed) v) c.in_ok-begin_core.ensures in
-    let e : c.add_all.new.analysis ≡ with_literals c.args.graph.now 1 (causes_at words s c.args.failed) (used_up (negated c.args.failed) (begun_core c.args.failed w)) =
+    let e : c.add_all.new.analysis ≡ with_met_literals c.args.graph.now 1 (causes_at words s c.args.failed) (used_up (negated c.args.failed) (begun_core c.args.failed w)) =
     c.in_ok-add_all.ensures
-    ∙ ap (λ (xs : List ℕ). with_literals c.args.graph.now 1 xs c.use_up.new.self) ls_is
-    ∙ ap (λ (v : Work). with_literals c.args.graph.now 1 (causes_at words s c.args.failed) v) up in
-    subst (λ n. Tracing words s c.args.failed c.add_all.new.analysis (n - 1)) (sym d)
-    (subst (λ (v : Work). Tracing words s c.args.failed v (depth s c.args.failed - 1)) (sym e)
+    ∙ ap (λ (xs : List ℕ). with_met_literals c.args.graph.now 1 xs c.use_up.new.self) ls_is
+    ∙ ap (λ (v : Work). with_met_literals c.args.graph.now 1 (causes_at words s c.args.failed) v) up in
+    subst (λ n. TraceInvariant words s c.args.failed c.add_all.new.analysis (n - 1)) (sym d)
+    (subst (λ (v : Work). TraceInvariant words s c.args.failed v (depth s c.args.failed - 1)) (sym e)
     (traced_first words s c.args.failed (depth s c.args.failed - 1) w c.requires.can c.requires.clear c.requires.size x.within x.there c.requires.above c.requires.caused))

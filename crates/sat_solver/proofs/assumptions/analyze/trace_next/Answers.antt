@@ -3,12 +3,12 @@ use Rattle.std.proofs.lemmas.List.{get_or_read}
 use Rattle.sat_base.specs.values.Literals.{variable}
 use Rattle.sat_parts.specs.declared.prop.graph.Reason.{Reason}
 use Rattle.sat_parts.specs.prop.Causes.{causes}
-use Rattle.sat_parts.specs.prop.Graphs.{node_of, is_unit}
+use Rattle.sat_parts.specs.prop.Graphs.{node_of, is_unit_reason}
 use Rattle.sat_parts.specs.prop.Ready.{state_of}
 use Rattle.sat_parts.specs.prop.State.{State, node, lit_at}
-use Rattle.sat_solver.specs.analyze_conflict.Work.{Work, with_literals, taken_up, with_chosen}
+use Rattle.sat_solver.specs.analyze_conflict.Work.{Work, with_met_literals, taken_up, with_chosen}
 use Rattle.sat_solver.specs.analyze_conflict.Marks.{causes_at}
-use Rattle.sat_solver.specs.assumptions.Failing.{Tracing}
+use Rattle.sat_solver.specs.assumptions.Failing.{TraceInvariant}
 use Rattle.sat_solver.proofs.lemmas.analyze_conflict.Codes.{some_flagged, last_place, place_variable, taken_stands, before_nodes}
 use Rattle.sat_solver.proofs.lemmas.analyze_conflict.Resolution.{IsLastFlagged}
 use Rattle.sat_solver.proofs.lemmas.analyze_conflict.Tracing.{Reached, reached, traced_used, traced_chosen}
@@ -32,9 +32,9 @@ returns-then-is_unit c =
     get_or_read c.trail-lits.result.now p c.index-lits-place.result (omega (arith, t.within, ap (λ (xs : List ℕ). length xs) c.trail-lits.ensures.lits)) c.index-lits-place.is 0
     ∙ ap (λ (xs : List ℕ). get_or xs p 0) c.trail-lits.ensures.lits in
     let r_is : c.reason-reason.result ≡ (node s (lit_at s p)).reason = c.reason-reason.ensures ∙ ap (λ v. (node_of c.args.graph.now v).reason) (c.var.ensures ∙ ap (λ l. variable l) l_is) in
-    let free : is_unit (node s (lit_at s p)).reason ≡ true = ap (λ (r : Reason). is_unit r) (sym r_is) ∙ sym c.is_unit.ensures ∙ c.if-is_unit.true in
+    let free : is_unit_reason (node s (lit_at s p)).reason ≡ true = ap (λ (r : Reason). is_unit_reason r) (sym r_is) ∙ sym c.is_unit.ensures ∙ c.if-is_unit.true in
     let e : c.choose.new.self ≡ with_chosen (lit_at s p) w = c.in_ok-choose.ensures ∙ ap (λ l. with_chosen l w) l_is in
-    (last.before, subst (λ (v : Work). Tracing words s c.args.failed v p) (sym e) (traced_chosen words s c.args.failed w p c.args.before c.requires.can c.requires.tracing c.requires.some last here free))
+    (last.before, subst (λ (v : Work). TraceInvariant words s c.args.failed v p) (sym e) (traced_chosen words s c.args.failed w p c.args.before c.requires.can c.requires.tracing c.requires.some last here free))
 
 pub lits-requires-clause-clause : goal.lits-requires-clause-clause
 lits-requires-clause-clause c = λ o is.
@@ -100,11 +100,11 @@ returns c =
     ∙ ap (λ (xs : List ℕ). get_or xs p 0) c.trail-lits.ensures.lits in
     let r_is : c.reason-reason.result ≡ (node s (lit_at s p)).reason = c.reason-reason.ensures ∙ ap (λ v. (node_of c.args.graph.now v).reason) (c.var.ensures ∙ ap (λ l. variable l) l_is) in
     let ls_is : c.lits.result ≡ causes_at words s (lit_at s p) = c.lits.ensures ∙ ap (λ (r : Reason). causes words r) r_is in
-    let caused : is_unit (node s (lit_at s p)).reason ≡ false = ap (λ (r : Reason). is_unit r) (sym r_is) ∙ sym c.is_unit.ensures ∙ c.if-is_unit.false in
+    let caused : is_unit_reason (node s (lit_at s p)).reason ≡ false = ap (λ (r : Reason). is_unit_reason r) (sym r_is) ∙ sym c.is_unit.ensures ∙ c.if-is_unit.false in
     let up : c.take_up.new.self ≡ taken_up (node s (lit_at s p)).reason (lit_at s p) w =
     c.in_ok-take_up.ensures ∙ ap (λ m. taken_up c.reason-reason.result m w) l_is ∙ ap (λ (r : Reason). taken_up r (lit_at s p) w) r_is in
-    let e : c.add_all.new.analysis ≡ with_literals c.args.graph.now 1 (causes_at words s (lit_at s p)) (taken_up (node s (lit_at s p)).reason (lit_at s p) w) =
+    let e : c.add_all.new.analysis ≡ with_met_literals c.args.graph.now 1 (causes_at words s (lit_at s p)) (taken_up (node s (lit_at s p)).reason (lit_at s p) w) =
     c.in_ok-add_all.ensures
-    ∙ ap (λ (xs : List ℕ). with_literals c.args.graph.now 1 xs c.take_up.new.self) ls_is
-    ∙ ap (λ (v : Work). with_literals c.args.graph.now 1 (causes_at words s (lit_at s p)) v) up in
-    (last.before, subst (λ (v : Work). Tracing words s c.args.failed v p) (sym e) (traced_used words s c.args.failed w p c.args.before c.requires.can c.requires.tracing c.requires.some last here caused))
+    ∙ ap (λ (xs : List ℕ). with_met_literals c.args.graph.now 1 xs c.take_up.new.self) ls_is
+    ∙ ap (λ (v : Work). with_met_literals c.args.graph.now 1 (causes_at words s (lit_at s p)) v) up in
+    (last.before, subst (λ (v : Work). TraceInvariant words s c.args.failed v p) (sym e) (traced_used words s c.args.failed w p c.args.before c.requires.can c.requires.tracing c.requires.some last here caused))

@@ -4,7 +4,7 @@ use Rattle.sat_parts.specs.clause.Db.{live_refs}
 use Rattle.sat_parts.specs.prop.Ready.{IsConflict}
 use Rattle.sat_parts.specs.parts.Whole.{HoldsBelow}
 use Rattle.sat_solver.specs.proof.ProofView.{session_of}
-use Rattle.sat_solver.specs.session.Naming.{global_of}
+use Rattle.sat_solver.specs.session.Naming.{global_of_index}
 use Rattle.sat_solver.specs.cdcl.Going.{EmitsSteps}
 use Rattle.sat_solver.specs.cdcl.Joint.{assumed_in}
 use Rattle.sat_solver.specs.unit_simplify.Left.{TakesUnitsOff}
@@ -49,8 +49,8 @@ unit_simplify-requires g c =
     let holds : HoldsBelow (length d.parts.trail.starts + 1) d.parts = rw c.in-Ok.is at x.holds in
     let went : Propagation s c.args.search.now d = propagation s c.args.search.now d search refl refl refl refl x.starts x.moved x.carries x.word x.keeps holds (rw c.in-Ok.is at x.done) x.units x.base in
     let may : MaySettle c.args.names.now c.args.proof.now d = may_settle c.args.names.now c.args.proof.now c.args.search.now d c.requires.together (none_open c.args.search.now.parts.trail.starts (omega (arith, c.if-current_level-gt0.false, c.current_level.ensures.level))) went in
-    let settles : EmitsSteps {A = Unit {0}} g.W.CountedWrite.seen (Ok tt) c.args.proof.now c.settle.new.proof (λ _ _. TakesUnitsOff d.parts c.settle.new.parts (session_of c.settle.new.proof) (global_of d.globals.items)) =
-    subst (λ gs. EmitsSteps {A = Unit {0}} g.W.CountedWrite.seen (Ok tt) c.args.proof.now c.settle.new.proof (λ _ _. TakesUnitsOff d.parts c.settle.new.parts (session_of c.settle.new.proof) (global_of gs))) c.deref.ensures.value c.in_ok-settle.ensures in
+    let settles : EmitsSteps {A = Unit {0}} g.W.CountedWrite.seen (Ok tt) c.args.proof.now c.settle.new.proof (λ _ _. TakesUnitsOff d.parts c.settle.new.parts (session_of c.settle.new.proof) (global_of_index d.globals.items)) =
+    subst (λ gs. EmitsSteps {A = Unit {0}} g.W.CountedWrite.seen (Ok tt) c.args.proof.now c.settle.new.proof (λ _ _. TakesUnitsOff d.parts c.settle.new.parts (session_of c.settle.new.proof) (global_of_index gs))) c.deref.ensures.value c.in_ok-settle.ensures in
     let e : Search = record d { parts = c.settle.new.parts; scratch = record d.scratch { units = c.settle.new.units } } in
     record {
       together = (settled_passes g.W.CountedWrite.seen c.args.names.now c.args.proof.now c.settle.new.proof d e may settles refl refl refl refl).together;
@@ -91,8 +91,8 @@ returns-in_err-unit_simplify g c =
     let holds : HoldsBelow (length d.parts.trail.starts + 1) d.parts = rw c.in-Ok.is at x.holds in
     let went : Propagation s c.args.search.now d = propagation s c.args.search.now d search refl refl refl refl x.starts x.moved x.carries x.word x.keeps holds (rw c.in-Ok.is at x.done) x.units x.base in
     let may : MaySettle c.args.names.now c.args.proof.now d = may_settle c.args.names.now c.args.proof.now c.args.search.now d c.requires.together (none_open c.args.search.now.parts.trail.starts (omega (arith, c.if-current_level-gt0.false, c.current_level.ensures.level))) went in
-    let settles : EmitsSteps {A = Unit {0}} g.W.CountedWrite.seen (Ok tt) c.args.proof.now c.settle.new.proof (λ _ _. TakesUnitsOff d.parts c.settle.new.parts (session_of c.settle.new.proof) (global_of d.globals.items)) =
-    subst (λ gs. EmitsSteps {A = Unit {0}} g.W.CountedWrite.seen (Ok tt) c.args.proof.now c.settle.new.proof (λ _ _. TakesUnitsOff d.parts c.settle.new.parts (session_of c.settle.new.proof) (global_of gs))) c.deref.ensures.value c.in_ok-settle.ensures in
+    let settles : EmitsSteps {A = Unit {0}} g.W.CountedWrite.seen (Ok tt) c.args.proof.now c.settle.new.proof (λ _ _. TakesUnitsOff d.parts c.settle.new.parts (session_of c.settle.new.proof) (global_of_index d.globals.items)) =
+    subst (λ gs. EmitsSteps {A = Unit {0}} g.W.CountedWrite.seen (Ok tt) c.args.proof.now c.settle.new.proof (λ _ _. TakesUnitsOff d.parts c.settle.new.parts (session_of c.settle.new.proof) (global_of_index gs))) c.deref.ensures.value c.in_ok-settle.ensures in
     let e : Search = record d { parts = c.settle.new.parts; scratch = record d.scratch { units = c.settle.new.units } } in
     let p = err_from_is_err_and c.from_residual-in_err-unit_simplify.result c.from_residual-in_err-unit_simplify.ensures.1 in
     rw (p.1, p.2) (settled_simplified g.W.CountedWrite.seen c.args.names.now c.args.proof.now c.settle.new.proof d e may settles refl refl refl refl
@@ -107,8 +107,8 @@ returns g c =
     let holds : HoldsBelow (length d.parts.trail.starts + 1) d.parts = rw c.in-Ok.is at x.holds in
     let went : Propagation s c.args.search.now d = propagation s c.args.search.now d search refl refl refl refl x.starts x.moved x.carries x.word x.keeps holds (rw c.in-Ok.is at x.done) x.units x.base in
     let may : MaySettle c.args.names.now c.args.proof.now d = may_settle c.args.names.now c.args.proof.now c.args.search.now d c.requires.together (none_open c.args.search.now.parts.trail.starts (omega (arith, c.if-current_level-gt0.false, c.current_level.ensures.level))) went in
-    let settles : EmitsSteps {A = Unit {0}} g.W.CountedWrite.seen (Ok tt) c.args.proof.now c.settle.new.proof (λ _ _. TakesUnitsOff d.parts c.settle.new.parts (session_of c.settle.new.proof) (global_of d.globals.items)) =
-    subst (λ gs. EmitsSteps {A = Unit {0}} g.W.CountedWrite.seen (Ok tt) c.args.proof.now c.settle.new.proof (λ _ _. TakesUnitsOff d.parts c.settle.new.parts (session_of c.settle.new.proof) (global_of gs))) c.deref.ensures.value c.in_ok-settle.ensures in
+    let settles : EmitsSteps {A = Unit {0}} g.W.CountedWrite.seen (Ok tt) c.args.proof.now c.settle.new.proof (λ _ _. TakesUnitsOff d.parts c.settle.new.parts (session_of c.settle.new.proof) (global_of_index d.globals.items)) =
+    subst (λ gs. EmitsSteps {A = Unit {0}} g.W.CountedWrite.seen (Ok tt) c.args.proof.now c.settle.new.proof (λ _ _. TakesUnitsOff d.parts c.settle.new.parts (session_of c.settle.new.proof) (global_of_index gs))) c.deref.ensures.value c.in_ok-settle.ensures in
     let e : Search = record d { parts = c.settle.new.parts; scratch = record d.scratch { units = c.settle.new.units } } in
     let simplified : IsSimplifiedPass g.W.CountedWrite.seen c.args.names.now c.unit_simplify.new.names c.args.proof.now c.unit_simplify.new.proof d c.unit_simplify.new.search =
     settled_simplified g.W.CountedWrite.seen c.args.names.now c.args.proof.now c.settle.new.proof d e may settles refl refl refl refl

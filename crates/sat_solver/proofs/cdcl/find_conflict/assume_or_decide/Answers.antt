@@ -1,6 +1,6 @@
 use Rattle.std.proofs.Common.{◌+◌, ◌≡◌, ◌∙◌, length, ap, subst, arith}
 use Rattle.sat_parts.specs.declared.parts.assumptions.EnqueueAssumption.TheVariants.{Done}
-use Rattle.sat_parts.specs.parts.Assumed.{EnqueueAssumptionEffect, variables}
+use Rattle.sat_parts.specs.parts.Assumed.{EnqueueAssumptionEffect, variables_of_lits}
 use Rattle.sat_parts.specs.parts.Frame.{SameClauses, AddsNoUnit}
 use Rattle.sat_parts.specs.parts.Whole.{state}
 use Rattle.sat_parts.proofs.lemmas.parts.AssumeLemmas.{placed_kept}
@@ -20,7 +20,7 @@ returns-then-branch c =
       holds = d.holds;
       lits = x.lits;
       placed = placed_kept a.lits.items a.below.items a.place (length a.below.items) (state m) (state c.make_decision.new.parts) x.placed (d.keeps (length a.below.items)) (omega arith) (omega (arith, x.placed.levels, deep)) (λ lt. said.1);
-      word = extends_after (variables c.args.assumptions.now.lits.items) c.args.parts.now m c.make_decision.new.parts x.word (d.word (variables c.args.assumptions.now.lits.items));
+      word = extends_after (variables_of_lits c.args.assumptions.now.lits.items) c.args.parts.now m c.make_decision.new.parts x.word (d.word (variables_of_lits c.args.assumptions.now.lits.items));
       same = subst (λ p. SameClauses p c.make_decision.new.parts) said.0 d.same.0;
       carries = subst (λ p. AddsNoUnit (state p) (state c.make_decision.new.parts)) said.0 d.same.1;
       stops = deep ∙ ap (λ p. length p.trail.starts + 1) said.0;
@@ -41,7 +41,7 @@ returns c =
       holds = d.holds;
       lits = x.lits;
       placed = placed;
-      word = extends_after (variables c.args.assumptions.now.lits.items) c.args.parts.now m c.make_decision.new.parts x.word (d.word (variables c.args.assumptions.now.lits.items));
+      word = extends_after (variables_of_lits c.args.assumptions.now.lits.items) c.args.parts.now m c.make_decision.new.parts x.word (d.word (variables_of_lits c.args.assumptions.now.lits.items));
       same = subst (λ p. SameClauses p c.make_decision.new.parts) said.0 d.same.0;
       carries = subst (λ p. AddsNoUnit (state p) (state c.make_decision.new.parts)) said.0 d.same.1;
       stops = record { done = all.0; all = all.1; assumed = subst (λ v. AllTrue v.items c.make_decision.new.parts) x.lits true_all };

@@ -3,7 +3,7 @@ use Rattle.std.proofs.lemmas.List.{get_or_read}
 use Rattle.std.specs.List.{Contains}
 use Rattle.sat_parts.proofs.lemmas.clause.ListLemmas.{place_in}
 use Rattle.sat_parts.specs.clause.Db.{live_refs, Db}
-use Rattle.sat_solver.specs.clause.Assessed.{levels_in, TakesPart}
+use Rattle.sat_solver.specs.clause.Assessed.{levels_in, BumpsClause}
 use Rattle.sat_solver.proofs.lemmas.clause.GradingLemmas.{rates_refl, rates_trans, involved_kept, levels_kept, takes_next, takes_last}
 use Rattle.sat_solver.proofs.clause.activity.bump_clauses.Goals as goal
 
@@ -35,7 +35,7 @@ loop-cref-preserved c =
     let o = c.cref-item.result in
     let at : c.cref-item.result ≡ get_or c.args.crefs.now c.loop-cref.cref-index 0 = get_or_read c.args.crefs.now c.loop-cref.cref-index c.cref-item.result (omega arith) c.cref-item.is 0 in
     let live : Contains (live_refs c.args.parts.now.clauses c.args.parts.now.db.refs) c.cref-item.result = rw at (c.requires.involved.live (get_or c.args.crefs.now c.loop-cref.cref-index 0) (place_in c.args.crefs.now c.loop-cref.cref-index (omega arith))) in
-    let one : TakesPart (levels_in c.args.parts.now c.cref-item.result) c.loop-cref.parts.clauses c.bump_one.new.parts.clauses c.args.parts.now.db.refs c.cref-item.result c.loop-cref.activity c.bump_one.new.activity =
+    let one : BumpsClause (levels_in c.args.parts.now c.cref-item.result) c.loop-cref.parts.clauses c.bump_one.new.parts.clauses c.args.parts.now.db.refs c.cref-item.result c.loop-cref.activity c.bump_one.new.activity =
     rw (levels_kept p c.loop-cref.parts x.rates.headed o live, x.rates.refs) at e.takes in
     record {
       rates = rates_trans p c.loop-cref.parts c.bump_one.new.parts x.rates e.rates;

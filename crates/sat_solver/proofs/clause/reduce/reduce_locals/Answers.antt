@@ -2,7 +2,7 @@ use Rattle.std.proofs.Common.{◌≡◌, ◌∙◌, Bool, Ok, drop, get_or, refl
 use Rattle.std.proofs.lemmas.Result.{err_from_is_err_and}
 use Rattle.sat_parts.proofs.lemmas.parts.WordSteps.{default_free}
 use Rattle.sat_solver.specs.proof.ProofView.{session_of}
-use Rattle.sat_solver.specs.clause.Reduced.{Deleted, Reduced, ReducesLocals}
+use Rattle.sat_solver.specs.clause.Reduced.{DeletesIf, ReductionEffect, ReducesLocals}
 use Rattle.sat_parts.specs.clause.Db.{live_refs}
 use Rattle.std.specs.List.{Contains}
 use Rattle.sat_solver.proofs.lemmas.cdcl.GoingLemmas.{goes_none, goes_starved, goes_then, goes_then_fails, goes_on}
@@ -32,17 +32,17 @@ pub returns-in_err-deleted : goal.returns-in_err-deleted
 returns-in_err-deleted g c =
     let p = err_from_is_err_and c.from_residual-in_err-deleted.result c.from_residual-in_err-deleted.ensures.1 in
     rw (p.1, p.2)
-    (goes_then_fails g.W.CountedWrite.seen tt c.in_err-deleted.field-0.0 c.args.proof.now c.loop-at.proof c.delete_learned.new.proof _ (λ (b : Bool) _. Deleted b c.index.result.now (session_of c.delete_learned.new.proof) c.loop-at.search c.delete_learned.new.search) _
+    (goes_then_fails g.W.CountedWrite.seen tt c.in_err-deleted.field-0.0 c.args.proof.now c.loop-at.proof c.delete_learned.new.proof _ (λ (b : Bool) _. DeletesIf b c.index.result.now (session_of c.delete_learned.new.proof) c.loop-at.search c.delete_learned.new.search) _
     c.loop-at.invariant.came c.in_err-deleted.ensures)
 
 pub loop-at-preserved : goal.loop-at-preserved
 loop-at-preserved g c =
     let i = c.loop-at.invariant in
-    let d : Deleted c.in_ok-deleted.deleted c.index.result.now (session_of c.delete_learned.new.proof) c.loop-at.search c.delete_learned.new.search = c.in_ok-deleted.ensures.ends in
+    let d : DeletesIf c.in_ok-deleted.deleted c.index.result.now (session_of c.delete_learned.new.proof) c.loop-at.search c.delete_learned.new.search = c.in_ok-deleted.ensures.ends in
     let at : c.index.result.now ≡ get_or c.list_locals.new.list.items c.loop-at.at 0 = c.index.ensures ∙ default_free c.list_locals.new.list.items c.loop-at.at c.index.result.now 0 (omega arith) in
     let here : Contains (live_refs c.loop-at.search.parts.clauses c.loop-at.search.parts.db.refs) c.index.result.now = rw at (i.learnt c.loop-at.at (omega arith) (omega arith)).live in
     record {
-      came = goes_then g.W.CountedWrite.seen tt (Ok tt) c.args.proof.now c.loop-at.proof c.delete_learned.new.proof _ (λ _ _. Deleted c.in_ok-deleted.deleted c.index.result.now (session_of c.delete_learned.new.proof) c.loop-at.search c.delete_learned.new.search) _ i.came
+      came = goes_then g.W.CountedWrite.seen tt (Ok tt) c.args.proof.now c.loop-at.proof c.delete_learned.new.proof _ (λ _ _. DeletesIf c.in_ok-deleted.deleted c.index.result.now (session_of c.delete_learned.new.proof) c.loop-at.search c.delete_learned.new.search) _ i.came
           (goes_on g.W.CountedWrite.seen c.in_ok-deleted.deleted tt c.loop-at.proof c.delete_learned.new.proof _ _ (λ steps x. x) c.in_ok-deleted.ensures)
           (λ xs ys y a b. reduced_trans (session_of c.loop-at.proof) (session_of c.delete_learned.new.proof) c.args.search.now c.loop-at.search c.delete_learned.new.search a
           (reduced_deleted c.in_ok-deleted.deleted c.index.result.now (session_of c.delete_learned.new.proof) c.loop-at.search c.delete_learned.new.search b));
@@ -58,7 +58,7 @@ pub returns-then-left-eq0 : goal.returns-then-left-eq0
 returns-then-left-eq0 g c =
     let i = c.loop-at.invariant in
     let l = c.in_ok-list_locals.ensures in
-    goes_on g.W.CountedWrite.seen tt tt c.args.proof.now c.loop-at.proof (λ _ _. Reduced (session_of c.loop-at.proof) c.args.search.now c.loop-at.search) (λ _ _. Reduced (session_of c.loop-at.proof) c.args.search.now c.loop-at.search × ReducesLocals c.args.is_due c.args.search.now.parts c.loop-at.search.parts)
+    goes_on g.W.CountedWrite.seen tt tt c.args.proof.now c.loop-at.proof (λ _ _. ReductionEffect (session_of c.loop-at.proof) c.args.search.now c.loop-at.search) (λ _ _. ReductionEffect (session_of c.loop-at.proof) c.args.search.now c.loop-at.search × ReducesLocals c.args.is_due c.args.search.now.parts c.loop-at.search.parts)
     (λ steps x. (x, rw c.if-not-is_due.false (halved_enough c.args.search.now.parts c.loop-at.search.parts c.list_locals.new.list.items l.locals l.rising (drop c.loop-at.at c.list_locals.new.list.items) c.loop-at.left (omega arith) i.halving)))
     i.came
 
@@ -66,7 +66,7 @@ pub returns : goal.returns
 returns g c =
     let i = c.loop-at.invariant in
     let l = c.in_ok-list_locals.ensures in
-    goes_on g.W.CountedWrite.seen tt tt c.args.proof.now c.loop-at.proof (λ _ _. Reduced (session_of c.loop-at.proof) c.args.search.now c.loop-at.search) (λ _ _. Reduced (session_of c.loop-at.proof) c.args.search.now c.loop-at.search × ReducesLocals c.args.is_due c.args.search.now.parts c.loop-at.search.parts)
+    goes_on g.W.CountedWrite.seen tt tt c.args.proof.now c.loop-at.proof (λ _ _. ReductionEffect (session_of c.loop-at.proof) c.args.search.now c.loop-at.search) (λ _ _. ReductionEffect (session_of c.loop-at.proof) c.args.search.now c.loop-at.search × ReducesLocals c.args.is_due c.args.search.now.parts c.loop-at.search.parts)
     (λ steps x. (
       x,
       rw c.if-not-is_due.false (halved_all c.args.search.now.parts c.loop-at.search.parts c.list_locals.new.list.items l.locals l.rising (drop c.loop-at.at c.list_locals.new.list.items) c.loop-at.left

@@ -22,11 +22,11 @@ write_clause-requires-clause-literals g c = subst (SameLiterals c.take_names.new
     c.in_ok-take_names.ensures.takes.images c.in_ok-both_signs.ensures.maps c.in_ok-both_signs.ensures.order)
 
 pub returns-clause-adds : goal.returns-clause-adds
-returns-clause-adds g c = clause_added c.args.variables.now c.take_names.new.variables (g.W.StepWriter.steps c.args.writer.now) (g.W.StepWriter.steps c.take_names.new.writer) (g.W.StepWriter.steps c.write_clause.new.writer) c.args.lits.now c.take_names.new.taken c.map_clause.new.taken c.in_ok-both_signs.both_signs
+returns-clause-adds g c = clause_added c.args.variables.now c.take_names.new.variables (g.W.StepLog.steps c.args.writer.now) (g.W.StepLog.steps c.take_names.new.writer) (g.W.StepLog.steps c.write_clause.new.writer) c.args.lits.now c.take_names.new.taken c.map_clause.new.taken c.in_ok-both_signs.both_signs
     c.in_ok-take_names.ensures.takes c.in_ok-both_signs.ensures.maps c.in_ok-both_signs.ensures.signs c.in_ok-both_signs.ensures.order c.in_ok-both_signs.ensures.given
-    c.in_ok-write_clause.ensures.does (c.in_ok-write_clause.ensures.step ∙ ap (λ (ls : List ℕ). AddClause ls ∷ g.W.StepWriter.steps c.take_names.new.writer) c.deref.ensures.value)
+    c.in_ok-write_clause.ensures.does (c.in_ok-write_clause.ensures.step ∙ ap (λ (ls : List ℕ). AddClause ls ∷ g.W.StepLog.steps c.take_names.new.writer) c.deref.ensures.value)
 
 pub returns-in_err-both_signs-clause-came : goal.returns-in_err-both_signs-clause-came
 returns-in_err-both_signs-clause-came g c =
-    came_on g.W.StepWriter.took g.W.StepWriter.broke c.from_residual-in_err-both_signs.result c.in_err-both_signs.field-0.0 c.args.writer.now c.take_names.new.writer c.from_residual-in_err-both_signs.ensures.1
-    (subst (λ e. (w : g.row.W.Denot) → g.W.StepWriter.took w c.args.writer.now → EmitsUpTo g.W.StepWriter.took g.W.StepWriter.broke w e c.take_names.new.writer) (sym c.in_err-both_signs.ensures.memory) c.in_ok-take_names.ensures.came)
+    came_on g.W.StepLog.took g.W.StepLog.broke c.from_residual-in_err-both_signs.result c.in_err-both_signs.field-0.0 c.args.writer.now c.take_names.new.writer c.from_residual-in_err-both_signs.ensures.1
+    (subst (λ e. (w : g.row.W.Denot) → g.W.StepLog.took w c.args.writer.now → EmitsUpTo g.W.StepLog.took g.W.StepLog.broke w e c.take_names.new.writer) (sym c.in_err-both_signs.ensures.memory) c.in_ok-take_names.ensures.came)

@@ -1,11 +1,11 @@
 use Rattle.std.proofs.Common.{◌≡◌, ◌+◌, drop, get_or, sym, ◌∙◌, ap, subst, refl}
 use Rattle.sat_base.specs.values.Literals.{variable, coded, is_positive}
-use Rattle.sat_solver.specs.variables.Calls.{Brought}
+use Rattle.sat_solver.specs.variables.Calls.{BringsInUnseen}
 use Rattle.sat_solver.specs.variables.Variables.{global_of}
 use Rattle.sat_solver.proofs.lemmas.variables.TakenNames.{none_taken, one_taken, all_taken, any_default}
 use Rattle.sat_solver.proofs.lemmas.variables.CameLemmas.{came_on, came_starved}
 use Rattle.sat_solver.specs.declared.variables.error.NameError.TheVariants as errors
-use Rattle.sat_solver.specs.variables.Room.{users_in}
+use Rattle.sat_solver.specs.variables.VariableRoom.{users_in}
 use Rattle.sat_solver.proofs.lemmas.variables.RoomLemmas.{room_same, room_at, fails_on}
 use Rattle.sat_solver.proofs.load.literals.take_names.Goals as goal
 
@@ -15,7 +15,7 @@ loop-lit-init g c = record {
   keeps = c.requires.keeps;
   room = λ h. h;
   came = λ w t. t;
-  taking = none_taken c.args.variables.now (g.W.StepWriter.steps c.args.writer.now) c.args.lits.now c.clear.new.self.items c.clear-2.new.self.items c.requires.stands c.clear.ensures.items c.clear-2.ensures.items;
+  taking = none_taken c.args.variables.now (g.W.StepLog.steps c.args.writer.now) c.args.lits.now c.clear.new.self.items c.clear-2.new.self.items c.requires.stands c.clear.ensures.items c.clear-2.ensures.items;
 }
 
 pub global_from_user-requires-clause-stands : goal.global_from_user-requires-clause-stands
@@ -40,15 +40,15 @@ loop-lit-preserved g c =
           (c.in_ok-global.ensures.brought.room (users_in (drop (c.loop-lit.lit-index + 1) c.args.lits.now)) (room_at c.loop-lit.variables c.args.lits.now c.loop-lit.lit-index c.var.result c.loop-lit-test.true user (c.loop-lit.invariant.room h)));
       came = λ w t. c.in_ok-solver.ensures.came w (c.in_ok-global.ensures.came w (c.loop-lit.invariant.came w t));
       taking = one_taken c.args.variables.now c.loop-lit.variables c.global_from_user.new.variables c.solver_from_global.new.variables
-          (g.W.StepWriter.steps c.args.writer.now) (g.W.StepWriter.steps c.loop-lit.writer) (g.W.StepWriter.steps c.global_from_user.new.writer) (g.W.StepWriter.steps c.solver_from_global.new.writer)
+          (g.W.StepLog.steps c.args.writer.now) (g.W.StepLog.steps c.loop-lit.writer) (g.W.StepLog.steps c.global_from_user.new.writer) (g.W.StepLog.steps c.solver_from_global.new.writer)
           c.args.lits.now c.loop-lit.taken.order.items c.push.new.self.items c.loop-lit.taken.given.items c.solver_from_global.new.given.items c.loop-lit.lit-index (get_or c.args.lits.now c.loop-lit.lit-index 0) c.in_ok-global.global c.in_ok-solver.solver c.lit.result
           c.loop-lit.invariant.taking c.loop-lit-test.true refl
-          (subst (λ u. Brought c.loop-lit.variables c.global_from_user.new.variables (g.W.StepWriter.steps c.loop-lit.writer) (g.W.StepWriter.steps c.global_from_user.new.writer) u) user c.in_ok-global.ensures.brought)
+          (subst (λ u. BringsInUnseen c.loop-lit.variables c.global_from_user.new.variables (g.W.StepLog.steps c.loop-lit.writer) (g.W.StepLog.steps c.global_from_user.new.writer) u) user c.in_ok-global.ensures.brought)
           (ap (global_of c.global_from_user.new.variables) (sym user) ∙ c.in_ok-global.ensures.variable) c.in_ok-solver.ensures.indexes (c.lit.ensures ∙ ap (coded c.in_ok-solver.solver) sign) c.in_ok-push.ensures.items;
     }
 
 pub returns-clause-takes : goal.returns-clause-takes
-returns-clause-takes g c = all_taken c.args.variables.now c.loop-lit.variables (g.W.StepWriter.steps c.args.writer.now) (g.W.StepWriter.steps c.loop-lit.writer) c.args.lits.now c.loop-lit.taken c.loop-lit.lit-index c.loop-lit-test.false c.loop-lit.auto.lit-index-end c.loop-lit.invariant.taking
+returns-clause-takes g c = all_taken c.args.variables.now c.loop-lit.variables (g.W.StepLog.steps c.args.writer.now) (g.W.StepLog.steps c.loop-lit.writer) c.args.lits.now c.loop-lit.taken c.loop-lit.lit-index c.loop-lit-test.false c.loop-lit.auto.lit-index-end c.loop-lit.invariant.taking
 
 pub returns-clause-globals : goal.returns-clause-globals
 returns-clause-globals g c = c.loop-lit.invariant.globals
@@ -58,16 +58,16 @@ returns-clause-keeps g c = c.loop-lit.invariant.keeps
 
 pub returns-in_err-global-clause-came : goal.returns-in_err-global-clause-came
 returns-in_err-global-clause-came g c =
-    came_on g.W.StepWriter.took g.W.StepWriter.broke c.from_residual.result c.in_err-global.field-0.0 c.args.writer.now c.global_from_user.new.writer c.from_residual.ensures.1 (λ w t. c.in_err-global.ensures.came w (c.loop-lit.invariant.came w t))
+    came_on g.W.StepLog.took g.W.StepLog.broke c.from_residual.result c.in_err-global.field-0.0 c.args.writer.now c.global_from_user.new.writer c.from_residual.ensures.1 (λ w t. c.in_err-global.ensures.came w (c.loop-lit.invariant.came w t))
 
 pub returns-in_err-solver-clause-came : goal.returns-in_err-solver-clause-came
 returns-in_err-solver-clause-came g c =
-    came_on g.W.StepWriter.took g.W.StepWriter.broke c.from_residual-in_err-solver.result c.in_err-solver.field-0.0 c.args.writer.now c.solver_from_global.new.writer c.from_residual-in_err-solver.ensures.1
+    came_on g.W.StepLog.took g.W.StepLog.broke c.from_residual-in_err-solver.result c.in_err-solver.field-0.0 c.args.writer.now c.solver_from_global.new.writer c.from_residual-in_err-solver.ensures.1
     (λ w t. c.in_err-solver.ensures.came w (c.in_ok-global.ensures.came w (c.loop-lit.invariant.came w t)))
 
 pub returns-in_err-push-clause-came : goal.returns-in_err-push-clause-came
 returns-in_err-push-clause-came g c =
-    came_starved g.W.StepWriter.took g.W.StepWriter.broke c.from_residual-in_err-push.result c.args.writer.now c.solver_from_global.new.writer c.from_residual-in_err-push.ensures.1
+    came_starved g.W.StepLog.took g.W.StepLog.broke c.from_residual-in_err-push.result c.args.writer.now c.solver_from_global.new.writer c.from_residual-in_err-push.ensures.1
     (λ w t. c.in_ok-solver.ensures.came w (c.in_ok-global.ensures.came w (c.loop-lit.invariant.came w t)))
 
 pub returns-clause-came : goal.returns-clause-came

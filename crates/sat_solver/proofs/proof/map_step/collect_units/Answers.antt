@@ -3,13 +3,13 @@ use Rattle.std.proofs.lemmas.List.{get_or_read}
 use Rattle.sat_base.specs.values.Literals.{variable}
 use Rattle.sat_base.specs.values.Hashes.{hash_of}
 use Rattle.sat_parts.specs.clause.Db.{live_refs}
-use Rattle.sat_parts.specs.prop.Graphs.{is_unit, node_of}
+use Rattle.sat_parts.specs.prop.Graphs.{is_unit_reason, node_of}
 use Rattle.sat_parts.specs.prop.State.{node, lit_at}
 use Rattle.sat_parts.specs.declared.prop.graph.Reason.{Reason}
 use Rattle.sat_solver.specs.session.TrailEntries.{reason_clause}
 use Rattle.sat_solver.specs.analyze_conflict.Derivation.{clause_of}
 use Rattle.sat_parts.specs.parts.Whole.{state}
-use Rattle.sat_solver.specs.session.Naming.{global_of}
+use Rattle.sat_solver.specs.session.Naming.{global_of_index}
 use Rattle.sat_solver.proofs.lemmas.fits.CodeLemmas.{units_push}
 use Rattle.sat_solver.proofs.lemmas.fits.UsableLemmas.{reason_clauses}
 use Rattle.sat_solver.proofs.lemmas.fits.StepLemmas.{orderly_there, orderly_clause, orderly_some, orderly_below}
@@ -68,9 +68,9 @@ loop-lit-preserved c =
     let first : c.loop-lit.lit-index < length c.trail-lit-items.result.now = omega arith in
     let lt : c.loop-lit.lit-index < length c.args.parts.now.trail.lits = subst (λ (xs : List ℕ). c.loop-lit.lit-index < length xs) same first in
     let at : c.lit-item.result ≡ get_or c.args.parts.now.trail.lits c.loop-lit.lit-index 0 = get_or_read c.trail-lit-items.result.now c.loop-lit.lit-index c.lit-item.result first c.lit-item.is 0 ∙ ap (λ (xs : List ℕ). get_or xs c.loop-lit.lit-index 0) same in
-    let caused : is_unit (node (state c.args.parts.now) (get_or c.args.parts.now.trail.lits c.loop-lit.lit-index 0)).reason ≡ false =
-    ap (λ l. is_unit (node (state c.args.parts.now) l).reason) (sym at) ∙ ap (λ v. is_unit (node_of c.args.parts.now.graph v).reason) (sym c.var.ensures) ∙ ap (λ (r : Reason). is_unit r) (sym c.reason.ensures) ∙ sym c.is_unit.ensures ∙ c.if-is_unit.false in
+    let caused : is_unit_reason (node (state c.args.parts.now) (get_or c.args.parts.now.trail.lits c.loop-lit.lit-index 0)).reason ≡ false =
+    ap (λ l. is_unit_reason (node (state c.args.parts.now) l).reason) (sym at) ∙ ap (λ v. is_unit_reason (node_of c.args.parts.now.graph v).reason) (sym c.var.ensures) ∙ ap (λ (r : Reason). is_unit_reason r) (sym c.reason.ensures) ∙ sym c.is_unit.ensures ∙ c.if-is_unit.false in
     let hash : hash_of (clause_of p.clauses (state p) (get_or c.args.parts.now.trail.lits c.loop-lit.lit-index 0)) ≡ hash_of (reason_clause p.clauses (get_or c.args.parts.now.trail.lits c.loop-lit.lit-index 0) (node (state p) (get_or c.args.parts.now.trail.lits c.loop-lit.lit-index 0)).reason) =
     ap (λ (xs : List ℕ). hash_of xs) (reason_clauses p.clauses (live_refs p.clauses p.db.refs) p.binary.implied (state p) i (length p.assignment.current) (node (state p) (lit_at (state p) i)).reason c.requires.orderly.clauses caused (c.requires.orderly.turns i (omega arith) lt)) in
     rw (c.in_ok-push.ensures.items, c.unit_of.ensures, at)
-    (units_push p.clauses (state p) (global_of c.args.globals.now) i (hash_of (clause_of p.clauses (state p) (get_or c.args.parts.now.trail.lits c.loop-lit.lit-index 0))) c.loop-lit.units.items p.trail.lits lt caused hash ∙ c.loop-lit.invariant)
+    (units_push p.clauses (state p) (global_of_index c.args.globals.now) i (hash_of (clause_of p.clauses (state p) (get_or c.args.parts.now.trail.lits c.loop-lit.lit-index 0))) c.loop-lit.units.items p.trail.lits lt caused hash ∙ c.loop-lit.invariant)

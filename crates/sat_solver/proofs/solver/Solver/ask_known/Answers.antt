@@ -1,5 +1,5 @@
 use Rattle.std.proofs.lemmas.Result.{err_from_is_err_and}
-use Rattle.sat_solver.proofs.lemmas.solver.TakingLemmas.{none_took, names_broke, told_fails}
+use Rattle.sat_solver.proofs.lemmas.solver.TakingLemmas.{none_took, names_broke, reported_fails}
 use Rattle.sat_solver.proofs.lemmas.solver.ComingLemmas.{asked_known}
 use Rattle.sat_solver.proofs.solver.Solver.ask_known.Goals as goal
 
@@ -17,4 +17,4 @@ returns-in_err-assume-clause-asks g c =
 pub returns-in_err-assume-clause-room : goal.returns-in_err-assume-clause-room
 returns-in_err-assume-clause-room g c = λ h.
     let p = err_from_is_err_and c.from_residual.result c.from_residual.ensures.1 in
-    rw (p.1, p.2) (told_fails c.in_err-assume.field-0.0 (c.in_err-assume.ensures.room h))
+    rw (p.1, p.2) (reported_fails c.in_err-assume.field-0.0 (c.in_err-assume.ensures.room h))

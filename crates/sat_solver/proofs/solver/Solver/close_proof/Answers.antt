@@ -1,5 +1,5 @@
 use Rattle.sat_solver.proofs.lemmas.solver.EndingLemmas.{closed_whole, closed_by}
-use Rattle.sat_solver.proofs.lemmas.solver.ToldLemmas.{close_ends, close_kept}
+use Rattle.sat_solver.proofs.lemmas.solver.ReportedLemmas.{close_ends, close_kept}
 use Rattle.sat_solver.proofs.solver.Solver.close_proof.Goals as goal
 
 pub returns-in-Ok-clause-solver : goal.returns-in-Ok-clause-solver

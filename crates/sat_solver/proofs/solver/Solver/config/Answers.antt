@@ -1,6 +1,6 @@
 use Rattle.std.proofs.Common.{subst}
 use Rattle.sat_solver.specs.declared.config.SolverConfig.{SolverConfig}
-use Rattle.sat_solver.specs.solver.Configuring.{HandsOn}
+use Rattle.sat_solver.specs.solver.Configuring.{PassesToSearch}
 use Rattle.sat_solver.proofs.lemmas.solver.ConfigLemmas.{whole_configured}
 use Rattle.sat_solver.proofs.solver.Solver.config.Goals as goal
 
@@ -9,4 +9,4 @@ returns-clause-solver g c = λ e.
     let s = c.args.self.now in
     rw c.unwrap_or-self.ensures
     (whole_configured c.args.update.now s.core s.names s.asked s.assumed.items s.told.failed_core.items s.clock.restarts.scale c.in_ok-apply.ensures.ok.0 s.state c.hand_on.new.core
-    (subst (λ (cfg : SolverConfig). HandsOn s.state (record s.core { config = cfg }) c.hand_on.new.core) c.in_ok-apply.ensures.ok.1 c.hand_on.ensures) (c.requires c.if-self.false))
+    (subst (λ (cfg : SolverConfig). PassesToSearch s.state (record s.core { config = cfg }) c.hand_on.new.core) c.in_ok-apply.ensures.ok.1 c.hand_on.ensures) (c.requires c.if-self.false))

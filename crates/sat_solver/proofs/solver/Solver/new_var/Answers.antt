@@ -6,9 +6,9 @@ use Rattle.sat_solver.proofs.lemmas.solver.TakingLemmas.{none_took, names_broke}
 use Rattle.sat_solver.specs.variables.Failing.{FailsForNoVariable, Limits}
 use Rattle.sat_solver.specs.solver.Whole.{IsSolver, steps_in}
 use Rattle.sat_solver.specs.proof.ProofView.{steps_of}
-use Rattle.sat_solver.proofs.lemmas.solver.RenamedLemmas.{next_name, renamed, new_fails, one_left, fault_left, told_limit, same_solver}
+use Rattle.sat_solver.proofs.lemmas.solver.RenamedLemmas.{next_name, renamed, new_fails, one_left, fault_left, reported_limit, same_solver}
 use Rattle.sat_solver.specs.solver.Failing.{failed_with}
-use Rattle.sat_solver.proofs.lemmas.solver.ToldLemmas.{names_told}
+use Rattle.sat_solver.proofs.lemmas.solver.ReportedLemmas.{names_reported}
 use Rattle.sat_solver.proofs.solver.Solver.new_var.Goals as goal
 
 pub returns-in-Ok-clause-names : goal.returns-in-Ok-clause-names
@@ -43,7 +43,7 @@ returns-else-is_limit-clause-names g c =
     let s = c.args.self.now in
     let broke = names_broke g.W.CountedWrite.seen s.core (record s.core { proof = c.new_user_var.new.writer }) c.in-Err.error (c.in-Err.ensures.came s.core.proof (none_took g.W.CountedWrite.seen s.core.proof)) in
     let failing = record s { used = true; names = c.new_user_var.new.variables; core = record s.core { proof = c.new_user_var.new.writer } } in
-    rw (c.fail.ensures.error, c.fail.ensures.fails, c.from.ensures) (new_fails g.W.CountedWrite.seen _ s (failed_with failing) c.if-self.false (one_left c.in-Err.error s.names c.new_user_var.new.variables s.core.proof c.new_user_var.new.writer (λ e. c.is_limit.ensures.other c.if-is_limit.false (told_limit c.in-Err.error e)) c.in-Err.ensures.limit) (fault_left _ broke.0.fault (λ e. c.is_limit.ensures.other c.if-is_limit.false (told_limit c.in-Err.error e))) (names_told g.W.CountedWrite.seen _ s.core failing broke.0) refl refl)
+    rw (c.fail.ensures.error, c.fail.ensures.fails, c.from.ensures) (new_fails g.W.CountedWrite.seen _ s (failed_with failing) c.if-self.false (one_left c.in-Err.error s.names c.new_user_var.new.variables s.core.proof c.new_user_var.new.writer (λ e. c.is_limit.ensures.other c.if-is_limit.false (reported_limit c.in-Err.error e)) c.in-Err.ensures.limit) (fault_left _ broke.0.fault (λ e. c.is_limit.ensures.other c.if-is_limit.false (reported_limit c.in-Err.error e))) (names_reported g.W.CountedWrite.seen _ s.core failing broke.0) refl refl)
 
 pub fail-requires : goal.fail-requires
 fail-requires g c =

@@ -1,8 +1,8 @@
 use Rattle.std.proofs.Common.{ℕ, ◌||◌, ◌∙◌, not, eqb, List, length, refl, ap}
 use Rattle.sat_solver.proofs.lemmas.solver.TakingLemmas.{none_took, names_broke}
-use Rattle.sat_solver.proofs.lemmas.solver.RenamedLemmas.{observed_all, new_ends, fault_left, told_limit}
+use Rattle.sat_solver.proofs.lemmas.solver.RenamedLemmas.{observed_all, new_ends, fault_left, reported_limit}
 use Rattle.sat_solver.specs.solver.Failing.{failed_with}
-use Rattle.sat_solver.proofs.lemmas.solver.ToldLemmas.{names_told}
+use Rattle.sat_solver.proofs.lemmas.solver.ReportedLemmas.{names_reported}
 use Rattle.sat_solver.proofs.solver.Solver.observe_internal_vars.Goals as goal
 
 pub returns-in-Ok-clause-solver : goal.returns-in-Ok-clause-solver
@@ -22,7 +22,7 @@ returns-in-Err-clause-fails g c =
     let s = c.args.self.now in
     let broke = names_broke g.W.CountedWrite.seen s.core (record s.core { proof = c.observe_internal_vars.new.writer }) c.in-Err.error (c.in-Err.ensures.came s.core.proof (none_took g.W.CountedWrite.seen s.core.proof)) in
     let failing = record s { names = c.observe_internal_vars.new.variables; core = record s.core { proof = c.observe_internal_vars.new.writer } } in
-    rw (c.fail.ensures.error, c.fail.ensures.fails, c.from.ensures) (new_ends g.W.CountedWrite.seen _ s (failed_with failing) c.if-self.false (fault_left _ broke.0.fault (λ e. c.in-Err.ensures.left (told_limit c.in-Err.error e))) (names_told g.W.CountedWrite.seen _ s.core failing broke.0) refl refl)
+    rw (c.fail.ensures.error, c.fail.ensures.fails, c.from.ensures) (new_ends g.W.CountedWrite.seen _ s (failed_with failing) c.if-self.false (fault_left _ broke.0.fault (λ e. c.in-Err.ensures.left (reported_limit c.in-Err.error e))) (names_reported g.W.CountedWrite.seen _ s.core failing broke.0) refl refl)
 
 pub fail-requires : goal.fail-requires
 fail-requires g c =

@@ -1,13 +1,13 @@
 use Rattle.std.proofs.Common.{[], ◌∷◌, refl, ap, true}
 use Rattle.sat_base.specs.values.Literals.{coded}
 use Rattle.sat_solver.proofs.lemmas.variables.Giving.{alike_unseen}
-use Rattle.sat_solver.proofs.lemmas.solver.TakingLemmas.{none_took, names_broke, told_fails}
+use Rattle.sat_solver.proofs.lemmas.solver.TakingLemmas.{none_took, names_broke, reported_fails}
 use Rattle.sat_solver.specs.solver.Whole.{steps_in}
 use Rattle.sat_solver.specs.proof.ProofView.{steps_of}
 use Rattle.sat_solver.proofs.lemmas.solver.RenamedLemmas.{marked_asked, not_marked, others_kept, renamed, mode_ends}
 use Rattle.sat_solver.proofs.lemmas.variables.RoomLemmas.{said_room, said_none}
 use Rattle.sat_solver.specs.solver.Failing.{failed_with}
-use Rattle.sat_solver.proofs.lemmas.solver.ToldLemmas.{names_told}
+use Rattle.sat_solver.proofs.lemmas.solver.ReportedLemmas.{names_reported}
 use Rattle.sat_solver.proofs.solver.Solver.set_mode.Goals as goal
 
 pub returns-then-is_assumed-clause-sets : goal.returns-then-is_assumed-clause-sets
@@ -37,7 +37,7 @@ returns-in-Err-clause-sets g c =
     let s = c.args.self.now in
     let failing = record s { used = true; names = c.set_sampling_mode.new.variables; core = record s.core { proof = c.set_sampling_mode.new.writer } } in
     rw (c.fail.ensures.error, c.fail.ensures.fails, c.from.ensures) (mode_ends g.W.CountedWrite.seen _ s (failed_with failing) c.args.user _ _ _
-    c.if-self.false (not_marked s (c.requires c.if-self.false) c.args.user (c.is_assumed.ensures.free c.if-is_assumed.false)) (said_room s.names (c.args.user ∷ []) c.has_room_for.result c.has_room_for.ensures c.if-not-has_room_for.false) (told_fails c.in-Err.error (c.in-Err.ensures.room (said_room s.names (c.args.user ∷ []) c.has_room_for.result c.has_room_for.ensures c.if-not-has_room_for.false))) (names_told g.W.CountedWrite.seen _ s.core failing (names_broke g.W.CountedWrite.seen s.core (record s.core { proof = c.set_sampling_mode.new.writer }) c.in-Err.error (c.in-Err.ensures.came s.core.proof (none_took g.W.CountedWrite.seen s.core.proof))).0) refl refl)
+    c.if-self.false (not_marked s (c.requires c.if-self.false) c.args.user (c.is_assumed.ensures.free c.if-is_assumed.false)) (said_room s.names (c.args.user ∷ []) c.has_room_for.result c.has_room_for.ensures c.if-not-has_room_for.false) (reported_fails c.in-Err.error (c.in-Err.ensures.room (said_room s.names (c.args.user ∷ []) c.has_room_for.result c.has_room_for.ensures c.if-not-has_room_for.false))) (names_reported g.W.CountedWrite.seen _ s.core failing (names_broke g.W.CountedWrite.seen s.core (record s.core { proof = c.set_sampling_mode.new.writer }) c.in-Err.error (c.in-Err.ensures.came s.core.proof (none_took g.W.CountedWrite.seen s.core.proof))).0) refl refl)
 
 pub has_room_for-requires : goal.has_room_for-requires
 has_room_for-requires g c = (c.requires c.if-self.false).stands.tidy

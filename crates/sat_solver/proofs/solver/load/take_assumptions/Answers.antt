@@ -1,9 +1,9 @@
 use Rattle.std.proofs.Common.{ℕ, List, subst}
 use Rattle.sat_solver.specs.variables.Initialized.{GivesSearchIndices}
-use Rattle.sat_solver.specs.assumptions.Setting.{AreAssumed}
+use Rattle.sat_solver.specs.assumptions.Setting.{ReplacesAssumed}
 use Rattle.sat_solver.specs.declared.variables.solver_vars.Given.{Given}
 use Rattle.std.proofs.lemmas.Result.{err_from_is_err_and}
-use Rattle.sat_solver.proofs.lemmas.solver.TakingLemmas.{told_fails, fault_on, asked_vacant, asked_there, asked_taken, none_took, names_broke, names_starved}
+use Rattle.sat_solver.proofs.lemmas.solver.TakingLemmas.{reported_fails, fault_on, asked_vacant, asked_there, asked_taken, none_took, names_broke, names_starved}
 use Rattle.sat_solver.specs.declared.error.SolverError.TheVariants as errors
 use Rattle.sat_solver.proofs.solver.load.take_assumptions.Goals as goal
 
@@ -35,12 +35,12 @@ pub returns-clause-takes : goal.returns-clause-takes
 returns-clause-takes g c = asked_taken g.W.CountedWrite.seen c.args.names.now c.assume.new.variables c.args.core.now c.requires.joined c.args.lits.now c.assume.new.asked c.assume.new.writer c.in_ok-assume.ensures.assumes (c.in_ok-assume.ensures.came c.args.core.now.proof (none_took g.W.CountedWrite.seen c.args.core.now.proof)) c.in_ok-assume.ensures.keeps c.new_indices.new.search
     (subst (λ (gs : List ℕ). GivesSearchIndices gs c.assume.new.asked.given.items c.args.core.now.search c.new_indices.new.search) c.deref.ensures.value
     (subst (λ (hs : List Given). GivesSearchIndices c.deref.result.now hs c.args.core.now.search c.new_indices.new.search) c.deref-2.ensures.value c.in_ok-new_indices.ensures))
-    c.set_assumptions.new.search (subst (λ (ls : List ℕ). AreAssumed ls c.new_indices.new.search c.set_assumptions.new.search) c.deref-3.ensures.value c.in_ok-set_assumptions.ensures)
+    c.set_assumptions.new.search (subst (λ (ls : List ℕ). ReplacesAssumed ls c.new_indices.new.search c.set_assumptions.new.search) c.deref-3.ensures.value c.in_ok-set_assumptions.ensures)
 
 pub returns-in_err-assume-clause-room : goal.returns-in_err-assume-clause-room
 returns-in_err-assume-clause-room g c = λ h.
     let p = err_from_is_err_and c.from_residual.result c.from_residual.ensures.1 in
-    rw (p.1, p.2) (told_fails c.in_err-assume.field-0.0 (c.in_err-assume.ensures.room h))
+    rw (p.1, p.2) (reported_fails c.in_err-assume.field-0.0 (c.in_err-assume.ensures.room h))
 
 pub returns-in_err-new_indices-clause-room : goal.returns-in_err-new_indices-clause-room
 returns-in_err-new_indices-clause-room g c = λ h. fault_on _ c.from_residual-in_err-new_indices.result errors.OutOfMemory c.from_residual-in_err-new_indices.ensures.1 tt

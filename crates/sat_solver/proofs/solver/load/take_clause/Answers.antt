@@ -2,9 +2,9 @@ use Rattle.std.proofs.Common.{ℕ, List, subst}
 use Rattle.std.proofs.lemmas.Result.{err_from_is_err_and}
 use Rattle.sat_solver.specs.variables.Initialized.{GivesSearchIndices}
 use Rattle.sat_solver.specs.declared.variables.solver_vars.Given.{Given}
-use Rattle.sat_solver.proofs.lemmas.solver.TakingLemmas.{told_fails, fault_on, fault_ends, clause_vacant, clause_added, clause_may, clause_both, clause_told, none_took, names_broke, names_starved}
+use Rattle.sat_solver.proofs.lemmas.solver.TakingLemmas.{reported_fails, fault_on, fault_ends, clause_vacant, clause_added, clause_may, clause_both, clause_told, none_took, names_broke, names_starved}
 use Rattle.sat_solver.specs.declared.error.SolverError.TheVariants as errors
-use Rattle.sat_solver.specs.load.Faults.{told_as}
+use Rattle.sat_solver.specs.load.Faults.{reported_as}
 use Rattle.sat_solver.proofs.lemmas.cdcl.GoingLemmas.{fault_or}
 use Rattle.sat_solver.proofs.solver.load.take_clause.Goals as goal
 
@@ -47,7 +47,7 @@ returns-clause-takes g c = clause_told g.W.CountedWrite.seen c.args.names.now c.
 pub returns-in_err-both_signs-clause-room : goal.returns-in_err-both_signs-clause-room
 returns-in_err-both_signs-clause-room g c = λ h.
     let p = err_from_is_err_and c.from_residual.result c.from_residual.ensures.1 in
-    rw (p.1, p.2) (fault_or _ (told_as c.in_err-both_signs.field-0.0) (told_fails c.in_err-both_signs.field-0.0 (c.in_err-both_signs.ensures.room h)))
+    rw (p.1, p.2) (fault_or _ (reported_as c.in_err-both_signs.field-0.0) (reported_fails c.in_err-both_signs.field-0.0 (c.in_err-both_signs.ensures.room h)))
 
 pub returns-in_err-new_indices-clause-room : goal.returns-in_err-new_indices-clause-room
 returns-in_err-new_indices-clause-room g c = λ h. fault_on _ c.from_residual-in_err-new_indices.result errors.OutOfMemory c.from_residual-in_err-new_indices.ensures.1 tt

@@ -5,7 +5,7 @@ use Rattle.sat_base.specs.steps.Steps.{DeleteClause, Satisfied}
 use Rattle.sat_solver.specs.session.LiveClauses.{with_var}
 use Rattle.sat_solver.specs.proof.ProofView.{session_of, steps_of}
 use Rattle.sat_solver.specs.session.Session.{session_after, May}
-use Rattle.sat_solver.specs.session.Naming.{global_of}
+use Rattle.sat_solver.specs.session.Naming.{global_of_index}
 use Rattle.sat_solver.specs.cdcl.Joint.{global_in}
 use Rattle.sat_solver.specs.unit_simplify.Flat.{LeavesPairs}
 use Rattle.sat_solver.proofs.lemmas.cdcl.GoingLemmas.{goes_none, goes_map}
@@ -43,7 +43,7 @@ pub delete_satisfied-requires-clause-may : goal.delete_satisfied-requires-clause
 delete_satisfied-requires-clause-may g c =
     let at : PairAt c.args.search.now c.args.lit c.args.at c.not-first.result c.index-implied-at.result =
     record { first = c.not-first.ensures; second = c.index-implied-at.is ∙ get_or_default_zero c.implied.result.now c.args.at c.index-implied-at.result (subst (λ (ms : List ℕ). c.args.at < length ms) (sym c.implied.ensures) c.requires.within) ∙ ap (λ ms. get_or ms c.args.at 0) c.implied.ensures } in
-    subst (λ (gs : List ℕ). May (session_of c.args.proof.now) (DeleteClause (map (with_var (global_of gs)) (c.not-first.result ∷ c.index-implied-at.result ∷ [])) Satisfied)) (sym c.deref.ensures.value)
+    subst (λ (gs : List ℕ). May (session_of c.args.proof.now) (DeleteClause (map (with_var (global_of_index gs)) (c.not-first.result ∷ c.index-implied-at.result ∷ [])) Satisfied)) (sym c.deref.ensures.value)
     (pair_deletes (session_of c.args.proof.now) c.args.search.now c.requires.may c.args.lit c.args.at c.requires.within c.requires.left c.not-first.result c.index-implied-at.result at (omega (arith, c.if-code.false, c.code-2.ensures.value, c.code.ensures.value)) (sym c.are_open.ensures ∙ c.if-are_open.false)).0
 
 pub returns-clause-left : goal.returns-clause-left
@@ -54,5 +54,5 @@ returns-clause-left g c =
     let step = DeleteClause (map (with_var (global_in c.args.search.now)) (c.not-first.result ∷ c.index-implied-at.result ∷ [])) Satisfied in
     goes_map g.W.CountedWrite.seen c.delete_satisfied.result c.args.proof.now c.delete_satisfied.new.proof _ (λ _ _. LeavesPairs (session_of c.delete_satisfied.new.proof) c.args.search.now c.args.lit (c.args.at + 1))
     (λ u steps e. subst (λ ss. LeavesPairs (session_after ss) c.args.search.now c.args.lit (c.args.at + 1))
-    (sym (e ∙ ap (λ (gs : List ℕ). DeleteClause (map (with_var (global_of gs)) (c.not-first.result ∷ c.index-implied-at.result ∷ [])) Satisfied ∷ steps_of c.args.proof.now) c.deref.ensures.value)) x)
+    (sym (e ∙ ap (λ (gs : List ℕ). DeleteClause (map (with_var (global_of_index gs)) (c.not-first.result ∷ c.index-implied-at.result ∷ [])) Satisfied ∷ steps_of c.args.proof.now) c.deref.ensures.value)) x)
     c.delete_satisfied.ensures

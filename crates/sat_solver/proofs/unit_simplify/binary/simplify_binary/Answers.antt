@@ -3,7 +3,7 @@ use Rattle.std.proofs.lemmas.Result.{err_from_is_err_and}
 use Rattle.sat_solver.specs.proof.ProofView.{session_of}
 use Rattle.sat_solver.specs.declared.context.Search.{Search}
 use Rattle.sat_parts.specs.parts.Whole.{PartsInvariant}
-use Rattle.sat_parts.specs.parts.Frame.{Removed}
+use Rattle.sat_parts.specs.parts.Frame.{RemovesBinaries}
 use Rattle.sat_parts.specs.parts.Words.{TrailWordExtends}
 use Rattle.sat_solver.specs.cdcl.Joint.{SameAssumedAndNames}
 use Rattle.sat_solver.specs.unit_simplify.Flat.{MayRemove, LeavesPairs, IsStrengthened}
@@ -65,9 +65,9 @@ returns g c =
     let room = c.requires.search.stands.holds.below.asks.ranges.room in
     let end : c.loop-code.code ≡ length c.args.search.now.parts.binary.implied = omega (arith, room, c.loop-code-test.false, c.loop-code.auto.code-end, ap (λ xs. length xs) c.assignment.ensures.values) in
     let leaves : SameAssumedAndNames (session_of c.args.proof.now) (session_of c.loop-code.proof) = goes_leaves g.W.CountedWrite.seen tt c.args.proof.now c.loop-code.proof _ i.went in
-    let removed : Removed c.args.search.now.parts c.remove_binary.new.parts = subst (λ (s : Search). Removed s.parts c.remove_binary.new.parts) i.same c.remove_binary.ensures.removed in
+    let removed : RemovesBinaries c.args.search.now.parts c.remove_binary.new.parts = subst (λ (s : Search). RemovesBinaries s.parts c.remove_binary.new.parts) i.same c.remove_binary.ensures.removed in
     goes_on g.W.CountedWrite.seen tt tt c.args.proof.now c.loop-code.proof (λ _ _. LeavesPairs (session_of c.loop-code.proof) c.args.search.now c.loop-code.code 0)
-    (λ _ _. IsStrengthened (session_of c.loop-code.proof) c.args.search.now (record c.loop-code.search { parts = c.remove_binary.new.parts }) × Removed c.args.search.now.parts c.remove_binary.new.parts)
+    (λ _ _. IsStrengthened (session_of c.loop-code.proof) c.args.search.now (record c.loop-code.search { parts = c.remove_binary.new.parts }) × RemovesBinaries c.args.search.now.parts c.remove_binary.new.parts)
     (λ steps z. (
       pairs_removed (session_of c.args.proof.now) (session_of c.loop-code.proof) x y c.requires.search c.requires.flat leaves (subst (λ k. LeavesPairs (session_of c.loop-code.proof) c.args.search.now k 0) end z)
           (ap (λ (s : Search). s.globals) i.same) (ap (λ (s : Search). s.assumptions) i.same) (ap (λ (s : Search). s.analysis) i.same) (ap (λ (s : Search). s.flags) i.same)

@@ -14,12 +14,12 @@ pub loop-index-init : goal.loop-index-init
 loop-index-init g c = record {
   keeps = c.requires.keeps;
   came = λ w t. t;
-  frees = subst (λ k. FreesSome c.args.variables.now c.args.variables.now (g.S.StepWriter.steps c.args.writer.now) (g.S.StepWriter.steps c.args.writer.now) c.args.search.now k) (sym (none_freed c.mark_used.new.used.items c.args.search.now))
-      (frees_none c.args.variables.now (g.S.StepWriter.steps c.args.writer.now) c.args.search.now c.requires.may);
+  frees = subst (λ k. FreesSome c.args.variables.now c.args.variables.now (g.S.StepLog.steps c.args.writer.now) (g.S.StepLog.steps c.args.writer.now) c.args.search.now k) (sym (none_freed c.mark_used.new.used.items c.args.search.now))
+      (frees_none c.args.variables.now (g.S.StepLog.steps c.args.writer.now) c.args.search.now c.requires.may);
   size = c.in_ok-mark_used.ensures.size;
   unused = c.in_ok-mark_used.ensures.unused;
   others = λ v le none. c.in_ok-mark_used.ensures.others v none;
-  left = left_none c.args.variables.now (session_after (g.S.StepWriter.steps c.args.writer.now)) c.args.search.now.parts;
+  left = left_none c.args.variables.now (session_after (g.S.StepLog.steps c.args.writer.now)) c.args.search.now.parts;
 }
 
 pub loop-index-preserved-then-index : goal.loop-index-preserved-then-index
@@ -27,11 +27,11 @@ loop-index-preserved-then-index g c =
     let is_set : get_or c.loop-index.used.items c.loop-index.index false ≡ true = get_or_default c.loop-index.used.items c.loop-index.index false c.index.result.now (omega (arith, c.loop-index-test.true, c.len-index-end.ensures, c.loop-index.invariant.size, c.in_ok-mark_used.ensures.size)) ∙ sym c.index.ensures ∙ c.if-index.true in
     record {
       others = λ v le none. c.loop-index.invariant.others v (omega arith) none;
-      left = left_used c.args.variables.now c.loop-index.variables c.loop-index.variables (session_after (g.S.StepWriter.steps c.args.writer.now)) (session_after (g.S.StepWriter.steps c.loop-index.writer)) c.args.search.now.parts c.loop-index.index c.loop-index.invariant.left
+      left = left_used c.args.variables.now c.loop-index.variables c.loop-index.variables (session_after (g.S.StepLog.steps c.args.writer.now)) (session_after (g.S.StepLog.steps c.loop-index.writer)) c.args.search.now.parts c.loop-index.index c.loop-index.invariant.left
           (λ none. true≢false (sym is_set ∙ c.loop-index.invariant.others c.loop-index.index (omega arith) none));
       keeps = c.loop-index.invariant.keeps;
       came = c.loop-index.invariant.came;
-      frees = frees_skipped c.args.variables.now c.loop-index.variables (g.S.StepWriter.steps c.args.writer.now) (g.S.StepWriter.steps c.loop-index.writer) c.args.search.now c.args.search.now c.loop-index.used.items c.loop-index.index is_set c.loop-index.invariant.frees;
+      frees = frees_skipped c.args.variables.now c.loop-index.variables (g.S.StepLog.steps c.args.writer.now) (g.S.StepLog.steps c.loop-index.writer) c.args.search.now c.args.search.now c.loop-index.used.items c.loop-index.index is_set c.loop-index.invariant.frees;
       size = c.loop-index.invariant.size;
       unused = c.loop-index.invariant.unused;
     }
@@ -42,7 +42,7 @@ release_unused-requires-clause-keeps g c = c.loop-index.invariant.keeps
 pub release_unused-requires-clause-may : goal.release_unused-requires-clause-may
 release_unused-requires-clause-may g c =
     rw c.from_index.ensures
-    (may_free_on c.args.variables.now c.loop-index.variables (g.S.StepWriter.steps c.args.writer.now) (g.S.StepWriter.steps c.loop-index.writer) c.args.search.now (freed_search c.loop-index.used.items c.loop-index.index c.args.search.now) c.loop-index.invariant.frees)
+    (may_free_on c.args.variables.now c.loop-index.variables (g.S.StepLog.steps c.args.writer.now) (g.S.StepLog.steps c.loop-index.writer) c.args.search.now (freed_search c.loop-index.used.items c.loop-index.index c.args.search.now) c.loop-index.invariant.frees)
 
 pub release_unused-requires-clause-there : goal.release_unused-requires-clause-there
 release_unused-requires-clause-there g c = omega (arith, c.from_index.ensures, c.loop-index-test.true, c.len-index-end.ensures, c.in_ok-mark_used.ensures.size)
@@ -64,14 +64,14 @@ release_unused-requires-clause-unused g c =
 pub loop-index-preserved : goal.loop-index-preserved
 loop-index-preserved g c =
     let marks : MarksAtMost c.loop-index.index c.loop-index.used.items c.release_unused.new.used.items = rw c.from_index.ensures at c.in_ok-release_unused.ensures.marks in
-    let frees : FreesSome c.loop-index.variables c.release_unused.new.variables (g.S.StepWriter.steps c.loop-index.writer) (g.S.StepWriter.steps c.release_unused.new.writer) (freed_search c.loop-index.used.items c.loop-index.index c.args.search.now) (freed_search c.release_unused.new.used.items (c.loop-index.index + 1) c.args.search.now) = rw c.from_index.ensures at c.in_ok-release_unused.ensures.frees in
+    let frees : FreesSome c.loop-index.variables c.release_unused.new.variables (g.S.StepLog.steps c.loop-index.writer) (g.S.StepLog.steps c.release_unused.new.writer) (freed_search c.loop-index.used.items c.loop-index.index c.args.search.now) (freed_search c.release_unused.new.used.items (c.loop-index.index + 1) c.args.search.now) = rw c.from_index.ensures at c.in_ok-release_unused.ensures.frees in
     record {
       others = λ v le none. marks.others v (omega arith) ∙ c.loop-index.invariant.others v (omega arith) none;
-      left = left_more c.args.variables.now c.loop-index.variables c.release_unused.new.variables (session_after (g.S.StepWriter.steps c.args.writer.now)) (session_after (g.S.StepWriter.steps c.loop-index.writer)) c.args.search.now.parts c.loop-index.index c.loop-index.invariant.left
+      left = left_more c.args.variables.now c.loop-index.variables c.release_unused.new.variables (session_after (g.S.StepLog.steps c.args.writer.now)) (session_after (g.S.StepLog.steps c.loop-index.writer)) c.args.search.now.parts c.loop-index.index c.loop-index.invariant.left
           frees.fewer c.loop-index.invariant.frees.asked.assumed (λ v e. c.in_ok-release_unused.ensures.left v (subst (λ x. global_at c.release_unused.new.variables x ≡ Some v) (sym c.from_index.ensures) e));
       keeps = c.in_ok-release_unused.ensures.keeps;
       came = λ w t. c.in_ok-release_unused.ensures.came w (c.loop-index.invariant.came w t);
-      frees = frees_both c.args.variables.now c.loop-index.variables c.release_unused.new.variables (g.S.StepWriter.steps c.args.writer.now) (g.S.StepWriter.steps c.loop-index.writer) (g.S.StepWriter.steps c.release_unused.new.writer) c.args.search.now (freed_search c.loop-index.used.items c.loop-index.index c.args.search.now) (freed_search c.release_unused.new.used.items (c.loop-index.index + 1) c.args.search.now)
+      frees = frees_both c.args.variables.now c.loop-index.variables c.release_unused.new.variables (g.S.StepLog.steps c.args.writer.now) (g.S.StepLog.steps c.loop-index.writer) (g.S.StepLog.steps c.release_unused.new.writer) c.args.search.now (freed_search c.loop-index.used.items c.loop-index.index c.args.search.now) (freed_search c.release_unused.new.used.items (c.loop-index.index + 1) c.args.search.now)
           c.loop-index.invariant.frees frees;
       size = marks.size ∙ c.loop-index.invariant.size;
       unused = λ v e. c.loop-index.invariant.unused v (marks.more v e);
@@ -84,16 +84,16 @@ pub free_unmarked-requires-clause-queue : goal.free_unmarked-requires-clause-que
 free_unmarked-requires-clause-queue g c = omega (arith, c.loop-index.invariant.size, c.requires.may.search.stands.holds.below.queue)
 
 pub free_unmarked-requires-clause-few : goal.free_unmarked-requires-clause-few
-free_unmarked-requires-clause-few g c = omega (arith, c.loop-index.invariant.size, marks_fit c.args.variables.now (g.S.StepWriter.steps c.args.writer.now) c.args.search.now c.requires.may)
+free_unmarked-requires-clause-few g c = omega (arith, c.loop-index.invariant.size, marks_fit c.args.variables.now (g.S.StepLog.steps c.args.writer.now) c.args.search.now c.requires.may)
 
 pub returns-clause-left : goal.returns-clause-left
 returns-clause-left g c =
     let end : c.loop-index.index ≡ length c.args.search.now.parts.assignment.current = omega (arith, c.loop-index-test.false, c.loop-index.auto.index-end, c.len-index-end.ensures, c.in_ok-mark_used.ensures.size) in
-    subst (λ k. AreLeft c.loop-index.variables (session_after (g.S.StepWriter.steps c.args.writer.now)) c.args.search.now.parts k) end c.loop-index.invariant.left
+    subst (λ k. AreLeft c.loop-index.variables (session_after (g.S.StepLog.steps c.args.writer.now)) c.args.search.now.parts k) end c.loop-index.invariant.left
 
 pub returns-clause-frees : goal.returns-clause-frees
 returns-clause-frees g c =
-    frees_all c.args.variables.now c.loop-index.variables (g.S.StepWriter.steps c.args.writer.now) (g.S.StepWriter.steps c.loop-index.writer) c.args.search.now c.loop-index.used.items c.loop-index.index c.free_unmarked.new.parts
+    frees_all c.args.variables.now c.loop-index.variables (g.S.StepLog.steps c.args.writer.now) (g.S.StepLog.steps c.loop-index.writer) c.args.search.now c.loop-index.used.items c.loop-index.index c.free_unmarked.new.parts
     (omega (arith, c.loop-index-test.false, c.loop-index.auto.index-end, c.len-index-end.ensures, c.in_ok-mark_used.ensures.size, c.loop-index.invariant.size)) c.free_unmarked.ensures c.loop-index.invariant.frees
 
 pub returns-clause-keeps : goal.returns-clause-keeps
@@ -101,7 +101,7 @@ returns-clause-keeps g c = c.loop-index.invariant.keeps
 
 pub returns-in_err-release_unused-clause-came : goal.returns-in_err-release_unused-clause-came
 returns-in_err-release_unused-clause-came g c =
-    came_on g.S.StepWriter.took g.S.StepWriter.broke c.from_residual-in_err-release_unused.result c.in_err-release_unused.field-0.0 c.args.writer.now c.release_unused.new.writer c.from_residual-in_err-release_unused.ensures.1 (λ w t. c.in_err-release_unused.ensures.came w (c.loop-index.invariant.came w t))
+    came_on g.S.StepLog.took g.S.StepLog.broke c.from_residual-in_err-release_unused.result c.in_err-release_unused.field-0.0 c.args.writer.now c.release_unused.new.writer c.from_residual-in_err-release_unused.ensures.1 (λ w t. c.in_err-release_unused.ensures.came w (c.loop-index.invariant.came w t))
 
 pub returns-clause-came : goal.returns-clause-came
 returns-clause-came g c = c.loop-index.invariant.came

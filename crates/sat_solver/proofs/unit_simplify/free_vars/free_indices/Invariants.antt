@@ -8,11 +8,11 @@ use Rattle.sat_solver.proofs.unit_simplify.free_vars.free_indices.Given as goal
 
 abbrev pub invariant-loop-index : goal.invariant-loop-index
 invariant-loop-index g l = record {
-  keeps : g.S.StepWriter.keeps l.writer;
-  came : (w : g.row.S.Denot) → g.S.StepWriter.took w l.fn.writer → g.S.StepWriter.took w l.writer;
-  left : AreLeft l.variables (session_after (g.S.StepWriter.steps l.fn.writer)) l.fn.search.parts l.index;
+  keeps : g.S.StepLog.keeps l.writer;
+  came : (w : g.row.S.Denot) → g.S.StepLog.took w l.fn.writer → g.S.StepLog.took w l.writer;
+  left : AreLeft l.variables (session_after (g.S.StepLog.steps l.fn.writer)) l.fn.search.parts l.index;
   others : (v : ℕ) → l.index ≤ v → InNoClause l.fn.search.parts.clauses (live_refs l.fn.search.parts.clauses l.fn.search.parts.db.refs) l.fn.search.parts.binary.implied v → slice_index_or l.used.items v false ≡ false;
-  frees : FreesSome l.fn.variables l.variables (g.S.StepWriter.steps l.fn.writer) (g.S.StepWriter.steps l.writer) l.fn.search (freed_search l.used.items l.index l.fn.search);
+  frees : FreesSome l.fn.variables l.variables (g.S.StepLog.steps l.fn.writer) (g.S.StepLog.steps l.writer) l.fn.search (freed_search l.used.items l.index l.fn.search);
   size : length l.used.items ≡ length l.fn.search.parts.assignment.current;
   unused : (v : ℕ) → slice_index_or l.used.items v false ≡ false → InNoClause l.fn.search.parts.clauses (live_refs l.fn.search.parts.clauses l.fn.search.parts.db.refs) l.fn.search.parts.binary.implied v;
 }

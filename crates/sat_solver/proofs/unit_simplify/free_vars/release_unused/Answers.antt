@@ -10,35 +10,35 @@ use Rattle.sat_solver.proofs.lemmas.unit_simplify.FreeingLemmas.{same_value, sam
 use Rattle.sat_solver.proofs.unit_simplify.free_vars.release_unused.Goals as goal
 
 pub returns-in_default-clause-frees : goal.returns-in_default-clause-frees
-returns-in_default-clause-frees g c = frees_marked c.args.used.now.items c.args.search.now c.args.index c.args.variables.now (g.S.StepWriter.steps c.args.writer.now) c.mark.new.used.items c.requires.may c.requires.size c.mark.ensures
+returns-in_default-clause-frees g c = frees_marked c.args.used.now.items c.args.search.now c.args.index c.args.variables.now (g.S.StepLog.steps c.args.writer.now) c.mark.new.used.items c.requires.may c.requires.size c.mark.ensures
 
 pub returns-in_default-clause-marks : goal.returns-in_default-clause-marks
 returns-in_default-clause-marks g c = marks_one c.args.used.now.items c.mark.new.used.items c.args.index c.mark.ensures c.requires.size
 
 pub is_marked-requires : goal.is_marked-requires
-is_marked-requires g c = record { within = within_free c.args.variables.now (g.S.StepWriter.steps c.args.writer.now) (freed_search c.args.used.now.items c.args.index c.args.search.now) c.requires.may c.args.index c.in-Some.global (ap (λ m. target m c.args.index) (sym c.bwd.ensures.map) ∙ sym c.get.ensures ∙ c.in-Some.is) }
+is_marked-requires g c = record { within = within_free c.args.variables.now (g.S.StepLog.steps c.args.writer.now) (freed_search c.args.used.now.items c.args.index c.args.search.now) c.requires.may c.args.index c.in-Some.global (ap (λ m. target m c.args.index) (sym c.bwd.ensures.map) ∙ sym c.get.ensures ∙ c.in-Some.is) }
 
 pub returns-then-is_marked-clause-frees : goal.returns-then-is_marked-clause-frees
-returns-then-is_marked-clause-frees g c = frees_marked c.args.used.now.items c.args.search.now c.args.index c.args.variables.now (g.S.StepWriter.steps c.args.writer.now) c.mark-then-is_marked.new.used.items c.requires.may c.requires.size c.mark-then-is_marked.ensures
+returns-then-is_marked-clause-frees g c = frees_marked c.args.used.now.items c.args.search.now c.args.index c.args.variables.now (g.S.StepLog.steps c.args.writer.now) c.mark-then-is_marked.new.used.items c.requires.may c.requires.size c.mark-then-is_marked.ensures
 
 pub returns-then-is_marked-clause-marks : goal.returns-then-is_marked-clause-marks
 returns-then-is_marked-clause-marks g c = marks_one c.args.used.now.items c.mark-then-is_marked.new.used.items c.args.index c.mark-then-is_marked.ensures c.requires.size
 
 pub set_unit-requires : goal.set_unit-requires
-set_unit-requires g c = record { within = within_free c.args.variables.now (g.S.StepWriter.steps c.args.writer.now) (freed_search c.args.used.now.items c.args.index c.args.search.now) c.requires.may c.args.index c.in-Some.global (ap (λ m. target m c.args.index) (sym c.bwd.ensures.map) ∙ sym c.get.ensures ∙ c.in-Some.is) }
+set_unit-requires g c = record { within = within_free c.args.variables.now (g.S.StepLog.steps c.args.writer.now) (freed_search c.args.used.now.items c.args.index c.args.search.now) c.requires.may c.args.index c.in-Some.global (ap (λ m. target m c.args.index) (sym c.bwd.ensures.map) ∙ sym c.get.ensures ∙ c.in-Some.is) }
 
 pub give_up-requires-clause-stands : goal.give_up-requires-clause-stands
 give_up-requires-clause-stands g c =
     let k = freed_search c.args.used.now.items c.args.index c.args.search.now in
     let there : global_at c.args.variables.now c.args.index ≡ Some c.in-Some.global = ap (λ m. target m c.args.index) (sym c.bwd.ensures.map) ∙ sym c.get.ensures ∙ c.in-Some.is in
-    noted_stands c.args.variables.now (g.S.StepWriter.steps c.args.writer.now) k c.requires.may c.args.index c.in-Some.global there c.set_unit.new.self
+    noted_stands c.args.variables.now (g.S.StepLog.steps c.args.writer.now) k c.requires.may c.args.index c.in-Some.global there c.set_unit.new.self
     (subst (λ (o : Option Bool). PutsUnit c.args.variables.now c.set_unit.new.self c.in-Some.global o) (c.var_value.ensures ∙ sym (same_value c.args.used.now.items c.args.search.now c.args.index)) c.set_unit.ensures)
 
 pub give_up-requires-clause-unit : goal.give_up-requires-clause-unit
 give_up-requires-clause-unit g c =
     let k = freed_search c.args.used.now.items c.args.index c.args.search.now in
     let there : global_at c.args.variables.now c.args.index ≡ Some c.in-Some.global = ap (λ m. target m c.args.index) (sym c.bwd.ensures.map) ∙ sym c.get.ensures ∙ c.in-Some.is in
-    noted_unit c.args.variables.now (g.S.StepWriter.steps c.args.writer.now) k c.requires.may c.args.index c.in-Some.global there c.set_unit.new.self
+    noted_unit c.args.variables.now (g.S.StepLog.steps c.args.writer.now) k c.requires.may c.args.index c.in-Some.global there c.set_unit.new.self
     (subst (λ (o : Option Bool). PutsUnit c.args.variables.now c.set_unit.new.self c.in-Some.global o) (c.var_value.ensures ∙ sym (same_value c.args.used.now.items c.args.search.now c.args.index)) c.set_unit.ensures)
     (same_unused c.args.used.now.items c.args.search.now c.args.index c.requires.unused)
 
@@ -46,17 +46,17 @@ pub give_up-requires-clause-unused : goal.give_up-requires-clause-unused
 give_up-requires-clause-unused g c =
     let k = freed_search c.args.used.now.items c.args.index c.args.search.now in
     let there : global_at c.args.variables.now c.args.index ≡ Some c.in-Some.global = ap (λ m. target m c.args.index) (sym c.bwd.ensures.map) ∙ sym c.get.ensures ∙ c.in-Some.is in
-    noted_unused c.args.variables.now (g.S.StepWriter.steps c.args.writer.now) k c.requires.may c.args.index c.in-Some.global there c.set_unit.new.self
+    noted_unused c.args.variables.now (g.S.StepLog.steps c.args.writer.now) k c.requires.may c.args.index c.in-Some.global there c.set_unit.new.self
     (subst (λ (o : Option Bool). PutsUnit c.args.variables.now c.set_unit.new.self c.in-Some.global o) (c.var_value.ensures ∙ sym (same_value c.args.used.now.items c.args.search.now c.args.index)) c.set_unit.ensures)
     (same_unused c.args.used.now.items c.args.search.now c.args.index c.requires.unused)
 
 pub returns-clause-frees : goal.returns-clause-frees
 returns-clause-frees g c =
     let there : global_at c.args.variables.now c.args.index ≡ Some c.in-Some.global = ap (λ m. target m c.args.index) (sym c.bwd.ensures.map) ∙ sym c.get.ensures ∙ c.in-Some.is in
-    frees_here c.args.used.now.items c.args.search.now c.args.index c.args.variables.now (g.S.StepWriter.steps c.args.writer.now) c.requires.may c.in-Some.global there c.set_unit.new.self
+    frees_here c.args.used.now.items c.args.search.now c.args.index c.args.variables.now (g.S.StepLog.steps c.args.writer.now) c.requires.may c.in-Some.global there c.set_unit.new.self
     (subst (λ (o : Option Bool). PutsUnit c.args.variables.now c.set_unit.new.self c.in-Some.global o) (c.var_value.ensures ∙ sym (same_value c.args.used.now.items c.args.search.now c.args.index)) c.set_unit.ensures)
     (same_unused c.args.used.now.items c.args.search.now c.args.index c.requires.unused)
-    c.give_up.new.variables (g.S.StepWriter.steps c.give_up.new.writer) c.in_ok-give_up.ensures.gone (sym c.is_marked.ensures ∙ c.if-is_marked.false) c.requires.unmarked
+    c.give_up.new.variables (g.S.StepLog.steps c.give_up.new.writer) c.in_ok-give_up.ensures.gone (sym c.is_marked.ensures ∙ c.if-is_marked.false) c.requires.unmarked
     (same_there c.args.used.now.items c.args.search.now c.args.index c.requires.there)
 
 pub returns-clause-marks : goal.returns-clause-marks
@@ -68,7 +68,7 @@ returns-in_default-clause-left g c = λ v e. absurd (c.in_default.not-Some v (c.
 pub returns-then-is_marked-clause-left : goal.returns-then-is_marked-clause-left
 returns-then-is_marked-clause-left g c = λ v e.
     (let there : global_at c.args.variables.now c.args.index ≡ Some c.in-Some.global = ap (λ m. target m c.args.index) (sym c.bwd.ensures.map) ∙ sym c.get.ensures ∙ c.in-Some.is in
-    subst (λ w. mentions (session_after (g.S.StepWriter.steps c.args.writer.now)).assumed w ≡ true) (some_same c.in-Some.global v (sym there ∙ e)) (c.requires.may.stands.said.marked c.in-Some.global ∙ sym c.is_marked.ensures ∙ c.if-is_marked.true))
+    subst (λ w. mentions (session_after (g.S.StepLog.steps c.args.writer.now)).assumed w ≡ true) (some_same c.in-Some.global v (sym there ∙ e)) (c.requires.may.stands.said.marked c.in-Some.global ∙ sym c.is_marked.ensures ∙ c.if-is_marked.true))
 
 pub returns-clause-left : goal.returns-clause-left
 returns-clause-left g c = λ v e.

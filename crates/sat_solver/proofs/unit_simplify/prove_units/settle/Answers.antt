@@ -1,6 +1,6 @@
 use Rattle.std.proofs.Common.{arith, length, ◌+◌}
 use Rattle.sat_solver.specs.proof.ProofView.{session_of}
-use Rattle.sat_solver.specs.session.Naming.{global_of}
+use Rattle.sat_solver.specs.session.Naming.{global_of_index}
 use Rattle.sat_solver.proofs.lemmas.fits.StepLemmas.{starts_none, orderly_from}
 use Rattle.sat_solver.specs.unit_simplify.Left.{AllUnits, TakesUnitsOff}
 use Rattle.sat_solver.proofs.lemmas.cdcl.GoingLemmas.{goes_none, goes_on}
@@ -15,13 +15,13 @@ clear_units-requires-clause-bottom g c = starts_none c.args.parts.now (omega (ar
 
 pub returns-then-current_level-gt0 : goal.returns-then-current_level-gt0
 returns-then-current_level-gt0 g c =
-    goes_none g.W.CountedWrite.seen tt c.args.proof.now (λ _ _. TakesUnitsOff c.args.parts.now c.args.parts.now (session_of c.args.proof.now) (global_of c.args.globals.now)) c.requires.keeps
-    (settled_above c.args.parts.now (session_of c.args.proof.now) (global_of c.args.globals.now) (omega (arith, c.current_level.ensures)) c.requires.holds c.requires.done (c.requires.units (omega (arith, c.current_level.ensures))) c.requires.fits)
+    goes_none g.W.CountedWrite.seen tt c.args.proof.now (λ _ _. TakesUnitsOff c.args.parts.now c.args.parts.now (session_of c.args.proof.now) (global_of_index c.args.globals.now)) c.requires.keeps
+    (settled_above c.args.parts.now (session_of c.args.proof.now) (global_of_index c.args.globals.now) (omega (arith, c.current_level.ensures)) c.requires.holds c.requires.done (c.requires.units (omega (arith, c.current_level.ensures))) c.requires.fits)
 
 pub returns : goal.returns
 returns g c =
-    goes_on g.W.CountedWrite.seen tt tt c.args.proof.now c.write_units.new.proof (λ _ _. AllUnits c.args.parts.now (session_of c.write_units.new.proof) (global_of c.args.globals.now))
-    (λ _ _. TakesUnitsOff c.args.parts.now c.clear_units.new.parts (session_of c.write_units.new.proof) (global_of c.args.globals.now))
-    (λ steps all. settled_bottom c.args.parts.now c.clear_units.new.parts (session_of c.write_units.new.proof) (global_of c.args.globals.now) all (omega (arith, c.current_level.ensures))
+    goes_on g.W.CountedWrite.seen tt tt c.args.proof.now c.write_units.new.proof (λ _ _. AllUnits c.args.parts.now (session_of c.write_units.new.proof) (global_of_index c.args.globals.now))
+    (λ _ _. TakesUnitsOff c.args.parts.now c.clear_units.new.parts (session_of c.write_units.new.proof) (global_of_index c.args.globals.now))
+    (λ steps all. settled_bottom c.args.parts.now c.clear_units.new.parts (session_of c.write_units.new.proof) (global_of_index c.args.globals.now) all (omega (arith, c.current_level.ensures))
     c.clear_units.ensures.holds c.clear_units.ensures.done c.clear_units.ensures.bottom c.clear_units.ensures.empty c.clear_units.ensures.same c.clear_units.ensures.clears c.clear_units.ensures.word)
     c.in_ok-write_units.ensures

@@ -7,7 +7,7 @@ use Rattle.sat_solver.specs.session.Session.{MayProve, session_after}
 use Rattle.sat_solver.specs.proof.ProofView.{session_of}
 use Rattle.sat_solver.specs.session.TrailUnits.{written_units}
 use Rattle.sat_parts.specs.parts.Whole.{state}
-use Rattle.sat_solver.specs.session.Naming.{global_of}
+use Rattle.sat_solver.specs.session.Naming.{global_of_index}
 use Rattle.sat_solver.proofs.lemmas.fits.UnitLemmas.{units_may}
 use Rattle.sat_solver.specs.unit_simplify.Left.{AllUnits}
 use Rattle.sat_solver.proofs.lemmas.cdcl.GoingLemmas.{goes_none, goes_starved, goes_step, goes_broken}
@@ -18,37 +18,37 @@ use Rattle.sat_solver.proofs.unit_simplify.prove_units.write_units.Goals as goal
 pub returns-in_err-collect_units : goal.returns-in_err-collect_units
 returns-in_err-collect_units g c =
     let p = err_from_is_err_and c.from_residual.result c.from_residual.ensures.1 in
-    rw (p.1, p.2) (goes_starved g.W.CountedWrite.seen c.args.proof.now (λ _ _. AllUnits c.args.parts.now (session_of c.args.proof.now) (global_of c.args.globals.now)) c.requires.keeps)
+    rw (p.1, p.2) (goes_starved g.W.CountedWrite.seen c.args.proof.now (λ _ _. AllUnits c.args.parts.now (session_of c.args.proof.now) (global_of_index c.args.globals.now)) c.requires.keeps)
 
 pub returns-then-is_empty : goal.returns-then-is_empty
 returns-then-is_empty g c =
-    let none : written_units c.args.parts.now.clauses (state c.args.parts.now) 64 (global_of c.args.globals.now) c.args.parts.now.trail.lits ≡ [] =
+    let none : written_units c.args.parts.now.clauses (state c.args.parts.now) 64 (global_of_index c.args.globals.now) c.args.parts.now.trail.lits ≡ [] =
     sym c.in_ok-collect_units.ensures ∙ none_left c.collect_units.new.units.items (grind (arith, common_steps, c.is_empty.ensures, c.if-is_empty.true)) in
-    goes_none g.W.CountedWrite.seen tt c.args.proof.now (λ _ _. AllUnits c.args.parts.now (session_of c.args.proof.now) (global_of c.args.globals.now)) c.requires.keeps
-    (units_none c.args.parts.now (session_of c.args.proof.now) (global_of c.args.globals.now) c.requires.orderly c.requires.bottom c.requires.fits c.requires.named none)
+    goes_none g.W.CountedWrite.seen tt c.args.proof.now (λ _ _. AllUnits c.args.parts.now (session_of c.args.proof.now) (global_of_index c.args.globals.now)) c.requires.keeps
+    (units_none c.args.parts.now (session_of c.args.proof.now) (global_of_index c.args.globals.now) c.requires.orderly c.requires.bottom c.requires.fits c.requires.named none)
 
 pub step-requires-clause-may : goal.step-requires-clause-may
 step-requires-clause-may g c =
     let p = c.args.parts.now in
-    let same : c.deref.result.now ≡ written_units c.args.parts.now.clauses (state c.args.parts.now) 64 (global_of c.args.globals.now) c.args.parts.now.trail.lits =
+    let same : c.deref.result.now ≡ written_units c.args.parts.now.clauses (state c.args.parts.now) 64 (global_of_index c.args.globals.now) c.args.parts.now.trail.lits =
     c.deref.ensures.value ∙ c.in_ok-collect_units.ensures in
     subst (λ (us : List (ℕ × ℕ)). MayProve (session_of c.args.proof.now) us) (sym same)
-    (units_may p.clauses (live_refs p.clauses p.db.refs) p.binary.implied (state p) (session_of c.args.proof.now) (global_of c.args.globals.now) c.requires.fits c.requires.named c.requires.orderly.agrees c.requires.orderly.clauses c.requires.orderly.turns c.requires.bottom)
+    (units_may p.clauses (live_refs p.clauses p.db.refs) p.binary.implied (state p) (session_of c.args.proof.now) (global_of_index c.args.globals.now) c.requires.fits c.requires.named c.requires.orderly.agrees c.requires.orderly.clauses c.requires.orderly.turns c.requires.bottom)
 
 pub returns : goal.returns
 returns g c =
-    let same : c.deref.result.now ≡ written_units c.args.parts.now.clauses (state c.args.parts.now) 64 (global_of c.args.globals.now) c.args.parts.now.trail.lits =
+    let same : c.deref.result.now ≡ written_units c.args.parts.now.clauses (state c.args.parts.now) 64 (global_of_index c.args.globals.now) c.args.parts.now.trail.lits =
     c.deref.ensures.value ∙ c.in_ok-collect_units.ensures in
-    goes_step g.W.CountedWrite.seen tt c.args.proof.now c.step.new.self (UnitClauses c.deref.result.now) (λ _ _. AllUnits c.args.parts.now (session_of c.step.new.self) (global_of c.args.globals.now))
-    (units_named c.args.parts.now (session_of c.args.proof.now) (global_of c.args.globals.now) c.requires.named c.requires.orderly c.deref.result.now same) refl c.in_ok-step.ensures.keeps c.in_ok-step.ensures.records
-    (subst (λ ss. AllUnits c.args.parts.now (session_after ss) (global_of c.args.globals.now)) (sym c.in_ok-step.ensures.records.history ∙ refl)
-    (rw same (units_step c.args.parts.now (session_of c.args.proof.now) (global_of c.args.globals.now) c.requires.orderly c.requires.bottom c.requires.fits c.requires.named)))
+    goes_step g.W.CountedWrite.seen tt c.args.proof.now c.step.new.self (UnitClauses c.deref.result.now) (λ _ _. AllUnits c.args.parts.now (session_of c.step.new.self) (global_of_index c.args.globals.now))
+    (units_named c.args.parts.now (session_of c.args.proof.now) (global_of_index c.args.globals.now) c.requires.named c.requires.orderly c.deref.result.now same) refl c.in_ok-step.ensures.keeps c.in_ok-step.ensures.records
+    (subst (λ ss. AllUnits c.args.parts.now (session_after ss) (global_of_index c.args.globals.now)) (sym c.in_ok-step.ensures.records.history ∙ refl)
+    (rw same (units_step c.args.parts.now (session_of c.args.proof.now) (global_of_index c.args.globals.now) c.requires.orderly c.requires.bottom c.requires.fits c.requires.named)))
 
 pub returns-in_err-step : goal.returns-in_err-step
 returns-in_err-step g c =
-    let same : c.deref.result.now ≡ written_units c.args.parts.now.clauses (state c.args.parts.now) 64 (global_of c.args.globals.now) c.args.parts.now.trail.lits =
+    let same : c.deref.result.now ≡ written_units c.args.parts.now.clauses (state c.args.parts.now) 64 (global_of_index c.args.globals.now) c.args.parts.now.trail.lits =
     c.deref.ensures.value ∙ c.in_ok-collect_units.ensures in
     let p = err_from_is_err_and c.from_residual-in_err-step.result c.from_residual-in_err-step.ensures.1 in
     rw (p.1, p.2)
-    (goes_broken g.W.CountedWrite.seen c.in_err-step.field-0.0 c.args.proof.now c.step.new.self (UnitClauses c.deref.result.now) (λ _ _. AllUnits c.args.parts.now (session_of c.step.new.self) (global_of c.args.globals.now))
-    (units_named c.args.parts.now (session_of c.args.proof.now) (global_of c.args.globals.now) c.requires.named c.requires.orderly c.deref.result.now same) c.in_err-step.ensures.keeps c.in_err-step.ensures.records)
+    (goes_broken g.W.CountedWrite.seen c.in_err-step.field-0.0 c.args.proof.now c.step.new.self (UnitClauses c.deref.result.now) (λ _ _. AllUnits c.args.parts.now (session_of c.step.new.self) (global_of_index c.args.globals.now))
+    (units_named c.args.parts.now (session_of c.args.proof.now) (global_of_index c.args.globals.now) c.requires.named c.requires.orderly c.deref.result.now same) c.in_err-step.ensures.keeps c.in_err-step.ensures.records)

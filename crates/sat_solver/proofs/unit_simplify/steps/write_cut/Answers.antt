@@ -4,7 +4,7 @@ use Rattle.std.proofs.lemmas.Result.{err_from_is_err_and}
 use Rattle.sat_base.specs.steps.Steps.{Step, AtClause, DeleteClause, Simplified}
 use Rattle.sat_base.specs.steps.StepViews.{deletion_of}
 use Rattle.sat_solver.specs.proof.ProofView.{steps_of}
-use Rattle.sat_solver.specs.cdcl.Going.{fault_of}
+use Rattle.sat_solver.specs.cdcl.Going.{proof_fault}
 use Rattle.sat_solver.proofs.lemmas.cdcl.GoingLemmas.{goes_step, goes_broken, goes_then, goes_then_fails}
 use Rattle.sat_solver.specs.session.Quiet.{are_few}
 use Rattle.sat_solver.proofs.lemmas.fits.QuietLemmas.{few_quiet}
@@ -46,6 +46,6 @@ returns-in_err-step-2 g c =
     let z = c.step-2.new.self in
     let r = err_from_is_err_and c.from_residual-in_err-step-2.result c.from_residual-in_err-step-2.ensures.1 in
     rw (r.1, r.2)
-    (goes_then_fails g.W.CountedWrite.seen tt (fault_of c.in_err-step-2.field-0.0) p q z (λ (_ : Unit {0}) _. Unit {0}) (λ (_ : Unit {0}) _. Unit {0}) _
+    (goes_then_fails g.W.CountedWrite.seen tt (proof_fault c.in_err-step-2.field-0.0) p q z (λ (_ : Unit {0}) _. Unit {0}) (λ (_ : Unit {0}) _. Unit {0}) _
     (goes_step g.W.CountedWrite.seen tt p q (AtClause c.left_redundant.result c.args.part.now c.deref.result.now) (λ _ _. Unit {0}) c.requires.named (few_quiet c.left_redundant.result c.args.part.now c.deref.result.now (ap are_few c.deref.ensures.value ∙ c.requires.few)) c.in_ok-step.ensures.keeps c.in_ok-step.ensures.records tt)
     (goes_broken g.W.CountedWrite.seen c.in_err-step-2.field-0.0 q z (DeleteClause c.deref-2.result.now (deletion_of c.deletion_for.result)) _ tt c.in_err-step-2.ensures.keeps c.in_err-step-2.ensures.records))

@@ -9,11 +9,11 @@ pub step-requires-clause-may : goal.step-requires-clause-may
 step-requires-clause-may g c = may_delete c.args.variables.now c.args.global _ c.requires.stands.tidy c.requires.stands.said c.requires.live c.requires.nameless c.requires.without c.requires.unmarked
 
 pub returns-clause-does : goal.returns-clause-does
-returns-clause-does g c = var_deleted c.args.variables.now c.put_deleted.new.self (g.W.StepWriter.steps c.args.writer.now) (g.W.StepWriter.steps c.step.new.self) c.args.global c.requires.stands c.requires.live c.requires.nameless c.requires.without c.requires.unmarked
+returns-clause-does g c = var_deleted c.args.variables.now c.put_deleted.new.self (g.W.StepLog.steps c.args.writer.now) (g.W.StepLog.steps c.step.new.self) c.args.global c.requires.stands c.requires.live c.requires.nameless c.requires.without c.requires.unmarked
     c.put_deleted.ensures c.in_ok-step.ensures.steps
 
 pub returns-clause-forgets : goal.returns-clause-forgets
-returns-clause-forgets g c = var_forgotten (g.W.StepWriter.steps c.args.writer.now) (g.W.StepWriter.steps c.step.new.self) c.args.global c.in_ok-step.ensures.steps
+returns-clause-forgets g c = var_forgotten (g.W.StepLog.steps c.args.writer.now) (g.W.StepLog.steps c.step.new.self) c.args.global c.in_ok-step.ensures.steps
 
 pub returns-clause-solvers : goal.returns-clause-solvers
 returns-clause-solvers g c = c.put_deleted.ensures.solvers

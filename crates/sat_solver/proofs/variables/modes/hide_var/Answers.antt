@@ -1,5 +1,5 @@
 use Rattle.std.proofs.Common.{◌+◌, [], ◌∷◌, ◌++◌, map}
-use Rattle.sat_base.specs.script.Judge.{without_name, bring_in, new_names}
+use Rattle.sat_base.specs.script.ScriptState.{without_name, bring_in, new_names}
 use Rattle.sat_checker.specs.matching.Expected.{NewName, NoName}
 use Rattle.sat_solver.proofs.lemmas.variables.Doing.{does_both, ok_after}
 use Rattle.sat_solver.proofs.lemmas.variables.Giving.{keeps_both, alike_unseen, alike_both, ok_alike, ok_others, ok_fresh, ok_units}
@@ -15,22 +15,22 @@ forget_idle-requires-clause-stands g c = c.in_ok-hide_global.ensures.does.stands
 
 pub returns-clause-does : goal.returns-clause-does
 returns-clause-does g c =
-    ok_after c.forget_idle.result c.args.variables.now c.hide_global.new.variables c.forget_idle.new.variables (g.W.StepWriter.steps c.args.writer.now) (g.W.StepWriter.steps c.hide_global.new.writer) (g.W.StepWriter.steps c.forget_idle.new.writer)
+    ok_after c.forget_idle.result c.args.variables.now c.hide_global.new.variables c.forget_idle.new.variables (g.W.StepLog.steps c.args.writer.now) (g.W.StepLog.steps c.hide_global.new.writer) (g.W.StepLog.steps c.forget_idle.new.writer)
     (λ j. without_name (c.args.user + 1) (bring_in (c.args.user + 1) j)) (λ j. map NewName (new_names (c.args.user + 1) j) ++ (NoName (c.args.user + 1) ∷ []))
-    (does_both c.args.variables.now c.global_from_user.new.variables c.hide_global.new.variables (g.W.StepWriter.steps c.args.writer.now) (g.W.StepWriter.steps c.global_from_user.new.writer) (g.W.StepWriter.steps c.hide_global.new.writer)
+    (does_both c.args.variables.now c.global_from_user.new.variables c.hide_global.new.variables (g.W.StepLog.steps c.args.writer.now) (g.W.StepLog.steps c.global_from_user.new.writer) (g.W.StepLog.steps c.hide_global.new.writer)
     (bring_in (c.args.user + 1)) (without_name (c.args.user + 1)) (λ j. map NewName (new_names (c.args.user + 1) j)) (λ j. NoName (c.args.user + 1) ∷ []) c.in_ok-global.ensures.brought.brings c.in_ok-hide_global.ensures.does)
     c.forget_idle.ensures.does
 
 pub returns-clause-alike : goal.returns-clause-alike
 returns-clause-alike g c =
-    ok_alike c.forget_idle.result c.args.variables.now c.hide_global.new.variables c.forget_idle.new.variables (g.W.StepWriter.steps c.args.writer.now) (g.W.StepWriter.steps c.hide_global.new.writer) (g.W.StepWriter.steps c.forget_idle.new.writer)
-    (alike_both c.args.variables.now c.global_from_user.new.variables c.hide_global.new.variables (g.W.StepWriter.steps c.args.writer.now) (g.W.StepWriter.steps c.global_from_user.new.writer) (g.W.StepWriter.steps c.hide_global.new.writer)
-    (alike_unseen c.args.variables.now c.global_from_user.new.variables (g.W.StepWriter.steps c.args.writer.now) (g.W.StepWriter.steps c.global_from_user.new.writer) c.in_ok-global.ensures.brought.unseen)
-    (alike_unseen c.global_from_user.new.variables c.hide_global.new.variables (g.W.StepWriter.steps c.global_from_user.new.writer) (g.W.StepWriter.steps c.hide_global.new.writer) c.in_ok-hide_global.ensures.unseen))
+    ok_alike c.forget_idle.result c.args.variables.now c.hide_global.new.variables c.forget_idle.new.variables (g.W.StepLog.steps c.args.writer.now) (g.W.StepLog.steps c.hide_global.new.writer) (g.W.StepLog.steps c.forget_idle.new.writer)
+    (alike_both c.args.variables.now c.global_from_user.new.variables c.hide_global.new.variables (g.W.StepLog.steps c.args.writer.now) (g.W.StepLog.steps c.global_from_user.new.writer) (g.W.StepLog.steps c.hide_global.new.writer)
+    (alike_unseen c.args.variables.now c.global_from_user.new.variables (g.W.StepLog.steps c.args.writer.now) (g.W.StepLog.steps c.global_from_user.new.writer) c.in_ok-global.ensures.brought.unseen)
+    (alike_unseen c.global_from_user.new.variables c.hide_global.new.variables (g.W.StepLog.steps c.global_from_user.new.writer) (g.W.StepLog.steps c.hide_global.new.writer) c.in_ok-hide_global.ensures.unseen))
     c.forget_idle.ensures.alike
 
 pub returns-clause-came : goal.returns-clause-came
-returns-clause-came g c = came_then g.W.StepWriter.took g.W.StepWriter.broke c.forget_idle.result c.args.writer.now c.hide_global.new.writer c.forget_idle.new.writer (λ w t. c.in_ok-hide_global.ensures.came w (c.in_ok-global.ensures.came w t)) c.forget_idle.ensures.came
+returns-clause-came g c = came_then g.W.StepLog.took g.W.StepLog.broke c.forget_idle.result c.args.writer.now c.hide_global.new.writer c.forget_idle.new.writer (λ w t. c.in_ok-hide_global.ensures.came w (c.in_ok-global.ensures.came w t)) c.forget_idle.ensures.came
 
 pub returns-clause-others : goal.returns-clause-others
 returns-clause-others g c =
@@ -44,15 +44,15 @@ returns-clause-fresh g c =
 
 pub returns-clause-units : goal.returns-clause-units
 returns-clause-units g c =
-    ok_units c.forget_idle.result c.forget_idle.new.variables (g.W.StepWriter.steps c.args.writer.now) (g.W.StepWriter.steps c.hide_global.new.writer) (g.W.StepWriter.steps c.forget_idle.new.writer)
-    (keeps_both (session_after (g.W.StepWriter.steps c.args.writer.now)) (session_after (g.W.StepWriter.steps c.global_from_user.new.writer)) (session_after (g.W.StepWriter.steps c.hide_global.new.writer)) c.in_ok-global.ensures.brought.unseen.search c.in_ok-hide_global.ensures.unseen.search)
+    ok_units c.forget_idle.result c.forget_idle.new.variables (g.W.StepLog.steps c.args.writer.now) (g.W.StepLog.steps c.hide_global.new.writer) (g.W.StepLog.steps c.forget_idle.new.writer)
+    (keeps_both (session_after (g.W.StepLog.steps c.args.writer.now)) (session_after (g.W.StepLog.steps c.global_from_user.new.writer)) (session_after (g.W.StepLog.steps c.hide_global.new.writer)) c.in_ok-global.ensures.brought.unseen.search c.in_ok-hide_global.ensures.unseen.search)
     c.forget_idle.ensures.units
 
 pub returns-in_err-global-clause-room : goal.returns-in_err-global-clause-room
 returns-in_err-global-clause-room g c = λ h. fails_on c.from_residual.result c.in_err-global.field-0.0 c.from_residual.ensures.1 (c.in_err-global.ensures.room [] h)
 
 pub returns-clause-comes : goal.returns-clause-comes
-returns-clause-comes g c = comes_hidden c.forget_idle.result c.hide_global.new.variables (g.W.StepWriter.steps c.args.writer.now) (g.W.StepWriter.steps c.global_from_user.new.writer) (g.W.StepWriter.steps c.hide_global.new.writer) (g.W.StepWriter.steps c.forget_idle.new.writer) c.in_ok-global.global
+returns-clause-comes g c = comes_hidden c.forget_idle.result c.hide_global.new.variables (g.W.StepLog.steps c.args.writer.now) (g.W.StepLog.steps c.global_from_user.new.writer) (g.W.StepLog.steps c.hide_global.new.writer) (g.W.StepLog.steps c.forget_idle.new.writer) c.in_ok-global.global
     c.in_ok-hide_global.ensures.does.stands.said c.in_ok-global.ensures.brought.comes c.in_ok-hide_global.ensures.step c.forget_idle.ensures.goes
 
 pub returns-clause-gone : goal.returns-clause-gone
@@ -60,11 +60,11 @@ returns-clause-gone g c =
     let n = c.args.variables.now in
     let m = c.global_from_user.new.variables in
     let h = c.hide_global.new.variables in
-    let from = g.W.StepWriter.steps c.args.writer.now in
-    let mids = g.W.StepWriter.steps c.global_from_user.new.writer in
-    let hides = g.W.StepWriter.steps c.hide_global.new.writer in
+    let from = g.W.StepLog.steps c.args.writer.now in
+    let mids = g.W.StepLog.steps c.global_from_user.new.writer in
+    let hides = g.W.StepLog.steps c.hide_global.new.writer in
     let said = c.in_ok-hide_global.ensures.does.stands.said in
     let hidden = c.in_ok-hide_global.ensures.step in
-    leaves_none c.forget_idle.result h mids hides (g.W.StepWriter.steps c.forget_idle.new.writer) c.in_ok-global.global said hidden
+    leaves_none c.forget_idle.result h mids hides (g.W.StepLog.steps c.forget_idle.new.writer) c.in_ok-global.global said hidden
     (hidden_unmarked n m h from mids hides c.args.user c.in_ok-global.global c.requires.stands.tidy c.requires.stands.said c.in_ok-global.ensures.brought.extends c.in_ok-global.ensures.brought.unseen c.requires.free c.in_ok-global.ensures.variable said hidden)
     c.forget_idle.ensures.goes

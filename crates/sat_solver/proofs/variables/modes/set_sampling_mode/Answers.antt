@@ -1,6 +1,6 @@
 use Rattle.std.proofs.Common.{◌∙◌, ◌+◌, [], map}
-use Rattle.sat_base.specs.script.Judge.{with_mode, bring_in, new_names}
-use Rattle.sat_solver.specs.variables.Variables.{judged_mode}
+use Rattle.sat_base.specs.script.ScriptState.{with_mode, bring_in, new_names}
+use Rattle.sat_solver.specs.variables.Variables.{script_mode}
 use Rattle.sat_checker.specs.matching.Expected.{NewName}
 use Rattle.sat_solver.proofs.lemmas.variables.Doing.{ok_both}
 use Rattle.sat_solver.proofs.lemmas.variables.Giving.{ok_unseen, ok_others, ok_fresh}
@@ -11,14 +11,14 @@ use Rattle.sat_solver.proofs.lemmas.variables.ComingSteps.{comes_set}
 use Rattle.sat_solver.proofs.variables.modes.set_sampling_mode.Goals as goal
 
 pub returns-clause-does : goal.returns-clause-does
-returns-clause-does g c = ok_both c.set_global_mode.result c.args.variables.now c.global_from_user.new.variables c.set_global_mode.new.variables (g.W.StepWriter.steps c.args.writer.now) (g.W.StepWriter.steps c.global_from_user.new.writer) (g.W.StepWriter.steps c.set_global_mode.new.writer)
-    (bring_in (c.args.user + 1)) (with_mode (judged_mode c.args.sample) (c.args.user + 1)) (λ j. map NewName (new_names (c.args.user + 1) j)) (λ j. []) c.in_ok-global.ensures.brought.brings c.set_global_mode.ensures.does
+returns-clause-does g c = ok_both c.set_global_mode.result c.args.variables.now c.global_from_user.new.variables c.set_global_mode.new.variables (g.W.StepLog.steps c.args.writer.now) (g.W.StepLog.steps c.global_from_user.new.writer) (g.W.StepLog.steps c.set_global_mode.new.writer)
+    (bring_in (c.args.user + 1)) (with_mode (script_mode c.args.sample) (c.args.user + 1)) (λ j. map NewName (new_names (c.args.user + 1) j)) (λ j. []) c.in_ok-global.ensures.brought.brings c.set_global_mode.ensures.does
 
 pub returns-clause-unseen : goal.returns-clause-unseen
-returns-clause-unseen g c = ok_unseen c.set_global_mode.result c.args.variables.now c.global_from_user.new.variables c.set_global_mode.new.variables (g.W.StepWriter.steps c.args.writer.now) (g.W.StepWriter.steps c.global_from_user.new.writer) (g.W.StepWriter.steps c.set_global_mode.new.writer) c.in_ok-global.ensures.brought.unseen c.set_global_mode.ensures.unseen
+returns-clause-unseen g c = ok_unseen c.set_global_mode.result c.args.variables.now c.global_from_user.new.variables c.set_global_mode.new.variables (g.W.StepLog.steps c.args.writer.now) (g.W.StepLog.steps c.global_from_user.new.writer) (g.W.StepLog.steps c.set_global_mode.new.writer) c.in_ok-global.ensures.brought.unseen c.set_global_mode.ensures.unseen
 
 pub returns-clause-came : goal.returns-clause-came
-returns-clause-came g c = came_then g.W.StepWriter.took g.W.StepWriter.broke c.set_global_mode.result c.args.writer.now c.global_from_user.new.writer c.set_global_mode.new.writer c.in_ok-global.ensures.came c.set_global_mode.ensures.came
+returns-clause-came g c = came_then g.W.StepLog.took g.W.StepLog.broke c.set_global_mode.result c.args.writer.now c.global_from_user.new.writer c.set_global_mode.new.writer c.in_ok-global.ensures.came c.set_global_mode.ensures.came
 
 pub returns-clause-others : goal.returns-clause-others
 returns-clause-others g c =
@@ -33,5 +33,5 @@ pub returns-in_err-global-clause-room : goal.returns-in_err-global-clause-room
 returns-in_err-global-clause-room g c = λ h. fails_on c.from_residual.result c.in_err-global.field-0.0 c.from_residual.ensures.1 (c.in_err-global.ensures.room [] h)
 
 pub returns-clause-comes : goal.returns-clause-comes
-returns-clause-comes g c = comes_set c.set_global_mode.result (g.W.StepWriter.steps c.args.writer.now) (g.W.StepWriter.steps c.global_from_user.new.writer) (g.W.StepWriter.steps c.set_global_mode.new.writer) (c.args.user + 1) c.in_ok-global.global c.args.sample
+returns-clause-comes g c = comes_set c.set_global_mode.result (g.W.StepLog.steps c.args.writer.now) (g.W.StepLog.steps c.global_from_user.new.writer) (g.W.StepLog.steps c.set_global_mode.new.writer) (c.args.user + 1) c.in_ok-global.global c.args.sample
     c.in_ok-global.ensures.brought.comes (c.in_ok-global.ensures.brought.brings.stands.read c.args.user ∙ c.in_ok-global.ensures.variable) c.set_global_mode.ensures.sets

@@ -5,15 +5,15 @@ use Rattle.sat_solver.proofs.variables.observe.observe_internal_vars.Goals as go
 
 pub loop-index-init : goal.loop-index-init
 loop-index-init g c = (
-  subst (λ us. Observing c.args.variables.now c.args.variables.now (g.W.StepWriter.steps c.args.writer.now) (g.W.StepWriter.steps c.args.writer.now) us 0) (sym c.clear.ensures.items)
-      (observing_begins c.args.variables.now (g.W.StepWriter.steps c.args.writer.now) c.requires.stands),
+  subst (λ us. Observing c.args.variables.now c.args.variables.now (g.W.StepLog.steps c.args.writer.now) (g.W.StepLog.steps c.args.writer.now) us 0) (sym c.clear.ensures.items)
+      (observing_begins c.args.variables.now (g.W.StepLog.steps c.args.writer.now) c.requires.stands),
   c.requires.keeps,
   λ w t. t,
 )
 
 pub loop-index-preserved-then-not-is_hidden : goal.loop-index-preserved-then-not-is_hidden
 loop-index-preserved-then-not-is_hidden g c = (
-  observing_passes c.args.variables.now c.loop-index.variables (g.W.StepWriter.steps c.args.writer.now) (g.W.StepWriter.steps c.loop-index.writer) c.loop-index.users.items c.loop-index.index c.loop-index.invariant.0
+  observing_passes c.args.variables.now c.loop-index.variables (g.W.StepLog.steps c.args.writer.now) (g.W.StepLog.steps c.loop-index.writer) c.loop-index.users.items c.loop-index.index c.loop-index.invariant.0
       (subst (λ v. IsHidden c.loop-index.variables v → ⊥) c.from_index-global.ensures (c.is_hidden.ensures.shown c.if-not-is_hidden.true)),
   c.loop-index.invariant.1,
   c.loop-index.invariant.2,
@@ -21,15 +21,15 @@ loop-index-preserved-then-not-is_hidden g c = (
 
 pub loop-index-preserved : goal.loop-index-preserved
 loop-index-preserved g c = (
-  subst (λ us. Observing c.args.variables.now c.observe_var.new.variables (g.W.StepWriter.steps c.args.writer.now) (g.W.StepWriter.steps c.observe_var.new.writer) us (c.loop-index.index + 1)) (sym c.in_ok-push.ensures.items)
-      (observing_goes c.args.variables.now c.loop-index.variables c.observe_var.new.variables (g.W.StepWriter.steps c.args.writer.now) (g.W.StepWriter.steps c.loop-index.writer) (g.W.StepWriter.steps c.observe_var.new.writer) c.loop-index.users.items c.loop-index.index c.in_ok-user.user c.loop-index.invariant.0
+  subst (λ us. Observing c.args.variables.now c.observe_var.new.variables (g.W.StepLog.steps c.args.writer.now) (g.W.StepLog.steps c.observe_var.new.writer) us (c.loop-index.index + 1)) (sym c.in_ok-push.ensures.items)
+      (observing_goes c.args.variables.now c.loop-index.variables c.observe_var.new.variables (g.W.StepLog.steps c.args.writer.now) (g.W.StepLog.steps c.loop-index.writer) (g.W.StepLog.steps c.observe_var.new.writer) c.loop-index.users.items c.loop-index.index c.in_ok-user.user c.loop-index.invariant.0
       (subst (λ v. IsHidden c.loop-index.variables v) c.from_index-global.ensures (c.is_hidden.ensures.hidden c.if-not-is_hidden.false))
-      (subst (λ v. NamesHidden c.loop-index.variables c.observe_var.new.variables (g.W.StepWriter.steps c.loop-index.writer) (g.W.StepWriter.steps c.observe_var.new.writer) v c.in_ok-user.user) c.from_index-global.ensures c.in_ok-user.ensures.names)),
+      (subst (λ v. NamesHidden c.loop-index.variables c.observe_var.new.variables (g.W.StepLog.steps c.loop-index.writer) (g.W.StepLog.steps c.observe_var.new.writer) v c.in_ok-user.user) c.from_index-global.ensures c.in_ok-user.ensures.names)),
   c.in_ok-user.ensures.keeps,
   λ w t. c.in_ok-user.ensures.came w (c.loop-index.invariant.2 w t),
 )
 
 pub returns-clause-names : goal.returns-clause-names
 returns-clause-names g c =
-    observing_ends c.args.variables.now c.loop-index.variables (g.W.StepWriter.steps c.args.writer.now) (g.W.StepWriter.steps c.loop-index.writer) c.loop-index.users.items c.loop-index.index c.loop-index.invariant.0
+    observing_ends c.args.variables.now c.loop-index.variables (g.W.StepLog.steps c.args.writer.now) (g.W.StepLog.steps c.loop-index.writer) c.loop-index.users.items c.loop-index.index c.loop-index.invariant.0
     (let a = c.loop-index-test.false in let e = c.used_count-count.ensures in omega arith)

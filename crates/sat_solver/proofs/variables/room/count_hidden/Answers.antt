@@ -1,7 +1,7 @@
 use Rattle.std.proofs.Common.{◌≤◌, drop, length, sym, ◌∙◌, ap, subst, arith}
 use Rattle.std.proofs.lemmas.List.{drop_all}
 use Rattle.sat_base.specs.values.Literals.{var_limit}
-use Rattle.sat_solver.specs.variables.Room.{users_in, hidden_count}
+use Rattle.sat_solver.specs.variables.VariableRoom.{users_in, hidden_count}
 use Rattle.sat_solver.proofs.lemmas.variables.RoomLemmas.{hidden_none, counts_small}
 use Rattle.sat_solver.proofs.variables.room.count_hidden.Goals as goal
 

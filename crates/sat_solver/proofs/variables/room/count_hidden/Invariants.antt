@@ -1,5 +1,5 @@
 use Rattle.std.proofs.Common.{◌≡◌, drop}
-use Rattle.sat_solver.specs.variables.Room.{users_in, hidden_count}
+use Rattle.sat_solver.specs.variables.VariableRoom.{users_in, hidden_count}
 use Rattle.sat_solver.proofs.variables.room.count_hidden.Given as goal
 
 abbrev pub invariant-loop-at : goal.invariant-loop-at

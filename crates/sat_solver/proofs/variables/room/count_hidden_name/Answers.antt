@@ -1,6 +1,6 @@
 use Rattle.std.proofs.Common.{◌≡◌, ◌<◌, ◌≤◌, ◌+◌, false, true, is_some, drop, None, ap, sym, ◌∙◌, arith}
 use Rattle.sat_store.specs.variables.Maps.{target}
-use Rattle.sat_solver.specs.variables.Room.{is_listed, users_in}
+use Rattle.sat_solver.specs.variables.VariableRoom.{is_listed, users_in}
 use Rattle.sat_solver.specs.variables.Variables.{global_of, names_used}
 use Rattle.sat_solver.proofs.lemmas.variables.Giving.{none_test}
 use Rattle.sat_solver.proofs.lemmas.variables.RoomLemmas.{hidden_past, hidden_again, hidden_more, hidden_at, mentions_behind}

@@ -1,5 +1,5 @@
 use Rattle.std.proofs.Common.{◌∙◌, ap, arith}
-use Rattle.sat_solver.specs.variables.Room.{reach, users_in}
+use Rattle.sat_solver.specs.variables.VariableRoom.{reach, users_in}
 use Rattle.sat_solver.proofs.lemmas.variables.RoomLemmas.{reach_low, fits_all}
 use Rattle.sat_solver.proofs.variables.room.has_room.Goals as goal
 

@@ -1,6 +1,6 @@
 use Rattle.std.proofs.Common.{◌≡◌, ◌≤◌, drop}
 use Rattle.sat_base.specs.values.Literals.{var_limit}
-use Rattle.sat_solver.specs.variables.Room.{reach, users_in}
+use Rattle.sat_solver.specs.variables.VariableRoom.{reach, users_in}
 use Rattle.sat_solver.proofs.variables.room.name_reach.Given as goal
 
 abbrev pub invariant-loop-lit : goal.invariant-loop-lit

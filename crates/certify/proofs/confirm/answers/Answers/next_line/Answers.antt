@@ -1,5 +1,5 @@
 use Rattle.certify.specs.confirm.Lines.{IsWantedLine, answers_source}
-use Rattle.certify.specs.script.Ahead.{source_in}
+use Rattle.certify.specs.script.LastPiece.{source_in}
 use Rattle.certify.proofs.lemmas.confirm.Lines.{line_unread}
 use Rattle.certify.proofs.confirm.answers.Answers.next_line.Goals as goal
 

@@ -1,9 +1,9 @@
 use Rattle.std.proofs.Common.{◌+◌, ◌<◌, ℕ, true, refl, sym, ◌∙◌, ap, subst}
 use Rattle.std.proofs.lemmas.Result.{err_from_is_err_and}
-use Rattle.certify.specs.confirm.Streams.{bytes_left}
-use Rattle.certify.specs.confirm.Sessions.{answers_in}
-use Rattle.certify.specs.confirm.ConfirmedScript.{ConfirmsThrough, script_in, confirm_place}
-use Rattle.certify.specs.script.Ahead.{IsNotAtEnd, source_in}
+use Rattle.certify.specs.confirm.Streams.{most_bytes_left}
+use Rattle.certify.specs.confirm.ConfirmStates.{answers_in}
+use Rattle.certify.specs.confirm.ConfirmedScript.{ConfirmsThrough, script_source, confirm_place}
+use Rattle.certify.specs.script.LastPiece.{IsNotAtEnd, source_in}
 use Rattle.sat_base.specs.script.Language.{reading}
 use Rattle.certify.specs.script.Streaming.{Arrives}
 use Rattle.certify.specs.declared.script.stream.CommandStream.{CommandStream}
@@ -38,7 +38,7 @@ returns-in-End-clause-ends g c =
     let A = g.A.CountedRead.seen in
     let C = g.C.CountedRead.seen in
     let l = c.loop-next in
-    let a = script_in S l.script l.self in
+    let a = script_source S l.script l.self in
     let b = source_in S c.next.new.script c.next.new.self.ahead in
     let old = confirm_place S A C c.args.script.now c.args.answers.now c.args.steps.now c.args.self.now in
     let mid = confirm_place S A C l.script l.answers l.steps l.self in
@@ -56,7 +56,7 @@ pub confirm_last-requires-clause-whole : goal.confirm_last-requires-clause-whole
 confirm_last-requires-clause-whole g c =
     let S = g.S.CountedRead.seen in
     let l = c.loop-next in
-    let a = script_in S l.script l.self in
+    let a = script_source S l.script l.self in
     let b = source_in S c.next.new.script c.next.new.self.ahead in
     let came = subst (λ (n : Next). Arrives n a b l.self.script.reader c.next.new.self.reader) c.in-Last.is c.in-Ok.ensures in
     let k = came.2 true l.invariant.through.left l.invariant.through.means in
@@ -68,7 +68,7 @@ returns-in-Last-clause-ends g c =
     let A = g.A.CountedRead.seen in
     let C = g.C.CountedRead.seen in
     let l = c.loop-next in
-    let a = script_in S l.script l.self in
+    let a = script_source S l.script l.self in
     let b = source_in S c.next.new.script c.next.new.self.ahead in
     let old = confirm_place S A C c.args.script.now c.args.answers.now c.args.steps.now c.args.self.now in
     let mid = confirm_place S A C l.script l.answers l.steps l.self in
@@ -81,7 +81,7 @@ pub returns-in-Last-clause-same : goal.returns-in-Last-clause-same
 returns-in-Last-clause-same g c =
     let S = g.S.CountedRead.seen in
     let l = c.loop-next in
-    let a = script_in S l.script l.self in
+    let a = script_source S l.script l.self in
     let b = source_in S c.next.new.script c.next.new.self.ahead in
     let came = subst (λ (n : Next). Arrives n a b l.self.script.reader c.next.new.self.reader) c.in-Last.is c.in-Ok.ensures in
     let k = came.2 true l.invariant.through.left l.invariant.through.means in
@@ -91,7 +91,7 @@ pub returns-in-Last-clause-bound : goal.returns-in-Last-clause-bound
 returns-in-Last-clause-bound g c =
     let S = g.S.CountedRead.seen in
     let l = c.loop-next in
-    let a = script_in S l.script l.self in
+    let a = script_source S l.script l.self in
     let b = source_in S c.next.new.script c.next.new.self.ahead in
     let came = subst (λ (n : Next). Arrives n a b l.self.script.reader c.next.new.self.reader) c.in-Last.is c.in-Ok.ensures in
     let k = came.2 true l.invariant.through.left l.invariant.through.means in
@@ -101,7 +101,7 @@ pub confirm_next-requires-clause-whole : goal.confirm_next-requires-clause-whole
 confirm_next-requires-clause-whole g c =
     let S = g.S.CountedRead.seen in
     let l = c.loop-next in
-    let a = script_in S l.script l.self in
+    let a = script_source S l.script l.self in
     let b = source_in S c.next.new.script c.next.new.self.ahead in
     let came = subst (λ (n : Next). Arrives n a b l.self.script.reader c.next.new.self.reader) c.in-Command.is c.in-Ok.ensures in
     let k = came.3 true l.invariant.through.left l.invariant.through.means in
@@ -113,7 +113,7 @@ returns-in_err-confirm_next-in-Command-clause-ends g c =
     let A = g.A.CountedRead.seen in
     let C = g.C.CountedRead.seen in
     let l = c.loop-next in
-    let a = script_in S l.script l.self in
+    let a = script_source S l.script l.self in
     let b = source_in S c.next.new.script c.next.new.self.ahead in
     let old = confirm_place S A C c.args.script.now c.args.answers.now c.args.steps.now c.args.self.now in
     let mid = confirm_place S A C l.script l.answers l.steps l.self in
@@ -127,7 +127,7 @@ pub returns-in_err-confirm_next-in-Command-clause-same : goal.returns-in_err-con
 returns-in_err-confirm_next-in-Command-clause-same g c =
     let S = g.S.CountedRead.seen in
     let l = c.loop-next in
-    let a = script_in S l.script l.self in
+    let a = script_source S l.script l.self in
     let b = source_in S c.next.new.script c.next.new.self.ahead in
     let came = subst (λ (n : Next). Arrives n a b l.self.script.reader c.next.new.self.reader) c.in-Command.is c.in-Ok.ensures in
     let k = came.3 true l.invariant.through.left l.invariant.through.means in
@@ -137,7 +137,7 @@ pub returns-in_err-confirm_next-in-Command-clause-bound : goal.returns-in_err-co
 returns-in_err-confirm_next-in-Command-clause-bound g c =
     let S = g.S.CountedRead.seen in
     let l = c.loop-next in
-    let a = script_in S l.script l.self in
+    let a = script_source S l.script l.self in
     let b = source_in S c.next.new.script c.next.new.self.ahead in
     let came = subst (λ (n : Next). Arrives n a b l.self.script.reader c.next.new.self.reader) c.in-Command.is c.in-Ok.ensures in
     let k = came.3 true l.invariant.through.left l.invariant.through.means in
@@ -149,7 +149,7 @@ loop-next-preserved g c =
     let A = g.A.CountedRead.seen in
     let C = g.C.CountedRead.seen in
     let l = c.loop-next in
-    let a = script_in S l.script l.self in
+    let a = script_source S l.script l.self in
     let b = source_in S c.next.new.script c.next.new.self.ahead in
     let old = confirm_place S A C c.args.script.now c.args.answers.now c.args.steps.now c.args.self.now in
     let mid = confirm_place S A C l.script l.answers l.steps l.self in
@@ -172,8 +172,8 @@ pub loop-next-smaller : goal.loop-next-smaller
 loop-next-smaller g c =
     let S = g.S.CountedRead.seen in
     let l = c.loop-next in
-    let a = script_in S l.script l.self in
+    let a = script_source S l.script l.self in
     let b = source_in S c.next.new.script c.next.new.self.ahead in
     let came = subst (λ (n : Next). Arrives n a b l.self.script.reader c.next.new.self.reader) c.in-Command.is c.in-Ok.ensures in
     let is = sym c.in_ok-confirm_next-in-Command.ensures.script in
-    subst (λ (x : CommandStream). bytes_left (source_in S c.next.new.script x.ahead) < bytes_left a) is (passes_fewer a b came.0 c.next.new.self.ahead.bounded came.1 came.2)
+    subst (λ (x : CommandStream). most_bytes_left (source_in S c.next.new.script x.ahead) < most_bytes_left a) is (passes_fewer a b came.0 c.next.new.self.ahead.bounded came.1 came.2)

@@ -1,9 +1,9 @@
 use Rattle.std.proofs.Common.{◌≡◌}
 use Rattle.sat_base.specs.steps.StepReading.{reader_name}
-use Rattle.certify.specs.confirm.Streams.{StepsGoOn, bytes_left}
-use Rattle.certify.specs.confirm.Sessions.{answers_in}
-use Rattle.certify.specs.confirm.ConfirmedScript.{ConfirmsThrough, script_in, confirm_place}
-use Rattle.certify.specs.script.Ahead.{IsNotAtEnd}
+use Rattle.certify.specs.confirm.Streams.{StepsGoOn, most_bytes_left}
+use Rattle.certify.specs.confirm.ConfirmStates.{answers_in}
+use Rattle.certify.specs.confirm.ConfirmedScript.{ConfirmsThrough, script_source, confirm_place}
+use Rattle.certify.specs.script.LastPiece.{IsNotAtEnd}
 use Rattle.sat_base.specs.script.Language.{reading}
 use Rattle.certify.proofs.confirm.confirmation.Confirmation.confirm_all.Given as goal
 
@@ -12,10 +12,10 @@ invariant-loop-next g l = record {
   same : reader_name l.steps ≡ reader_name l.fn.steps;
   goes_on : StepsGoOn g.C.CountedRead.seen l.steps;
   open_yet : IsNotAtEnd (answers_in g.A.CountedRead.seen l.answers l.self.session);
-  script_open : IsNotAtEnd (script_in g.S.CountedRead.seen l.script l.self);
+  script_open : IsNotAtEnd (script_source g.S.CountedRead.seen l.script l.self);
   through : ConfirmsThrough reading (confirm_place g.S.CountedRead.seen g.A.CountedRead.seen g.C.CountedRead.seen l.fn.script l.fn.answers l.fn.steps l.fn.self)
       (confirm_place g.S.CountedRead.seen g.A.CountedRead.seen g.C.CountedRead.seen l.script l.answers l.steps l.self) l.self.script.reader;
 }
 
 abbrev pub decreases-loop-next : goal.decreases-loop-next
-decreases-loop-next g l = bytes_left (script_in g.S.CountedRead.seen l.script l.self)
+decreases-loop-next g l = most_bytes_left (script_source g.S.CountedRead.seen l.script l.self)

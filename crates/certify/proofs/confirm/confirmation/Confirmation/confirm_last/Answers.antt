@@ -1,13 +1,13 @@
 use Rattle.std.proofs.Common.{ℕ, ◌≡◌, ◌+◌, ◌^◌, ◌<◌, ◌≤◌, Ok, Err, [], ◌∷◌, true, false, ◌∙◌, ap, arith}
 use Rattle.std.proofs.lemmas.Result.{err_from_is_err_and}
 use Rattle.certify.specs.confirm.Confirming.{ConfirmsLast, ConfirmsNext, table_of}
-use Rattle.certify.specs.confirm.Sessions.{answers_in, stream_in}
+use Rattle.certify.specs.confirm.ConfirmStates.{answers_in, stream_in}
 use Rattle.certify.specs.script.Commands.{end_reading}
 use Rattle.certify.specs.confirm.VerdictPromises.{numbers}
 use Rattle.sat_base.specs.script.Language.{onto_commands}
 use Rattle.certify.proofs.lemmas.confirm.Joining.{joins_as, took_open}
 use Rattle.certify.proofs.lemmas.confirm.ConfirmedThrough.{numbers_more}
-use Rattle.certify.proofs.lemmas.confirm.SessionMet.{command_end, command_stops}
+use Rattle.certify.proofs.lemmas.confirm.ConfirmStateMet.{command_end, command_stops}
 use Rattle.certify.proofs.confirm.confirmation.Confirmation.confirm_last.Goals as goal
 
 pub returns-in_err-confirm_next-clause-confirms : goal.returns-in_err-confirm_next-clause-confirms

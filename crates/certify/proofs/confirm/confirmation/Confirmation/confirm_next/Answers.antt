@@ -1,7 +1,7 @@
 use Rattle.std.proofs.Common.{◌+◌, ◌^◌, ◌≤◌, true, refl, arith, rules}
 use Rattle.std.proofs.lemmas.Bool.Decides.{nat_tests}
 use Rattle.certify.specs.confirm.Confirming.{ConfirmsNext, table_of}
-use Rattle.certify.specs.confirm.Sessions.{answers_in, stream_in}
+use Rattle.certify.specs.confirm.ConfirmStates.{answers_in, stream_in}
 use Rattle.certify.proofs.lemmas.confirm.Joining.{joins_many, too_many}
 use Rattle.certify.proofs.confirm.confirmation.Confirmation.confirm_next.Goals as goal
 

@@ -2,7 +2,7 @@ use Rattle.std.proofs.Common.{◌≡◌, ◌+◌, ◌<◌, ℕ, List, true, fals
 use Rattle.std.proofs.Common.{Some}
 use Rattle.sat_base.specs.values.Literals.{var_limit, variable}
 use Rattle.sat_base.specs.script.Script.{Literal, names_of}
-use Rattle.sat_base.specs.script.Judge.{WitnessName, refused_literal}
+use Rattle.sat_base.specs.script.ScriptState.{WitnessName, refused_literal}
 use Rattle.certify.specs.judge.Names.{is_witnessed, state_in, states_of, refusal_said}
 use Rattle.certify.proofs.lemmas.judge.Refusals.{refused_at, refused_end}
 use Rattle.certify.proofs.judge.names.Names.literal_refusal.Goals as goal

@@ -3,7 +3,7 @@ use Rattle.std.proofs.lemmas.Result.{err_from_is_err_and}
 use Rattle.sat_base.specs.declared.device.whole.ReadError.{ReadError}
 use Rattle.certify.specs.declared.script.Reached.{Reached}
 use Rattle.certify.specs.declared.script.ScriptEnd.TheVariants as ends
-use Rattle.certify.specs.script.Ahead.{waiting}
+use Rattle.certify.specs.script.LastPiece.{waiting_bytes}
 use Rattle.certify.specs.script.Streaming.{TakesWaiting}
 use Rattle.certify.proofs.lemmas.confirm.Compared.{some_list}
 use Rattle.certify.proofs.lemmas.script.Streaming.{brings_none, brings_more, brings_command, brings_malformed, some_bytes, taken_fewer}
@@ -20,7 +20,7 @@ returns-in-More-clause-brings g c =
     let S = g.S.CountedRead.seen in
     let old = c.args.self.now in
     let new = c.take.new.self in
-    let some = some_bytes (waiting old.ahead) (λ e. some_list c.waiting.result.now c.is_empty.result c.is_empty.ensures c.if-is_empty.false (c.waiting.ensures ∙ e)) in
+    let some = some_bytes (waiting_bytes old.ahead) (λ e. some_list c.waiting.result.now c.is_empty.result c.is_empty.ensures c.if-is_empty.false (c.waiting.ensures ∙ e)) in
     brings_more S c.args.script.now old new some (subst (λ (r : Reached). TakesWaiting {E = ReadError} (Ok r) old new) c.in-More.is c.in_ok-take.ensures)
 
 pub returns-in-More-clause-falls : goal.returns-in-More-clause-falls
@@ -28,7 +28,7 @@ returns-in-More-clause-falls g c =
     let old = c.args.self.now in
     let new = c.take.new.self in
     let t = c.in_ok-take.ensures in
-    let some = some_bytes (waiting old.ahead) (λ e. some_list c.waiting.result.now c.is_empty.result c.is_empty.ensures c.if-is_empty.false (c.waiting.ensures ∙ e)) in
+    let some = some_bytes (waiting_bytes old.ahead) (λ e. some_list c.waiting.result.now c.is_empty.result c.is_empty.ensures c.if-is_empty.false (c.waiting.ensures ∙ e)) in
     taken_fewer old.ahead new.ahead t.0 t.1 t.2 (t.3 some)
 
 pub returns-in-Command-clause-brings : goal.returns-in-Command-clause-brings
@@ -36,7 +36,7 @@ returns-in-Command-clause-brings g c =
     let S = g.S.CountedRead.seen in
     let old = c.args.self.now in
     let new = c.take.new.self in
-    let some = some_bytes (waiting old.ahead) (λ e. some_list c.waiting.result.now c.is_empty.result c.is_empty.ensures c.if-is_empty.false (c.waiting.ensures ∙ e)) in
+    let some = some_bytes (waiting_bytes old.ahead) (λ e. some_list c.waiting.result.now c.is_empty.result c.is_empty.ensures c.if-is_empty.false (c.waiting.ensures ∙ e)) in
     brings_command S c.args.script.now old new some (subst (λ (r : Reached). TakesWaiting {E = ReadError} (Ok r) old new) c.in-Command.is c.in_ok-take.ensures)
 
 pub returns-in-Malformed-clause-brings : goal.returns-in-Malformed-clause-brings
@@ -44,5 +44,5 @@ returns-in-Malformed-clause-brings g c =
     let S = g.S.CountedRead.seen in
     let old = c.args.self.now in
     let new = c.take.new.self in
-    let some = some_bytes (waiting old.ahead) (λ e. some_list c.waiting.result.now c.is_empty.result c.is_empty.ensures c.if-is_empty.false (c.waiting.ensures ∙ e)) in
+    let some = some_bytes (waiting_bytes old.ahead) (λ e. some_list c.waiting.result.now c.is_empty.result c.is_empty.ensures c.if-is_empty.false (c.waiting.ensures ∙ e)) in
     brings_malformed S c.args.script.now old new some ends.Malformed end_malformed c.requires (subst (λ (r : Reached). TakesWaiting {E = ReadError} (Ok r) old new) c.in-Malformed.is c.in_ok-take.ensures)

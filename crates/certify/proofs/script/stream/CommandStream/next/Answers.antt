@@ -2,7 +2,7 @@ use Rattle.std.proofs.Common.{[], Ok, Option, subst}
 use Rattle.std.proofs.lemmas.Result.{err_from_is_err_and}
 use Rattle.sat_base.proofs.lemmas.device.ReadLemmas.{passes_none}
 use Rattle.certify.specs.declared.script.stream.Next.{Next}
-use Rattle.certify.specs.script.Ahead.{source_in}
+use Rattle.certify.specs.script.LastPiece.{source_in}
 use Rattle.certify.specs.script.Streaming.{Brings}
 use Rattle.certify.proofs.lemmas.script.Bytes.{goes_nowhere}
 use Rattle.certify.proofs.lemmas.script.Streaming.{arrives_then, brings_then, follows_more}

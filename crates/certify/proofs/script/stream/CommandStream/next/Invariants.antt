@@ -1,13 +1,13 @@
 use Rattle.std.proofs.Common.{Bool, List, ℕ}
-use Rattle.sat_base.specs.device.Reading.{Passes}
+use Rattle.sat_base.specs.device.Reading.{ConsumesBytes}
 use Rattle.sat_base.specs.text.Chunks.{Follows}
-use Rattle.certify.specs.script.Ahead.{source_in}
+use Rattle.certify.specs.script.LastPiece.{source_in}
 use Rattle.certify.specs.script.Commands.{MeansIf}
-use Rattle.certify.specs.script.Streaming.{rounds_left}
+use Rattle.certify.specs.script.Streaming.{turns_left}
 use Rattle.certify.proofs.script.stream.CommandStream.next.Given as goal
 
 abbrev pub invariant-loop-next : goal.invariant-loop-next
-invariant-loop-next g l = (text : List ℕ) × Passes (source_in g.S.CountedRead.seen l.fn.script l.fn.self.ahead) (source_in g.S.CountedRead.seen l.script l.self.ahead) text × ((asks : Bool) → Follows (MeansIf asks) l.fn.self.reader text l.self.reader)
+invariant-loop-next g l = (text : List ℕ) × ConsumesBytes (source_in g.S.CountedRead.seen l.fn.script l.fn.self.ahead) (source_in g.S.CountedRead.seen l.script l.self.ahead) text × ((asks : Bool) → Follows (MeansIf asks) l.fn.self.reader text l.self.reader)
 
 abbrev pub decreases-loop-next : goal.decreases-loop-next
-decreases-loop-next g l = rounds_left l.self.ahead
+decreases-loop-next g l = turns_left l.self.ahead

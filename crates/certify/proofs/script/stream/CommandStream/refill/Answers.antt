@@ -1,4 +1,4 @@
-use Rattle.certify.specs.script.Ahead.{source_in}
+use Rattle.certify.specs.script.LastPiece.{source_in}
 use Rattle.certify.proofs.lemmas.script.Streaming.{refill_ends, refill_goes, refilled_fewer}
 use Rattle.certify.proofs.script.stream.CommandStream.refill.Goals as goal
 

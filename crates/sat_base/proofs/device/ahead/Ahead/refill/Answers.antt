@@ -1,11 +1,11 @@
 use Rattle.std.proofs.Common.{arith}
-use Rattle.sat_base.specs.device.Reading.{source, named}
+use Rattle.sat_base.specs.device.Reading.{source, with_borrows}
 use Rattle.sat_base.proofs.lemmas.device.ReadLemmas.{faults_now, faults_spent, none_waits, refilled}
 use Rattle.sat_base.proofs.device.ahead.Ahead.refill.Goals as goal
 
 pub returns-then-self-ge-MAX_READS-clause-bytes : goal.returns-then-self-ge-MAX_READS-clause-bytes
 returns-then-self-ge-MAX_READS-clause-bytes g c names =
-    let a = c.args.self.now in faults_spent (named names (source g.R.CountedRead.seen c.args.reader.now a)) (none_waits a.at a.end a.piece c.requires) c.if-self-ge-MAX_READS.true
+    let a = c.args.self.now in faults_spent (with_borrows names (source g.R.CountedRead.seen c.args.reader.now a)) (none_waits a.at a.end a.piece c.requires) c.if-self-ge-MAX_READS.true
 
 pub returns-in-Err-clause-bytes : goal.returns-in-Err-clause-bytes
 returns-in-Err-clause-bytes g c names =

@@ -1,6 +1,6 @@
 use Rattle.std.proofs.Common.{ap, ◌∙◌}
-use Rattle.sat_checker.specs.telling.NewsView.{announcement_with}
-use Rattle.sat_checker.proofs.lemmas.telling.News.{announcement_read}
+use Rattle.sat_checker.specs.listeners.NewsView.{announcement_with}
+use Rattle.sat_checker.proofs.lemmas.listeners.News.{announcement_read}
 use Rattle.sat_checker.proofs.announce.news.News.get.Goals as goal
 
 pub returns : goal.returns

@@ -1,7 +1,7 @@
 use Rattle.std.proofs.Common.{[], ◌∷◌, ◌∙◌, sym, refl}
 use Rattle.std.proofs.lemmas.List.{append-nil}
 use Rattle.sat_checker.proofs.lemmas.store.Entries.{on_err}
-use Rattle.sat_checker.proofs.lemmas.telling.News.{items_kept, items_pushed, seen_more, seen_pushed}
+use Rattle.sat_checker.proofs.lemmas.listeners.News.{items_kept, items_pushed, seen_more, seen_pushed}
 use Rattle.sat_checker.proofs.announce.news.News.push.Goals as goal
 
 pub returns-in_err-push-2-clause-err : goal.returns-in_err-push-2-clause-err

@@ -1,4 +1,4 @@
-use Rattle.sat_checker.proofs.lemmas.telling.News.{seen_first}
+use Rattle.sat_checker.proofs.lemmas.listeners.News.{seen_first}
 use Rattle.sat_checker.proofs.announce.news.News.truncate.Goals as goal
 
 pub returns : goal.returns

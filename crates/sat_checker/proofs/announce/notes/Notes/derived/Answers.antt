@@ -1,6 +1,6 @@
 use Rattle.std.proofs.Common.{◌++◌, ap, ◌∙◌}
-use Rattle.sat_checker.specs.telling.AnnouncingView.{stored_as}
-use Rattle.sat_checker.proofs.lemmas.telling.Noting.{on_ok}
+use Rattle.sat_checker.specs.listeners.AnnouncingView.{stored_as}
+use Rattle.sat_checker.proofs.lemmas.listeners.Noting.{on_ok}
 use Rattle.sat_checker.proofs.announce.notes.Notes.derived.Goals as goal
 
 pub returns : goal.returns

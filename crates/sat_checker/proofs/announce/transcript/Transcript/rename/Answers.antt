@@ -2,8 +2,8 @@ use Rattle.std.proofs.Common.{◌++◌, ◌∙◌, ap, sym}
 use Rattle.sat_base.specs.values.Literals.{coded}
 use Rattle.sat_checker.specs.announcements.Transcripts.{in_user_names, user_from_proof_var}
 use Rattle.sat_checker.specs.declared.announce.transcript.Transcript.{Transcript}
-use Rattle.sat_checker.specs.telling.AnnouncementView.{variables_of}
-use Rattle.sat_checker.proofs.lemmas.telling.Renaming.{renamed, nameless, all_renamed}
+use Rattle.sat_checker.specs.listeners.AnnouncementView.{variables_of}
+use Rattle.sat_checker.proofs.lemmas.listeners.Renaming.{renamed, nameless, all_renamed}
 use Rattle.sat_checker.proofs.announce.transcript.Transcript.rename.Goals.{in-Some+in_ok-push, in_default}
 use Rattle.sat_checker.proofs.announce.transcript.Transcript.rename.Goals as goal
 

@@ -1,6 +1,6 @@
 use Rattle.std.proofs.Common.{◌≡◌, ◌++◌, drop}
 use Rattle.sat_checker.specs.announcements.Transcripts.{in_user_names}
-use Rattle.sat_checker.specs.telling.AnnouncementView.{variables_of}
+use Rattle.sat_checker.specs.listeners.AnnouncementView.{variables_of}
 use Rattle.sat_checker.proofs.announce.transcript.Transcript.rename.Given as goal
 
 -- what is in the buffer, and the names of the literals that are left

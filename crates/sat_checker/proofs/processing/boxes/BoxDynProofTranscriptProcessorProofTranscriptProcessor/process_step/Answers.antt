@@ -1,5 +1,5 @@
-use Rattle.sat_checker.specs.telling.TranscriptView.{transcribed_of}
-use Rattle.sat_checker.proofs.lemmas.telling.Boxed.{moved}
+use Rattle.sat_checker.specs.listeners.TranscriptView.{transcribed_of}
+use Rattle.sat_checker.proofs.lemmas.listeners.Boxed.{moved}
 use Rattle.sat_checker.proofs.processing.boxes.BoxDynProofTranscriptProcessorProofTranscriptProcessor.process_step.Goals as goal
 
 pub returns : goal.returns

@@ -1,7 +1,7 @@
 use Rattle.std.proofs.Common.{ℕ, ◌≡◌, ◌||◌, [], ◌∷◌, ◌++◌, map, ap, subst, ◌∙◌}
 use Rattle.sat_base.specs.values.Literals.{negated}
 use Rattle.sat_checker.specs.LiteralSets.{is_among}
-use Rattle.sat_checker.specs.inner.Room.{LiteralsAndRoom}
+use Rattle.sat_checker.specs.inner.AssumedRoom.{LiteralsAndRoom}
 use Rattle.sat_checker.proofs.lemmas.announcements.Marking.{begins, none_left}
 use Rattle.std.proofs.lemmas.Result.{IfOk-from_err}
 use Rattle.sat_checker.proofs.rup.needed.Needed.begin.Goals as goal

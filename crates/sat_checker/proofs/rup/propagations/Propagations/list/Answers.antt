@@ -2,7 +2,7 @@ use Rattle.std.proofs.Common.{ℕ, ◌+◌, ◌≤◌, [], ◌∷◌, ◌++◌, 
 use Rattle.std.proofs.lemmas.Result.{IfOk-from_err}
 use Rattle.sat_base.specs.values.Literals.{negated}
 use Rattle.sat_checker.specs.Stored.{StoredUnit, unit_literals}
-use Rattle.sat_checker.specs.announcements.Needed.{ground, conflict_ids, true_unit}
+use Rattle.sat_checker.specs.announcements.Needed.{conflict_causes, conflict_ids, true_unit}
 use Rattle.sat_checker.specs.inner.Marks.{IsIncreasing}
 use Rattle.sat_checker.specs.inner.Reasons.{named}
 use Rattle.sat_checker.proofs.lemmas.sets.Canonical.{canonical_increasing}
@@ -61,10 +61,10 @@ returns-clause-listed c = on_ok c.list_conflict.result _ _
     let explained = met_conflict c.args.clause.now c.args.literals.now c.requires.canonical c.args.units.now.units c.has_both_signs.result _ c.has_both_signs.ensures c.if-has_both_signs.false none (x (sym c.is_lost.ensures ∙ c.if-is_lost.false)) in
     let denied = map negated c.args.clause.now in
     let noted = named hashes c.args.store.now.clauses in
-    lists (ground (denied ++ map (λ u. u.literal) c.args.units.now.units) noted) explained (subst (λ us. IsIncreasing (map (λ (u : StoredUnit). u.id) us)) (sym e) i)
-    ∙ ap (conflict_ids denied (ground (denied ++ map (λ u. u.literal) c.args.units.now.units) noted)) e
-    ∙ ap (λ us. conflict_ids denied (ground (denied ++ map (λ (u : StoredUnit). u.literal) us) noted) f.units) e
-    ∙ ap (λ cs. conflict_ids denied (ground (denied ++ unit_literals f) cs) f.units) (named_same c.args.store.now f k hashes)
+    lists (conflict_causes (denied ++ map (λ u. u.literal) c.args.units.now.units) noted) explained (subst (λ us. IsIncreasing (map (λ (u : StoredUnit). u.id) us)) (sym e) i)
+    ∙ ap (conflict_ids denied (conflict_causes (denied ++ map (λ u. u.literal) c.args.units.now.units) noted)) e
+    ∙ ap (λ us. conflict_ids denied (conflict_causes (denied ++ map (λ (u : StoredUnit). u.literal) us) noted) f.units) e
+    ∙ ap (λ cs. conflict_ids denied (conflict_causes (denied ++ unit_literals f) cs) f.units) (named_same c.args.store.now f k hashes)
     ∙ sym (ids_of_conflict c.args.clause.now c.args.literals.now c.requires.canonical f hashes (sym c.has_both_signs.ensures ∙ c.if-has_both_signs.false) (ap (true_unit c.args.literals.now) (sym e) ∙ none)))
     c.list_conflict.ensures.listed
 

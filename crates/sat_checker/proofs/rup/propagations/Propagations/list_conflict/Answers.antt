@@ -1,6 +1,6 @@
 use Rattle.std.proofs.Common.{map, reverse, ap, ◌++◌, ◌∙◌, Result, Ok, Err, OnOk}
 use Rattle.sat_base.specs.values.Literals.{negated}
-use Rattle.sat_checker.specs.inner.Room.{LiteralsAndRoom}
+use Rattle.sat_checker.specs.inner.AssumedRoom.{LiteralsAndRoom}
 use Rattle.sat_checker.proofs.lemmas.announcements.Marking.{none_left}
 use Rattle.sat_checker.proofs.lemmas.announcements.Listing.{clauses_alone, denied_same, marked_anew}
 use Rattle.std.proofs.lemmas.Result.{IfOk-from_err}

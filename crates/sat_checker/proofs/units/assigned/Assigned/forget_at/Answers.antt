@@ -4,7 +4,7 @@ use Rattle.std.proofs.lemmas.Grind.{get_or_default_zero}
 use Rattle.std.proofs.lemmas.List.{length-reverse, reverse-reverse}
 use Rattle.sat_checker.specs.LiteralSets.{is_among}
 use Rattle.sat_checker.specs.inner.Marks.{HoldsRoom, LosesAt}
-use Rattle.sat_checker.specs.inner.Room.{LiteralsAndRoom}
+use Rattle.sat_checker.specs.inner.AssumedRoom.{LiteralsAndRoom}
 use Rattle.sat_checker.proofs.lemmas.sets.Distinct.{once_reversed}
 use Rattle.sat_checker.proofs.lemmas.sets.Order.{among-reverse}
 use Rattle.sat_checker.proofs.lemmas.sets.Rooms.{has_place}

@@ -5,7 +5,7 @@ use Rattle.sat_base.specs.values.Literals.{negated}
 use Rattle.sat_base.proofs.lemmas.values.TableLemmas.{value_set}
 use Rattle.sat_checker.specs.LiteralSets.{is_among}
 use Rattle.sat_checker.specs.inner.Marks.{mark_at, AreMarks, HoldsRoom}
-use Rattle.sat_checker.specs.inner.Room.{LiteralsAndRoom}
+use Rattle.sat_checker.specs.inner.AssumedRoom.{LiteralsAndRoom}
 use Rattle.sat_checker.specs.declared.units.assigned.Mark.{Mark}
 use Rattle.sat_checker.specs.declared.units.assigned.Mark.TheVariants as mark
 use Rattle.sat_checker.proofs.lemmas.sets.Rooms.{few, newly_roomy, paired_more}

@@ -1,7 +1,7 @@
 use Rattle.std.proofs.Common.{◌≡◌, Bool, true, false, ap, refl, ◌∙◌, reverse}
 use Rattle.sat_checker.specs.LiteralSets.{is_among}
 use Rattle.sat_checker.specs.inner.Marks.{is_assumed, mark_for}
-use Rattle.sat_checker.specs.inner.Room.{LiteralsAndRoom}
+use Rattle.sat_checker.specs.inner.AssumedRoom.{LiteralsAndRoom}
 use Rattle.sat_checker.specs.declared.units.assigned.Mark.TheVariants.{NoRoom}
 use Rattle.sat_checker.proofs.units.assigned.Assigned.near.Goals as goal
 

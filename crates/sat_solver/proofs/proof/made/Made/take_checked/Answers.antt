@@ -1,7 +1,7 @@
 use Rattle.std.proofs.Common.{◌∙◌, ap, subst, sym, is_some}
 use Rattle.std.proofs.lemmas.Bool.{true≢false}
 use Rattle.sat_base.specs.steps.StepViews.{step_of}
-use Rattle.sat_solver.specs.proof.MadeView.{IsToldIn, listed_in}
+use Rattle.sat_solver.specs.proof.MadeView.{LastWidthIsIn, listed_in}
 use Rattle.sat_solver.proofs.lemmas.session.CheckedLemmas.{lost_fed, taken_fed, failed_fed, taken_cause, taken_why, may_more}
 use Rattle.sat_solver.proofs.proof.made.Made.take_checked.Goals as goal
 
@@ -46,7 +46,7 @@ pub returns-then-self-2-clause-width : goal.returns-then-self-2-clause-width
 returns-then-self-2-clause-width g c = λ e. absurd (true≢false (sym c.if-self-2.true ∙ e))
 
 pub returns-in-None-clause-width : goal.returns-in-None-clause-width
-returns-in-None-clause-width g c = λ e. subst (λ o. IsToldIn c.args.bits o) (sym c.in-None.is) tt
+returns-in-None-clause-width g c = λ e. subst (λ o. LastWidthIsIn c.args.bits o) (sym c.in-None.is) tt
 
 pub returns-in-Ok-clause-width : goal.returns-in-Ok-clause-width
 returns-in-Ok-clause-width g c = λ e. c.in-Ok.ensures.bits

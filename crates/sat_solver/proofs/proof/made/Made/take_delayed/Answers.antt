@@ -1,5 +1,5 @@
 use Rattle.std.proofs.Common.{◌∙◌, inl, inr, refl, subst}
-use Rattle.sat_solver.specs.proof.MadeView.{IsToldIn}
+use Rattle.sat_solver.specs.proof.MadeView.{LastWidthIsIn}
 use Rattle.sat_solver.proofs.lemmas.session.CheckedLemmas.{told_fed, untold_fed, told_cause, told_why, told_settled}
 use Rattle.sat_solver.proofs.proof.made.Made.take_delayed.Goals as goal
 
@@ -35,4 +35,4 @@ pub returns-in-None-clause-width : goal.returns-in-None-clause-width
 returns-in-None-clause-width g c = λ bits h. h
 
 pub returns-in-Ok-clause-width : goal.returns-in-Ok-clause-width
-returns-in-Ok-clause-width g c = λ bits h e. c.in-Ok.ensures.bits ∙ subst (λ o. IsToldIn bits o) c.in-Some.is (h e)
+returns-in-Ok-clause-width g c = λ bits h e. c.in-Ok.ensures.bits ∙ subst (λ o. LastWidthIsIn bits o) c.in-Some.is (h e)

@@ -1,0 +1,35 @@
+-- How a session goes on.
+use Rattle.std.specs.Prelude.{ℕ, ◌≡◌, ◌≤◌, Bool, List, Result, OnOk}
+use Rattle.sat_base.specs.declared.steps.reader.Buffers.{Buffers}
+use Rattle.sat_base.specs.declared.steps.reader.StepReader.{StepReader}
+use Rattle.sat_base.specs.device.Device.{Reader, most_reads}
+use Rattle.sat_base.specs.device.Reading.{Source}
+use Rattle.sat_base.specs.steps.StepReading.{reader_name, reader_source}
+use Rattle.sat_checker.specs.CheckerView.{kernel_of}
+use Rattle.certify.specs.confirm.Streams.{StepsGoOn, Stream, stream_of}
+use Rattle.certify.specs.confirm.Views.{View}
+use Rattle.certify.specs.confirm.Stopping.{Joins}
+use Rattle.certify.specs.confirm.Lines.{answers_source}
+use Rattle.certify.specs.declared.confirm.stop.Stop.{Stop}
+use Rattle.certify.specs.declared.confirm.names.Matching.{Matching}
+use Rattle.certify.specs.declared.confirm.commands.ConfirmState.{ConfirmState}
+use Rattle.certify.specs.declared.verdict.Why.{Why}
+
+-- the answers' reader, and what was read of it
+abbrev pub answers_in : {A : Type 0} → (A → Reader) → A → ConfirmState → Source
+answers_in seen answers s = answers_source seen answers s.answers
+
+-- the certificate, and what was made of it
+abbrev pub stream_in : {C : Type 0} → (C → Reader) → StepReader C Buffers → Matching → Stream
+stream_in seen steps m = stream_of seen steps (kernel_of m.certificate.checker)
+
+-- A call that confirms: the certificate's reader stays the same one and goes on where the call does, and P says what it makes of
+-- answers and certificate. M is so where the commands are too many.
+pub record ConfirmsBoth {A C T : Type 0} (M : Type 0) (goes : Bool) (result : Result T Stop)
+    (seen : A → Reader) (steps_seen : C → Reader) (old_answers new_answers : A)
+    (old new : StepReader C Buffers) (before after : ConfirmState) (P : List ℕ → List ℕ → View → View → Result T Why → Type 0) : Type 0 where
+  pub same : reader_name new ≡ reader_name old
+  pub bound : (reader_source steps_seen new).reads ≤ most_reads
+  pub goes_on : OnOk result (StepsGoOn steps_seen new)
+  pub joins : Joins M goes result (answers_in seen old_answers before) (answers_in seen new_answers after)
+      (stream_in steps_seen old before.matching) (stream_in steps_seen new after.matching) P

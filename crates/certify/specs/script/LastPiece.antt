@@ -1,0 +1,43 @@
+-- Readers whose bytes are read ahead of need.
+use Rattle.std.specs.Prelude.{ℕ, ◌+◌, ◌-◌, ◌≡◌, Bool, true, false, List, [], take, drop, Result, Ok, Err}
+use Rattle.std.specs.Io.KnownBytes.{IsAtEnd}
+use Rattle.sat_base.specs.device.Device.{Reader}
+use Rattle.sat_base.specs.device.Reading.{Source, AtEnd, ConsumesWithReads, ConsumesBytes, AllTaken, ConsumesAndFails, none_given}
+use Rattle.sat_base.specs.declared.device.whole.ReadError.{ReadError}
+use Rattle.sat_base.specs.declared.device.whole.ReadError.TheVariants as errors
+use Rattle.certify.specs.declared.script.ahead.LastPiece.{LastPiece}
+
+-- the bytes read and not yet taken
+abbrev pub waiting_bytes : LastPiece → List ℕ
+waiting_bytes a = take (a.end - a.at) (drop a.at a.piece)
+
+-- a reader, and what was read of it
+abbrev pub source_in : {R : Type 0} → (R → Reader) → R → LastPiece → Source
+source_in seen r a = record { reader = seen r; waiting = waiting_bytes a; reads = a.reads; names = [] }
+
+-- another piece was read, of so many bytes: none only at the end
+abbrev pub RefillsAhead : Result ℕ ReadError → Source → Source → Type 0
+RefillsAhead (Ok n) old new = ConsumesWithReads (none_given n) old new [] × (n ≡ 0 → AllTaken new)
+RefillsAhead (Err errors.Failed) old new = ConsumesAndFails old new []
+RefillsAhead (Err errors.OutOfMemory) old new = ⊥
+
+-- it isn't at its end
+abbrev pub IsNotAtEnd : Source → Type 0
+IsNotAtEnd s = AtEnd s → ⊥
+
+-- Some bytes were taken. Where the reader isn't to go on, the end was perhaps found.
+abbrev pub TakesSome : Bool → Source → Source → Type 0
+TakesSome true old new = (text : List ℕ) × ConsumesBytes old new text
+TakesSome false old new = ((text : List ℕ) × ConsumesWithReads 1 old new text) × (AtEnd new → IsAtEnd new.reader.to_come)
+
+-- some bytes were taken, and then perhaps the end was found, or looked for
+abbrev pub TakesSomeOrEnds : Source → Source → Type 0
+TakesSomeOrEnds old new = (text : List ℕ) × ConsumesWithReads 1 old new text
+
+-- no read failed, and there were no more than it counts
+abbrev pub NoReadFailedAhead : Source → Source → Type 0
+NoReadFailedAhead old new = (new.reader.failures ≡ old.reader.failures) × (new.reader.calls + old.reads ≡ old.reader.calls + new.reads)
+
+-- one did, or there were 2^48
+abbrev pub FaultsAhead : Source → Source → Type 0
+FaultsAhead old new = (text : List ℕ) × ConsumesAndFails old new text

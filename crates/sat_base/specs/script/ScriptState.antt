@@ -1,0 +1,189 @@
+-- What a script's commands leave: names, their variables, modes and clauses. It has no result of a search.
+use Rattle.std.specs.Prelude.{ℕ, zero, suc, ◌+◌, ◌-◌, ◌==◌, ◌≡◌, max, Bool, true, false, not, Option, Some, None, List, [], ◌∷◌, ◌++◌, map, set, get_or, nat_lt, is_some, if◌then◌else◌}
+use Rattle.std.specs.List.{filter, AllByRecursion}
+use Rattle.sat_base.specs.values.Literals.{coded, var_limit}
+use Rattle.sat_base.specs.values.Clauses.{Valuation, EachTrue, EachHolds}
+use Rattle.sat_base.specs.script.Script.{Literal, Command, Clause, Ask, Hide, Witness, Sample, names_of, Among, InOrder}
+
+-- The mode of a variable. A new variable is sampled; `w` and `s` change its mode. A clause or an ask with a witness is refused. Nothing else
+-- depends on modes: models and cores do not.
+pub data NameMode : Type 0 where
+  Sampled : NameMode
+  Witnessed : NameMode
+
+-- a name in use, and the identity of its variable: a number given once and never again
+pub record Named : Type 0 where
+  pub name : ℕ
+  pub identity : ℕ
+
+-- The state of a script between two commands. A name in use stands for one variable, by its identity. Hiding a name frees it, and its next
+-- use makes a new variable with a new identity. Clauses keep the old one.
+pub record ScriptState : Type 0 where
+  pub first_unused : ℕ  -- the first name never used
+  pub in_use : List Named  -- by increasing name
+  pub modes : List NameMode  -- of each identity, in order
+  pub identity_count : ℕ
+  pub clauses : List (List ℕ)  -- accepted, the newest first; a literal is twice its identity, and one more if negated
+
+-- before the first command
+abbrev pub start : ScriptState
+start = record { first_unused = 1; in_use = []; modes = []; identity_count = 0; clauses = [] }
+
+-- the identity of a name in use
+abbrev pub identity_in : List Named → ℕ → Option ℕ
+identity_in [] name = None
+identity_in (n ∷ ns) name = if n.name == name then Some n.identity else identity_in ns name
+
+-- the identity of the variable that has this name now, none for a name that is not in use
+abbrev pub identity_of : ScriptState → ℕ → Option ℕ
+identity_of j name = identity_in j.in_use name
+
+-- inserted by its name
+abbrev pub placed : Named → List Named → List Named
+placed new [] = new ∷ []
+placed new (n ∷ ns) = if nat_lt n.name new.name then n ∷ placed new ns else new ∷ n ∷ ns
+
+-- a new variable, of mode sample, under this name
+abbrev pub with_name : ℕ → ScriptState → ScriptState
+with_name name j = record {
+  first_unused = max j.first_unused (name + 1);
+  in_use = placed (record { name = name; identity = j.identity_count }) j.in_use;
+  modes = j.modes ++ Sampled ∷ [];
+  identity_count = j.identity_count + 1;
+  clauses = j.clauses;
+}
+
+-- `count` names in a row, from `name` on
+abbrev pub names_from : ℕ → ℕ → List ℕ
+names_from zero name = []
+names_from (suc count) name = name ∷ names_from count (name + 1)
+
+-- The names that get a new variable when `name` is used: none if it is in use, and itself if it is hidden. A name never used comes with all
+-- smaller names never used, so a first clause `5 0` introduces 1 to 5.
+abbrev pub new_names : ℕ → ScriptState → List ℕ
+new_names name j =
+    if nat_lt name j.first_unused
+    then (if is_some (identity_of j name) then [] else name ∷ [])
+    else names_from (name + 1 - j.first_unused) j.first_unused
+
+-- a new variable under each of these names, from left to right
+abbrev pub with_names : List ℕ → ScriptState → ScriptState
+with_names [] j = j
+with_names (name ∷ names) j = with_names names (with_name name j)
+
+-- introduces the name: it is in use from now on
+abbrev pub bring_in : ℕ → ScriptState → ScriptState
+bring_in name j = with_names (new_names name j) j
+
+-- introduces each of these names, from left to right
+abbrev pub bring_all : List ℕ → ScriptState → ScriptState
+bring_all [] j = j
+bring_all (name ∷ names) j = bring_all names (bring_in name j)
+
+-- the name is no longer in use
+abbrev pub without_name : ℕ → ScriptState → ScriptState
+without_name name j = record j { in_use = filter (λ n. not (n.name == name)) j.in_use }
+
+-- The number, or else 0. It is only applied to identities of names in use, so there is one.
+abbrev pub or_zero : Option ℕ → ℕ
+or_zero None = 0
+or_zero (Some n) = n
+
+-- The literal over identities. Its name is in use: an ask and a clause introduce their names first, a model lists the names in use, and a
+-- core has literals of the ask.
+abbrev pub over : ScriptState → Literal → ℕ
+over j l = coded (or_zero (identity_of j l.name)) l.positive
+
+-- the variable of this name, which is in use, gets this mode
+abbrev pub with_mode : NameMode → ℕ → ScriptState → ScriptState
+with_mode mode name j = record j { modes = set j.modes (or_zero (identity_of j name)) mode }
+
+-- accepts a clause, whose names are all in use
+abbrev pub with_clause : List Literal → ScriptState → ScriptState
+with_clause ls j = record j { clauses = map (over j) ls ∷ j.clauses }
+
+-- introduces each of these names, and hides it
+abbrev pub hide_all : List ℕ → ScriptState → ScriptState
+hide_all [] j = j
+hide_all (name ∷ names) j = hide_all names (without_name name (bring_in name j))
+
+-- introduces each of these names, and sets the mode of its variable
+abbrev pub set_all : NameMode → List ℕ → ScriptState → ScriptState
+set_all mode [] j = j
+set_all mode (name ∷ names) j = set_all mode names (with_mode mode name (bring_in name j))
+
+-- the state after an accepted command
+abbrev pub accepted : Command → ScriptState → ScriptState
+accepted (Clause ls) j = with_clause ls (bring_all (names_of ls) j)
+accepted (Ask ls) j = bring_all (names_of ls) j
+accepted (Hide names) j = hide_all names j
+accepted (Witness names) j = set_all Witnessed names j
+accepted (Sample names) j = set_all Sampled names j
+
+-- why a command is refused
+pub data Refusal : Type 0 where
+  PastLimit : Refusal
+  WitnessName : ℕ → Refusal
+
+-- whether a clause or an ask with a variable of this mode is refused
+abbrev pub is_witness : NameMode → Bool
+is_witness Sampled = false
+is_witness Witnessed = true
+
+-- whether this is the identity of a variable of mode witness
+abbrev pub has_witness : ScriptState → Option ℕ → Bool
+has_witness j None = false
+has_witness j (Some identity) = is_witness (get_or j.modes identity Sampled)
+
+-- For the names of a clause or an ask: the leftmost one that is past the limit or a witness decides. A name that is not in use is no witness.
+abbrev pub refused_literal : ScriptState → List ℕ → Option Refusal
+refused_literal j [] = None
+refused_literal j (name ∷ names) =
+    if nat_lt var_limit name then Some PastLimit
+    else (if has_witness j (identity_of j name) then Some (WitnessName name) else refused_literal j names)
+
+-- for the names of `h`, `w` and `s`: only a name past the limit is refused
+abbrev pub refused_name : List ℕ → Option Refusal
+refused_name [] = None
+refused_name (name ∷ names) = if nat_lt var_limit name then Some PastLimit else refused_name names
+
+-- why a command is refused, or `None` if it is accepted
+abbrev pub refusal_of : ScriptState → Command → Option Refusal
+refusal_of j (Clause ls) = refused_literal j (names_of ls)
+refusal_of j (Ask ls) = refused_literal j (names_of ls)
+refusal_of j (Hide names) = refused_name names
+refusal_of j (Witness names) = refused_name names
+refusal_of j (Sample names) = refused_name names
+
+-- a refused command changes nothing
+abbrev pub after_command : Command → ScriptState → ScriptState
+after_command command j = if is_some (refusal_of j command) then j else accepted command j
+
+-- what these commands leave, from left to right
+abbrev pub after_script : List Command → ScriptState → ScriptState
+after_script [] j = j
+after_script (command ∷ commands) j = after_script commands (after_command command j)
+
+-- the commands that aren't refused, in order
+abbrev pub accepted_of : ScriptState → List Command → List Command
+accepted_of j [] = []
+accepted_of j (command ∷ commands) =
+    if is_some (refusal_of j command) then accepted_of j commands else command ∷ accepted_of (accepted command j) commands
+
+-- A right model of an ask, j being the state after the ask's names were introduced.
+pub record IsRightModel (j : ScriptState) (ask line : List Literal) : Type 0 where
+  -- one literal for each name in use, in increasing order
+  pub names : names_of line ≡ map (λ n. n.name) j.in_use
+  -- some valuation that agrees with them satisfies the accepted clauses and the ask
+  pub valuation : Valuation
+  pub agrees : EachTrue valuation (map (over j) line)
+  pub clauses : EachHolds valuation j.clauses
+  pub asked : EachTrue valuation (map (over j) ask)
+
+-- A right core of an ask: some of its literals, in order and without repeats, that cannot all be true where the accepted clauses hold. It
+-- need not be minimal.
+pub record IsRightCore (j : ScriptState) (ask core : List Literal) : Type 0 where
+  pub order : InOrder core
+  pub among : AllByRecursion (λ l. Among l ask) core
+  -- no valuation satisfies the core and the accepted clauses
+  pub none : (a : Valuation) → EachTrue a (map (over j) core) → EachHolds a j.clauses → ⊥

@@ -1,0 +1,160 @@
+-- Where a reader may be in a text, and what is still to be read from there.
+use Rattle.std.specs.Prelude.{◌≡◌, ℕ, ◌+◌, List, [], ◌∷◌, ◌++◌, Bool, false, Option, None, Some, if◌then◌else◌, codes}
+use Rattle.sat_base.specs.text.Text.{is_blank, lines, words, on_line, last_line, digits, same_bytes, Token, Header, Wrong, token, tokens_of, Scan}
+
+-- the first of these lines, empty if there is none
+abbrev pub first_line : List (List ℕ) → List ℕ
+first_line [] = []
+first_line (l ∷ ls) = l
+
+-- the lines after the first
+abbrev pub later_lines : List (List ℕ) → List (List ℕ)
+later_lines [] = []
+later_lines (l ∷ ls) = ls
+
+-- the words of a header line that have ended: none, `p`, `p cnf`, and these with one number and with both
+pub data Stage : Type 0 where
+  Begun : Stage
+  Named : Stage
+  Format : Stage
+  Vars : ℕ → Stage
+  Both : ℕ → ℕ → Stage
+
+-- with a number that a word spells
+abbrev pub with_value : (ℕ → Stage) → Option ℕ → Option Stage
+with_value stage None = None
+with_value stage (Some n) = Some (stage n)
+
+-- the stage after one word more, if that is allowed there
+abbrev pub stage_behind : Stage → List ℕ → Option Stage
+stage_behind Begun w = if same_bytes w (codes "p") then Some Named else None
+stage_behind Named w = if same_bytes w (codes "cnf") then Some Format else None
+stage_behind Format w = with_value Vars (digits 0 w)
+stage_behind (Vars v) w = with_value (Both v) (digits 0 w)
+stage_behind (Both v c) w = None
+
+-- what a header line says that ends there
+abbrev pub stage_end : Stage → Token
+stage_end (Both v c) = Header v c
+stage_end stage = Wrong
+
+-- a word that is not allowed there spoils the line
+abbrev pub behind_word : Option Stage → (Stage → Token) → Token
+behind_word None more = Wrong
+behind_word (Some stage) more = more stage
+
+-- what the words that are left of a header line make of it
+unfoldable pub stage_token : Stage → List (List ℕ) → Token
+stage_token stage [] = stage_end stage
+stage_token stage (w ∷ ws) = behind_word (stage_behind stage w) (λ s. stage_token s ws)
+
+-- At the start of a line, after blanks at its start, or in a comment, where a header may still come or not; between words, or in
+-- a word of these bytes; between words of a header line, in such a word, or in one that is not allowed there; after `%`.
+pub data Position : Type 0 where
+  Fresh : Bool → Position
+  Leading : Bool → Position
+  Comment : Bool → Position
+  Between : Position
+  Within : ℕ → List ℕ → Position
+  HeaderBetween : Stage → Position
+  HeaderWithin : Stage → ℕ → List ℕ → Position
+  Spoilt : Position
+  Over : Position
+
+-- all bytes are no blanks
+abbrev pub HasNoBlank : List ℕ → Type 0
+HasNoBlank [] = Unit {0}
+HasNoBlank (b ∷ bs) = (is_blank b ≡ false) × HasNoBlank bs
+
+-- a word in hand has no blanks
+abbrev pub IsPosition : Position → Type 0
+IsPosition (Within x w) = HasNoBlank (x ∷ w)
+IsPosition (HeaderWithin stage x w) = HasNoBlank (x ∷ w)
+IsPosition spot = Unit {0}
+
+-- the tokens that are still to come, from a spot after n ended lines
+abbrev pub tokens_left : Position → ℕ → List (List ℕ) → List (ℕ × Token)
+tokens_left (Fresh may) n ls = tokens_of may n ls
+tokens_left (Leading may) n ls = tokens_of may n (first_line ls ∷ later_lines ls)
+tokens_left (Comment may) n ls = tokens_of may (n + 1) (later_lines ls)
+tokens_left Between n ls = on_line (n + 1) (words (first_line ls)) ++ tokens_of false (n + 1) (later_lines ls)
+tokens_left (Within x w) n ls = on_line (n + 1) (words ((x ∷ w) ++ first_line ls)) ++ tokens_of false (n + 1) (later_lines ls)
+tokens_left (HeaderBetween stage) n ls = (n + 1, stage_token stage (words (first_line ls))) ∷ tokens_of false (n + 1) (later_lines ls)
+tokens_left (HeaderWithin stage x w) n ls =
+    (n + 1, stage_token stage (words ((x ∷ w) ++ first_line ls))) ∷ tokens_of false (n + 1) (later_lines ls)
+tokens_left Spoilt n ls = (n + 1, Wrong) ∷ tokens_of false (n + 1) (later_lines ls)
+tokens_left Over n ls = []
+
+-- the last line, from a spot after n ended lines
+abbrev pub last_left : Position → ℕ → List (List ℕ) → ℕ
+last_left (Fresh may) n ls = last_line n ls
+last_left (Leading may) n ls = last_line n (first_line ls ∷ later_lines ls)
+last_left Over n ls = n + 1
+last_left spot n ls = last_line (n + 1) (later_lines ls)
+
+-- what is still to be read
+unfoldable pub left : Position → ℕ → List ℕ → Scan
+left spot n bytes = record { tokens = tokens_left spot n (lines bytes); last = last_left spot n (lines bytes) }
+
+-- the word or header line in hand, when the line ends
+abbrev pub in_hand : Position → ℕ → List (ℕ × Token)
+in_hand (Within x w) n = (n + 1, token (x ∷ w)) ∷ []
+in_hand (HeaderBetween stage) n = (n + 1, stage_end stage) ∷ []
+in_hand (HeaderWithin stage x w) n = (n + 1, behind_word (stage_behind stage (x ∷ w)) stage_end) ∷ []
+in_hand Spoilt n = (n + 1, Wrong) ∷ []
+in_hand spot n = []
+
+-- whether a header may come on the lines below
+abbrev pub may_behind : Position → Bool
+may_behind (Fresh may) = may
+may_behind (Leading may) = may
+may_behind (Comment may) = may
+may_behind spot = false
+
+-- the spot after LF; nothing goes on after `%`
+abbrev pub behind_LF : Position → Position
+behind_LF Over = Over
+behind_LF spot = Fresh (may_behind spot)
+
+-- how many lines have ended after LF, where n had ended before it; after `%` LF ends none
+abbrev pub lines_behind : Position → ℕ → ℕ
+lines_behind Over n = n
+lines_behind spot n = n + 1
+
+-- after a word of a header line that a blank ends
+abbrev pub behind_header_word : Option Stage → Position
+behind_header_word None = Comment false
+behind_header_word (Some stage) = HeaderBetween stage
+
+-- the spot after a blank that ends no line
+abbrev pub behind_blank : Position → Position
+behind_blank (Fresh may) = Leading may
+behind_blank (Leading may) = Leading may
+behind_blank (Comment may) = Comment may
+behind_blank Between = Between
+behind_blank (Within x w) = Between
+behind_blank (HeaderBetween stage) = HeaderBetween stage
+behind_blank (HeaderWithin stage x w) = behind_header_word (stage_behind stage (x ∷ w))
+behind_blank Spoilt = Comment false
+behind_blank Over = Over
+
+-- a word of a header line that is not allowed there
+abbrev pub spoils : Option Stage → ℕ → List (ℕ × Token)
+spoils None n = (n + 1, Wrong) ∷ []
+spoils (Some stage) n = []
+
+-- what such a blank ends
+abbrev pub ended_by_blank : Position → ℕ → List (ℕ × Token)
+ended_by_blank (Within x w) n = (n + 1, token (x ∷ w)) ∷ []
+ended_by_blank (HeaderWithin stage x w) n = spoils (stage_behind stage (x ∷ w)) n
+ended_by_blank Spoilt n = (n + 1, Wrong) ∷ []
+ended_by_blank spot n = []
+
+-- the line of the last byte
+abbrev pub line_at : Position → ℕ → ℕ
+line_at (Fresh may) n = n
+line_at spot n = n + 1
+
+-- these tokens, and then what is still to be read
+abbrev pub onto : List (ℕ × Token) → Scan → Scan
+onto ts rest = record { tokens = ts ++ rest.tokens; last = rest.last }

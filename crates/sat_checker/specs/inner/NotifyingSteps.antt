@@ -1,0 +1,71 @@
+-- How one step is announced.
+use Rattle.std.specs.Prelude.{ℕ, ◌≡◌, ◌==◌, true, false, if◌then◌else◌, List, map, Option, None, Some, Result, Ok, Err}
+use Rattle.sat_base.specs.steps.Steps.{Step, UserVarName, DeleteVar, ChangeSamplingMode}
+use Rattle.sat_checker.specs.Stored.{Variable}
+use Rattle.sat_checker.specs.CheckerView.{CheckerView, has_failed, looks_of}
+use Rattle.sat_checker.specs.announcements.Announcements.{Announcement, Notice}
+use Rattle.sat_checker.specs.inner.VariablesView.{variable_of_data}
+use Rattle.sat_checker.specs.listeners.Hearing.{HearsAll, HearsUpTo}
+use Rattle.sat_checker.specs.declared.error.CheckerError.{CheckerError}
+use Rattle.sat_checker.specs.declared.error.CheckerError.TheVariants as errors
+use Rattle.sat_checker.specs.declared.processing.ProcessingError.{ProcessingError}
+use Rattle.sat_checker.specs.declared.processing.ProcessingError.TheVariants as faults
+use Rattle.sat_checker.specs.declared.state.status.Status.{Status}
+use Rattle.sat_checker.specs.declared.state.status.Records.{Records}
+use Rattle.sat_checker.specs.declared.store.StoreError.{StoreError}
+use Rattle.sat_checker.specs.declared.store.StoreError.TheVariants as stores
+use Rattle.sat_checker.specs.declared.announce.announcement.Was.{Was}
+
+-- announcements while these variables may be looked up
+abbrev pub announced_by : (ℕ → Variable) → List Announcement → List Notice
+announced_by variables = map (λ a. record { announcement = a; variables = variables })
+
+-- a variable, and what is kept of it
+abbrev pub was_of : Option Was → Option (ℕ × Variable)
+was_of None = None
+was_of (Some was) = Some (was.var, variable_of_data was.data)
+
+-- the variables, but for one that is as it was
+abbrev pub put_back : Option (ℕ × Variable) → (ℕ → Variable) → ℕ → Variable
+put_back None variables = variables
+put_back (Some was) variables = λ v. if v == was.0 then was.1 else variables v
+
+-- the variable whose name or mode a step may change
+abbrev pub changed_by : (ℕ → Variable) → Step → Option (ℕ × Variable)
+changed_by variables (UserVarName v name) = Some (v, variables v)
+changed_by variables (DeleteVar v) = Some (v, variables v)
+changed_by variables (ChangeSamplingMode v sample) = Some (v, variables v)
+changed_by variables step = None
+
+-- the error if not all listeners were notified
+abbrev pub fault_of : ProcessingError → CheckerError
+fault_of faults.OutOfMemory = errors.OutOfMemory
+fault_of (faults.ProofProcessorError cause) = errors.ProofProcessorError cause
+
+-- the error if a step couldn't be stored
+abbrev pub failure_of : StoreError → CheckerError
+failure_of stores.OutOfMemory = errors.OutOfMemory
+failure_of stores.CounterEnd = errors.CounterEnd
+
+-- of a status, what can still be returned after a later step has failed
+abbrev pub records_in : Status → Records
+records_in s = record { unsat = s.unsat; ended = s.ended; var_deleted = s.var_deleted }
+
+-- the state and the looks are as they were
+pub record SameStateAndLooks {L : Type 0} (old new : CheckerView L) : Type 0 where
+  pub state : new.kernel.state ≡ old.kernel.state
+  pub looks : looks_of new ≡ looks_of old
+
+-- a listener that accepts everything without a fault, and does not change
+abbrev pub IsUnmovedByNotices : {L : Type 0} → (L → Notice → Result Unit ProcessingError → L → Type 0) → L → Type 0
+IsUnmovedByNotices Hears l = (t : Notice) → Hears l t (Ok tt) l
+
+module _ {L : Type 0} (Hears : L → Notice → Result Unit ProcessingError → L → Type 0) (told : List Notice) where
+  -- all was announced, or up to a fault, and this is recorded
+  abbrev pub TakenIn : Result Unit CheckerError → CheckerView L → CheckerView L → Type 0
+  TakenIn (Ok x) old new = (has_failed new ≡ false) × (new.kernel.records ≡ records_in new.kernel.state.formula.status) × HearsAll Hears told old.listeners new.listeners
+  TakenIn (Err e) old new = (has_failed new ≡ true) × (new.kernel.records ≡ records_in new.kernel.state.formula.status) × (f : ProcessingError) × (e ≡ fault_of f) × HearsUpTo Hears f told old.listeners new.listeners
+
+  -- the same, and the state and the looks are as they were
+  abbrev pub NotifiesAndKeepsState : Result Unit CheckerError → CheckerView L → CheckerView L → Type 0
+  NotifiesAndKeepsState result old new = SameStateAndLooks old new × TakenIn result old new

@@ -1,0 +1,8 @@
+pub mod AnnouncementView
+pub mod TranscriptView
+pub mod Notifying
+pub mod ProcessingView
+pub mod NewsView
+pub mod AnnouncingView
+pub mod NotedView
+pub mod Hearing

@@ -1,0 +1,28 @@
+-- What a step will announce, by what is stored before it.
+use Rattle.std.specs.Prelude.{ℕ, ◌≡◌, Bool, List, [], ◌∷◌, None, ◌==◌, if◌then◌else◌}
+use Rattle.sat_checker.specs.Stored.{Stored}
+use Rattle.sat_checker.specs.Storing.{clause_with}
+use Rattle.sat_checker.specs.announcements.Announcements.{Announcement, AtClause, MakeIrredundant, redundant_deleted, irredundant_deleted, one}
+use Rattle.sat_checker.specs.inner.StoreView.{found_in}
+use Rattle.sat_checker.specs.declared.store.Placed.{Placed}
+use Rattle.sat_checker.specs.declared.announce.announcing.Change.{Change}
+use Rattle.sat_checker.specs.declared.announce.announcing.Change.TheVariants as changes
+use Rattle.sat_checker.specs.declared.announce.announcing.Deletion.{Deletion}
+
+-- a derived clause that changes what is stored so
+abbrev pub stored_as : Change → ℕ → Bool → List ℕ → List ℕ → List Announcement
+stored_as changes.New id redundant literals ids = AtClause id redundant literals ids ∷ []
+stored_as (changes.Irredundant same) id redundant literals ids = MakeIrredundant same literals ∷ []
+stored_as changes.Neither id redundant literals ids = []
+
+-- what storing a clause of two literals or more changed, by how it was placed
+abbrev pub change_in : Bool → Placed → Change
+change_in redundant p = if p.is_new then changes.New else if redundant then changes.Neither else if p.irredundant == 0 then changes.Irredundant p.id else changes.Neither
+
+-- a clause of these literals is deleted, which stood so
+abbrev pub deletion_announced : List ℕ → Deletion → List Announcement
+deletion_announced literals d = if d.redundant then redundant_deleted (found_in literals d.stored) else irredundant_deleted (one d.from) (found_in literals d.stored)
+
+-- no clause of one literal is among those of two literals or more
+abbrev pub AreLong : Stored → Type 0
+AreLong f = (l : ℕ) → clause_with (l ∷ []) f.clauses ≡ None

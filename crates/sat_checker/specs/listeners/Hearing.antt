@@ -1,0 +1,58 @@
+-- What the listeners of a checker hear of what is announced, in order, up to the first fault.
+use Rattle.std.specs.Prelude.{ℕ, ◌≡◌, ◌⊎◌, List, [], ◌∷◌, ◌++◌, Option, None, Some, Result, Ok, Err}
+use Rattle.anyhow.specs.declared.error.Error.{Error}
+use Rattle.sat_base.specs.steps.Steps.{Step}
+use Rattle.sat_checker.specs.announcements.Announcements.{Notice, notices_after, all_notices_after}
+use Rattle.sat_checker.specs.listeners.Notifying.{NotifiesFirst}
+use Rattle.sat_checker.specs.declared.processing.ProcessingError.{ProcessingError}
+
+-- The same is announced: the announcement, and of every variable the name and the mode that can be looked up.
+pub record SameNotice (t u : Notice) : Type 0 where
+  pub announcement : t.announcement ≡ u.announcement
+  pub names : (v : ℕ) → (t.variables v).name ≡ (u.variables v).name
+  pub modes : (v : ℕ) → (t.variables v).mode ≡ (u.variables v).mode
+
+module _ {L : Type 0} (Hears : L → Notice → Result Unit ProcessingError → L → Type 0) where
+  -- the listeners heard this, and returned this result
+  abbrev pub HearsSame : L → Notice → Result Unit ProcessingError → L → Type 0
+  HearsSame old t result new = (u : Notice) × SameNotice u t × Hears old u result new
+
+  -- all are heard once, in order, without a fault
+  abbrev pub HearsAll : List Notice → L → L → Type 0
+  HearsAll [] old new = new ≡ old
+  HearsAll (t ∷ ts) old new = (mid : L) × HearsSame old t (Ok tt) mid × HearsAll ts mid new
+
+  -- all are heard once, in order, up to one for which this fault is returned; those after it aren't announced
+  abbrev pub HearsUpTo : ProcessingError → List Notice → L → L → Type 0
+  HearsUpTo e [] old new = ⊥
+  HearsUpTo e (t ∷ ts) old new = HearsSame old t (Err e) new ⊎ ((mid : L) × HearsSame old t (Ok tt) mid × HearsUpTo e ts mid new)
+
+  -- All this was announced, and they have heard what follows its first part, which was announced earlier.
+  abbrev pub HearsSince : List Notice → List Notice → L → L → Type 0
+  HearsSince before told old new = (since : List Notice) × (told ≡ before ++ since) × HearsAll since old new
+
+  -- up to this fault
+  abbrev pub HearsSinceUpTo : ProcessingError → List Notice → List Notice → L → L → Type 0
+  HearsSinceUpTo e before told old new = (since : List Notice) × (told ≡ before ++ since) × HearsUpTo e since old new
+
+-- what these steps announced, with the empty clause of a unit conflict that they left once it isn't pending any more
+abbrev pub notices_by : Option (ℕ × ℕ) → List Step → List Notice
+notices_by (Some conflict) steps = notices_after steps
+notices_by None steps = all_notices_after steps
+
+-- one that is notified before all others, and these
+pub record Hearers (V L : Type 0) : Type 0 where
+  pub own : V
+  pub others : L
+
+-- this one first, and then these
+abbrev pub hearers : {V L : Type 0} → V → L → Hearers V L
+hearers own others = record { own = own; others = others }
+
+-- a listener that accepts everything, and does not change
+abbrev pub takes_all : {V : Type 0} → V → Notice → Result Unit Error → V → Type 0
+takes_all old t result new = (result ≡ Ok tt) × (new ≡ old)
+
+-- it is notified first, and then the others, if it returns no fault
+abbrev pub HearsFirst : {V L : Type 0} → (V → Notice → Result Unit Error → V → Type 0) → (L → Notice → Result Unit ProcessingError → L → Type 0) → Hearers V L → Notice → Result Unit ProcessingError → Hearers V L → Type 0
+HearsFirst Takes Hears old t result new = NotifiesFirst (λ answer own. Takes old.own t answer own) (Hears old.others t result new.others) result new.own old.others new.others

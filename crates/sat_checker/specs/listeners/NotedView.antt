@@ -1,0 +1,25 @@
+-- What is noted of a step.
+use Rattle.std.specs.Prelude.{ℕ, ◌≡◌, ◌++◌, Bool, List, Result, IfOk, IsTrue}
+use Rattle.sat_base.specs.steps.Steps.{Step}
+use Rattle.sat_checker.specs.Stored.{Stored}
+use Rattle.sat_checker.specs.announcements.Announcements.{Announcement, announced, derived_set, id_of_set}
+use Rattle.sat_checker.specs.inner.FormulaView.{KeepsFormula}
+use Rattle.sat_checker.specs.inner.StateView.{KeepsStored}
+use Rattle.sat_checker.specs.listeners.AnnouncingView.{stored_as, AreLong}
+use Rattle.sat_checker.specs.declared.announce.announcing.Change.{Change}
+use Rattle.sat_checker.specs.declared.formula.Formula.{Formula}
+use Rattle.sat_checker.specs.declared.announce.notes.Notes.{Notes}
+use Rattle.sat_checker.specs.declared.store.StoreError.{StoreError}
+use Rattle.sat_checker.specs.declared.state.State.{State}
+
+-- if there is a listener, this follows what was noted before
+abbrev pub AppendsNews : Notes → List Announcement → Notes → Type 0
+AppendsNews before told after = IsTrue before.hears → after.news ≡ before.news ++ told
+
+-- if the step is accepted, what it announces is noted
+abbrev pub Announces : Result Bool StoreError → State → Step → Notes → Notes → Type 0
+Announces result old step before after = IfOk result (λ accepted. IsTrue accepted → (f : Stored) → KeepsStored old f → AreLong f → AppendsNews before (announced f step) after)
+
+-- what storing these sorted literals changed is what deriving them announces
+abbrev pub ChangesSet : Result Change StoreError → Bool → List ℕ → Formula → Type 0
+ChangesSet result redundant literals old = IfOk result (λ change. (f : Stored) → KeepsFormula old f → AreLong f → (ids : List ℕ) → stored_as change f.next_id redundant literals ids ≡ derived_set redundant literals ids f (id_of_set literals f))

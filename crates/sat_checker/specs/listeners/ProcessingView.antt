@@ -1,0 +1,28 @@
+-- The listeners of a checker.
+use Rattle.std.specs.Prelude.{◌≡◌, List, [], Result}
+use Rattle.anyhow.specs.declared.error.Error.{Error}
+use Rattle.sat_checker.specs.announcements.Announcements.{Notice}
+use Rattle.sat_checker.specs.announcements.Transcripts.{Transcribed, transcript}
+use Rattle.sat_checker.specs.listeners.Hearing.{HearsUpTo}
+use Rattle.sat_checker.specs.listeners.Notifying.{Listeners, Notifies}
+use Rattle.sat_checker.specs.declared.error.CheckerError.{CheckerError}
+use Rattle.sat_checker.specs.declared.error.CheckerError.TheVariants as errors
+use Rattle.sat_checker.specs.declared.processing.Processing.{Processing}
+use Rattle.sat_checker.specs.declared.processing.ProcessingError.{ProcessingError}
+
+-- the processors and the transcripts that were added, as the code has them
+abbrev pub listeners_of : {P T : Type 0} → Processing P T → Listeners P T
+listeners_of p = record { processors = p.processors.items; transcripts = p.transcripts.items }
+
+-- Every processor hears this, and every transcript what it says of it.
+abbrev pub HearsEach : {P T : Type 0} → (P → Notice → Result Unit Error → P → Type 0) → (T → Transcribed → Result Unit Error → T → Type 0) → Processing P T → Notice → Result Unit ProcessingError → Processing P T → Type 0
+HearsEach Takes Reads old t result new = Notifies (λ r b d. Takes b t r d) (λ said r b d. Reads b said r d) (transcript t.variables t.announcement) result (listeners_of old) (listeners_of new)
+
+-- without listeners there is no fault
+abbrev pub NoListenerNoFault : {P T : Type 0} → (P → Notice → Result Unit Error → P → Type 0) → (T → Transcribed → Result Unit Error → T → Type 0) → Type 0
+NoListenerNoFault {P = P} {T = T} Takes Reads = (e : ProcessingError) (told : List Notice) (old new : Processing P T) → listeners_of old ≡ record { processors = []; transcripts = [] } → HearsUpTo (HearsEach Takes Reads) e told old new → ⊥
+
+-- a listener returned a fault
+abbrev pub IsListenerFault : {P T : Type 0} → Processing P T → CheckerError → Type 0
+IsListenerFault old (errors.ProofProcessorError cause) = listeners_of old ≡ record { processors = []; transcripts = [] } → ⊥
+IsListenerFault old error = Unit {0}

@@ -1,8 +1,0 @@
-pub mod AnnouncementView
-pub mod TranscriptView
-pub mod Telling
-pub mod ProcessingView
-pub mod NewsView
-pub mod AnnouncingView
-pub mod NotedView
-pub mod Hearing

@@ -1,0 +1,125 @@
+-- Names and search behind the step of an answer.
+use Rattle.std.proofs.Common.{inl, ℕ, ◌<◌, ◌≤◌, ◌≡◌, ◌⊎◌, ◌∙◌, Bool, true, false, Option, Some, Ok, Err, eqb, List, [], ◌∷◌, ◌++◌, length, map, get_or, refl, sym, ap, subst}
+use Rattle.std.proofs.lemmas.Bool.{or_left, or_right, eq-eqb}
+use Rattle.std.specs.List.{AllByRecursion}
+use Rattle.sat_base.specs.device.Device.{Writer}
+use Rattle.sat_base.specs.values.Literals.{variable}
+use Rattle.sat_base.specs.steps.Steps.{Step, Model, FailedAssumptions}
+use Rattle.sat_checker.specs.LiteralSets.{is_among}
+use Rattle.sat_checker.specs.declared.processing.ProofProcessor.{Ghosts}
+use Rattle.sat_solver.specs.proof.ProofView.{EmitsChecked, HasAllowedSteps, EmitsAsAnswered, steps_of, session_of}
+use Rattle.sat_solver.specs.session.Session.{Session, MayAll, after, session_after}
+use Rattle.sat_solver.specs.declared.proof.Proof.{Proof}
+use Rattle.sat_solver.specs.declared.proof.ProofError.{ProofError}
+use Rattle.sat_solver.specs.declared.proof.ProofError.TheVariants.{Write, OutOfMemory, Check}
+use Rattle.sat_solver.proofs.lemmas.session.ProofLemmas.{adds_none, gains_adds}
+use Rattle.sat_solver.proofs.lemmas.cdcl.GoingLemmas.{check_loss, complaint_kept, went_checked, fault_checked}
+use Rattle.sat_solver.specs.session.Listed.{ChangesNoClause}
+use Rattle.sat_solver.proofs.lemmas.fits.AnswerParts.{parts_rests}
+use Rattle.sat_solver.specs.declared.error.SolverError.TheVariants as errors
+use Rattle.sat_solver.specs.assumptions.Core.{WritesCoreStep}
+use Rattle.sat_solver.specs.cdcl.Going.{proof_fault}
+use Rattle.sat_solver.specs.cdcl.Joint.{assumed_in, global_in, IsSearch, SameVarsAndAssumptions}
+use Rattle.sat_parts.specs.parts.Whole.{state}
+use Rattle.sat_parts.specs.parts.Words.{IsIdle}
+use Rattle.sat_solver.specs.declared.context.Search.{Search}
+use Rattle.sat_solver.specs.declared.context.Core.{Core}
+use Rattle.sat_solver.specs.variables.Variables.{data_at, variables_used, indices_used}
+use Rattle.sat_solver.specs.variables.Shared.{SharesIndices}
+use Rattle.sat_solver.specs.Models.{model_to}
+use Rattle.sat_solver.specs.variables.Calls.{NamesInvariant}
+use Rattle.sat_solver.specs.declared.variables.Variables.{Variables}
+use Rattle.sat_solver.proofs.lemmas.variables.Searched.{searches_stand}
+use Rattle.sat_solver.specs.solver.Joined.{IsJoined, lit_over_names}
+use Rattle.sat_solver.specs.solver.Answering.{Shown, WritesFailedCore, BreaksOff, model_of}
+use Rattle.sat_solver.proofs.lemmas.solver.ShownLemmas.{model_only}
+
+-- the search doesn't see a step that leaves clauses, units, names and assumptions as they are
+pub search_rests : (s : Session) (c : Search) (step : Step) → IsSearch s c → ChangesNoClause step → (after step s).assumed ≡ s.assumed → (after step s).solver_names ≡ s.solver_names → IsSearch (after step s) c
+search_rests s c step search quiet assumed names = record {
+  stands = record { holds = search.stands.holds; fits = parts_rests c.parts s (global_in c) search.stands.fits step quiet };
+  ready = record { free = search.ready.free; placed = search.ready.placed; there = search.ready.there; asked = assumed ∙ search.ready.asked; used = subst (λ (f : ℕ → Option ℕ). (v : ℕ) → v < length c.parts.assignment.current → (f (global_in c v) ≡ Some v) ⊎ IsIdle (assumed_in c) (state c.parts) c.parts.vsids v) (sym names) search.ready.used };
+}
+
+pub each_live : (n : Variables) (values : List (Option Bool)) (count : ℕ) (ls : List ℕ) → ((l : ℕ) → is_among ls l ≡ true → is_among (model_to n values count) l ≡ true) → AllByRecursion (λ l. (data_at n (variable l)).deleted ≡ false) ls
+each_live n values count [] h = tt
+each_live n values count (l ∷ ls) h = (
+  (model_only n values count l (h l (first l ls))).live,
+  each_live n values count ls (λ m t. h m (later l m ls t)),
+)
+  where
+    first : (l : ℕ) (ls : List ℕ) → is_among (l ∷ ls) l ≡ true
+    first l ls = or_left (eqb l l) (is_among ls l) (eq-eqb l l refl)
+
+    later : (l m : ℕ) (ls : List ℕ) → is_among ls m ≡ true → is_among (l ∷ ls) m ≡ true
+    later l m ls t = or_right (eqb l m) (is_among ls m) t
+
+-- indices are shared where variables are the same
+pub shares_moved : (n : Variables) (c c' : Search) → SharesIndices n c → SameVarsAndAssumptions c c' → SharesIndices n c'
+shares_moved n c c' h moved = record {
+  size = moved.size ∙ h.size ∙ sym (ap (λ gs. length gs.items) moved.globals);
+  few = subst (λ (k : ℕ). k ≤ indices_used n) (sym (ap (λ gs. length gs.items) moved.globals)) h.few;
+  below = λ x v e. subst (λ (k : ℕ). x < k) (sym (ap (λ gs. length gs.items) moved.globals)) (h.below x v e);
+  same = λ x v e. ap (λ gs. get_or gs.items x 0) moved.globals ∙ h.same x v e;
+}
+
+module _ {W L : Type 0} {G : Ghosts L} (seen : W → Writer) (n : Variables) (a : Core W L G) (joined : IsJoined n a) where
+  module _ (proof : Proof W L G) where
+    abbrev pub told : Core W L G
+    told = record a { proof = proof }
+
+    -- the step of a model was taken
+    pub model_shown : (ls : List ℕ) → ls ≡ model_of n a → EmitsChecked seen (Model ls ∷ []) a.proof proof → HasAllowedSteps proof → Shown seen n a told
+    model_shown ls e adds keeps =
+        let adds_model : EmitsChecked seen (Model (model_of n a) ∷ []) a.proof proof = subst (λ xs. EmitsChecked seen (Model xs ∷ []) a.proof proof) e adds in
+        let may : MayAll (Model (model_of n a) ∷ steps_of a.proof) = subst MayAll adds_model.history keeps in
+        record {
+          adds = adds_model;
+          search = refl;
+          config = refl;
+          joined = record {
+            sound = record {
+              keeps = keeps;
+              search = subst (λ ss. IsSearch (session_after ss) a.search) (sym adds_model.history) (search_rests (session_of a.proof) a.search (Model (model_of n a)) joined.sound.search tt refl refl);
+              locals = joined.sound.locals;
+              mids = joined.sound.mids;
+            };
+            stands = subst (NamesInvariant n) (sym adds_model.history)
+                (searches_stand n (steps_of a.proof) (Model (model_of n a)) joined.stands may.1 (each_live n a.search.parts.assignment.current (variables_used n) (model_of n a) (λ l t. t)));
+            shares = joined.shares;
+          };
+        }
+
+  -- want of memory before anything was written
+  pub starved : BreaksOff seen errors.OutOfMemory a a
+  starved = (record { fault = tt; steps = []; went = adds_none seen a.proof; loss = inl refl }, tt)
+
+  -- the target failed at a step
+  pub broken : (e : ProofError) (step : Step) (proof : Proof W L G) → EmitsAsAnswered {T = Unit {0}} seen (Err e) (step ∷ []) a.proof proof → BreaksOff seen (proof_fault e) a (record a { proof = proof })
+  broken (Write cause) step proof fails = (record { fault = tt; steps = step ∷ []; went = fails.0; loss = tt }, fails.1)
+  broken OutOfMemory step proof gains = (record { fault = tt; steps = []; went = gains_adds seen [] a.proof proof gains; loss = inl gains.taking }, tt)
+  broken (Check fault) step proof fails = (record { fault = fault_checked _ fault; steps = step ∷ []; went = went_checked seen (Unit {0}) fault (step ∷ []) a.proof proof fails.0; loss = check_loss fault a.proof proof fails.0.why }, complaint_kept fault proof fails.1)
+
+  module _ (proof : Proof W L G) (c' : Search) where
+    abbrev pub searched : Core W L G
+    searched = record a { proof = proof; search = c' }
+
+    -- a failed core was written
+    pub core_failed : (core : List ℕ) → WritesCoreStep seen (Ok tt) a.proof proof a.search c' → core ≡ map (lit_over_names n) c'.analysis.core → WritesFailedCore seen n a searched core
+    core_failed core t e = record {
+      steps = t.steps;
+      adds = t.went;
+      told = t.ends;
+      config = refl;
+      named = e;
+      joined = record {
+        sound = record { keeps = t.keeps; search = t.ends.search; locals = joined.sound.locals; mids = joined.sound.mids };
+        stands = stands_told (subst (λ ss. steps_of proof ≡ ss ++ steps_of a.proof) t.ends.is t.went.history);
+        shares = shares_moved n a.search c' joined.shares t.ends.moved;
+      };
+    }
+      where
+        stands_told : {ls hs : List ℕ} → steps_of proof ≡ FailedAssumptions ls hs ∷ steps_of a.proof → NamesInvariant n (steps_of proof)
+        stands_told {ls} {hs} e =
+            let may : MayAll (FailedAssumptions ls hs ∷ steps_of a.proof) = subst MayAll e t.keeps in
+            subst (NamesInvariant n) (sym e) (searches_stand n (steps_of a.proof) (FailedAssumptions ls hs) joined.stands may.1 tt)

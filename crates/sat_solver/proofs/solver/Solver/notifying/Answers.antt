@@ -1,0 +1,41 @@
+use Rattle.std.proofs.Common.{◌<◌, ◌≡◌, Option, None, Some, false, [], refl, sym, subst, arith}
+use Rattle.std.specs.Prelude.{is_some}
+use Rattle.std.proofs.lemmas.Bool.{true≢false}
+use Rattle.sat_solver.specs.declared.config.SolverConfig.{SolverConfig}
+use Rattle.sat_solver.specs.clause.Activity.{AreDecays}
+use Rattle.sat_base.specs.script.ScriptState.{start}
+use Rattle.sat_solver.specs.proof.ProofView.{audience}
+use Rattle.sat_solver.specs.variables.Calls.{NamesAgree}
+use Rattle.sat_solver.specs.declared.state.State.TheVariants as states
+use Rattle.sat_solver.proofs.lemmas.solver.StartLemmas.{agree_first, whole_first}
+use Rattle.sat_solver.proofs.solver.Solver.notifying.Goals as goal
+
+none_of : {A : Type 0} (o : Option A) → is_some o ≡ false → o ≡ None
+none_of None e = refl
+none_of (Some x) e = absurd (true≢false e)
+
+pub returns : goal.returns
+returns g c =
+    let e = sym c.default-config.ensures in
+    record {
+      view = λ i. record {
+        failed = false;
+        used = false;
+        answer = states.Unknown;
+        assumptions = c.new-7.ensures.items i;
+        rounds = 0;
+        restarts = 0;
+        parameters = c.default-config.ensures i;
+        steps = c.new.ensures.steps i;
+        target = c.new.ensures.target i;
+        listeners = none_of (audience c.new.result) c.new.ensures.checked i;
+        asked = c.new.ensures.asked i;
+      };
+      state = subst (λ ss. NamesAgree c.new-2.result ss start []) (sym c.new.ensures.steps) (agree_first c.new-2.result c.new-2.ensures.tidy c.new-2.ensures.none);
+      whole =
+          whole_first c.new-2.result c.new-2.ensures.tidy c.new-2.ensures.none _ c.new-6.result c.new-7.result.items c.new-4.result.items c.default-config.result.luby_restart_interval_scale
+          c.new.ensures.steps c.no_search.ensures.search c.no_search.ensures.values c.no_search.ensures.globals
+          (subst (λ (k : SolverConfig). 0 < k.reduce_locals_interval) e (omega arith)) (subst (λ (k : SolverConfig). 0 < k.reduce_mids_interval) e (omega arith))
+          c.new-6.ensures.order c.new-6.ensures.globals c.new-7.ensures.items (subst (λ (k : SolverConfig). 0 < k.luby_restart_interval_scale) e (omega arith)) refl
+          (subst AreDecays e (omega arith, omega arith, omega arith, omega arith)) c.new.ensures.taking;
+    }

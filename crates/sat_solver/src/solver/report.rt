@@ -1,0 +1,78 @@
+//! Answers are told to the proof, over all its variables, and to the user, over names.
+ghost use Rattle.std.specs.Prelude.{◌≡◌, OnOk, map};
+ghost use Rattle.sat_solver.specs.variables.Variables.{global_at};
+ghost use Rattle.sat_solver.specs.cdcl.Turns.{IsComplete, IsFailing};
+ghost use Rattle.sat_solver.specs.solver.Joined.{IsJoined, lit_over_names, user_by};
+ghost use Rattle.sat_solver.specs.solver.Answering.{ShowsModel, FailsCore};
+
+use crate::assumptions::failed_core::write_core;
+use crate::cdcl::fault::Fault;
+use crate::context::Core;
+use crate::model::model_lits;
+use crate::variables::Variables;
+use sat_base::{CountedWrite, Lit, ProofStep, Var};
+use sat_checker::ProofProcessor;
+use std::alloc::AllocError;
+
+/// The name of the variable that has this index, if there is one and it has a name.
+fn name_at(names: &Variables, index: Var) -> Option<Var>
+    ensures { result ≡ user_by names.now (global_at names.now index) }
+{
+    match names.solver_from_global.bwd().get(index) {
+        Some(global) => names.global_from_user.bwd().get(global),
+        None => None,
+    }
+}
+
+/// The literal over names for one of the search, which is its own where its variable has no name.
+fn name_lit(names: &Variables, lit: Lit) -> Lit
+    ensures { result ≡ lit_over_names names.now lit }
+{
+    match name_at(names, lit.var()) {
+        Some(user) => user.lit(lit.is_positive()),
+        None => lit,
+    }
+}
+
+/// Puts the literals over names for these of the search into a list in place of what it had.
+fn name_lits(names: &Variables, lits: &[Lit], named: &mut Vec<Lit>) -> Result<(), AllocError>
+    ensures { OnOk result (named.new.items ≡ map (lit_over_names names.now) lits.now) }
+{
+    named.clear();
+    for lit in lits {
+        named.push(name_lit(names, *lit))?;
+    }
+    Ok(())
+}
+
+/// Writes the model that a search came to: a literal for each variable of the proof that is in use.
+pub fn show_model<W: CountedWrite + Drop, P: ProofProcessor>(
+    core: &mut Core<W, P>,
+    names: &Variables,
+    model: &mut Vec<Lit>,
+) -> Result<(), Fault>
+    requires joined { IsJoined names.now core.old }
+    requires complete { IsComplete core.old.search.assumptions.lits.items core.old.search.parts }
+    ensures { ShowsModel W.seen result names.now core.old core.new }
+{
+    let values = core.search.parts.assignment.assignment();
+    model_lits(names, values, model)?;
+    let step = ProofStep::Model { assignment: model };
+    core.proof.step(&step)?;
+    Ok(())
+}
+
+/// Writes the assumptions that can't be true together, and lists them over names.
+pub fn fail_core<W: CountedWrite + Drop, P: ProofProcessor>(
+    core: &mut Core<W, P>,
+    names: &Variables,
+    failed_core: &mut Vec<Lit>,
+) -> Result<(), Fault>
+    requires joined { IsJoined names.now core.old }
+    requires failing { IsFailing core.old.search.assumptions.lits.items core.old.search.parts core.old.search.failed }
+    ensures { FailsCore W.seen result names.now core.old core.new failed_core.new.items }
+{
+    write_core(&mut core.proof, &mut core.search)?;
+    name_lits(names, core.search.analysis.core(), failed_core)?;
+    Ok(())
+}
