@@ -35,8 +35,8 @@ abbrev pub has_begun : List Step → Bool
 has_begun [] = false
 has_begun (step ∷ earlier) = not (is_end step) || has_begun earlier
 
--- From steps to what the checker is given for them, and the width of the last of them. Each step has a width of its own, which is told before
--- it if the step before had another one. Of the end of a proof only the width is told.
+-- What the checker receives for these steps, and the width of the last of them. Each step has a width of its own, which is set before it if the
+-- step before had another one. Of the end of a proof it receives only the width.
 pub data AreGiven : List Step → List Step → ℕ → Type 0 where
   none_given : AreGiven [] [] 64
   one_given : {steps given : List Step} {before : ℕ} (step : Step) (now : ℕ) → is_end step ≡ false → KeepsWidth step → AreGiven steps given before → AreGiven (step ∷ steps) (written_for before now step ++ given) now
@@ -89,7 +89,7 @@ OkOrCause (Ok x) Fed FailsWhileHeard = Fed
 OkOrCause (Err e) Fed FailsWhileHeard = IsCause e × FailsWhileHeard (cause_in e)
 
 module _ {L : Type 0} (takes : L → Notice → Result Unit Error → L → Type 0) where
-  -- it has accepted what it was given, goes on, and has told it to these, since they were added
+  -- it has accepted what it received, goes on, and has told these listeners of it since they were added
   pub record IsFedBy (Given : List Step → ℕ → Type 0) (own : Checked L) (added : List L) : Type 0 where
     pub written : List Step
     pub cut : Given written own.bits
@@ -98,7 +98,7 @@ module _ {L : Type 0} (takes : L → Notice → Result Unit Error → L → Type
     pub stands : HasAccepted (Hears takes) [] begun (seen_of own.checker) written
     pub going : kernel_has_failed (kernel_of own.checker) ≡ false
 
-  -- it was given these steps, each at its width
+  -- it received these steps, each at its width
   abbrev pub IsFed : Checked L → List L → List Step → Type 0
   IsFed own added steps = IsFedBy (AreGiven steps) own added
 

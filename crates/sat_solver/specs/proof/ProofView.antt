@@ -54,7 +54,7 @@ is_drat (Broken w) = false
 abbrev pub has_asked : {W L : Type 0} {G : Ghosts L} → Proof W L G → Bool
 has_asked p = p.counting.solving
 
--- as an ask begins, hashes may be shortened from the next step on, and nothing else changes
+-- when an ask begins, hashes may be truncated more from the next step on, and nothing else changes
 abbrev pub asking : {W L : Type 0} {G : Ghosts L} → Proof W L G → Proof W L G
 asking p = record p { counting = record p.counting { solving = true } }
 

@@ -110,8 +110,8 @@ pub record AnswersAgain {W L : Type 0} {G : Ghosts L} (old new : Solver W L G) :
   pub steps : steps_in new ≡ steps_in old
   pub same : OnlyProofDiffers (used_now old) new
 
--- An ask made its rounds by the schedule of restarts and reductions, and from the first of them on as hashes of an ask are shortened. Then what
--- waited was written.
+-- The rounds of an ask, by the schedule of restarts and reductions. From the first of its steps on, hashes are truncated as in an ask. Then the
+-- target was flushed.
 pub record MakesRounds {W L : Type 0} {G : Ghosts L} (seen : W → Writer) (old new : Solver W L G) : Type 0 where
   pub behind : Proof W L G
   pub searched : SearchedBy seen (answer_in new) (schedule_in old) (schedule_in new) (known_names old) (known_names new) (record (inside old) { proof = asking (proof_in old) }) (record (inside new) { proof = behind }) (core_told new)
@@ -126,7 +126,7 @@ pub record StepsOfAsk {W L : Type 0} {G : Ghosts L} (seen : W → Writer) (old n
   pub asked : NotesAsk seen (proof_in new)
   pub rounds : answer_in old ≡ states.Unknown → MakesRounds seen old new
 
--- An ask was looked at. Assumptions are as they were. The solver's own checker was given all steps, and has told what waited.
+-- An ask was looked at. Assumptions are as they were. The solver's own checker received all steps, and no announcement waits in it.
 pub record Answered {W L : Type 0} {G : Ghosts L} (seen : W → Writer) (old new : Solver W L G) : Type 0 where
   pub did : CallEffect seen old new (λ j. j) (λ j. due_for_answer (answer_in old) new)
   pub assumed : assumed_in new ≡ assumed_in old

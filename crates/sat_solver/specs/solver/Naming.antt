@@ -107,7 +107,7 @@ pub record KeepsRest {W L : Type 0} {G : Ghosts L} (old new : Solver W L G) : Ty
   pub clock : schedule_in new ≡ schedule_in old
   pub state : answer_in new ≡ answer_in old
 
--- which steps it made, and what holds behind them
+-- which steps it made, and what holds after them
 pub record StepsOfNames {W L : Type 0} {G : Ghosts L} (seen : W → Writer) (old new : Solver W L G) : Type 0 where
   pub whole : SolverInvariant new
   pub took : ComesBySteps seen (proof_in old) (proof_in new)

@@ -64,7 +64,7 @@ Enables seen (Err errors.HasFailed) old new = Refuses old new (has_failed old �
 Enables seen (Err errors.TooLate) old new = Refuses old new ((has_failed old ≡ false) × ((is_used old ≡ true) ⊎ (has_begun (steps_in old) ≡ true)))
 Enables seen (Err e) old new = ⊥
 
--- these listen, behind those who did: where the checker lacked a step, it begins anew
+-- these listen, after those who did; a checker that lacked a step is restarted
 pub record ListensBehind {W L : Type 0} {G : Ghosts L} (more : List L) (old new : Solver W L G) : Type 0 where
   pub before : List L
   pub listed : ListedAnew (proof_in old) before

@@ -1,4 +1,4 @@
--- What callers know of a solver: its contracts say what becomes of these words, and of the judge's state.
+-- What callers know of a solver. Contracts of its calls speak of these words and of the judge's state.
 use Rattle.std.specs.Prelude.{◌≡◌, ℕ, Bool, true, false, Option, None, List, []}
 use Rattle.std.specs.Global.{Vec}
 use Rattle.sat_base.specs.device.Device.{Writer}
@@ -21,7 +21,7 @@ use Rattle.sat_solver.specs.declared.state.State.{State}
 use Rattle.sat_solver.specs.declared.state.State.TheVariants as states
 use Rattle.sat_solver.specs.solver.Whole.{SolverInvariant, steps_in}
 
--- did a call fail? Then every later one does
+-- did a call fail? Then every later call fails
 abbrev pub has_failed : {W L : Type 0} {G : Ghosts L} → Solver W L G → Bool
 has_failed s = s.failed
 
@@ -85,7 +85,7 @@ target_in seen s = target_of seen s.core.proof
 abbrev pub OnlyProofDiffers : {W L : Type 0} {G : Ghosts L} → Solver W L G → Solver W L G → Type 0
 OnlyProofDiffers old new = new ≡ record old { core = record old.core { proof = new.core.proof } }
 
--- the same solver, used by now
+-- the same solver, which was used
 abbrev pub used_now : {W L : Type 0} {G : Ghosts L} → Solver W L G → Solver W L G
 used_now s = record s { used = true }
 
@@ -122,7 +122,7 @@ view_of seen s = record {
   asked = proofs.has_asked s.core.proof;
 }
 
--- of an empty solver
+-- the view of an empty solver
 abbrev pub empty_view : {L : Type 0} → View L
 empty_view = record {
   failed = false;
