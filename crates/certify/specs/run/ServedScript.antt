@@ -118,5 +118,5 @@ abbrev pub ServesScript : {C : Type 0} → (C → Writer) → ScriptState → (L
 ServesScript seen j text counted (Ok at) a b old new before after = TookOf false a b × IsReadySolver new.solver × ((total : List ℕ) → Covers b total
     → ServesWhole seen j (text (rest_in total a)) (length (counted (rest_in total a)).0) at old new before after)
 ServesScript seen j text counted (Err e) a b old new before after = FailsWhole seen e a b old.solver new.solver before after
-    × ((total : List ℕ) → Covers b total → TookAnswersFront old.budget old.solver.clock.steps (old.commands + 1) j (text (rest_in total a)) before after)
+    × ((total : List ℕ) → Covers b total → TookAnswersFront old.budget old.solver.clock.rounds (old.commands + 1) j (text (rest_in total a)) before after)
     × IsCaused e (HasFullStore new.solver) ((total : List ℕ) → Covers b total → Exceeds old.commands j (text (rest_in total a)) (steps_in new.solver))

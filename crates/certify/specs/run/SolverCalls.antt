@@ -109,7 +109,7 @@ pub record Limited {C : Type 0} (budget : ℕ) (old new : Solver C) : Type 0 whe
   pub names : new.names ≡ old.names
   pub state : new.state ≡ old.state
   pub assumed : new.assumed ≡ old.assumed
-  pub rounds : new.clock.steps ≡ old.clock.steps
+  pub rounds : new.clock.rounds ≡ old.clock.rounds
 
 -- what is known, as an answer
 abbrev pub AnswerIs : State → Answer → Type 0
@@ -128,5 +128,5 @@ pub record Searched {C : Type 0} (seen : C → Writer) (budget : ℕ) (report : 
   pub mid : Solver C
   pub limited : Limited budget old mid
   pub solved : Solved seen report.answer mid new
-  pub spent : SpendsWithinBudget budget old.clock.steps report
-  pub rounds : new.clock.steps ≡ old.clock.steps + report.steps
+  pub spent : SpendsWithinBudget budget old.clock.rounds report
+  pub rounds : new.clock.rounds ≡ old.clock.rounds + report.steps

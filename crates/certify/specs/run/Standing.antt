@@ -45,11 +45,11 @@ pub record RunGoesOn {C : Type 0} (s : RunState C) : Type 0 where
 
 -- where a run stands, by the judge's state
 abbrev pub place_in : {C : Type 0} → RunState C → ScriptState → RunPlace
-place_in s j = record { judge = j; number = s.commands + 1; steps = steps_in s.solver; rounds = s.solver.clock.steps }
+place_in s j = record { judge = j; number = s.commands + 1; steps = steps_in s.solver; rounds = s.solver.clock.rounds }
 
 -- where it stood before the last command that came, of which nothing was done yet but counting it
 abbrev pub last_place : {C : Type 0} → RunState C → ScriptState → RunPlace
-last_place s j = record { judge = j; number = s.commands; steps = steps_in s.solver; rounds = s.solver.clock.steps }
+last_place s j = record { judge = j; number = s.commands; steps = steps_in s.solver; rounds = s.solver.clock.rounds }
 
 -- the command that is lent, where no name is past the limit
 abbrev pub spelled_by : Lent → Command
@@ -104,12 +104,12 @@ pub record ServedNext {C : Type 0} (seen : C → Writer) (old new : RunState C) 
 abbrev pub StopsCarrying : {T C : Type 0} → Result T RunFault → RunState C → Command → Reading → Writer → Writer → Type 0
 StopsCarrying r old c left before after =
     OnErr r ((j : ScriptState) (live : Live) → AgreesWithState old.solver j live → refusal_of j c ≡ None
-    → TookAnswersFront old.budget old.solver.clock.steps old.commands j (onto_commands (c ∷ []) left) before after)
+    → TookAnswersFront old.budget old.solver.clock.rounds old.commands j (onto_commands (c ∷ []) left) before after)
 
 -- the same of a script that wasn't served from here on
 abbrev pub StopsOver : {T C : Type 0} → Result T RunFault → RunState C → Reading → Writer → Writer → Type 0
 StopsOver r old script before after =
-    OnErr r ((j : ScriptState) → HasStateBetweenCommands old j → TookAnswersFront old.budget old.solver.clock.steps (old.commands + 1) j script before after)
+    OnErr r ((j : ScriptState) → HasStateBetweenCommands old j → TookAnswersFront old.budget old.solver.clock.rounds (old.commands + 1) j script before after)
 
 -- why the last command, which isn't refused, wasn't carried out, but for devices and memory
 abbrev pub CausedBy : {T C : Type 0} → Result T RunFault → RunState C → RunState C → Command → Type 0

@@ -25,7 +25,7 @@ pub fn refuse<A: CountedWrite, C: CountedWrite + Drop>(
     ensures refused { OnOk result (Refused session.old session.new (refusal_in refusal) (A.seen answers.old)
         (A.seen answers.new)) }
     ensures stops { (j : ScriptState) (c : Spelled) (left : Reading) → refusal_of j c ≡ Some (refusal_in refusal)
-        → OnErr result (TookAnswersFront session.old.budget session.old.solver.clock.steps session.old.commands j
+        → OnErr result (TookAnswersFront session.old.budget session.old.solver.clock.rounds session.old.commands j
         (onto_commands (c ∷ []) left) (A.seen answers.old) (A.seen answers.new)) }
     // No clause is stored, and no name is introduced.
     ensures cause { IfErr result (λ e. IsCaused e ⊥ ⊥) }

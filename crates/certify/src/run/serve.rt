@@ -64,7 +64,7 @@ fn report_malformed<A: CountedWrite, C: CountedWrite + Drop>(
     ensures told { OnOk result (WriterTakes (A.seen answers.old) (A.seen answers.new) (malformed_line number)) }
     ensures same { session.new ≡ record session.old { page = session.new.page } }
     ensures stops { (j : ScriptState) → OnErr result
-        (TookAnswersFront session.old.budget session.old.solver.clock.steps number j ([], Malformed)
+        (TookAnswersFront session.old.budget session.old.solver.clock.rounds number j ([], Malformed)
         (A.seen answers.old) (A.seen answers.new)) }
     ensures cause { IfErr result (λ e. IsCaused e ⊥ ⊥) }
     ensures written { WritesBoth result C.seen (A.seen answers.old) (A.seen answers.new) session.old.solver

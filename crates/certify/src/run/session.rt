@@ -43,7 +43,7 @@ fn solver_into<C: CountedWrite + Drop>(alloc: Global, certificate: C) -> Solver<
     ensures steps { steps_in result ≡ [] }
     ensures target { target_of C.seen (proof_in result)
         ≡ Open ProofFormat.Varisat uncounted (empty_sink (C.seen certificate)) }
-    ensures rounds { result.clock.steps ≡ 0 }
+    ensures rounds { result.clock.rounds ≡ 0 }
     ensures free { result.assumed.items ≡ [] }
 {
     let mut solver = Solver::new(alloc);
@@ -65,7 +65,7 @@ impl<C: CountedWrite + Drop> RunState<C> {
         ensures steps { steps_in result.solver ≡ [] }
         ensures target { target_of C.seen (proof_in result.solver)
             ≡ Open ProofFormat.Varisat uncounted (empty_sink (C.seen certificate)) }
-        ensures rounds { result.solver.clock.steps ≡ 0 }
+        ensures rounds { result.solver.clock.rounds ≡ 0 }
         ensures budget { result.budget ≡ budget }
         ensures commands { result.commands ≡ 0 }
         ensures refused { result.refused ≡ 0 }

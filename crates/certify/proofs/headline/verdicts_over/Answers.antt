@@ -1,4 +1,4 @@
-use Rattle.std.proofs.Common.{ℕ, ◌≡◌, ◌+◌, ◌≤◌, List, subst, arith}
+use Rattle.std.proofs.Common.{ℕ, ◌+◌, ◌≤◌, List, subst, arith}
 use Rattle.certify.specs.laws.EndToEnd.{VerdictSays, most_looks_over}
 use Rattle.certify.proofs.headline.verdicts_over.Goals as goal
 

@@ -21,13 +21,12 @@ use Rattle.certify.specs.confirm.Stopping.{Joins, Replies, SaysSo}
 use Rattle.certify.specs.confirm.Lines.{IsReply}
 use Rattle.certify.specs.confirm.Naming.{MeetsAll, MeetsNames, taken_by}
 use Rattle.certify.specs.script.Commands.{BeginsPast, IsLent, kind_of}
-use Rattle.sat_base.specs.script.Language.{Reading, Kind, OfClause, OfAsk, OfHide, OfWitness, OfSample, command_of}
+use Rattle.sat_base.specs.script.Language.{Reading, Kind, OfAsk, command_of}
 use Rattle.certify.specs.declared.confirm.stop.Stop.{Stop}
 use Rattle.certify.specs.declared.judge.Refusal.{Refusal as CodeRefusal}
 use Rattle.certify.specs.declared.judge.names.Names.{Names}
 use Rattle.certify.specs.declared.script.CommandKind.{CommandKind}
 use Rattle.certify.specs.declared.script.CommandKind.TheVariants as kinds
-use Rattle.certify.specs.declared.confirm.stop.Stop.TheVariants as stop
 use Rattle.certify.specs.declared.confirm.variables.NamedVars.{NamedVars}
 use Rattle.certify.specs.declared.script.Command.{Command as Lent}
 use Rattle.certify.specs.declared.verdict.Why.{Why}

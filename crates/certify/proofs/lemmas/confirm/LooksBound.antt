@@ -7,7 +7,7 @@ use Rattle.sat_base.specs.device.Device.{Reader, GaveFront, CanFollow}
 use Rattle.sat_base.specs.values.Literals.{negated}
 use Rattle.sat_base.specs.steps.Formats.{Format, Items, ListOf, Both}
 use Rattle.sat_base.specs.steps.Numbers.{IsNumber, IsBelow}
-use Rattle.sat_base.specs.steps.Steps.{Redundant, Simplified, Satisfied, Step, SolverVarName, UserVarName, DeleteVar, ChangeSamplingMode, AddClause, AtClause, UnitClauses, DeleteClause, ChangeHashBits, Model, Assumptions, FailedAssumptions, End}
+use Rattle.sat_base.specs.steps.Steps.{Redundant, Simplified, Satisfied, Step, SolverVarName, UserVarName, AddClause, AtClause, UnitClauses, DeleteClause, FailedAssumptions}
 use Rattle.sat_base.specs.steps.StepText.{tag_of, IsLiteral, IsHash, AreLiterals, AreHashes, AreHashedLiterals, SpellsFields, SpellsStep}
 use Rattle.sat_checker.specs.Accepts.{effect, ready_after}
 use Rattle.sat_checker.specs.LiteralSets.{with_literal, canonical, same_literals, is_tautology}

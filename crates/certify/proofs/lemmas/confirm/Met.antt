@@ -8,7 +8,7 @@ use Rattle.sat_base.specs.steps.Steps.{Step, Assumptions}
 use Rattle.sat_checker.specs.Accepts.{Accepts, effect, ready_after}
 use Rattle.sat_checker.specs.KernelView.{LooksAtMost}
 use Rattle.sat_checker.specs.declared.kernel.Kernel.{Kernel}
-use Rattle.sat_checker.specs.matching.Expected.{Outcome, Unknown, Expected, NewName, NoName, Adds, Opens, Shows, Fails, Closes, Finish, Fits, new_name, no_name, adds, opens, shows, fails, closes, finish}
+use Rattle.sat_checker.specs.matching.Expected.{Outcome, Unknown, Expected, Opens, Fits, new_name, no_name, adds, opens, shows, fails, closes, finish}
 use Rattle.sat_checker.specs.matching.ProofChecking.{checker_rules}
 use Rattle.certify.specs.confirm.Feeding.{HasTaken, FeedsStep}
 use Rattle.certify.specs.confirm.Matches.{MayBeUnmet}

@@ -12,7 +12,7 @@ use Rattle.certify.specs.answers.AnswerForms.{named_literals}
 use Rattle.certify.specs.confirm.Streams.{Stream, seen_in, Confirms}
 use Rattle.certify.specs.judge.Names.{BringsNothing, NamesHaveState, Changes, is_of_literals, taken}
 use Rattle.certify.specs.confirm.Naming.{MeetsAll, MeetsName, MeetsNames, expected_naming, naming_all, taken_by}
-use Rattle.sat_base.specs.script.Language.{Kind, OfClause, OfAsk, OfHide, OfWitness, OfSample}
+use Rattle.sat_base.specs.script.Language.{Kind, OfClause, OfAsk}
 use Rattle.certify.specs.declared.confirm.stop.Stop.{Stop}
 use Rattle.certify.specs.declared.judge.names.Names.{Names}
 use Rattle.certify.specs.declared.confirm.variables.NamedVars.{NamedVars}

@@ -1,7 +1,7 @@
 -- Which steps are ordered, by their tags; the others put no name.
 use Rattle.std.proofs.Common.{◌≡◌, ℕ, Bool, false, List, ◌∷◌, refl, sym, ap, ◌∙◌}
 use Rattle.std.proofs.lemmas.Bool.{true≢false}
-use Rattle.sat_base.specs.steps.Steps.{Step, SolverVarName, UserVarName, DeleteVar, ChangeSamplingMode, AddClause, AtClause, UnitClauses, DeleteClause, ChangeHashBits, Model, Assumptions, FailedAssumptions, End}
+use Rattle.sat_base.specs.steps.Steps.{Step, SolverVarName, UserVarName}
 use Rattle.sat_base.specs.steps.StepText.{tag_of}
 use Rattle.sat_checker.specs.matching.Checking.{is_ordered, variable_of}
 use Rattle.certify.specs.confirm.Stepping.{is_ordered_tag}

@@ -7,7 +7,7 @@ use Rattle.sat_base.specs.values.Literals.{var_limit, variable}
 use Rattle.sat_base.specs.script.Script.{Literal, names_of}
 use Rattle.sat_base.specs.script.ScriptState.{ScriptState, NameMode, Sampled, Witnessed, identity_of, is_witness, has_witness, WitnessName, refused_literal, refused_name, refusal_of}
 use Rattle.certify.specs.answers.AnswerForms.{named_literals}
-use Rattle.sat_base.specs.script.Language.{Kind, OfClause, OfAsk, OfHide, OfWitness, OfSample, command_of}
+use Rattle.sat_base.specs.script.Language.{Kind, OfClause, OfAsk, command_of}
 use Rattle.certify.specs.script.Commands.{kind_of, BeginsPast, IsFront}
 use Rattle.certify.specs.declared.script.Command.{Command as Lent}
 use Rattle.certify.specs.declared.judge.Refusal.{Refusal as CodeRefusal}

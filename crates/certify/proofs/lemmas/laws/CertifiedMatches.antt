@@ -11,7 +11,7 @@ use Rattle.sat_base.specs.steps.StepText.{SpellsSteps}
 use Rattle.sat_checker.specs.Accepts.{AcceptsAll, effect, ready_after}
 use Rattle.sat_checker.proofs.lemmas.invariants.Stored.{unsat_stays}
 use Rattle.sat_checker.specs.matching.Checking.{Accepted}
-use Rattle.sat_checker.specs.matching.Expected.{Outcome, Sat, Unsat, Unknown, Expected, NewName, NoName, Adds, Opens, Shows, Fails, Closes, Finish, expected}
+use Rattle.sat_checker.specs.matching.Expected.{Outcome, Sat, Unsat, Unknown, Expected, Adds, Opens, Shows, Fails, expected}
 use Rattle.sat_checker.specs.matching.ProofChecking.{checker_rules}
 use Rattle.certify.specs.answers.Answers.{answers_text}
 use Rattle.certify.specs.answers.RightAnswers.{AreRight, AnswersAreRight}

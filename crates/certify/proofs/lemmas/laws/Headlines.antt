@@ -5,7 +5,7 @@ use Rattle.sat_base.specs.script.Script.{Literal, Command, Clause, Ask, Hide, Wi
 use Rattle.sat_base.specs.script.ScriptState.{ScriptState, accepted, accepted_of, refusal_of, start}
 use Rattle.sat_base.specs.script.Language.{Reading, reading}
 use Rattle.certify.specs.answers.Answers.{answers_text}
-use Rattle.sat_checker.specs.matching.Expected.{Outcome, Unknown}
+use Rattle.sat_checker.specs.matching.Expected.{Outcome}
 use Rattle.certify.specs.answers.RightAnswers.{AreRight, AnswersAreRight}
 use Rattle.certify.specs.answers.AnswersText.{lines_from}
 use Rattle.certify.specs.confirm.VerdictPromises.{AreRightAnswers}

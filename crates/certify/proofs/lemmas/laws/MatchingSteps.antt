@@ -5,7 +5,7 @@ use Rattle.std.specs.List.{AllByRecursion}
 use Rattle.sat_base.specs.values.Clauses.{Valuation, literal_true, EachTrue, EachHolds}
 use Rattle.sat_base.specs.script.Script.{Literal, names_of, Among}
 use Rattle.sat_base.specs.script.ScriptState.{ScriptState, over, with_name, without_name, with_clause, IsRightModel}
-use Rattle.sat_base.specs.steps.Steps.{Step, SolverVarName, UserVarName, DeleteVar, ChangeSamplingMode, AddClause, AtClause, UnitClauses, DeleteClause, ChangeHashBits, Model, Assumptions, FailedAssumptions, End}
+use Rattle.sat_base.specs.steps.Steps.{Step, SolverVarName, DeleteVar, ChangeSamplingMode, AddClause, AtClause, UnitClauses, DeleteClause, ChangeHashBits, Model, Assumptions, FailedAssumptions, End}
 use Rattle.sat_checker.specs.matching.Checking.{variable_of, assumed, is_ordered, CheckerRules, IsSound}
 use Rattle.certify.specs.confirm.Matches.{MayBeUnmet, Meets, met, cut, other, ordered}
 use Rattle.sat_checker.specs.matching.Expected.{Expected, NewName, NoName, Adds, Opens, Shows, Fails, Closes, Finish, Spells, EachSpelt, SameSet, new_name, no_name, adds, opens, shows, fails, closes, finish}

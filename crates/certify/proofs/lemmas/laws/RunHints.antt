@@ -15,7 +15,7 @@ use Rattle.sat_hints.specs.Converts.{Converts}
 use Rattle.sat_hints.specs.Hints.{derives_empty, count_of_cores}
 use Rattle.sat_hints.specs.Laws.{IsCertificate, IsTextOrFault}
 use Rattle.sat_hints.specs.declared.error.HintError.{HintError}
-use Rattle.sat_hints.specs.declared.error.HintError.TheVariants.{Refused, HasDeleteVar, Read, Write, OutOfMemory}
+use Rattle.sat_hints.specs.declared.error.HintError.TheVariants.{Refused, HasDeleteVar}
 use Rattle.sat_hints.proofs.lemmas.Converted.{accepted_converts}
 use Rattle.certify.specs.laws.HintTexts.{HasHints, RunsHaveHints}
 use Rattle.certify.proofs.lemmas.run.Unhidden.{EndsWith, run_ends}

@@ -199,12 +199,12 @@ module _ {C : Type 0} (seen : C → Writer) (old mid now : Solver C) (user : Lis
   known u =
       let at = searched.limited.state ∙ unsat_known mid (opened.did Unknown).whole u in
       let k = searched.solved.answered.known (unsat_apart searched.mid.state at) in
-      let c : now.clock.steps ≡ searched.mid.clock.steps = ap (λ (x : Solver C). x.clock.steps) k.same in
+      let c : now.clock.rounds ≡ searched.mid.clock.rounds = ap (λ (x : Solver C). x.clock.rounds) k.same in
       let r = searched.rounds in let l = searched.limited.rounds in
       record { outcome = unsat_outcome now report.answer (unsat_stays at) searched.solved.answer_is; rounds = omega arith }
 
   -- as the search counts rounds
-  count : now.clock.steps - searched.mid.clock.steps ≡ report.steps
+  count : now.clock.rounds - searched.mid.clock.rounds ≡ report.steps
   count = let r = searched.rounds in let l = searched.limited.rounds in omega arith
 
   -- an answer that wasn't known took a round
@@ -224,7 +224,7 @@ module _ {C : Type 0} (seen : C → Writer) (old mid now : Solver C) (user : Lis
     learned = learned_of now.state report.steps;
     times =
         subst (λ n. AdvancesIn (steps_in mid) (steps_in now) (learned_of now.state n)) count
-        (subst (λ ss. AdvancesIn ss (steps_in now) (learned_of now.state (now.clock.steps - searched.mid.clock.steps))) same_steps searched.solved.answered.times);
+        (subst (λ ss. AdvancesIn ss (steps_in now) (learned_of now.state (now.clock.rounds - searched.mid.clock.rounds))) same_steps searched.solved.answered.steps.times);
     counts = counted (checker_rules.unsat (steps_in mid)) refl;
   }
     where
@@ -232,8 +232,8 @@ module _ {C : Type 0} (seen : C → Writer) (old mid now : Solver C) (user : Lis
       counted true u = let k = (known u).rounds in (k, ap (learned_of now.state) k ∙ none_learned now.state)
       counted false g = answer_learns now now.state report.answer report.steps searched.solved.answer_is (sought g)
 
-  pub ask_spent : SpendsWithinBudget budget old.clock.steps report
-  ask_spent = subst (λ (n : ℕ). SpendsWithinBudget budget n report) (ap (λ (x : _). x.steps) opened.clock) searched.spent
+  pub ask_spent : SpendsWithinBudget budget old.clock.rounds report
+  ask_spent = subst (λ (n : ℕ). SpendsWithinBudget budget n report) (ap (λ (x : _). x.rounds) opened.clock) searched.spent
 
   module _ (j : ScriptState) (live : Live) (means : AgreesWithState old j live) (free : refusal_of j (Ask (named_literals user)) ≡ None) where
     first : solver.ReachesScriptState mid.names (steps_in old) (steps_in mid) (bring_all (names_in user) j) (bringing (names_in user) j ++ (Opens (named_literals user) (outcome_for report.answer now) ∷ []))
@@ -262,10 +262,10 @@ module _ {C : Type 0} (seen : C → Writer) (old mid now : Solver C) (user : Lis
     ask_right = reported_right now (named_literals user) assumed_is (accepted (Ask (named_literals user)) j) second.live second.agree report.answer right
 
     -- n is the judge's next identity
-    pub ask_bounded : IsBounded (accepted (Ask (named_literals user)) j).identity_count budget old.clock.steps report
+    pub ask_bounded : IsBounded (accepted (Ask (named_literals user)) j).identity_count budget old.clock.rounds report
     ask_bounded =
         let most : ℕ = 2 ^ (2 * (accepted (Ask (named_literals user)) j).identity_count + 3) in
-        let counted : now.clock.steps < searched.mid.clock.steps + most = searched.solved.answered.counts.on.few (accepted (Ask (named_literals user)) j) first.live agree_at in
+        let counted : now.clock.rounds < searched.mid.clock.rounds + most = searched.solved.answered.counts.on.few (accepted (Ask (named_literals user)) j) first.live agree_at in
         let r = searched.rounds in let l = searched.limited.rounds in
         let few : report.steps < most = omega arith in
         record { few = few; answered = λ left unknown. let all = ask_spent.unknown unknown in omega arith }
@@ -282,7 +282,7 @@ module _ {C : Type 0} (seen : C → Writer) (old mid now : Solver C) (user : Lis
         opened = steps_in mid;
         shown = steps_in now;
         opens = record { due = named; comes = subst (λ ns. OnlyAllowedSteps (MayTake ns) (steps_in old) (steps_in mid)) (sym (names_same user)) opened.comes };
-        searches = record { due = shown; comes = subst (λ ss. OnlyAllowedSteps EndsAtUnsat ss (steps_in now)) same_steps searched.solved.answered.comes };
+        searches = record { due = shown; comes = subst (λ ss. OnlyAllowedSteps EndsAtUnsat ss (steps_in now)) same_steps searched.solved.answered.steps.comes };
         closes = record { due = shut; comes = closed.comes };
         known = known;
         recorded = λ u. unsat_outcome now report.answer (unsat_known now searched.solved.answered.did.whole u) searched.solved.answer_is;
@@ -292,8 +292,8 @@ module _ {C : Type 0} (seen : C → Writer) (old mid now : Solver C) (user : Lis
       pub ask_then : (then : Live) × solver.NamesAgree new.names (steps_in new) (accepted (Ask (named_literals user)) j) then
       ask_then = (third.live, third.agree)
 
-  pub ask_rounds : (new : Solver C) → ReplacesAssumptions seen now new [] → old.clock.steps + report.steps ≡ new.clock.steps
+  pub ask_rounds : (new : Solver C) → ReplacesAssumptions seen now new [] → old.clock.rounds + report.steps ≡ new.clock.rounds
   ask_rounds new closed =
-      let a : mid.clock.steps ≡ old.clock.steps = ap (λ (x : _). x.steps) opened.clock in
-      let b : new.clock.steps ≡ now.clock.steps = ap (λ (x : _). x.steps) closed.clock in
+      let a : mid.clock.rounds ≡ old.clock.rounds = ap (λ (x : _). x.rounds) opened.clock in
+      let b : new.clock.rounds ≡ now.clock.rounds = ap (λ (x : _). x.rounds) closed.clock in
       let r = searched.rounds in omega arith

@@ -15,7 +15,7 @@ use Rattle.certify.proofs.lemmas.run.ServedOnce.{serves_plain}
 use Rattle.certify.specs.run.Quiet.{Solver}
 
 -- where a run stands behind the last command that came
-pub place_behind : {C : Type 0} (old new : RunState C) (c : Command) (j : ScriptState) (rounds : ℕ) → new.commands ≡ old.commands → rounds ≡ new.solver.clock.steps
+pub place_behind : {C : Type 0} (old new : RunState C) (c : Command) (j : ScriptState) (rounds : ℕ) → new.commands ≡ old.commands → rounds ≡ new.solver.clock.rounds
     → place_after (last_place old j) c (steps_in new.solver) rounds ≡ place_in new (accepted c j)
 place_behind old new c j rounds e f = ap (λ (k : ℕ). at (k + 1) rounds) (sym e) ∙ ap (at (new.commands + 1)) f
   where
@@ -40,7 +40,7 @@ obeyed_carried seen old s c w quiet free o = record {
       let k = o.keeps j live means.agree in (
         k.0,
         k.1,
-        subst (λ b. Serves old.budget (last_place old j) b (c ∷ []) [] [] 0) (place_behind old (record old { solver = s }) c j old.solver.clock.steps refl (ap (λ (x : _). x.steps) (sym o.clock)))
+        subst (λ b. Serves old.budget (last_place old j) b (c ∷ []) [] [] 0) (place_behind old (record old { solver = s }) c j old.solver.clock.rounds refl (ap (λ (x : _). x.steps) (sym o.clock)))
             (serves_plain old.budget (last_place old j) c (steps_in s) quiet allowed k.2),
       );
 }

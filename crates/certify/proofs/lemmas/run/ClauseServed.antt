@@ -56,5 +56,5 @@ module _ {C : Type 0} (seen : C → Writer) (old new : Solver C) (user : List �
   pub clause_stretch : Stretch (MayFor (Clause (named_literals user))) (steps_in old) (steps_in new) (due_for (checker_rules.unsat (steps_in old)) (Clause (named_literals user)) j)
   clause_stretch = record {
     due = due_by old.state refl kept.trace;
-    comes = subst (λ ns. OnlyAllowedSteps (MayAdd ns) (steps_in old) (steps_in new)) (sym (names_same user)) added.comes;
+    comes = subst (λ ns. OnlyAllowedSteps (MayAdd ns) (steps_in old) (steps_in new)) (sym (names_same user)) added.steps.comes;
   }

@@ -68,7 +68,7 @@ module _ {C : Type 0} (seen : C → Writer) (old new : RunState C) (c : Command)
     place_same j = ap (λ (k : ℕ). at k old.solver) (sym (ap (λ (k : ℕ). k + 1) refused.commands)) ∙ ap (at (new.commands + 1)) (sym refused.solver)
       where
         at : ℕ → Solver C → RunPlace
-        at k s = record { judge = j; number = k; steps = steps_in s; rounds = s.clock.steps }
+        at k s = record { judge = j; number = k; steps = steps_in s; rounds = s.clock.rounds }
 
     refused_at : (j : ScriptState) → HasStateBetweenCommands old j → HasStateBetweenCommands new j × Serves old.budget (place_in old j) (place_in new j) (c ∷ []) (refused_line (old.commands + 1) why) [] 1
     refused_at j at = (

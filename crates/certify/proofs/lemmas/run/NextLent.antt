@@ -28,7 +28,7 @@ module _ {C : Type 0} (seen : C → Writer) (old new : RunState C) (lent : Lent)
   taken_served (Err e) within judges h k c l = tt
 
   pub refused_stops : (r : Result (Unit {0}) RunFault) (refusal : CodeRefusal) → ReportsRefusal (Some refusal) old.names lent
-      → ((j : ScriptState) (c : Command) (left : Reading) → refusal_of j c ≡ Some (refusal_in refusal) → OnErr r (TookAnswersFront old.budget old.solver.clock.steps (old.commands + 1) j (onto_commands (c ∷ []) left) before after))
+      → ((j : ScriptState) (c : Command) (left : Reading) → refusal_of j c ≡ Some (refusal_in refusal) → OnErr r (TookAnswersFront old.budget old.solver.clock.rounds (old.commands + 1) j (onto_commands (c ∷ []) left) before after))
       → (c : Command) → IsLent lent c → (left : Reading) → StopsOver r old (onto_commands (c ∷ []) left) before after
   refused_stops (Ok x) refusal judges h c l left = tt
   refused_stops (Err e) refusal judges h c l left = λ j at. h j c left (sym (judges j c at.names l))
@@ -38,5 +38,5 @@ module _ {C : Type 0} (seen : C → Writer) (old new : RunState C) (lent : Lent)
   taken_stops (Ok x) within judges h c l left = tt
   taken_stops (Err e) within judges h c l left = λ j at.
       let is = lent_is lent c l within in
-      subst (λ d. TookAnswersFront old.budget old.solver.clock.steps (old.commands + 1) j (onto_commands (d ∷ []) left) before after) (sym is)
+      subst (λ d. TookAnswersFront old.budget old.solver.clock.rounds (old.commands + 1) j (onto_commands (d ∷ []) left) before after) (sym is)
       (h left j at.live at.means (subst (λ d. refusal_of j d ≡ None) is (sym (judges j c at.names l))))

@@ -104,8 +104,8 @@ asked_of seen old new now user text report before after sought told closed comma
       let serves = serves_ask old.budget (last_place old j) (named_literals user) (outcome_for report.answer now) report (steps_in new.solver) free right (kind_reported report.answer now) spent bounded steps in (
         then.0,
         then.1,
-        subst (λ b. Serves old.budget (last_place old j) b (Ask (named_literals user) ∷ []) text (report ∷ []) 0) (place_behind old new (Ask (named_literals user)) j (old.solver.clock.steps + report.steps) commands rounds)
-            (subst (λ t. Serves old.budget (last_place old j) (place_after (last_place old j) (Ask (named_literals user)) (steps_in new.solver) (old.solver.clock.steps + report.steps)) (Ask (named_literals user) ∷ []) t (report ∷ []) 0) (sym sought.text_is) serves),
+        subst (λ b. Serves old.budget (last_place old j) b (Ask (named_literals user) ∷ []) text (report ∷ []) 0) (place_behind old new (Ask (named_literals user)) j (old.solver.clock.rounds + report.steps) commands rounds)
+            (subst (λ t. Serves old.budget (last_place old j) (place_after (last_place old j) (Ask (named_literals user)) (steps_in new.solver) (old.solver.clock.rounds + report.steps)) (Ask (named_literals user) ∷ []) t (report ∷ []) 0) (sym sought.text_is) serves),
       );
 }
 
@@ -120,28 +120,28 @@ module _ {C : Type 0} (seen : C → Writer) (old : RunState C) (now : Solver C) 
   kind_is : report.answer ≡ answer_kind (outcome_for report.answer now)
   kind_is = kind_reported report.answer now
 
-  spends : SpendsWithinBudget old.budget old.solver.clock.steps report
+  spends : SpendsWithinBudget old.budget old.solver.clock.rounds report
   spends = ask_spent seen old.solver sought.mid now user old.budget report sought.opened sought.searched sought.right
 
-  bounded : IsBounded (accepted (Ask (named_literals user)) j).identity_count old.budget old.solver.clock.steps report
+  bounded : IsBounded (accepted (Ask (named_literals user)) j).identity_count old.budget old.solver.clock.rounds report
   bounded = ask_bounded seen old.solver sought.mid now user old.budget report sought.opened sought.searched sought.right j live means free
 
-  pub ask_reported : WriterTakes before after text → TookAnswersFront old.budget old.solver.clock.steps old.commands j (onto_commands (Ask (named_literals user) ∷ []) left) before after
-  ask_reported t = front_answered old.budget old.solver.clock.steps old.commands j (named_literals user) (outcome_for report.answer now) report left before after free right kind_is spends bounded (subst (WriterTakes before after) sought.text_is t)
+  pub ask_reported : WriterTakes before after text → TookAnswersFront old.budget old.solver.clock.rounds old.commands j (onto_commands (Ask (named_literals user) ∷ []) left) before after
+  ask_reported t = front_answered old.budget old.solver.clock.rounds old.commands j (named_literals user) (outcome_for report.answer now) report left before after free right kind_is spends bounded (subst (WriterTakes before after) sought.text_is t)
 
-  pub ask_cut : WriterBreaks before after text → TookAnswersFront old.budget old.solver.clock.steps old.commands j (onto_commands (Ask (named_literals user) ∷ []) left) before after
-  ask_cut b = front_cut old.budget old.solver.clock.steps old.commands j (named_literals user) (outcome_for report.answer now) report left before after free right kind_is spends bounded (subst (WriterBreaks before after) sought.text_is b)
+  pub ask_cut : WriterBreaks before after text → TookAnswersFront old.budget old.solver.clock.rounds old.commands j (onto_commands (Ask (named_literals user) ∷ []) left) before after
+  ask_cut b = front_cut old.budget old.solver.clock.rounds old.commands j (named_literals user) (outcome_for report.answer now) report left before after free right kind_is spends bounded (subst (WriterBreaks before after) sought.text_is b)
 
 -- a command that was carried out
 pub carried_stops : {C : Type 0} (seen : C → Writer) (old new : RunState C) (c : Command) (before after : Writer) (left : Reading) → CarriedOut seen old new c before after
-    → (j : ScriptState) (live : Live) → AgreesWithState old.solver j live → refusal_of j c ≡ None → TookAnswersFront old.budget old.solver.clock.steps old.commands j (onto_commands (c ∷ []) left) before after
+    → (j : ScriptState) (live : Live) → AgreesWithState old.solver j live → refusal_of j c ≡ None → TookAnswersFront old.budget old.solver.clock.rounds old.commands j (onto_commands (c ∷ []) left) before after
 carried_stops seen old new c before after left h j live means free =
     front_served old.budget (last_place old j) (place_in new (accepted c j)) (c ∷ []) left h.text h.reports 0 before after (h.serves j live means free).2 h.told
 
 -- nothing was written
 pub nothing_stops : {T C : Type 0} (r : Result T RunFault) (old : RunState C) (c : Command) (left : Reading) (w : Writer) → StopsCarrying r old c left w w
 nothing_stops (Ok x) old c left w = tt
-nothing_stops (Err e) old c left w = λ j live means free. front_none old.budget old.solver.clock.steps old.commands j (onto_commands (c ∷ []) left) w
+nothing_stops (Err e) old c left w = λ j live means free. front_none old.budget old.solver.clock.rounds old.commands j (onto_commands (c ∷ []) left) w
 
 -- of any fault
 pub on_err : {T : Type 0} (r : Result T RunFault) (P : Type 0) → P → OnErr r P

@@ -58,7 +58,7 @@ use Rattle.certify.specs.run.Quiet.{Proof}
 pub record IsNew {C : Type 0} (seen : C → Writer) (budget : ℕ) (certificate : Writer) (s : RunState C) : Type 0 where
   pub steps : steps_in s.solver ≡ []
   pub target : target_of seen (proof_in s.solver) ≡ Open Varisat uncounted (empty_sink certificate)
-  pub rounds : s.solver.clock.steps ≡ 0
+  pub rounds : s.solver.clock.rounds ≡ 0
   pub budget_is : s.budget ≡ budget
   pub commands : s.commands ≡ 0
   pub refused : s.refused ≡ 0
@@ -249,10 +249,10 @@ module _ {C : Type 0} (seen : C → Writer) (budget : ℕ) (w : Writer) (s t : R
   abbrev Front : List ℕ → Writer → Type 0
   Front text w = TookAnswersFront budget 0 1 start (reading text) u w
 
-  first_command : (text : List ℕ) (w : Writer) → TookAnswersFront s.budget s.solver.clock.steps (s.commands + 1) start (reading text) u w → Front text w
+  first_command : (text : List ℕ) (w : Writer) → TookAnswersFront s.budget s.solver.clock.rounds (s.commands + 1) start (reading text) u w → Front text w
   first_command text w k =
       subst (λ (m : ℕ). TookAnswersFront m 0 1 start (reading text) u w) fresh.budget_is
-      (subst (λ (m : ℕ). TookAnswersFront s.budget m 1 start (reading text) u w) fresh.rounds (subst (λ (n : ℕ). TookAnswersFront s.budget s.solver.clock.steps (n + 1) start (reading text) u w) fresh.commands k))
+      (subst (λ (m : ℕ). TookAnswersFront s.budget m 1 start (reading text) u w) fresh.rounds (subst (λ (n : ℕ). TookAnswersFront s.budget s.solver.clock.rounds (n + 1) start (reading text) u w) fresh.commands k))
 
   served_front : (e : RunFault) → FailsWhole seen e (unread x) b s.solver t.solver u v → ((total : List ℕ) → Covers b total → Front (rest_in total (unread x)) z) → Unfinished budget (x, b.reader) (u, z)
   served_front fault.ScriptRead h f = faulted_front x b h.0.0 (λ text. Front text z) h.0.1 f

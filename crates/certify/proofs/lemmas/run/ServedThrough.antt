@@ -239,7 +239,7 @@ module _ {C : Type 0} (seen : C → Writer) where
   stops_behind (Err e) c script a b u v w f g = λ j at.
       let h = f.serves j at in
       front_later a.budget (place_in a j) (place_in b (after_command c j)) (c ∷ []) script f.text f.reports f.refused u v w h.1 f.told
-      (subst (λ budget. TookAnswersFront budget b.solver.clock.steps (b.commands + 1) (after_command c j) script v w) f.budget (g (after_command c j) h.0))
+      (subst (λ budget. TookAnswersFront budget b.solver.clock.rounds (b.commands + 1) (after_command c j) script v w) f.budget (g (after_command c j) h.0))
 
   -- what a part behind others says of its devices
   pub fails_then : (e : RunFault) (a b : Source) (p q r : Solver C) (u v w : Writer) → TakesSomeOrEnds a b → NoneFailed u v → ComesBySteps seen (proof_in p) (proof_in q)
@@ -285,16 +285,16 @@ module _ {C : Type 0} (seen : C → Writer) (j : ScriptState) (text counted : Li
 
   -- a front of right answers behind those to the commands that were served
   behind : (c : Source) (script : List ℕ → Reading) (w : Writer) → ((total : List ℕ) → Covers c total → Covers b total) → ((total : List ℕ) → Covers c total → through.left (rest_in total b) ≡ script total)
-      → ((total : List ℕ) → Covers c total → TookAnswersFront mid.budget mid.solver.clock.steps (mid.commands + 1) through.served.judge (script total) v w)
-      → (total : List ℕ) → Covers c total → TookAnswersFront old.budget old.solver.clock.steps (old.commands + 1) j (text (rest_in total a)) u w
+      → ((total : List ℕ) → Covers c total → TookAnswersFront mid.budget mid.solver.clock.rounds (mid.commands + 1) through.served.judge (script total) v w)
+      → (total : List ℕ) → Covers c total → TookAnswersFront old.budget old.solver.clock.rounds (old.commands + 1) j (text (rest_in total a)) u w
   behind c script w back is front total k =
       let f = through.served in
-      subst (λ s. TookAnswersFront old.budget old.solver.clock.steps (old.commands + 1) j s u w) (sym (through.reads total (back total k) ∙ ap (onto_commands through.commands) (is total k)))
+      subst (λ s. TookAnswersFront old.budget old.solver.clock.rounds (old.commands + 1) j s u w) (sym (through.reads total (back total k) ∙ ap (onto_commands through.commands) (is total k)))
       (front_later old.budget (place_in old j) (place_in mid f.judge) through.commands (script total) f.text f.reports f.refused u v w f.serves f.told
-      (subst (λ budget. TookAnswersFront budget mid.solver.clock.steps (mid.commands + 1) f.judge (script total) v w) f.budget (front total k)))
+      (subst (λ budget. TookAnswersFront budget mid.solver.clock.rounds (mid.commands + 1) f.judge (script total) v w) f.budget (front total k)))
 
-  served_so_far : (c : Source) → ((total : List ℕ) → Covers c total → Covers b total) → (total : List ℕ) → Covers c total → TookAnswersFront old.budget old.solver.clock.steps (old.commands + 1) j (text (rest_in total a)) u v
-  served_so_far c back = behind c (λ total. through.left (rest_in total b)) v back (λ total k. refl) (λ total k. front_none mid.budget mid.solver.clock.steps (mid.commands + 1) through.served.judge (through.left (rest_in total b)) v)
+  served_so_far : (c : Source) → ((total : List ℕ) → Covers c total → Covers b total) → (total : List ℕ) → Covers c total → TookAnswersFront old.budget old.solver.clock.rounds (old.commands + 1) j (text (rest_in total a)) u v
+  served_so_far c back = behind c (λ total. through.left (rest_in total b)) v back (λ total k. refl) (λ total k. front_none mid.budget mid.solver.clock.rounds (mid.commands + 1) through.served.judge (through.left (rest_in total b)) v)
 
   -- why no more was served, but for devices and memory
   caused : (e : RunFault) (c : Source) (new : RunState C) (script : List ℕ → Reading) → ((total : List ℕ) → Covers c total → Covers b total) → ((total : List ℕ) → Covers c total → through.left (rest_in total b) ≡ script total)

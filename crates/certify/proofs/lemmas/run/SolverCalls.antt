@@ -9,7 +9,7 @@ use Rattle.certify.specs.run.SolverCalls.{AnswerIs, Limited, Searched, Solved}
 use Rattle.certify.specs.run.Quiet.{Solver}
 
 -- what a search came to, with its rounds
-pub searched : {C : Type 0} (seen : C → Writer) (budget : ℕ) (answer : Answer) (old mid new : Solver C) (before after : ℕ) → Limited budget old mid → before ≡ mid.clock.steps → after ≡ new.clock.steps → Solved seen answer mid new
+pub searched : {C : Type 0} (seen : C → Writer) (budget : ℕ) (answer : Answer) (old mid new : Solver C) (before after : ℕ) → Limited budget old mid → before ≡ mid.clock.rounds → after ≡ new.clock.rounds → Solved seen answer mid new
     → Searched seen budget (record { answer = answer; steps = after - before }) old new
 searched seen budget answer old mid new before after limited at now solved = record {
   mid = mid;

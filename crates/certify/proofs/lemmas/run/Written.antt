@@ -2,7 +2,7 @@
 use Rattle.std.proofs.Common.{ℕ, ◌≡◌, ◌∙◌, Bool, true, false, eqb, Option, Some, None, List, [], ◌∷◌, ◌++◌, length, length-append, refl, sym, ap, subst, arith, append_assoc}
 use Rattle.std.proofs.lemmas.Bool.{eqb-true}
 use mathlib.Core.Path.{fun_ext}
-use Rattle.sat_base.specs.steps.Steps.{Step, SolverVarName, UserVarName, DeleteVar, ChangeSamplingMode, AddClause, AtClause, UnitClauses, DeleteClause, ChangeHashBits, Model, Assumptions, FailedAssumptions, End}
+use Rattle.sat_base.specs.steps.Steps.{Step, SolverVarName, UserVarName, ChangeHashBits}
 use Rattle.sat_checker.specs.matching.Checking.{is_ordered, variable_of}
 use Rattle.sat_checker.specs.matching.Expected.{Outcome, Expected, Opens, Closes, Fits, new_name, no_name, adds, opens, shows, fails, closes, finish, EachSpelt, SameSet}
 use Rattle.sat_checker.specs.matching.ProofChecking.{checker_rules}

@@ -5,8 +5,8 @@ use Rattle.std.proofs.lemmas.Bool.Decides.{nat_tests}
 use Rattle.sat_base.specs.declared.text.Token.TheVariants as code
 use Rattle.sat_base.specs.text.Text.{Token, Number, Letter, Header, Wrong}
 use Rattle.sat_base.specs.text.Tokenizing.{held, held_token}
-use Rattle.sat_base.specs.script.Script.{Literal, Command, Clause, Ask, Hide, Witness, Sample, ScriptEnding, Clean, Malformed, has_ask, is_clean}
-use Rattle.sat_base.specs.script.Language.{Reading, onto_commands, Kind, OfClause, OfAsk, OfHide, OfWitness, OfSample, command_of, CommandHand, Nothing, Within, CommandTurn, GoesOn, Ends, Fails, command_in, may_stand, turn_with_literal, kind_of_letter, beginning, with_letter, command_turn, command_at_end, behind_command_turn, commands_of, with_ask}
+use Rattle.sat_base.specs.script.Script.{Literal, Command, Ask, ScriptEnding, Clean, Malformed, has_ask, is_clean}
+use Rattle.sat_base.specs.script.Language.{Reading, onto_commands, Kind, OfClause, command_of, CommandHand, Nothing, Within, CommandTurn, GoesOn, Ends, Fails, command_in, may_stand, turn_with_literal, kind_of_letter, beginning, with_letter, command_turn, command_at_end, behind_command_turn, commands_of, with_ask}
 use Rattle.sat_base.proofs.lemmas.script.ScriptSpellings.{commands_of_nil, commands_of_cons}
 use Rattle.certify.specs.script.Commands.{kind_of, is_ask_kind, IsWholeCommand, HoldsHand, opened, is_header, any_header, meaning, TakesToken, end_if}
 use Rattle.certify.specs.declared.script.Reached.TheVariants as reached

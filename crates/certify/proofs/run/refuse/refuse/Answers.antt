@@ -24,7 +24,7 @@ returns-clause-written g c =
     written_of g.C.CountedWrite.seen c.write_answer.result (g.A.CountedWrite.seen c.args.answers.now) (g.A.CountedWrite.seen c.write_answer.new.answers) c.args.session.now.solver c.deref.result.now c.write_answer.ensures.takes c.write_answer.ensures.fails
 
 pub returns-in_err-push_refused-clause-stops : goal.returns-in_err-push_refused-clause-stops
-returns-in_err-push_refused-clause-stops g c j d left e = on_err _ _ (front_none c.args.session.now.budget c.args.session.now.solver.clock.steps c.args.session.now.commands j (onto_commands (d ∷ []) left) (g.A.CountedWrite.seen c.args.answers.now))
+returns-in_err-push_refused-clause-stops g c j d left e = on_err _ _ (front_none c.args.session.now.budget c.args.session.now.solver.clock.rounds c.args.session.now.commands j (onto_commands (d ∷ []) left) (g.A.CountedWrite.seen c.args.answers.now))
 
 pub returns-clause-stops : goal.returns-clause-stops
 returns-clause-stops g c j d left e =
@@ -34,8 +34,8 @@ returns-clause-stops g c j d left e =
     let n = s.commands in
     let why = refusal_in c.args.refusal in
     let line : c.deref.result.now ≡ refused_line n why = search rules in
-    err_map c.write_answer.result (WriterBreaks u v c.deref.result.now) (TookAnswersFront s.budget s.solver.clock.steps n j (onto_commands (d ∷ []) left) u v)
-    (λ b. front_refused s.budget s.solver.clock.steps n j d why left u v e (subst (WriterBreaks u v) line b)) c.write_answer.ensures.breaks
+    err_map c.write_answer.result (WriterBreaks u v c.deref.result.now) (TookAnswersFront s.budget s.solver.clock.rounds n j (onto_commands (d ∷ []) left) u v)
+    (λ b. front_refused s.budget s.solver.clock.rounds n j d why left u v e (subst (WriterBreaks u v) line b)) c.write_answer.ensures.breaks
 
 pub returns-in_err-push_refused-clause-cause : goal.returns-in_err-push_refused-clause-cause
 returns-in_err-push_refused-clause-cause g c =

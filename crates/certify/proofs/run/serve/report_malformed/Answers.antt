@@ -23,7 +23,7 @@ returns-clause-written g c =
     written_of g.C.CountedWrite.seen c.write_answer.result (g.A.CountedWrite.seen c.args.answers.now) (g.A.CountedWrite.seen c.write_answer.new.answers) c.args.session.now.solver c.deref.result.now c.write_answer.ensures.takes c.write_answer.ensures.fails
 
 pub returns-in_err-push_malformed-clause-stops : goal.returns-in_err-push_malformed-clause-stops
-returns-in_err-push_malformed-clause-stops g c j = on_err _ _ (front_none c.args.session.now.budget c.args.session.now.solver.clock.steps c.args.number j ([], Malformed) (g.A.CountedWrite.seen c.args.answers.now))
+returns-in_err-push_malformed-clause-stops g c j = on_err _ _ (front_none c.args.session.now.budget c.args.session.now.solver.clock.rounds c.args.number j ([], Malformed) (g.A.CountedWrite.seen c.args.answers.now))
 
 pub returns-clause-stops : goal.returns-clause-stops
 returns-clause-stops g c j =
@@ -31,8 +31,8 @@ returns-clause-stops g c j =
     let v = g.A.CountedWrite.seen c.write_answer.new.answers in
     let s = c.args.session.now in
     let line : c.deref.result.now ≡ malformed_line c.args.number = search rules in
-    err_map c.write_answer.result (WriterBreaks u v c.deref.result.now) (TookAnswersFront s.budget s.solver.clock.steps c.args.number j ([], Malformed) u v)
-    (λ b. front_malformed s.budget s.solver.clock.steps c.args.number j u v (subst (WriterBreaks u v) line b)) c.write_answer.ensures.breaks
+    err_map c.write_answer.result (WriterBreaks u v c.deref.result.now) (TookAnswersFront s.budget s.solver.clock.rounds c.args.number j ([], Malformed) u v)
+    (λ b. front_malformed s.budget s.solver.clock.rounds c.args.number j u v (subst (WriterBreaks u v) line b)) c.write_answer.ensures.breaks
 
 pub returns-in_err-push_malformed-clause-cause : goal.returns-in_err-push_malformed-clause-cause
 returns-in_err-push_malformed-clause-cause g c =

@@ -45,7 +45,7 @@ returns-in_ok-report_malformed-in-Malformed-clause-serves g c j at =
     (ends_malformed g.C.CountedWrite.seen j s t a b c.in-Some.number number (ap (λ (x : _). x.solver) same) (ap (λ (x : _). x.commands) same) (ap (λ (x : _). x.refused) same) (ap (λ (x : _). x.asks) same) c.in_ok-report_malformed-in-Malformed.ensures.told)
 
 pub returns-in_default-clause-stops : goal.returns-in_default-clause-stops
-returns-in_default-clause-stops g c = λ j at. front_none c.args.session.now.budget c.args.session.now.solver.clock.steps (c.args.session.now.commands + 1) j (end_reading c.args.end) (g.A.CountedWrite.seen c.args.answers.now)
+returns-in_default-clause-stops g c = λ j at. front_none c.args.session.now.budget c.args.session.now.solver.clock.rounds (c.args.session.now.commands + 1) j (end_reading c.args.end) (g.A.CountedWrite.seen c.args.answers.now)
 
 pub returns-in_err-answer_ask-in-Asked-clause-stops : goal.returns-in_err-answer_ask-in-Asked-clause-stops
 returns-in_err-answer_ask-in-Asked-clause-stops g c =
@@ -66,7 +66,7 @@ returns-in_err-report_malformed-in-Malformed-clause-stops g c =
     let v = g.A.CountedWrite.seen c.report_malformed.new.answers in
     let number : c.in-Some.number ≡ s.commands + 1 = search rules in
     rw p.1 (subst (λ (x : ScriptEnd). StopsOver {T = Unit {0}} (Err e) s (end_reading x) u v) (sym c.in-Malformed.is)
-    (λ j at. subst (λ n. TookAnswersFront s.budget s.solver.clock.steps n j ([], Malformed) u v) number (c.in_err-report_malformed-in-Malformed.ensures.stops j)))
+    (λ j at. subst (λ n. TookAnswersFront s.budget s.solver.clock.rounds n j ([], Malformed) u v) number (c.in_err-report_malformed-in-Malformed.ensures.stops j)))
 
 pub returns-in_default-clause-cause : goal.returns-in_default-clause-cause
 returns-in_default-clause-cause g c = λ j at. inl (let full : c.args.session.now.commands ≡ 2 ^ 64 - 1 = search rules in omega arith)

@@ -9,7 +9,7 @@ pub returns-then-session-clause-written : goal.returns-then-session-clause-writt
 returns-then-session-clause-written g c = ((refl, refl), took_none g.C.CountedWrite.seen (proof_in c.args.session.now.solver))
 
 pub returns-then-session-clause-stops : goal.returns-then-session-clause-stops
-returns-then-session-clause-stops g c = λ x is left j at. front_none c.args.session.now.budget c.args.session.now.solver.clock.steps (c.args.session.now.commands + 1) j (onto_commands (x ∷ []) left) (g.A.CountedWrite.seen c.args.answers.now)
+returns-then-session-clause-stops g c = λ x is left j at. front_none c.args.session.now.budget c.args.session.now.solver.clock.rounds (c.args.session.now.commands + 1) j (onto_commands (x ∷ []) left) (g.A.CountedWrite.seen c.args.answers.now)
 
 pub returns-then-session-clause-cause : goal.returns-then-session-clause-cause
 returns-then-session-clause-cause g c = λ x is left j at. inl (omega arith)

@@ -1,4 +1,4 @@
-use Rattle.std.proofs.Common.{◌+◌, ◌∙◌, sym, arith}
+use Rattle.std.proofs.Common.{◌∙◌, sym, arith}
 use Rattle.certify.proofs.lemmas.judge.Taken.{known_next, known_end}
 use Rattle.certify.proofs.judge.names.Names.are_known.Goals as goal
 

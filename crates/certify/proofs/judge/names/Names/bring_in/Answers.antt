@@ -1,6 +1,5 @@
-use Rattle.std.proofs.Common.{◌≡◌, ◌+◌, ◌<◌, ◌∙◌, ℕ, refl, sym, ap, arith}
+use Rattle.std.proofs.Common.{◌≡◌, ◌+◌, ◌∙◌, ℕ, refl, sym, ap, arith}
 use Rattle.certify.specs.declared.judge.NameState.TheVariants as state
-use Rattle.certify.specs.judge.Names.{state_in, states_of}
 use Rattle.certify.proofs.lemmas.judge.States.{again_at, again_used, got_at, in_use_at, stays}
 use Rattle.certify.proofs.judge.names.Names.bring_in.Goals as goal
 

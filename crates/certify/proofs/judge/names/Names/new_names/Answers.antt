@@ -1,4 +1,4 @@
-use Rattle.std.proofs.Common.{ℕ, ◌+◌, ◌≡◌, ◌∷◌, [], List, sym, ap, ◌∙◌, arith}
+use Rattle.std.proofs.Common.{ℕ, ◌+◌, ◌≡◌, ◌∷◌, [], sym, ap, ◌∙◌, arith}
 use Rattle.certify.specs.declared.judge.NameState.TheVariants as state
 use Rattle.certify.proofs.lemmas.judge.States.{got_at, in_use_at, new_hidden, new_used, sampled_used, witnessed_used}
 use Rattle.certify.proofs.judge.names.Names.new_names.Goals as goal

@@ -1,4 +1,3 @@
-use Rattle.std.proofs.Common.{subst}
 use Rattle.certify.specs.script.LastPiece.{source_in}
 use Rattle.certify.proofs.lemmas.script.Streaming.{brings_over}
 use Rattle.certify.proofs.script.stream.CommandStream.read_on.Goals as goal
