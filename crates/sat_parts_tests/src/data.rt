@@ -129,19 +129,6 @@ fn parts_are_read_back(rt: HostRuntime) {
     drop(binary);
 }
 
-/// Takes the next literal off the queue, and puts all literals of the trail back into it.
-fn popped(trail: &mut Trail) -> Option<Lit>
-    ensures { trail.new.starts ≡ trail.old.starts }
-{
-    match trail.pop_queue() {
-        None => None,
-        Some(lit) => {
-            trail.reset_queue();
-            Some(lit)
-        }
-    }
-}
-
 /// Whether the queue and the count of level 0 have a unit, and what is left of it once the trail is cleared.
 fn cleared(assignment: &mut Assignment, graph: &mut ImplGraph, trail: &mut Trail, lit: Lit) -> bool
     requires value { variable lit < length assignment.old.current }
@@ -151,14 +138,9 @@ fn cleared(assignment: &mut Assignment, graph: &mut ImplGraph, trail: &mut Trail
     requires starts { trail.old.starts ≡ [] }
 {
     enqueue_assignment(assignment, graph, trail, lit, Reason::Unit);
-    let first = popped(trail);
-    let before = (
-        first,
-        trail.queue_head(),
-        trail.top_level_assignment_count(),
-    );
+    let before = (trail.queue_head(), trail.top_level_assignment_count());
     trail.clear();
-    before == (Some(lit), Some(lit), 1)
+    before == (Some(lit), 1)
         && trail.queue_head().is_none()
         && trail.top_level_assignment_count() == 1
         && trail.trail().is_empty()

@@ -10,8 +10,6 @@ mod collection;
 #[cfg(test)]
 mod data;
 #[cfg(test)]
-mod example;
-#[cfg(test)]
 mod glue;
 #[cfg(test)]
 mod lists;

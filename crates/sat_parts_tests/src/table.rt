@@ -48,7 +48,7 @@ fn begun(alloc: Global, parts: &mut Parts) -> Result<bool, StoreError>
     }
 }
 
-/// Decides an unassigned literal and propagates. Returns whether it could, and found no conflict.
+/// Decides an open literal and propagates. Answers whether that could be done, and without a conflict.
 fn advance(alloc: Global, parts: &mut Parts, lit: Lit) -> Result<bool, AllocError>
     requires holds { PartsInvariant parts.old }
     requires done { IsFullyPropagated parts.old }

@@ -56,7 +56,7 @@ returns-clause-rounds g c =
     let seen = g.C.CountedWrite.seen in
     let opened : Opened seen Varisat c.args.certificate mid end = subst (λ r. OpensProof seen r Varisat c.args.certificate mid end) c.unwrap-2.ensures c.write_proof.ensures.opens in
     let k = configured _ c.config.result c.unwrap.result c.new-solver.result mid c.unwrap.ensures c.config.ensures.configures in
-    ap (λ s. s.clock.rounds) opened.same ∙ ap (λ t. t.rounds) k.clock ∙ ap (λ v. v.rounds) c.new-solver.ensures.view
+    ap (λ s. s.clock.rounds) opened.same ∙ ap (λ (t : _). t.rounds) k.clock ∙ ap (λ v. v.rounds) c.new-solver.ensures.view
 
 pub returns-clause-free : goal.returns-clause-free
 returns-clause-free g c =
@@ -65,4 +65,4 @@ returns-clause-free g c =
     let seen = g.C.CountedWrite.seen in
     let opened : Opened seen Varisat c.args.certificate mid end = subst (λ r. OpensProof seen r Varisat c.args.certificate mid end) c.unwrap-2.ensures c.write_proof.ensures.opens in
     let k = configured _ c.config.result c.unwrap.result c.new-solver.result mid c.unwrap.ensures c.config.ensures.configures in
-    ap (λ s. s.assumed.items) opened.same ∙ ap (λ v. v.items) k.same.assumed ∙ ap (λ v. v.assumptions) c.new-solver.ensures.view
+    ap (λ s. s.assumed.items) opened.same ∙ ap (λ (v : _). v.items) k.same.assumed ∙ ap (λ v. v.assumptions) c.new-solver.ensures.view
