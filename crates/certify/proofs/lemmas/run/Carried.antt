@@ -40,7 +40,7 @@ obeyed_carried seen old s c w quiet free o = record {
       let k = o.keeps j live means.agree in (
         k.0,
         k.1,
-        subst (λ b. Serves old.budget (last_place old j) b (c ∷ []) [] [] 0) (place_behind old (record old { solver = s }) c j old.solver.clock.rounds refl (ap (λ (x : _). x.steps) (sym o.clock)))
+        subst (λ b. Serves old.budget (last_place old j) b (c ∷ []) [] [] 0) (place_behind old (record old { solver = s }) c j old.solver.clock.rounds refl (ap (λ (x : _). x.rounds) (sym o.clock)))
             (serves_plain old.budget (last_place old j) c (steps_in s) quiet allowed k.2),
       );
 }
