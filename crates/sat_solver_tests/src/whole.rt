@@ -78,21 +78,27 @@ pub fn solve<W: CountedWrite + Drop>(alloc: Global, target: W) -> Result<Solved<
     solved
 }
 
+/// Whether the first ask has a core of one literal, the second a model of two, and the target a proof.
+fn are_answered(solved: &Solved<Counted<Vec<u8>>>) -> bool {
+    let refuted = match &solved.refuted {
+        Some(Err(core)) => core.len() == 1,
+        _ => false,
+    };
+    let satisfied = match &solved.satisfied {
+        Some(Ok(model)) => model.len() == 2,
+        _ => false,
+    };
+    refuted && satisfied && solved.target.is_some()
+}
+
 #[test]
 fn two_asks_are_answered(rt: HostRuntime) {
     let target = Counted::new(Vec::new(rt.alloc()));
     match solve(rt.alloc(), target) {
-        Ok(
-            Solved {
-                refuted: Some(Err(core)),
-                satisfied: Some(Ok(model)),
-                target: Some(target),
-            },
-        ) => {
-            assert!(rt; core.len() == 1);
-            assert!(rt; model.len() == 2);
-            assert!(rt; target.into_inner().len() > 0);
+        Ok(solved) => {
+            assert!(rt; are_answered(&solved));
+            drop(solved);
         }
-        _ => assert!(rt; false),
+        Err(_) => assert!(rt; false),
     }
 }
