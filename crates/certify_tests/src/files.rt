@@ -385,7 +385,7 @@ const FULL: &[&[Action<'static>]] = &[&[
     ),
 ]];
 
-const TABLES: &[&[&[Action<'static>]]] = &[HINTED, CHECKED, RUN, UNOPENED, OVERLAPPING, FULL];
+const TABLES: &[&[&[Action<'static>]]] = &[HINTED, CHECKED, RUN, UNOPENED];
 
 /// Tests whether each row of a table is so, in a folder of its own.
 fn are_so(rt: &HostRuntime, name: &str, rows: &[&[Action<'_>]]) -> bool {
@@ -406,6 +406,16 @@ fn files_are_read_and_written(rt: HostRuntime) {
     for at in 0..TABLES.len() {
         assert!(rt; are_so(&rt, "files", TABLES[at]), "{at}");
     }
+}
+
+#[test]
+fn outputs_that_overlap_are_refused(rt: HostRuntime) {
+    assert!(rt; are_so(&rt, "overlapping", OVERLAPPING));
+}
+
+#[test]
+fn full_outputs_are_reported(rt: HostRuntime) {
+    assert!(rt; are_so(&rt, "full", FULL));
 }
 
 /// A script, the status of its run, the answers, and what is printed of the hint text of its certificate.
