@@ -1,5 +1,5 @@
 -- What a script's commands leave: names, their variables, modes and clauses. It has no result of a search.
-use Rattle.std.specs.Prelude.{ℕ, zero, suc, ◌+◌, ◌-◌, ◌==◌, ◌≡◌, max, Bool, true, false, not, Option, Some, None, List, [], ◌∷◌, ◌++◌, map, set, get_or, nat_lt, is_some, if◌then◌else◌}
+use Rattle.std.specs.Prelude.{ℕ, zero, suc, ◌+◌, ◌-◌, ◌==◌, ◌≡◌, max, Bool, true, false, not, Option, Some, None, List, [], ◌∷◌, ◌++◌, map, set, get_or, nat_lt, is_some, unwrap_or, ◌&&◌, if◌then◌else◌}
 use Rattle.std.specs.List.{filter, AllByRecursion}
 use Rattle.sat_base.specs.values.Literals.{coded, var_limit}
 use Rattle.sat_base.specs.values.Clauses.{Valuation, EachTrue, EachHolds}
@@ -66,59 +66,39 @@ new_names name j =
     then (if is_some (identity_of j name) then [] else name ∷ [])
     else names_from (name + 1 - j.first_unused) j.first_unused
 
--- a new variable under each of these names, from left to right
-abbrev pub with_names : List ℕ → ScriptState → ScriptState
-with_names [] j = j
-with_names (name ∷ names) j = with_names names (with_name name j)
+-- the change `f` for each of these names, from left to right
+abbrev pub for_each : (ℕ → ScriptState → ScriptState) → List ℕ → ScriptState → ScriptState
+for_each f [] j = j
+for_each f (name ∷ names) j = for_each f names (f name j)
 
--- introduces the name: it is in use from now on
+-- introduces the name: it is in use from now on, and so are the names that come with it
 abbrev pub bring_in : ℕ → ScriptState → ScriptState
-bring_in name j = with_names (new_names name j) j
-
--- introduces each of these names, from left to right
-abbrev pub bring_all : List ℕ → ScriptState → ScriptState
-bring_all [] j = j
-bring_all (name ∷ names) j = bring_all names (bring_in name j)
+bring_in name j = for_each with_name (new_names name j) j
 
 -- the name is no longer in use
 abbrev pub without_name : ℕ → ScriptState → ScriptState
 without_name name j = record j { in_use = filter (λ n. not (n.name == name)) j.in_use }
 
--- The number, or else 0. It is only applied to identities of names in use, so there is one.
-abbrev pub or_zero : Option ℕ → ℕ
-or_zero None = 0
-or_zero (Some n) = n
-
--- The literal over identities. Its name is in use: an ask and a clause introduce their names first, a model lists the names in use, and a
--- core has literals of the ask.
+-- The literal over identities. Its name is in use, so the 0 never counts: an ask and a clause introduce their names first, a model lists
+-- the names in use, and a core has literals of the ask.
 abbrev pub over : ScriptState → Literal → ℕ
-over j l = coded (or_zero (identity_of j l.name)) l.positive
+over j l = coded (unwrap_or (identity_of j l.name) 0) l.positive
 
 -- the variable of this name, which is in use, gets this mode
 abbrev pub with_mode : NameMode → ℕ → ScriptState → ScriptState
-with_mode mode name j = record j { modes = set j.modes (or_zero (identity_of j name)) mode }
+with_mode mode name j = record j { modes = set j.modes (unwrap_or (identity_of j name) 0) mode }
 
 -- accepts a clause, whose names are all in use
 abbrev pub with_clause : List Literal → ScriptState → ScriptState
 with_clause ls j = record j { clauses = map (over j) ls ∷ j.clauses }
 
--- introduces each of these names, and hides it
-abbrev pub hide_all : List ℕ → ScriptState → ScriptState
-hide_all [] j = j
-hide_all (name ∷ names) j = hide_all names (without_name name (bring_in name j))
-
--- introduces each of these names, and sets the mode of its variable
-abbrev pub set_all : NameMode → List ℕ → ScriptState → ScriptState
-set_all mode [] j = j
-set_all mode (name ∷ names) j = set_all mode names (with_mode mode name (bring_in name j))
-
--- the state after an accepted command
+-- The state after an accepted command: each of its names is introduced, and then hidden, or its variable gets a mode.
 abbrev pub accepted : Command → ScriptState → ScriptState
-accepted (Clause ls) j = with_clause ls (bring_all (names_of ls) j)
-accepted (Ask ls) j = bring_all (names_of ls) j
-accepted (Hide names) j = hide_all names j
-accepted (Witness names) j = set_all Witnessed names j
-accepted (Sample names) j = set_all Sampled names j
+accepted (Clause ls) j = with_clause ls (for_each bring_in (names_of ls) j)
+accepted (Ask ls) j = for_each bring_in (names_of ls) j
+accepted (Hide names) j = for_each (λ name i. without_name name (bring_in name i)) names j
+accepted (Witness names) j = for_each (λ name i. with_mode Witnessed name (bring_in name i)) names j
+accepted (Sample names) j = for_each (λ name i. with_mode Sampled name (bring_in name i)) names j
 
 -- why a command is refused
 pub data Refusal : Type 0 where
@@ -135,25 +115,20 @@ abbrev pub has_witness : ScriptState → Option ℕ → Bool
 has_witness j None = false
 has_witness j (Some identity) = is_witness (get_or j.modes identity Sampled)
 
--- For the names of a clause or an ask: the leftmost one that is past the limit or a witness decides. A name that is not in use is no witness.
-abbrev pub refused_literal : ScriptState → List ℕ → Option Refusal
-refused_literal j [] = None
-refused_literal j (name ∷ names) =
+-- The leftmost name that is past the limit, or a witness where none may be, decides. A name that is not in use is no witness.
+abbrev pub first_refusal : Bool → ScriptState → List ℕ → Option Refusal
+first_refusal may_witness j [] = None
+first_refusal may_witness j (name ∷ names) =
     if nat_lt var_limit name then Some PastLimit
-    else (if has_witness j (identity_of j name) then Some (WitnessName name) else refused_literal j names)
+    else (if not may_witness && has_witness j (identity_of j name) then Some (WitnessName name) else first_refusal may_witness j names)
 
--- for the names of `h`, `w` and `s`: only a name past the limit is refused
-abbrev pub refused_name : List ℕ → Option Refusal
-refused_name [] = None
-refused_name (name ∷ names) = if nat_lt var_limit name then Some PastLimit else refused_name names
-
--- why a command is refused, or `None` if it is accepted
+-- Why a command is refused, or `None` if it is accepted. Only a clause and an ask are refused for a witness.
 abbrev pub refusal_of : ScriptState → Command → Option Refusal
-refusal_of j (Clause ls) = refused_literal j (names_of ls)
-refusal_of j (Ask ls) = refused_literal j (names_of ls)
-refusal_of j (Hide names) = refused_name names
-refusal_of j (Witness names) = refused_name names
-refusal_of j (Sample names) = refused_name names
+refusal_of j (Clause ls) = first_refusal false j (names_of ls)
+refusal_of j (Ask ls) = first_refusal false j (names_of ls)
+refusal_of j (Hide names) = first_refusal true j names
+refusal_of j (Witness names) = first_refusal true j names
+refusal_of j (Sample names) = first_refusal true j names
 
 -- a refused command changes nothing
 abbrev pub after_command : Command → ScriptState → ScriptState
@@ -187,3 +162,25 @@ pub record IsRightCore (j : ScriptState) (ask core : List Literal) : Type 0 wher
   pub among : AllByRecursion (λ l. Among l ask) core
   -- no valuation satisfies the core and the accepted clauses
   pub none : (a : Valuation) → EachTrue a (map (over j) core) → EachHolds a j.clauses → ⊥
+
+-- Words that laws and the crates above use of the same states:
+
+-- a new variable under each of these names, from left to right
+abbrev pub with_names : List ℕ → ScriptState → ScriptState
+with_names names j = for_each with_name names j
+
+-- introduces each of these names, from left to right
+abbrev pub bring_all : List ℕ → ScriptState → ScriptState
+bring_all names j = for_each bring_in names j
+
+-- introduces each of these names, and hides it
+abbrev pub hide_all : List ℕ → ScriptState → ScriptState
+hide_all names j = for_each (λ name i. without_name name (bring_in name i)) names j
+
+-- introduces each of these names, and sets the mode of its variable
+abbrev pub set_all : NameMode → List ℕ → ScriptState → ScriptState
+set_all mode names j = for_each (λ name i. with_mode mode name (bring_in name i)) names j
+
+-- why the literals of a clause or an ask with these names are refused
+abbrev pub refused_literal : ScriptState → List ℕ → Option Refusal
+refused_literal j names = first_refusal false j names

@@ -5,7 +5,7 @@ use Rattle.std.proofs.lemmas.Bool.{ltb-true}
 use Rattle.std.specs.List.{AllByRecursion}
 use Rattle.sat_base.specs.values.Literals.{var_limit, variable}
 use Rattle.sat_base.specs.script.Script.{Literal, names_of}
-use Rattle.sat_base.specs.script.ScriptState.{ScriptState, NameMode, Sampled, Witnessed, identity_of, is_witness, has_witness, WitnessName, refused_literal, refused_name, refusal_of}
+use Rattle.sat_base.specs.script.ScriptState.{ScriptState, NameMode, Sampled, Witnessed, identity_of, is_witness, has_witness, WitnessName, first_refusal, refused_literal, refusal_of}
 use Rattle.certify.specs.answers.AnswerForms.{named_literals}
 use Rattle.sat_base.specs.script.Language.{Kind, OfClause, OfAsk, command_of}
 use Rattle.certify.specs.script.Commands.{kind_of, BeginsPast, IsFront}
@@ -54,21 +54,21 @@ past_literals j false ls h = ap (λ (ks : List Literal). refused_literal j (name
 past_literals j true [] h = absurd h
 past_literals j true (l ∷ ls) h = let e : ltb var_limit l.name ≡ true = lt-ltb var_limit l.name h in rw e refl
 
-past_names : (past : Bool) (ls : List Literal) → BeginsPast past ls → refused_name (names_of ls) ≡ refusal_said (limit_refusal past)
-past_names false ls h = ap (λ (ks : List Literal). refused_name (names_of ks)) h
-past_names true [] h = absurd h
-past_names true (l ∷ ls) h = let e : ltb var_limit l.name ≡ true = lt-ltb var_limit l.name h in rw e refl
+past_names : (j : ScriptState) (past : Bool) (ls : List Literal) → BeginsPast past ls → first_refusal true j (names_of ls) ≡ refusal_said (limit_refusal past)
+past_names j false ls h = ap (λ (ks : List Literal). first_refusal true j (names_of ks)) h
+past_names j true [] h = absurd h
+past_names j true (l ∷ ls) h = let e : ltb var_limit l.name ≡ true = lt-ltb var_limit l.name h in rw e refl
 
 pub refused_end : (j : ScriptState) (codes : List ℕ) (past : Bool) (ls : List Literal) (k : ℕ) → (f : IsFront codes past ls) → length codes ≤ k → refused_literal j (names_of (named_literals (drop k codes) ++ f.behind)) ≡ refusal_said (limit_refusal past)
 refused_end j codes past ls k f over =
     ap (λ (xs : List ℕ). refused_literal j (names_of (named_literals xs ++ f.behind))) (drop_all k codes over) ∙ past_literals j past f.behind f.limit
 
-names_within : (codes : List ℕ) (tail : List Literal) → AllByRecursion (λ code. code < 2 * var_limit) codes → refused_name (names_of (named_literals codes ++ tail)) ≡ refused_name (names_of tail)
-names_within [] tail h = refl
-names_within (code ∷ codes) tail h = let low = h.0 in rw (within (variable code + 1) (omega arith)) (names_within codes tail h.1)
+names_within : (j : ScriptState) (codes : List ℕ) (tail : List Literal) → AllByRecursion (λ code. code < 2 * var_limit) codes → first_refusal true j (names_of (named_literals codes ++ tail)) ≡ first_refusal true j (names_of tail)
+names_within j [] tail h = refl
+names_within j (code ∷ codes) tail h = let low = h.0 in rw (within (variable code + 1) (omega arith)) (names_within j codes tail h.1)
 
-pub names_refused : (codes : List ℕ) (past : Bool) (ls : List Literal) → IsFront codes past ls → refused_name (names_of ls) ≡ refusal_said (limit_refusal past)
-names_refused codes past ls f = ap (λ (ks : List Literal). refused_name (names_of ks)) f.whole ∙ names_within codes f.behind f.within ∙ past_names past f.behind f.limit
+pub names_refused : (j : ScriptState) (codes : List ℕ) (past : Bool) (ls : List Literal) → IsFront codes past ls → first_refusal true j (names_of ls) ≡ refusal_said (limit_refusal past)
+names_refused j codes past ls f = ap (λ (ks : List Literal). first_refusal true j (names_of ks)) f.whole ∙ names_within j codes f.behind f.within ∙ past_names j past f.behind f.limit
 
 -- WHOLE COMMANDS
 pub says_literals : (names : Names) (lent : Lent) (r : Option CodeRefusal) → (kind_of lent.kind ≡ OfClause) ⊎ (kind_of lent.kind ≡ OfAsk)
@@ -76,11 +76,11 @@ pub says_literals : (names : Names) (lent : Lent) (r : Option CodeRefusal) → (
 says_literals names lent r (inl k) said j c h (ls, f, e) = said j ls h f ∙ sym (ap (refusal_of j) (e ∙ ap (λ (kind : Kind). command_of kind ls) k))
 says_literals names lent r (inr k) said j c h (ls, f, e) = said j ls h f ∙ sym (ap (refusal_of j) (e ∙ ap (λ (kind : Kind). command_of kind ls) k))
 
-name_refusal : (kind : Kind) (j : ScriptState) (ls : List Literal) → (kind ≡ OfClause → ⊥) → (kind ≡ OfAsk → ⊥) → refusal_of j (command_of kind ls) ≡ refused_name (names_of ls)
+name_refusal : (kind : Kind) (j : ScriptState) (ls : List Literal) → (kind ≡ OfClause → ⊥) → (kind ≡ OfAsk → ⊥) → refusal_of j (command_of kind ls) ≡ first_refusal true j (names_of ls)
 name_refusal OfClause j ls n m = absurd (n refl)
 name_refusal OfAsk j ls n m = absurd (m refl)
 name_refusal e j ls n m = refl
 
 pub says_names : (names : Names) (lent : Lent) (r : Option CodeRefusal) → (kind_of lent.kind ≡ OfClause → ⊥) → (kind_of lent.kind ≡ OfAsk → ⊥) → r ≡ limit_refusal lent.past_limit → ReportsRefusal r names lent
 says_names names lent r n m said j c h (ls, f, e) =
-    ap refusal_said said ∙ sym (names_refused lent.literals.now lent.past_limit ls f) ∙ sym (name_refusal (kind_of lent.kind) j ls n m) ∙ sym (ap (refusal_of j) e)
+    ap refusal_said said ∙ sym (names_refused j lent.literals.now lent.past_limit ls f) ∙ sym (name_refusal (kind_of lent.kind) j ls n m) ∙ sym (ap (refusal_of j) e)

@@ -1,11 +1,11 @@
 -- What changes of names and modes make of the judge's state.
-use Rattle.std.proofs.Common.{ℕ, zero, suc, ◌+◌, ◌-◌, ◌≤◌, ◌<◌, ◌≡◌, Bool, true, false, not, cond, eqb, ltb, max, List, [], ◌∷◌, ◌++◌, Option, Some, None, is_some, length, get_or, set, refl, sym, ◌∙◌, ap, subst, arith}
+use Rattle.std.proofs.Common.{ℕ, zero, suc, ◌+◌, ◌-◌, ◌≤◌, ◌<◌, ◌≡◌, Bool, true, false, not, cond, eqb, ltb, max, List, [], ◌∷◌, ◌++◌, Option, Some, None, is_some, length, get_or, set, refl, sym, ◌∙◌, ap, subst, arith, unwrap_or}
 use Rattle.std.proofs.Math.ListN.{length-set, get_or-append}
 use Rattle.std.proofs.Math.Seq.{get_or-append_seam}
 use Rattle.std.proofs.lemmas.List.{length-append, get_or-set_same, get_or-set_other}
 use Rattle.std.proofs.lemmas.Bool.{eqb-true, eqb-false, eq-eqb, ne_eqb, ltb-true, ltb-false}
 use Rattle.sat_base.specs.values.Literals.{var_limit}
-use Rattle.sat_base.specs.script.ScriptState.{ScriptState, Named, NameMode, Sampled, Witnessed, identity_of, or_zero, with_name, with_names, names_from, new_names, bring_in, without_name, with_mode}
+use Rattle.sat_base.specs.script.ScriptState.{ScriptState, Named, NameMode, Sampled, Witnessed, identity_of, with_name, with_names, names_from, new_names, bring_in, without_name, with_mode}
 use Rattle.sat_base.proofs.lemmas.script.LiteralValues.{all_map, placed_found, removed_found, removed_gone}
 use Rattle.sat_base.proofs.lemmas.script.ScriptStates.{placed_all, filtered_all, given_at}
 use Rattle.certify.specs.declared.judge.NameState.{NameState}
@@ -201,33 +201,33 @@ pub moded : (old new : Names) (j : ScriptState) (mode : NameMode) (name : ℕ) �
     → ((m : ℕ) → state_in (states_of new) m ≡ cond (eqb name m) (state_of_mode mode) (state_in (states_of old) m)) → NamesHaveState new (with_mode mode name j)
 moded old new j mode name h used same fresh states =
     let u = used_some old j name h used in
-    let at_name : or_zero (identity_of j name) ≡ u.0 = ap or_zero u.1 in
+    let at_name : unwrap_or (identity_of j name) 0 ≡ u.0 = ap (λ o. unwrap_or o 0) u.1 in
     record {
       first = let f = h.first in omega arith;
       limit = h.limit;
       each = λ m. at m (identity_of j m) refl (eqb name m) refl ∙ sym (states m);
       fresh = fresh;
       given = h.given;
-      modes = length-set j.modes (or_zero (identity_of j name)) mode ∙ h.modes;
+      modes = length-set j.modes (unwrap_or (identity_of j name) 0) mode ∙ h.modes;
       apart = h.apart;
     }
   where
     at : (m : ℕ) (o : Option ℕ) → identity_of j m ≡ o → (b : Bool) → eqb name m ≡ b
-        → state_of_identity (set j.modes (or_zero (identity_of j name)) mode) (identity_of j m) ≡ cond b (state_of_mode mode) (state_in (states_of old) m)
+        → state_of_identity (set j.modes (unwrap_or (identity_of j name) 0) mode) (identity_of j m) ≡ cond b (state_of_mode mode) (state_in (states_of old) m)
     at m None x true e = absurd (used (ap (state_in (states_of old)) (eqb-true name m e) ∙ sym (h.each m) ∙ ap (state_of_identity j.modes) x))
-    at m None x false e = ap (state_of_identity (set j.modes (or_zero (identity_of j name)) mode)) x ∙ sym (ap (state_of_identity j.modes) x) ∙ h.each m
+    at m None x false e = ap (state_of_identity (set j.modes (unwrap_or (identity_of j name) 0) mode)) x ∙ sym (ap (state_of_identity j.modes) x) ∙ h.each m
     at m (Some i) x true e =
-        let here : or_zero (identity_of j name) ≡ i = ap (λ (k : ℕ). or_zero (identity_of j k)) (eqb-true name m e) ∙ ap or_zero x in
+        let here : unwrap_or (identity_of j name) 0 ≡ i = ap (λ (k : ℕ). unwrap_or (identity_of j k) 0) (eqb-true name m e) ∙ ap (λ o. unwrap_or o 0) x in
         let low = given_at j.in_use m i j.identity_count h.given x in
         let n = h.modes in
-        ap (state_of_identity (set j.modes (or_zero (identity_of j name)) mode)) x
+        ap (state_of_identity (set j.modes (unwrap_or (identity_of j name) 0) mode)) x
         ∙ ap (λ (k : ℕ). state_of_mode (get_or (set j.modes k mode) i Sampled)) here
         ∙ ap state_of_mode (get_or-set_same j.modes i mode Sampled (omega arith))
     at m (Some i) x false e =
         let u = used_some old j name h used in
-        let differ : i ≡ or_zero (identity_of j name) → ⊥ = λ q. eqb-false name m e (h.apart name m i (u.1 ∙ ap Some (sym (ap or_zero u.1) ∙ sym q)) x) in
-        ap (state_of_identity (set j.modes (or_zero (identity_of j name)) mode)) x
-        ∙ ap state_of_mode (get_or-set_other j.modes (or_zero (identity_of j name)) i mode Sampled differ)
+        let differ : i ≡ unwrap_or (identity_of j name) 0 → ⊥ = λ q. eqb-false name m e (h.apart name m i (u.1 ∙ ap Some (sym (ap (λ o. unwrap_or o 0) u.1) ∙ sym q)) x) in
+        ap (state_of_identity (set j.modes (unwrap_or (identity_of j name) 0) mode)) x
+        ∙ ap state_of_mode (get_or-set_other j.modes (unwrap_or (identity_of j name) 0) i mode Sampled differ)
         ∙ ap (state_of_identity j.modes) (sym x)
         ∙ h.each m
 

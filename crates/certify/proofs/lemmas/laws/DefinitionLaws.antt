@@ -1,11 +1,11 @@
 -- Laws over the definitions alone.
-use Rattle.std.proofs.Common.{ℕ, List, ◌≡◌, true, false, not, map, ◌∙◌, ap, ◌⊎◌, inl, inr}
+use Rattle.std.proofs.Common.{ℕ, List, ◌≡◌, true, false, not, map, ◌∙◌, ap, ◌⊎◌, inl, inr, unwrap_or}
 use Rattle.std.proofs.lemmas.Bool.{cases_Bool}
 use Rattle.std.specs.List.{AllByRecursion}
 use Rattle.sat_base.specs.values.Literals.{coded}
 use Rattle.sat_base.specs.values.Clauses.{Valuation, literal_true, clause_true}
 use Rattle.sat_base.specs.script.Script.{Literal, Among}
-use Rattle.sat_base.specs.script.ScriptState.{ScriptState, or_zero, identity_of, over, bring_all}
+use Rattle.sat_base.specs.script.ScriptState.{ScriptState, identity_of, over, bring_all}
 use Rattle.certify.specs.laws.Laws.{NotBoth, RepeatChangesNothing, TautologyChangesNothing, AskLeavesNames}
 use Rattle.sat_base.proofs.lemmas.script.LiteralValues.{literal_coded, among_true, among_mapped, some_mapped, all_at, all_map, true_mapped, mapped_true}
 
@@ -34,7 +34,7 @@ pub tautology : TautologyChangesNothing
 tautology j name ls a p n = (
   (λ h. h.1),
   (λ h. (
-    elim (either_sign a (or_zero (identity_of j name))) [
+    elim (either_sign a (unwrap_or (identity_of j name) 0)) [
       | inl t ↦ among_true a (over j (record { name = name; positive = true })) (map (over j) ls) (among_mapped (over j) (record { name = name; positive = true }) ls p) t
       | inr t ↦ among_true a (over j (record { name = name; positive = false })) (map (over j) ls) (among_mapped (over j) (record { name = name; positive = false }) ls n) t
     ],

@@ -1,12 +1,12 @@
 -- What every script keeps of the judge's state.
-use Rattle.std.proofs.Common.{ℕ, zero, suc, ◌+◌, ◌-◌, ◌≤◌, ◌<◌, ◌≡◌, ◌↔◌, Bool, true, false, not, ◌||◌, cond, eqb, ltb, lt-ltb, max, List, [], ◌∷◌, map, filter, Option, Some, None, is_some, refl, sym, ◌∙◌, ap, subst, arith, length-append}
+use Rattle.std.proofs.Common.{ℕ, zero, suc, ◌+◌, ◌-◌, ◌≤◌, ◌<◌, ◌≡◌, ◌↔◌, Bool, true, false, not, ◌||◌, cond, eqb, ltb, lt-ltb, max, List, [], ◌∷◌, map, filter, Option, Some, None, is_some, refl, sym, ◌∙◌, ap, subst, arith, length-append, unwrap_or}
 use Rattle.std.proofs.Math.ListN.{length-set}
 use Rattle.std.proofs.lemmas.Bool.{ltb-true, ltb-false, eqb-false, ne_eqb}
 use Rattle.std.specs.List.{AllByRecursion}
 use Rattle.sat_base.specs.values.Literals.{var_limit, variable, coded}
 use Rattle.sat_base.specs.values.Clauses.{Valuation, literal_true, clause_true, EachHolds}
 use Rattle.sat_base.specs.script.Script.{Literal, Command, Clause, Ask, Hide, Witness, Sample, names_of}
-use Rattle.sat_base.specs.script.ScriptState.{ScriptState, Named, NameMode, Sampled, Witnessed, identity_in, identity_of, placed, or_zero, with_name, with_names, names_from, new_names, over, bring_in, bring_all, without_name, with_mode, hide_all, set_all, accepted, Refusal, PastLimit, WitnessName, refused_literal, refused_name, has_witness, refusal_of, after_command, after_script, start}
+use Rattle.sat_base.specs.script.ScriptState.{ScriptState, Named, NameMode, Sampled, Witnessed, identity_in, identity_of, placed, with_name, with_names, names_from, new_names, over, bring_in, bring_all, without_name, with_mode, hide_all, set_all, accepted, Refusal, PastLimit, WitnessName, refused_literal, first_refusal, has_witness, refusal_of, after_command, after_script, start}
 use Rattle.sat_base.specs.script.ScriptStateLaws.{NamesIncrease, ScriptStateInvariant, ScriptStateInvariantHolds, only_below, GivenIdentitiesSuffice}
 use Rattle.sat_base.proofs.lemmas.script.LiteralValues.{all_map, coded_half}
 
@@ -87,7 +87,7 @@ hide_kept name j h = record {
 }
 
 mode_kept : (mode : NameMode) (name : ℕ) (j : ScriptState) → ScriptStateInvariant j → ScriptStateInvariant (with_mode mode name j)
-mode_kept mode name j h = record { limit = h.limit; order = h.order; used = h.used; given = h.given; modes = length-set j.modes (or_zero (identity_of j name)) mode ∙ h.modes; clauses = h.clauses }
+mode_kept mode name j h = record { limit = h.limit; order = h.order; used = h.used; given = h.given; modes = length-set j.modes (unwrap_or (identity_of j name) 0) mode ∙ h.modes; clauses = h.clauses }
 
 abbrev Within : List ℕ → Type 0
 Within = AllByRecursion (λ n. n ≤ var_limit)
@@ -114,11 +114,11 @@ within_literals (n ∷ ns) j e = go (ltb var_limit n) refl (has_witness j (ident
     go false x true f ih = absurd (cc)
     go false x false f ih = (ltb-false var_limit n x, ih f)
 
-within_names : (names : List ℕ) → refused_name names ≡ None → Within names
-within_names [] e = tt
-within_names (n ∷ ns) e = go (ltb var_limit n) refl e (within_names ns)
+within_names : (names : List ℕ) (j : ScriptState) → first_refusal true j names ≡ None → Within names
+within_names [] j e = tt
+within_names (n ∷ ns) j e = go (ltb var_limit n) refl e (within_names ns j)
   where
-    go : (b : Bool) → ltb var_limit n ≡ b → cond b (Some PastLimit) (refused_name ns) ≡ None → (refused_name ns ≡ None → Within ns) → Within (n ∷ ns)
+    go : (b : Bool) → ltb var_limit n ≡ b → cond b (Some PastLimit) (first_refusal true j ns) ≡ None → (first_refusal true j ns ≡ None → Within ns) → Within (n ∷ ns)
     go true x f ih = absurd (cc)
     go false x f ih = (ltb-false var_limit n x, ih f)
 
@@ -156,7 +156,7 @@ some_given name j h = go (ltb name j.first_unused) refl (identity_of j name) ref
 literal_given : (j : ScriptState) (l : Literal) → ScriptStateInvariant j → 0 < j.identity_count → variable (over j l) < j.identity_count
 literal_given j l h some = go (identity_of j l.name) refl
   where
-    go : (o : Option ℕ) → identity_of j l.name ≡ o → variable (coded (or_zero o) l.positive) < j.identity_count
+    go : (o : Option ℕ) → identity_of j l.name ≡ o → variable (coded (unwrap_or o 0) l.positive) < j.identity_count
     go None e = let x = coded_half 0 l.positive in omega arith
     go (Some i) e = let x = coded_half i l.positive in let y = given_at j.in_use l.name i j.identity_count h.given e in omega arith
 
@@ -177,9 +177,9 @@ accepted_kept (Clause ls) j e h =
     let b = bring_all_kept (names_of ls) j w h in
     record { limit = b.limit; order = b.order; used = b.used; given = b.given; modes = b.modes; clauses = (new_clause_given ls j w h, b.clauses) }
 accepted_kept (Ask ls) j e h = bring_all_kept (names_of ls) j (within_literals (names_of ls) j e) h
-accepted_kept (Hide names) j e h = hide_all_kept names j (within_names names e) h
-accepted_kept (Witness names) j e h = set_all_kept Witnessed names j (within_names names e) h
-accepted_kept (Sample names) j e h = set_all_kept Sampled names j (within_names names e) h
+accepted_kept (Hide names) j e h = hide_all_kept names j (within_names names j e) h
+accepted_kept (Witness names) j e h = set_all_kept Witnessed names j (within_names names j e) h
+accepted_kept (Sample names) j e h = set_all_kept Sampled names j (within_names names j e) h
 
 command_kept : (command : Command) (j : ScriptState) → ScriptStateInvariant j → ScriptStateInvariant (after_command command j)
 command_kept command j h = go (refusal_of j command) refl
@@ -218,6 +218,6 @@ given_suffice commands a =
       (λ l i e.
           let g = given_at j.in_use l.name i j.identity_count h.given e in
           let x = coded_half i l.positive in
-          let o : over j l ≡ coded i l.positive = ap (λ y. coded (or_zero y) l.positive) e in
+          let o : over j l ≡ coded i l.positive = ap (λ y. coded (unwrap_or y 0) l.positive) e in
           same_below j.identity_count a (over j l) (subst (λ y. variable y < j.identity_count) (sym o) (omega arith))),
     )

@@ -1,11 +1,11 @@
 -- The bridge from proof variables to identities, kept at every name, clause and deletion.
-use Rattle.std.proofs.Common.{ℕ, ◌+◌, ◌/◌, ◌<◌, ◌≡◌, Bool, true, false, not, cond, eqb, List, [], ◌∷◌, map, filter, Option, Some, None, refl, sym, ◌∙◌, ap, subst, arith, ◌⊎◌, inl, inr}
+use Rattle.std.proofs.Common.{ℕ, ◌+◌, ◌/◌, ◌<◌, ◌≡◌, Bool, true, false, not, cond, eqb, List, [], ◌∷◌, map, filter, Option, Some, None, refl, sym, ◌∙◌, ap, subst, arith, ◌⊎◌, inl, inr, unwrap_or}
 use Rattle.std.proofs.lemmas.Bool.{both_ways, eqb-true, eqb-false, eq-eqb, ne_eqb}
 use Rattle.std.specs.List.{AllByRecursion}
 use Rattle.sat_base.specs.values.Literals.{coded}
 use Rattle.sat_base.specs.values.Clauses.{Valuation, literal_true, clause_true, flipped, EachTrue}
 use Rattle.sat_base.specs.script.Script.{Literal, Among}
-use Rattle.sat_base.specs.script.ScriptState.{ScriptState, Named, identity_in, identity_of, or_zero, over, with_name, without_name, with_clause, start}
+use Rattle.sat_base.specs.script.ScriptState.{ScriptState, Named, identity_in, identity_of, over, with_name, without_name, with_clause, start}
 use Rattle.sat_base.specs.steps.Steps.{Step, UserVarName, AddClause, DeleteVar}
 use Rattle.sat_checker.specs.Fold.{Holds}
 use Rattle.sat_checker.specs.matching.Checking.{is_variable, variable_of, CheckerRules, IsSound}
@@ -33,7 +33,7 @@ module _ (k : CheckerRules) (j : ScriptState) (earlier : List Step) (live : Live
   value l code s =
       let p = bridge.named l.name s.variable s.named in
       let e : a s.variable ≡ b p.0 = all_at (λ q. a q.0 ≡ b q.1) (s.variable, p.0) live agrees p.2 in
-      let o : over j l ≡ coded p.0 l.positive = ap (λ x. coded (or_zero x) l.positive) p.1 in
+      let o : over j l ≡ coded p.0 l.positive = ap (λ x. coded (unwrap_or x 0) l.positive) p.1 in
       ap (literal_true a) s.is ∙ literal_same a b s.variable p.0 l.positive e ∙ sym (ap (literal_true b) o)
 
   pub clause_to : (ls : List Literal) (c : List ℕ) → SameSet (variable_of earlier) ls c → clause_true a c ≡ true → clause_true b (map (over j) ls) ≡ true
@@ -178,7 +178,7 @@ module _ (k : CheckerRules) (sound : IsSound k) (j : ScriptState) (earlier : Lis
           one l code s =
               let p = bridge.named l.name s.variable s.named in
               let h : p.0 < j.identity_count = all_at (λ q. q.1 < j.identity_count) (s.variable, p.0) live bridge.below p.2 in
-              let e : over j l / 2 ≡ p.0 = ap (λ x. coded (or_zero x) l.positive / 2) p.1 ∙ coded_half p.0 l.positive in
+              let e : over j l / 2 ≡ p.0 = ap (λ x. coded (unwrap_or x 0) l.positive / 2) p.1 ∙ coded_half p.0 l.positive in
               rw e h
 
   pub named_new : (name v index : ℕ) → index + 1 ≡ name → k.knows earlier v ≡ false → k.Accepts earlier (UserVarName v (Some index)) → IsBridge k (with_name name j) (UserVarName v (Some index) ∷ earlier) ((v, j.identity_count) ∷ live)

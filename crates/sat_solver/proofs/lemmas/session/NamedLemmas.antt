@@ -1,11 +1,11 @@
 -- A session's answers, for the names of a script.
-use Rattle.std.proofs.Common.{ℕ, ◌+◌, ◌*◌, ◌/◌, ◌%◌, ◌<◌, ◌≡◌, Bool, true, false, not, cond, eqb, Option, Some, List, [], ◌∷◌, map, refl, sym, ◌∙◌, ap, subst, arith, ◌⊎◌, inl, inr}
+use Rattle.std.proofs.Common.{ℕ, ◌+◌, ◌*◌, ◌/◌, ◌%◌, ◌<◌, ◌≡◌, Bool, true, false, not, cond, eqb, Option, Some, List, [], ◌∷◌, map, refl, sym, ◌∙◌, ap, subst, arith, ◌⊎◌, inl, inr, unwrap_or}
 use Rattle.std.proofs.lemmas.Bool.{or_cases, or_left, or_right, true≢false}
 use Rattle.std.specs.List.{AllByRecursion}
 use Rattle.sat_base.specs.values.Literals.{coded, variable}
 use Rattle.sat_base.specs.values.Clauses.{Valuation, literal_true, clause_true, EachTrue, EachHolds}
 use Rattle.sat_base.specs.script.Script.{Literal, Among}
-use Rattle.sat_base.specs.script.ScriptState.{ScriptState, identity_of, over, or_zero}
+use Rattle.sat_base.specs.script.ScriptState.{ScriptState, identity_of, over}
 use Rattle.sat_base.specs.steps.Steps.{Step, SolverVarName, UserVarName, DeleteVar, ChangeSamplingMode, AddClause, AtClause, UnitClauses, DeleteClause, ChangeHashBits, Model, Assumptions, FailedAssumptions, End}
 use Rattle.sat_checker.specs.Fold.{Holds}
 use Rattle.sat_checker.proofs.lemmas.meaning.Answers.{unsat_means_none, models_extend, cores_fail}
@@ -70,7 +70,7 @@ some_true a (y ∷ ys) t = elim (or_cases (literal_true a y) (clause_true a ys) 
 pub read_value : (j : ScriptState) (variable_of : ℕ → Option ℕ) (a b : Valuation) → AgreeOn j variable_of a b → (l : Literal) (code : ℕ) → IsReadAs j variable_of l code → literal_true a code ≡ literal_true b (over j l)
 read_value j variable_of a b agree l code r =
     let e : a r.var ≡ b r.identity = agree l.name r.identity r.var r.in_use r.named in
-    let o : over j l ≡ coded r.identity l.positive = ap (λ x. coded (or_zero x) l.positive) r.in_use in
+    let o : over j l ≡ coded r.identity l.positive = ap (λ x. coded (unwrap_or x 0) l.positive) r.in_use in
     ap (literal_true a) r.is ∙ literal_coded a r.var l.positive ∙ ap (λ x. cond l.positive x (not x)) e ∙ sym (literal_coded b r.identity l.positive) ∙ sym (ap (literal_true b) o)
 
 -- RIGHT ANSWERS

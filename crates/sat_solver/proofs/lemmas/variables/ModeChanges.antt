@@ -1,9 +1,9 @@
 -- A variable with a name gets another mode.
-use Rattle.std.proofs.Common.{ℕ, ◌+◌, ◌<◌, ◌≡◌, ◌≢◌, Bool, true, false, not, ◌&&◌, cond, eqb, ltb, List, [], ◌∷◌, length, get_or, set, Option, Some, None, is_some, refl, sym, ◌∙◌, ap, subst, arith, inl, inr}
+use Rattle.std.proofs.Common.{ℕ, ◌+◌, ◌<◌, ◌≡◌, ◌≢◌, Bool, true, false, not, ◌&&◌, cond, eqb, ltb, List, [], ◌∷◌, length, get_or, set, Option, Some, None, is_some, refl, sym, ◌∙◌, ap, subst, arith, inl, inr, unwrap_or}
 use Rattle.std.proofs.Math.ListN.{length-set}
 use Rattle.std.proofs.lemmas.List.{get_or_past, get_or-set_same, get_or-set_other}
 use Rattle.std.proofs.lemmas.Bool.{eqb-true, eqb-false, true≢false, false_from_ne_true, cases_lt}
-use Rattle.sat_base.specs.script.ScriptState.{ScriptState, Sampled, Witnessed, identity_of, or_zero, with_mode}
+use Rattle.sat_base.specs.script.ScriptState.{ScriptState, Sampled, Witnessed, identity_of, with_mode}
 use Rattle.sat_base.specs.script.ScriptState as judged
 use Rattle.sat_base.specs.steps.Steps.{Step, ChangeSamplingMode}
 use Rattle.sat_checker.specs.Fold.{Holds}
@@ -189,7 +189,7 @@ module _ (old new : Variables) (user v : ℕ) (sample : Bool) (tidy : AreTidy ol
     below = judged.below;
     distinct = judged.distinct;
     identities = (let b = put.count in let r = judged.identities in omega arith);
-    modes_count = length-set j.modes (or_zero (identity_of j (user + 1))) (script_mode sample) ∙ judged.modes_count;
+    modes_count = length-set j.modes (unwrap_or (identity_of j (user + 1)) 0) (script_mode sample) ∙ judged.modes_count;
     increasing = judged.increasing;
     modes = modes;
   }
@@ -197,33 +197,33 @@ module _ (old new : Variables) (user v : ℕ) (sample : Bool) (tidy : AreTidy ol
       its : (i : ℕ) × (given live v ≡ Some i)
       its = none_or (given live v) (λ e. true≢false (sym (judged.in_use v ∙ ap not alive) ∙ ap is_some e))
 
-      at : or_zero (identity_of j (user + 1)) ≡ its.0
-      at = ap or_zero (judged.names user ∙ ap (given_of live) had ∙ its.1)
+      at : unwrap_or (identity_of j (user + 1)) 0 ≡ its.0
+      at = ap (λ o. unwrap_or o 0) (judged.names user ∙ ap (given_of live) had ∙ its.1)
 
       fits : (c : Bool) → IsModeOf (mode_for c) (script_mode c)
       fits true = refl
       fits false = refl
 
-      modes : (w i : ℕ) → given live w ≡ Some i → IsModeOf (data_at new w).sampling_mode (get_or (set j.modes (or_zero (identity_of j (user + 1))) (script_mode sample)) i Sampled)
+      modes : (w i : ℕ) → given live w ≡ Some i → IsModeOf (data_at new w).sampling_mode (get_or (set j.modes (unwrap_or (identity_of j (user + 1)) 0) (script_mode sample)) i Sampled)
       modes w i e = go (eqb w v) refl (put.kept w)
         where
           go : (b : Bool) → eqb w v ≡ b → data_at new w ≡ cond b (record (data_at old v) { sampling_mode = mode_for sample }) (data_at old w)
-              → IsModeOf (data_at new w).sampling_mode (get_or (set j.modes (or_zero (identity_of j (user + 1))) (script_mode sample)) i Sampled)
+              → IsModeOf (data_at new w).sampling_mode (get_or (set j.modes (unwrap_or (identity_of j (user + 1)) 0) (script_mode sample)) i Sampled)
           go true t x =
               let same : its.0 ≡ i = one (sym its.1 ∙ ap (given live) (sym (eqb-true w v t)) ∙ e) in
               let lt : i < j.identity_count = given_has (λ k. k < j.identity_count) live w i judged.below e in
               let n = judged.modes_count in
-              let here : get_or (set j.modes (or_zero (identity_of j (user + 1))) (script_mode sample)) i Sampled ≡ script_mode sample =
+              let here : get_or (set j.modes (unwrap_or (identity_of j (user + 1)) 0) (script_mode sample)) i Sampled ≡ script_mode sample =
               ap (λ k. get_or (set j.modes k (script_mode sample)) i Sampled) (at ∙ same) ∙ get_or-set_same j.modes i (script_mode sample) Sampled (omega arith) in
-              subst (λ d. IsModeOf d.sampling_mode (get_or (set j.modes (or_zero (identity_of j (user + 1))) (script_mode sample)) i Sampled)) (sym x)
+              subst (λ d. IsModeOf d.sampling_mode (get_or (set j.modes (unwrap_or (identity_of j (user + 1)) 0) (script_mode sample)) i Sampled)) (sym x)
               (subst (IsModeOf (mode_for sample)) (sym here) (fits sample))
             where
               one : {a b : ℕ} → Some a ≡ Some b → a ≡ b
               one p = cc
           go false t x =
-              let differ : i ≢ or_zero (identity_of j (user + 1)) = λ y. eqb-false w v t (judged.distinct w v its.0 (e ∙ ap Some (y ∙ at)) its.1) in
-              subst (λ d. IsModeOf d.sampling_mode (get_or (set j.modes (or_zero (identity_of j (user + 1))) (script_mode sample)) i Sampled)) (sym x)
-              (subst (IsModeOf (data_at old w).sampling_mode) (sym (get_or-set_other j.modes (or_zero (identity_of j (user + 1))) i (script_mode sample) Sampled differ)) (judged.modes w i e))
+              let differ : i ≢ unwrap_or (identity_of j (user + 1)) 0 = λ y. eqb-false w v t (judged.distinct w v its.0 (e ∙ ap Some (y ∙ at)) its.1) in
+              subst (λ d. IsModeOf d.sampling_mode (get_or (set j.modes (unwrap_or (identity_of j (user + 1)) 0) (script_mode sample)) i Sampled)) (sym x)
+              (subst (IsModeOf (data_at old w).sampling_mode) (sym (get_or-set_other j.modes (unwrap_or (identity_of j (user + 1)) 0) i (script_mode sample) Sampled differ)) (judged.modes w i e))
 
 -- modes mean nothing to the bridge
 bridged : (j : ScriptState) (steps : List Step) (live : Live) (mode : judged.NameMode) (name : ℕ) → IsBridge checker_rules j steps live → IsBridge checker_rules (with_mode mode name j) steps live

@@ -1,9 +1,9 @@
 -- The bridge where a hidden variable gets a name again.
-use Rattle.std.proofs.Common.{ℕ, ◌+◌, ◌/◌, ◌<◌, ◌≡◌, map, Bool, true, false, cond, eqb, List, [], ◌∷◌, Some, refl, sym, ◌∙◌, ap, subst, inl, inr}
+use Rattle.std.proofs.Common.{ℕ, ◌+◌, ◌/◌, ◌<◌, ◌≡◌, map, Bool, true, false, cond, eqb, List, [], ◌∷◌, Some, refl, sym, ◌∙◌, ap, subst, inl, inr, unwrap_or}
 use Rattle.std.proofs.lemmas.Bool.{eqb-true, eqb-false, eq-eqb, ne_eqb}
 use Rattle.std.specs.List.{AllByRecursion}
 use Rattle.sat_base.specs.script.Script.{Literal, Among}
-use Rattle.sat_base.specs.script.ScriptState.{ScriptState, identity_in, identity_of, or_zero, over, with_clause}
+use Rattle.sat_base.specs.script.ScriptState.{ScriptState, identity_in, identity_of, over, with_clause}
 use Rattle.sat_base.specs.values.Literals.{coded}
 use Rattle.sat_base.specs.steps.Steps.{Step, UserVarName}
 use Rattle.sat_checker.specs.matching.Checking.{variable_of, CheckerRules, IsSound}
@@ -75,7 +75,7 @@ left_out k sound j earlier live bridge u ls used = record {
     one l i e =
         let p = bridge.in_use l.name i e in
         let h : i < j.identity_count = all_at (λ q. q.1 < j.identity_count) (p.0, i) live bridge.below p.2 in
-        let x : over j l / 2 ≡ i = ap (λ o. coded (or_zero o) l.positive / 2) e ∙ coded_half i l.positive in
+        let x : over j l / 2 ≡ i = ap (λ o. coded (unwrap_or o 0) l.positive / 2) e ∙ coded_half i l.positive in
         rw x h
 
     low : (ks : List Literal) → InUse j ks → AllByRecursion (λ l. l / 2 < j.identity_count) (map (over j) ks)
