@@ -3,10 +3,10 @@
 --   make_decision, assume, enqueue_assumption: AddsNothing, KeepsLevels
 --   undo: SameClauses, AddsNoUnit, KeepsTo (the level that remains)
 --   restart, full_restart: SameClauses, AddsNoUnit
---   learn: Learnt
+--   learn: AddsLearnedClause
 --   clear_units: SameClauses, Clears
 --   put_back: SameClauses, AddsNoUnit
---   grow: Grown
+--   grow: AddsVars
 --   use_variable: SameContents, and which variables may be picked
 --   use_with_unit: SameClauses, GainsUnit (and Freed for variables that the solver frees)
 --   load_unit: SameClauses, GainsUnit
