@@ -6,7 +6,7 @@ use Rattle.sat_base.specs.steps.Formats.{IsProperFront, IsFirstBadByte}
 use Rattle.sat_base.specs.steps.Steps.{Step, End}
 use Rattle.sat_base.specs.steps.StepText.{SpellsStep}
 use Rattle.sat_checker.specs.Accepts.{Accepts, AcceptsAll, ready_after}
-use Rattle.sat_checker.specs.ProofView.{GaveSteps, BeginsWithStep, taken_after, NoReadFailed}
+use Rattle.sat_checker.specs.ProofView.{GaveSteps, BeginsWithStep, taken_after, NoReadFailed, FoundNoEnd}
 use Rattle.sat_checker.specs.declared.error.CheckerError.{CheckerError}
 use Rattle.sat_checker.specs.declared.error.CheckerError.TheVariants as errors
 use Rattle.sat_hints.specs.Conversion.{hint_text, hint_verdict}
@@ -74,6 +74,6 @@ Converts (Err Read) from to old new = (passed : List Step) × (rest : List ℕ) 
 -- a write of the lines failed, the last, as the last step read was checked or announced,
 Converts (Err Write) from to old new = (passed : List Step) × (step : Step) × (rest : List ℕ) × NoReadFailed from to × GaveAcceptedSteps from to passed (step ∷ []) rest
     × BreaksBehind old new step (taken_after passed [])
--- or memory was refused, as a step was read, or as an accepted one was checked or announced
-Converts (Err OutOfMemory) from to old new = (passed : List Step) × (rest : List ℕ) × NoReadFailed from to × GaveUpTo from to passed rest
+-- or memory ran out as a step was read, or as an accepted one was checked or announced; no read found the end
+Converts (Err OutOfMemory) from to old new = (passed : List Step) × (rest : List ℕ) × NoReadFailed from to × FoundNoEnd from to × GaveUpTo from to passed rest
     × WritesFrontOf old new (hint_text (taken_after passed []))

@@ -169,8 +169,8 @@ fn write_text<R: CountedRead, W: CountedWrite + Drop>(
     }
 }
 
-/// Writes the hint text of a certificate, and checks the certificate. It writes in pieces of at most 4,096 bytes, and
-/// needs the memory of a checker, but none for lines.
+/// Writes the hint text of a certificate, and checks the certificate. It writes in chunks of at most 4,096 bytes,
+/// and needs the memory of a checker, but none for lines.
 pub fn convert<R: CountedRead, W: CountedWrite>(
     alloc: Global,
     certificate: &mut R,

@@ -18,6 +18,7 @@ pub enum HintError {
     /// A write failed.
     #[error("a write failed")]
     Write,
+    /// Memory ran out.
     #[error("out of memory")]
     OutOfMemory,
 }

@@ -41,7 +41,7 @@ errs_convert HasDeleteVar from to a b e w = w
 errs_convert (Refused r) from to a b e w = (w.0, w.1, w.2, front_took a b _ e w.3)
 errs_convert Read from to a b e w = (w.0, w.1, w.2, w.3, w.4, front_took a b _ e w.5)
 errs_convert Write from to a b e w = (w.0, w.1, w.2, w.3, w.4, breaks_behind a b w.1 (taken_after w.0 []) e w.5)
-errs_convert OutOfMemory from to a b e w = (w.0, w.1, w.2, w.3, front_took a b _ e w.4)
+errs_convert OutOfMemory from to a b e w = (w.0, w.1, w.2, w.3, w.4, front_took a b _ e w.5)
 
 put_by : (text : List ℕ) (a b : Outlet) (f : Bool) → a.failed ≡ false → b.failed ≡ f → PutsText text a b → PutBy f text a.sink b.sink
 put_by text a b f e d h = subst (λ x. PutBy x text a.sink b.sink) d (subst (λ x. PutFrom x text a b) e h)
@@ -76,7 +76,7 @@ module _ {W : Type 0} (seen : W → Writer) (a z v : W) (given back : ℕ) (same
   lent_converts (Err (Refused r)) from to c = (c.0, c.1, c.2, lent_took _ c.3)
   lent_converts (Err Read) from to c = (c.0, c.1, c.2, c.3, c.4, lent_took _ c.5)
   lent_converts (Err Write) from to c = (c.0, c.1, c.2, c.3, c.4, lent_breaks c.1 (taken_after c.0 []) c.5)
-  lent_converts (Err OutOfMemory) from to c = (c.0, c.1, c.2, c.3, lent_took _ c.4)
+  lent_converts (Err OutOfMemory) from to c = (c.0, c.1, c.2, c.3, c.4, lent_took _ c.5)
 
 -- through a writer that is lent
 pub lent_text : {W : Type 0} (seen : W → Writer) (a z : W) (r : MutBor W) (first last : LineWriter (MutBor W)) (given : ℕ) (result : Result (Unit {0}) HintError) (from to : Reader) → (given ≡ r.ghost_name → z ≡ r.now)

@@ -1,5 +1,5 @@
 -- What the checker's answer to a certificate means for the lines written.
-use Rattle.std.proofs.Common.{ℕ, ◌+◌, ◌<◌, ◌≤◌, ◌^◌, ◌≡◌, false, List, [], ◌∷◌, ◌++◌, length, length-append, Result, Ok, Err, inl, inr, subst, arith}
+use Rattle.std.proofs.Common.{ℕ, ◌+◌, ◌<◌, ◌≤◌, ◌^◌, ◌≡◌, false, List, [], ◌∷◌, ◌++◌, length, length-append, Result, Ok, Err, inl, inr, refl, subst, arith}
 use Rattle.std.proofs.lemmas.Bool.{both_ways}
 use Rattle.anyhow.specs.declared.error.Error.{Error}
 use Rattle.sat_base.specs.device.Device.{Reader, Writer}
@@ -7,7 +7,7 @@ use Rattle.sat_base.specs.steps.Steps.{Step, End}
 use Rattle.sat_base.specs.steps.StepText.{SpellsSteps}
 use Rattle.sat_checker.specs.Accepts.{AcceptsAll, ready_after}
 use Rattle.sat_checker.specs.CheckerView.{CheckerView, has_failed, FailsBeforeStep, BreaksAt}
-use Rattle.sat_checker.specs.ProofView.{ReadsProofPart, most_bytes, taken_after, AnswersProof}
+use Rattle.sat_checker.specs.ProofView.{ReadsProofPart, most_bytes, taken_after, FoundNoEnd, AnswersProof}
 use Rattle.sat_checker.specs.announcements.Announcements.{Notice}
 use Rattle.sat_checker.specs.announcements.Transcripts.{Transcribed}
 use Rattle.sat_checker.specs.listeners.Hearing.{Hearers, HearsFirst}
@@ -72,28 +72,28 @@ module _ {W P T : Type 0} (seen : W → Writer) (Takes : P → Notice → Result
   no_memory : {A : Type 0} (new : Checker) (step : Step) (steps : List Step) → BrokenBy faults.OutOfMemory new step steps → A
   no_memory new step steps b = absurd (let e : ◌≡◌ {A = ProcessingError} faults.OutOfMemory (faults.ProofProcessorError b.0) = b.1 in cc)
 
-  pub errs_written : (e : CheckerError) (old new : Checker) (from to : Reader) → has_failed old ≡ false → AnswersProof Hears [] begun (Err e) old new from to [] → WritesLines (Err (hint_of e)) from to (outlet seen begun.own) (outlet seen new.listeners.own)
-  errs_written errors.CheckFailed old new from to f k =
+  pub errs_written : (e : CheckerError) (old new : Checker) (from to : Reader) → has_failed old ≡ false → (e ≡ errors.OutOfMemory → FoundNoEnd from to) → AnswersProof Hears [] begun (Err e) old new from to [] → WritesLines (Err (hint_of e)) from to (outlet seen begun.own) (outlet seen new.listeners.own)
+  errs_written errors.CheckFailed old new from to f u k =
       (k.0, k.4, (k.1, k.2, gave_of k.3 k.6.fails.stands.kernel.accepted, k.5), front_all (outlet seen begun.own) (outlet seen new.listeners.own) (taken_after k.0 []) (since_sent seen Takes Reads _ begun new.listeners well k.6.heard))
-  errs_written errors.ProofIncomplete old new from to f k =
+  errs_written errors.ProofIncomplete old new from to f u k =
       (k.0, k.3, (k.1, gave_of k.2 k.6.0.kernel.accepted, k.4, k.5), front_by (outlet seen begun.own) (outlet seen new.listeners.own) _ (taken_after k.0 []) (since_sent seen Takes Reads _ begun new.listeners well (k.6.0.heard k.6.1)))
-  errs_written errors.ParseError old new from to f k =
+  errs_written errors.ParseError old new from to f u k =
       (k.0, k.3, (k.1, gave_of k.2 k.5.0.kernel.accepted, k.4), front_by (outlet seen begun.own) (outlet seen new.listeners.own) _ (taken_after k.0 []) (since_sent seen Takes Reads _ begun new.listeners well (k.5.0.heard k.5.1)))
-  errs_written errors.IoError old new from to f k =
+  errs_written errors.IoError old new from to f u k =
       (k.0, k.1, k.3, gave_of k.2 k.5.0.kernel.accepted, k.4, front_by (outlet seen begun.own) (outlet seen new.listeners.own) _ (taken_after k.0 []) (since_sent seen Takes Reads _ begun new.listeners well (k.5.0.heard k.5.1)))
-  errs_written errors.OutOfMemory old new from to f k = elim k.3 [
-    | inl h ↦ (k.0, k.1, k.2, inl (gave_of h.0 h.2.fails.stands.kernel.accepted, h.1), stopped new (taken_after k.0 []) h.2)
+  errs_written errors.OutOfMemory old new from to f u k = elim k.3 [
+    | inl h ↦ (k.0, k.1, k.2, u refl, inl (gave_of h.0 h.2.fails.stands.kernel.accepted, h.1), stopped new (taken_after k.0 []) h.2)
     | inr h ↦ elim h.2 [
-      | inl s ↦ (k.0, k.1, k.2, inr (h.0, gave_of h.1 s.1.fails.stands.kernel.accepted, s.0), stopped new (taken_after k.0 []) s.1)
+      | inl s ↦ (k.0, k.1, k.2, u refl, inr (h.0, gave_of h.1 s.1.fails.stands.kernel.accepted, s.0), stopped new (taken_after k.0 []) s.1)
       | inr b ↦ no_memory new h.0 (taken_after k.0 []) (broken_at faults.OutOfMemory new h.0 (taken_after k.0 []) b)
     ]
   ]
-  errs_written errors.CounterEnd old new from to f k =
+  errs_written errors.CounterEnd old new from to f u k =
       absurd (none_is_spent k.0 k.1 k.3.steps.text k.3.steps.spelt (within k.3.steps.text k.2 k.3.steps.bytes) k.5)
-  errs_written (errors.ProofProcessorError cause) old new from to f k =
+  errs_written (errors.ProofProcessorError cause) old new from to f u k =
       let b = broken_at (faults.ProofProcessorError cause) new k.1 (taken_after k.0 []) k.5 in
       (k.0, k.1, k.2, k.4, gave_of k.3 b.2, b.3)
-  errs_written errors.HasFailed old new from to f k = absurd (both_ways (has_failed old) f k.0)
+  errs_written errors.HasFailed old new from to f u k = absurd (both_ways (has_failed old) f k.0)
 
   -- accepted to its end
   ends_of : (old new : Checker) (from to : Reader) → (k : AnswersProof Hears [] begun (Ok tt) old new from to []) → IsAccepted from to k.0 k.1

@@ -6,7 +6,7 @@ use Rattle.sat_base.specs.steps.Formats.{IsProperFront}
 use Rattle.sat_base.specs.steps.Steps.{Step, End}
 use Rattle.sat_base.specs.steps.StepText.{SpellsStep}
 use Rattle.sat_checker.specs.Accepts.{Accepts, ready_after}
-use Rattle.sat_checker.specs.ProofView.{taken_after, NoReadFailed}
+use Rattle.sat_checker.specs.ProofView.{taken_after, NoReadFailed, FoundNoEnd}
 use Rattle.sat_checker.specs.declared.error.CheckerError.{CheckerError}
 use Rattle.sat_checker.specs.declared.error.CheckerError.TheVariants as errors
 use Rattle.sat_hints.specs.Conversion.{hint_text, hint_verdict}
@@ -55,5 +55,5 @@ WritesLines (Err Read) from to old new = (passed : List Step) × (rest : List �
     × SentFront old new (hint_text (taken_after passed []))
 WritesLines (Err Write) from to old new = (passed : List Step) × (step : Step) × (rest : List ℕ) × NoReadFailed from to × GaveAcceptedSteps from to passed (step ∷ []) rest
     × BrokenBehind old new step (taken_after passed [])
-WritesLines (Err OutOfMemory) from to old new = (passed : List Step) × (rest : List ℕ) × NoReadFailed from to × GaveUpTo from to passed rest
+WritesLines (Err OutOfMemory) from to old new = (passed : List Step) × (rest : List ℕ) × NoReadFailed from to × FoundNoEnd from to × GaveUpTo from to passed rest
     × SentFront old new (hint_text (taken_after passed []))
