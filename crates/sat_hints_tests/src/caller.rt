@@ -5,7 +5,6 @@ ghost use Rattle.sat_hints.specs.Checks.{IsProof};
 ghost use Rattle.sat_hints.specs.Conversion.{hint_verdict};
 ghost use Rattle.sat_hints.specs.Laws.{IsCertificate};
 
-use crate::checks::proved;
 use sat_base::{Counted, CountedRead};
 use sat_checker::CheckerError;
 use sat_hints::{HintError, HintFault, HintVerdict, check, convert};
@@ -51,6 +50,12 @@ fn is_rechecked(alloc: Global, certificate: &[u8], verdict: HintVerdict) -> bool
 
 #[test]
 fn certificates_are_rechecked(rt: HostRuntime) {
+    // `AddClause` with the literal 1, `AddClause` with the literal -1, `DeleteVar` of their variable, and `End`.
     let certificate = [5, 1, 0, 5, 1, 1, 3, 0, 13];
-    assert!(rt; is_rechecked(rt.alloc(), &certificate, proved(true, 0, 4)));
+    let verdict = HintVerdict::Proved {
+        empty: true,
+        cores: 0,
+        lines: 4,
+    };
+    assert!(rt; is_rechecked(rt.alloc(), &certificate, verdict));
 }
