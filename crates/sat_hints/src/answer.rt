@@ -36,6 +36,7 @@ pub enum HintFault {
     /// A read failed, or there were 2^48 of them.
     #[error("a read failed")]
     Read,
+    /// Memory ran out.
     #[error("out of memory")]
     OutOfMemory,
 }

@@ -157,7 +157,7 @@ impl Lists {
         }
     }
 
-    /// Reads the line with which the bytes begin, with its LF, and keeps its lists. Returns its head and what comes
+    /// Reads the line with which the bytes begin, with its LF, and stores its lists. Returns its head and what comes
     /// after it, or `None` if the bytes begin with no line.
     pub(crate) fn read_line<'a>(
         &mut self,
