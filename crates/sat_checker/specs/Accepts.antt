@@ -29,7 +29,7 @@ pub record MayBeDeleted (f : Stored) (v : ℕ) : Type 0 where
 abbrev pub MayBeAdded : Stored → List ℕ → Type 0
 MayBeAdded f clause = (f.unsat ≡ true) ⊎ AllByRecursion (λ l. mode_of (variable l) f ≡ Sample) clause
 
--- every literal in turn passes the check as a clause under its one hash, where the literals before it are units
+-- every literal in turn passes the check as a clause under its one hash, while the literals before it are units
 abbrev pub PassInTurn : Stored → List (ℕ × ℕ) → Type 0
 PassInTurn f [] = Unit {0}
 PassInTurn f (u ∷ us) = PassesByHashes f (u.0 ∷ []) (u.1 ∷ []) × PassInTurn (with_unit u.0 f) us

@@ -75,7 +75,7 @@ module _ {L : Type 0} (Hears : L → Notice → Result Unit ProcessingError → 
     pub kernel : kernels.HasAccepted checker.kernel steps
     pub heard : has_failed checker ≡ false → HearsSince Hears before (notices_by checker.kernel.state.formula.status.conflict steps) begun checker.listeners
 
-  -- it is where it was, and only returns HasFailed from then on
+  -- its state did not change, but from then on it only returns HasFailed
   pub record Fails (new : CheckerView L) (steps : List Step) : Type 0 where
     pub stands : HasAccepted new steps
     pub failed : has_failed new ≡ true
@@ -91,9 +91,9 @@ module _ {L : Type 0} (Hears : L → Notice → Result Unit ProcessingError → 
     pub heard : HearsSince Hears before (notices_after steps) begun new.listeners ⊎ HearsSince Hears before (all_notices_after steps) begun new.listeners
 
   -- a listener returned a fault for some of this
-  pub record FailsAtListener (e : ProcessingError) (told : List Notice) (new : CheckerView L) (steps : List Step) : Type 0 where
+  pub record FailsAtListener (e : ProcessingError) (reported : List Notice) (new : CheckerView L) (steps : List Step) : Type 0 where
     pub fails : Fails new steps
-    pub heard : HearsSinceUpTo Hears e before told begun new.listeners
+    pub heard : HearsSinceUpTo Hears e before reported begun new.listeners
 
   -- for a pending unit conflict, or for what an accepted step announces; that step then counts as accepted
   abbrev pub BreaksAt : ProcessingError → CheckerView L → Step → List Step → Type 0

@@ -113,7 +113,7 @@ LastIsSettled = (f : Stored) → last_literals (settled f).last (settled f) ≡ 
 abbrev pub Supported : List ℕ → List StoredClause → List ℕ → Type 0
 Supported us cs ls = (list_any (is_among us) ls ≡ true) ⊎ (0 < irredundant_count (clause_with ls cs))
 
--- what is known of the last irredundant clause stored, as far as it's still there
+-- what is known of the last irredundant clause stored, if it is still there
 abbrev pub LastHolds : Last → Bool → List ℕ → List StoredClause → Type 0
 LastHolds NoneYet unsat us cs = Unit {0}
 LastHolds (Empty id) unsat us cs = unsat ≡ true

@@ -42,7 +42,7 @@ pub record HasAccepted (kernel : Kernel) (steps : List Step) : Type 0 where
   pub records : kernel.records ≡ records_of (stored_after steps)
   pub kept : kernel.failed ≡ false → KeepsAfter kernel.state steps
 
--- it is where it was, and only returns HasFailed from then on
+-- its state did not change, but from then on it only returns HasFailed
 pub record Fails (new : Kernel) (steps : List Step) : Type 0 where
   pub stands : HasAccepted new steps
   pub failed : kernel_has_failed new ≡ true

@@ -1,4 +1,4 @@
--- How stored clauses that hashes name lead to a conflict. Their literals are in any order, and what else a bucket holds doesn't matter.
+-- How stored clauses that hashes name lead to a conflict. Their literals are in any order, and other clauses of a bucket do not matter.
 use Rattle.std.specs.Prelude.{ℕ, ◌≡◌, ◌⊎◌, ◌==◌, ◌||◌, Bool, true, Option, is_some, List, [], ◌∷◌, map}
 use Rattle.std.specs.List.{AllByRecursion}
 use Rattle.sat_base.specs.values.Literals.{negated}
@@ -42,7 +42,7 @@ LeadingPasses = (f : Stored) (clause hashes : List ℕ) (named : List (List ℕ)
 abbrev pub TurnsLead : Type 0
 TurnsLead = (assumed : List ℕ) (clauses : List (List ℕ)) → UnitInTurn assumed clauses → LeadsToConflict (is_among assumed) clauses
 
--- and can't all be true where the assumed literals are
+-- and they cannot all be true if the assumed literals are
 abbrev pub TurnsConflict : Type 0
 TurnsConflict = (a : Valuation) (assumed : List ℕ) (clauses : List (List ℕ)) → UnitInTurn assumed clauses → EachTrue a assumed → EachHolds a clauses → ⊥
 

@@ -5,7 +5,7 @@ use Rattle.sat_base.specs.steps.Steps.{Redundant, Simplified, Satisfied, Step, S
 use Rattle.sat_checker.specs.Stored.{Stored, Witness, UnitClause, hash_by, is_known, mode_of}
 use Rattle.sat_checker.specs.Accepts.{Accepts, AcceptsAll, stored_after, ready_after}
 
--- steps in the order of the certificate, taken one after another
+-- steps in the order of the certificate, one after another
 abbrev pub behind : List Step → List Step → List Step
 behind [] earlier = earlier
 behind (step ∷ steps) earlier = behind steps (step ∷ earlier)
@@ -38,7 +38,7 @@ HashesOfOneTwo = map (λ width. hash_by no_names width (0 ∷ 2 ∷ [])) (64 ∷
 abbrev pub EndAloneAccepted : Type 0
 EndAloneAccepted = AllAccepted (End ∷ []) × ((left_by (End ∷ [])).ended ≡ true) × ((left_by (End ∷ [])).unsat ≡ false)
 
--- a name is put on a variable again, which is still known and so keeps its unit
+-- a variable gets a name again; it is still known, so its unit is still stored
 abbrev pub named_again : List Step
 named_again =
     UserVarName 0 (Some 0) ∷ AddClause (0 ∷ []) ∷ UserVarName 0 None ∷ ChangeSamplingMode 0 true ∷ UserVarName 0 (Some 0) ∷ AddClause (1 ∷ []) ∷ End ∷ []
@@ -134,7 +134,7 @@ SimplifiedByPart = let steps : List Step = AddClause (0 ∷ 2 ∷ 4 ∷ []) ∷ 
 abbrev pub SimplifiedByItself : Type 0
 SimplifiedByItself = LastRefused (AddClause (0 ∷ 2 ∷ []) ∷ []) (DeleteClause (0 ∷ 2 ∷ []) Simplified)
 
--- nor by one that is gone
+-- nor by one that was removed
 abbrev pub SimplifiedByGone : Type 0
 SimplifiedByGone = LastRefused (AddClause (0 ∷ []) ∷ AddClause (0 ∷ 2 ∷ 4 ∷ []) ∷ AddClause (0 ∷ 2 ∷ []) ∷ DeleteClause (0 ∷ 2 ∷ []) Satisfied ∷ []) (DeleteClause (0 ∷ 2 ∷ 4 ∷ []) Simplified)
 
@@ -171,7 +171,7 @@ WitnessAdded = LastRefused (Assumptions (0 ∷ []) ∷ ChangeSamplingMode 0 fals
 abbrev pub HiddenAdded : Type 0
 HiddenAdded = LastRefused (UserVarName 0 (Some 0) ∷ UserVarName 0 None ∷ []) (AddClause (0 ∷ 2 ∷ []))
 
--- a name that is taken, another name for a variable, a name for a hidden one, and a name taken from one that has none
+-- a name that another variable has, a second name for a variable, a name for a hidden one, and a name removed from one that has none
 abbrev pub NameTaken : Type 0
 NameTaken = LastRefused (UserVarName 0 (Some 7) ∷ []) (UserVarName 1 (Some 7))
 
@@ -183,7 +183,7 @@ NamedTwiceOver = LastRefused (UserVarName 0 (Some 7) ∷ []) (UserVarName 0 (Som
 abbrev pub HiddenNamed : Type 0
 HiddenNamed = LastRefused (UserVarName 0 (Some 7) ∷ UserVarName 0 None ∷ []) (UserVarName 0 (Some 7))
 
--- no name is taken from a variable that has none
+-- no name is removed from a variable that has none
 abbrev pub NoNameTaken : Type 0
 NoNameTaken = LastRefused (AddClause (0 ∷ []) ∷ []) (UserVarName 0 None)
 
@@ -251,7 +251,7 @@ ByDuplicate = AllAccepted (AddClause (0 ∷ 2 ∷ []) ∷ AddClause (0 ∷ 2 ∷
 abbrev pub twice_counted : List Step
 twice_counted = AddClause (0 ∷ []) ∷ AddClause (0 ∷ 2 ∷ []) ∷ AtClause true (0 ∷ 2 ∷ []) [] ∷ DeleteClause (0 ∷ 2 ∷ []) Satisfied ∷ []
 
--- the redundant count is left, and without it the clause is gone
+-- the redundant count remains, and without it the clause is removed
 abbrev pub TwoCounts : Type 0
 TwoCounts = AllAccepted (twice_counted ++ DeleteClause (0 ∷ 2 ∷ []) Redundant ∷ [])
     × ((left_by twice_counted).clauses ≡ record { id = 1; literals = 0 ∷ 2 ∷ []; irredundant = 0; redundant = 1 } ∷ []) × ((left_by (twice_counted ++ DeleteClause (0 ∷ 2 ∷ []) Redundant ∷ [])).clauses ≡ [])
@@ -282,11 +282,11 @@ UnknownMode = LastRefused [] (ChangeSamplingMode 0 true)
 abbrev pub two_clauses : List Step
 two_clauses = AddClause (0 ∷ 2 ∷ []) ∷ AddClause (0 ∷ 3 ∷ []) ∷ []
 
--- no clause has hash 5: named last it's no bar
+-- no clause has hash 5, which does no harm if it is named last
 abbrev pub EmptyBehind : Type 0
 EmptyBehind = AllAccepted (two_clauses ++ AtClause false (0 ∷ []) (hash_of (0 ∷ 2 ∷ []) ∷ hash_of (0 ∷ 3 ∷ []) ∷ 5 ∷ []) ∷ [])
 
--- named first, a hash that no clause has is a bar
+-- if a hash that no clause has is named first, the check fails
 abbrev pub EmptyBefore : Type 0
 EmptyBefore = LastRefused two_clauses (AtClause false (0 ∷ []) (5 ∷ hash_of (0 ∷ 2 ∷ []) ∷ hash_of (0 ∷ 3 ∷ []) ∷ []))
 

@@ -24,7 +24,7 @@ pub data Mode : Type 0 where
   Witness : Mode
   Hide : Mode
 
--- what is kept of a variable: whether it is known, its mode, and a user's name that it may have
+-- the data of a variable: whether it is known, its mode, and its user's name, if any
 pub record Variable : Type 0 where
   pub known : Bool
   pub mode : Mode

@@ -36,7 +36,7 @@ redundant_count (Some c) = c.redundant
 abbrev pub without_count : Bool → StoredClause → StoredClause
 without_count redundant c = if redundant then record c { redundant = c.redundant - 1 } else record c { irredundant = c.irredundant - 1 }
 
--- a clause whose two counts are zero is gone
+-- a clause is removed once both its counts are zero
 abbrev pub unless_gone : StoredClause → List StoredClause
 unless_gone c = if c.irredundant == 0 && c.redundant == 0 then [] else c ∷ []
 
@@ -92,23 +92,23 @@ with_set redundant [] f = record f { unsat = true; next_id = f.next_id + 1 }
 with_set redundant (l ∷ []) f = with_unit l f
 with_set redundant (l ∷ m ∷ ls) f = with_long redundant (l ∷ m ∷ ls) f
 
--- the unit of this literal, by its id, or else what is given
+-- the unit of this literal, by its id, or the given default
 abbrev pub unit_at : ℕ → List StoredUnit → Last → Last
 unit_at l [] otherwise = otherwise
 unit_at l (u ∷ us) otherwise = if u.literal == l then UnitClause u.id else unit_at l us otherwise
 
--- the clause that was found, by its id, or else what is given
+-- the clause that was found, by its id, or the given default
 abbrev pub long_at : Option StoredClause → Last → Last
 long_at None otherwise = otherwise
 long_at (Some c) otherwise = LongClause c.id
 
--- how these literals are stored, if they are; an empty clause took this id
+-- how these literals are stored, if they are; an empty clause has this id
 abbrev pub place_of : ℕ → List ℕ → Stored → Last → Last
 place_of id [] f otherwise = Empty id
 place_of id (l ∷ []) f otherwise = unit_at l f.units otherwise
 place_of id (l ∷ m ∷ ls) f otherwise = long_at (clause_with (l ∷ m ∷ ls) f.clauses) otherwise
 
--- if it is irredundant and stored by now, it is the last irredundant clause stored
+-- if it is irredundant and stored now, it is the last irredundant clause stored
 abbrev pub with_canonical : Bool → List ℕ → Stored → Stored
 with_canonical redundant literals f =
     let g : Stored = with_set redundant literals f in if redundant then g else record g { last = place_of f.next_id literals g f.last }

@@ -21,7 +21,7 @@ verdict_of_open assumed [] = falsified
 verdict_of_open assumed (l ∷ []) = if is_among assumed l then rests else opens l
 verdict_of_open assumed (l ∷ m ∷ ls) = rests
 
--- falsified: all its literals are false; opens: all but one, which is open; rests: anything else
+-- falsified: all its literals are false; opens: all but one, which is open; rests: in any other case
 abbrev pub verdict : List ℕ → List ℕ → Verdict
 verdict assumed clause = verdict_of_open assumed (not_false assumed clause)
 

@@ -158,7 +158,7 @@ impl<P: ProofProcessor, T: ProofTranscriptProcessor> Checker<P, T> {
     /// Checks the next step, and accepts it if it passes.
     fn check_step(&mut self, step: &ProofStep<'_>) -> Result<(), CheckerError>
         ensures judges { kernels.ChecksStep result (kernel_of self.old) (step_of step.now) (kernel_of self.new) }
-        ensures tells { ChecksStep (HearsEach P.takes T.reads)
+        ensures notifies { ChecksStep (HearsEach P.takes T.reads)
             result (seen_of self.old) (step_of step.now) (seen_of self.new) }
         ensures looks { LooksAtMost (kernel_of self.old) (step_of step.now) (kernel_of self.new) }
         ensures rise { kernel_looks (kernel_of self.old) ≤ kernel_looks (kernel_of self.new) }
@@ -234,7 +234,7 @@ impl<P: ProofProcessor, T: ProofTranscriptProcessor> SelfChecker for Checker<P, 
         ensures judges { kernels.ChecksStep result (kernel_of self.old) (step_of step.now) (kernel_of self.new) }
         ensures looks { LooksAtMost (kernel_of self.old) (step_of step.now) (kernel_of self.new) }
         ensures rise { kernel_looks (kernel_of self.old) ≤ kernel_looks (kernel_of self.new) }
-        ensures tells { ChecksStep (HearsEach P.takes T.reads)
+        ensures notifies { ChecksStep (HearsEach P.takes T.reads)
             result (seen_of self.old) (step_of step.now) (seen_of self.new) }
         ensures faults { FaultIsFromListener result self.old }
         ensures failed { FailsAgain HasFailed result self.old self.new }
@@ -244,7 +244,7 @@ impl<P: ProofProcessor, T: ProofTranscriptProcessor> SelfChecker for Checker<P, 
 
     fn self_check_delayed_steps(&mut self) -> Result<(), CheckerError>
         ensures judges { kernels.ChecksDelayed result (kernel_of self.old) (kernel_of self.new) }
-        ensures tells { ChecksDelayed (HearsEach P.takes T.reads)
+        ensures notifies { ChecksDelayed (HearsEach P.takes T.reads)
             result (seen_of self.old) (seen_of self.new) }
         ensures faults { FaultIsFromListener result self.old }
         ensures failed { FailsAgain HasFailed result self.old self.new }

@@ -50,7 +50,7 @@ impl From<StoreError> for CheckerError {
 /// Why not all of a formula's text was added.
 #[derive(Debug, Drop, Error)]
 pub enum CheckerDimacsError {
-    /// The text has a fault or can't be read, or memory ran out as it was read.
+    /// The text has a fault or can't be read, or memory ran out while it was read.
     #[error("{0}")]
     Dimacs(DimacsError),
     /// The checker did not accept a clause.

@@ -163,7 +163,7 @@ impl Kernel {
         requires { has_own ≡ false → (v : _) (t : Notice) → O.takes v t (Ok tt) v }
         ensures judges { kernels.ChecksStep result self.old (step_of step.now) self.new }
         ensures goes_on { OnOk result (kernel_has_failed self.new ≡ false) }
-        ensures tells { ChecksStep (HearsFirst O.takes (HearsEach P.takes T.reads)) result
+        ensures notifies { ChecksStep (HearsFirst O.takes (HearsEach P.takes T.reads)) result
             (seen self.old (hearers own.old others.old)) (step_of step.now)
             (seen self.new (hearers own.new others.new)) }
         ensures looks { kernels.LooksAtMost self.old (step_of step.now) self.new }
@@ -256,7 +256,7 @@ impl Kernel {
         ensures goes_on { OnOk result ((kernel_has_failed self.new ≡ false)
             × (self.new.state.formula.status.conflict ≡ None)) }
         ensures looks { kernel_looks self.new ≡ kernel_looks self.old }
-        ensures tells { ChecksDelayed (HearsFirst O.takes (HearsEach P.takes T.reads))
+        ensures notifies { ChecksDelayed (HearsFirst O.takes (HearsEach P.takes T.reads))
             result (seen self.old (hearers own.old others.old)) (seen self.new (hearers own.new others.new)) }
     {
         if self.state.formula.status.conflict.is_none() {
@@ -278,7 +278,7 @@ impl Kernel {
         ensures goes_on { OnOk result ((kernel_has_failed self.new ≡ false)
             × (self.new.state.formula.status.conflict ≡ None)) }
         ensures looks { kernel_looks self.new ≡ kernel_looks self.old }
-        ensures tells { ChecksDelayed (HearsFirst O.takes (HearsEach P.takes T.reads))
+        ensures notifies { ChecksDelayed (HearsFirst O.takes (HearsEach P.takes T.reads))
             result (seen self.old (hearers own.old others.old)) (seen self.new (hearers own.new others.new)) }
     {
         let Some((stored, contradicting)) = self.state.formula.status.conflict else {
@@ -318,7 +318,7 @@ impl Kernel {
             → IsUnmovedByNotices (HearsFirst O.takes (HearsEach P.takes T.reads)) (hearers own.old others.old) }
         ensures judges { kernels.ChecksStep result self.old (step_of step.now) self.new }
         ensures goes_on { OnOk result (kernel_has_failed self.new ≡ false) }
-        ensures tells { ChecksStep (HearsFirst O.takes (HearsEach P.takes T.reads)) result
+        ensures notifies { ChecksStep (HearsFirst O.takes (HearsEach P.takes T.reads)) result
             (seen self.old (hearers own.old others.old)) (step_of step.now)
             (seen self.new (hearers own.new others.new)) }
         ensures looks { kernels.LooksAtMost self.old (step_of step.now) self.new }
@@ -351,9 +351,9 @@ impl Kernel {
         requires well { kernel_has_failed self.old ≡ false }
         requires quiet { hears ≡ false
             → IsUnmovedByNotices (HearsFirst O.takes (HearsEach P.takes T.reads)) (hearers own.old others.old) }
-        ensures { (told : List Notice) → (IsTrue hears
-            → told ≡ announced_by (put_back (was_of was.now) (variable_at self.old.state.variables))
-            self.old.notes.news) → NotifiesAndKeepsState (HearsFirst O.takes (HearsEach P.takes T.reads)) told result
+        ensures { (reported : List Notice) → (IsTrue hears
+            → reported ≡ announced_by (put_back (was_of was.now) (variable_at self.old.state.variables))
+            self.old.notes.news) → NotifiesAndKeepsState (HearsFirst O.takes (HearsEach P.takes T.reads)) reported result
             (seen self.old (hearers own.old others.old)) (seen self.new (hearers own.new others.new)) }
     {
         self.records = self.state.formula.status.records();

@@ -48,7 +48,7 @@ pub fn variables_are_kept()
     ensures deletion { DeletionIsSeen }
 {}
 
-/// Which id the last irredundant clause stored has, where it is empty.
+/// Which id the last irredundant clause stored has, if it is empty.
 pub fn last_id_was_given()
     ensures { EmptyIsGiven }
 {}

@@ -94,7 +94,7 @@ abbrev pub derived : Bool → List ℕ → List ℕ → Stored → List Announce
 derived redundant clause hashes f =
     let literals : List ℕ = canonical clause in if is_tautology clause then [] else derived_set redundant literals (propagations f clause hashes) f (id_of_set literals f)
 
--- all of them in turn, where those before are units
+-- all of them in turn, while those before are units
 abbrev pub derived_units : List (ℕ × ℕ) → Stored → List Announcement
 derived_units [] f = []
 derived_units (u ∷ us) f = derived false (u.0 ∷ []) (u.1 ∷ []) f ++ derived_units us (with_unit u.0 f)
@@ -104,7 +104,7 @@ abbrev pub redundant_deleted : Option StoredClause → List Announcement
 redundant_deleted None = []
 redundant_deleted (Some c) = if c.irredundant == 0 && c.redundant == 1 then DeleteClause c.id c.literals ∷ [] else []
 
--- one irredundant count is taken, and that was the last one
+-- one irredundant count is removed, and it was the last one
 abbrev pub irredundant_deleted : List ℕ → Option StoredClause → List Announcement
 irredundant_deleted ids None = []
 irredundant_deleted ids (Some c) = if c.irredundant == 1 then DeleteAtClause c.id (nat_lt 0 c.redundant) c.literals ids ∷ [] else []
@@ -121,7 +121,7 @@ last_id (Empty id) = Some id
 last_id (UnitClause id) = Some id
 last_id (LongClause id) = Some id
 
--- what an accepted step announces, where no unit conflict was pending
+-- what an accepted step announces, if no unit conflict was pending
 abbrev pub announced : Stored → Step → List Announcement
 announced f (steps.SolverVarName v name) = []
 announced f (steps.UserVarName v user) = renaming v user (f.variables v)

@@ -32,12 +32,12 @@ abbrev pub PropagationsInTurn : Type 0
 PropagationsInTurn = (steps : List Step) (front clause hashes : List ℕ) → AcceptsAll steps → PassesByHashes (with_units front (ready_after steps)) clause hashes → is_tautology clause ≡ false →
     RestsOn (with_units front (ready_after steps)) clause (propagations (with_units front (ready_after steps)) clause hashes)
 
--- a clause that was unit, and the literal that it made true
+-- a clause that was unit, and the literal that it implied
 pub record Reason : Type 0 where
   pub clause : StoredClause
   pub literal : ℕ
 
--- Clauses are passed in order, under assumed literals, up to a conflict: the first that is falsified is the conflict, one that is unit in its turn makes its literal true from there on, and any other is passed over.
+-- Clauses are passed in order, under assumed literals, up to a conflict: the first that is falsified is the conflict, a clause that is unit in its turn implies its literal from then on, and any other is passed over.
 pub data ClauseWalk : List ℕ → List StoredClause → List Reason → StoredClause → Type 0 where
   is_conflict : (assumed : List ℕ) (c : StoredClause) (cs : List StoredClause) → IsFalsified assumed c.literals → ClauseWalk assumed (c ∷ cs) [] c
   is_unit : (assumed : List ℕ) (c : StoredClause) (cs : List StoredClause) (l : ℕ) (reasons : List Reason) (last : StoredClause) →
@@ -50,7 +50,7 @@ pub data IsNeededLiteral (reasons : List Reason) (last : StoredClause) : ℕ →
   of_last : (l : ℕ) → is_among last.literals l ≡ true → IsNeededLiteral reasons last (negated l)
   of_reason : (r : Reason) (l : ℕ) → IsOneOf r reasons → IsNeededLiteral reasons last r.literal → is_among r.clause.literals l ≡ true → l ≢ r.literal → IsNeededLiteral reasons last (negated l)
 
--- just those literals, and just the clauses that made one of them true, in the order passed, the falsified one last
+-- exactly those literals, and exactly the clauses that implied one of them, in the order passed, the falsified one last
 pub record IsConflictCauses (assumed : List ℕ) (cs : List StoredClause) (g : ConflictCauses) : Type 0 where
   pub reasons : List Reason
   pub last : StoredClause
@@ -93,16 +93,16 @@ IsAnnouncedAs id clause other = ⊥
 
 -- one of these announcements is of the clause, under this id
 abbrev pub IsAnnounced : ℕ → List ℕ → List Notice → Type 0
-IsAnnounced id clause told = (t : Notice) × IsOneOf t told × IsAnnouncedAs id clause t.announcement
+IsAnnounced id clause reported = (t : Notice) × IsOneOf t reported × IsAnnouncedAs id clause t.announcement
 
 -- What is stored was announced under its id, an empty clause too that is the last irredundant one. A unit conflict is one of a stored unit and of one that was announced as its negation.
-pub record AreAnnounced (f : Stored) (told : List Notice) : Type 0 where
-  pub clauses : AllByRecursion (λ c. IsAnnounced c.id c.literals told) f.clauses
-  pub units : AllByRecursion (λ u. IsAnnounced u.id (u.literal ∷ []) told) f.units
-  pub last : (id : ℕ) → f.last ≡ Empty id → IsAnnounced id [] told
-  pub conflict : (ids : ℕ × ℕ) → f.conflict ≡ Some ids → (u : StoredUnit) × IsOneOf u f.units × (u.id ≡ ids.0) × IsAnnounced ids.1 (negated u.literal ∷ []) told
+pub record AreAnnounced (f : Stored) (reported : List Notice) : Type 0 where
+  pub clauses : AllByRecursion (λ c. IsAnnounced c.id c.literals reported) f.clauses
+  pub units : AllByRecursion (λ u. IsAnnounced u.id (u.literal ∷ []) reported) f.units
+  pub last : (id : ℕ) → f.last ≡ Empty id → IsAnnounced id [] reported
+  pub conflict : (ids : ℕ × ℕ) → f.conflict ≡ Some ids → (u : StoredUnit) × IsOneOf u f.units × (u.id ≡ ids.0) × IsAnnounced ids.1 (negated u.literal ∷ []) reported
 
--- whatever the steps, accepted or not
+-- this holds after all steps, accepted or not
 abbrev pub IdsAreAnnounced : Type 0
 IdsAreAnnounced = (steps : List Step) → AreAnnounced (stored_after steps) (notices_after steps)
 

@@ -5,7 +5,7 @@ use Rattle.sat_base.specs.steps.Steps.{Step, Redundant, Simplified, Satisfied, S
 use Rattle.sat_base.specs.steps.Steps as steps
 use Rattle.sat_checker.specs.Rows.{behind, four_clauses, refuted, named_twice, colliding, conflict_and_unit, AllAccepted}
 use Rattle.sat_checker.specs.announcements.Announcements.{Announcement, UserVar, AddClause, DuplicatedClause, TautologicalClause, AtClause, MakeIrredundant, DeleteClause, DeleteAtClause, Model, Assumptions, FailedAssumptions, Notice, notices_after, all_notices_after}
-use Rattle.sat_checker.specs.announcements.Announcements as tells
+use Rattle.sat_checker.specs.announcements.Announcements as announcements
 use Rattle.sat_checker.specs.announcements.Transcripts.{Transcribed, transcripts}
 use Rattle.sat_checker.specs.announcements.Transcripts as transcript
 
@@ -27,7 +27,7 @@ transcribed_by ss = transcripts (all_notices_after (behind ss []))
 
 -- what the last step announces, if it and those before it are accepted
 abbrev pub LastAnnounces : List Step → Step → List Announcement → Type 0
-LastAnnounces before last told = AllAccepted (before ++ last ∷ []) × (announcements_by (before ++ last ∷ []) ≡ announcements_by before ++ told)
+LastAnnounces before last reported = AllAccepted (before ++ last ∷ []) × (announcements_by (before ++ last ∷ []) ≡ announcements_by before ++ reported)
 
 -- and what the transcript says of it
 abbrev pub LastReads : List Step → Step → List Transcribed → Type 0
@@ -51,7 +51,7 @@ abbrev pub NamedTwiceAnnounced : Type 0
 NamedTwiceAnnounced = announcements_by named_twice
     ≡ AddClause 0 (3 ∷ 4 ∷ 6 ∷ []) ∷ AddClause 1 (0 ∷ 2 ∷ []) ∷ AddClause 2 (3 ∷ 7 ∷ []) ∷ AtClause 3 false (0 ∷ 4 ∷ []) (1 ∷ 2 ∷ 0 ∷ []) ∷ []
 
--- the four clauses over two names, with units in between; the buckets' other clauses aren't needed
+-- the four clauses over two names, with units in between; the other clauses of the buckets are not needed
 abbrev pub CollidingAnnounced : Type 0
 CollidingAnnounced = announcements_by colliding
     ≡ UserVar 0 (Some (record { name = 0; sampling = true; is_new = true })) ∷ UserVar 1 (Some (record { name = 1; sampling = true; is_new = true })) ∷ four_announced
@@ -142,7 +142,7 @@ RedundantGone = LastAnnounces as_redundant (steps.DeleteClause (2 ∷ 0 ∷ []) 
 abbrev pub RedundantStays : Type 0
 RedundantStays = LastAnnounces (as_redundant ++ steps.AtClause false (0 ∷ 2 ∷ []) [] ∷ []) (steps.DeleteClause (0 ∷ 2 ∷ []) Redundant) []
 
--- an irredundant count is taken: the last one, with or without redundant ones, or one of two
+-- an irredundant count is removed: the last one, with or without redundant ones, or one of two
 abbrev pub SatisfiedGone : Type 0
 SatisfiedGone = LastAnnounces (steps.AddClause (2 ∷ []) ∷ steps.AddClause (0 ∷ []) ∷ steps.AddClause (2 ∷ 0 ∷ []) ∷ []) (steps.DeleteClause (2 ∷ 0 ∷ []) Satisfied) (DeleteAtClause 2 false (0 ∷ 2 ∷ []) (1 ∷ []) ∷ [])
 
@@ -217,7 +217,7 @@ CoreOfBothSigns = LastAnnounces (steps.AddClause (1 ∷ []) ∷ steps.Assumption
 
 -- other steps
 abbrev pub OthersAnnounce : Type 0
-OthersAnnounce = LastAnnounces [] (ChangeHashBits 8) [] × LastAnnounces [] End [] × LastAnnounces (steps.AddClause (0 ∷ []) ∷ []) (DeleteVar 0) (tells.DeleteVar 0 ∷ [])
+OthersAnnounce = LastAnnounces [] (ChangeHashBits 8) [] × LastAnnounces [] End [] × LastAnnounces (steps.AddClause (0 ∷ []) ∷ []) (DeleteVar 0) (announcements.DeleteVar 0 ∷ [])
 
 -- units 1 and 2 with ids 0 and 1, and at width 0 the clauses [-2, 3, 5], [-1, 4], [6, 7], [-3, -4, 5] with ids 2 to 5
 abbrev pub units_and_clauses : List Step
@@ -273,7 +273,7 @@ OthersRead = LastReads as_redundant (steps.AtClause false (2 ∷ 0 ∷ []) []) [
     × LastReads (as_redundant ++ steps.AtClause false (0 ∷ 2 ∷ []) [] ∷ []) (steps.DeleteClause (0 ∷ 2 ∷ []) Satisfied) []
     × LastReads (steps.AddClause (0 ∷ []) ∷ []) (DeleteVar 0) []
 
--- in user's names: the explicit one, else a sampling variable's own; a literal of a witness variable without a name is dropped
+-- in user's names: the explicit one, or a sampling variable's own; a literal of a witness variable without a name is dropped
 abbrev pub one_name : List Step
 one_name = UserVarName 0 (Some 7) ∷ steps.Assumptions (2 ∷ []) ∷ ChangeSamplingMode 1 false ∷ []
 

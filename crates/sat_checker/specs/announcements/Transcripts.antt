@@ -3,7 +3,7 @@ use Rattle.std.specs.Prelude.{ℕ, ◌+◌, ◌*◌, ◌%◌, List, [], ◌∷�
 use Rattle.sat_base.specs.values.Literals.{variable}
 use Rattle.sat_checker.specs.Stored.{Mode, Variable}
 use Rattle.sat_checker.specs.announcements.Announcements.{UserVariable, Announcement, UserVar, DeleteVar, DuplicatedClause, TautologicalClause, AtClause, MakeIrredundant, DeleteClause, DeleteAtClause, DeleteRatClause, Assumptions, is_sample, Notice}
-use Rattle.sat_checker.specs.announcements.Announcements as told
+use Rattle.sat_checker.specs.announcements.Announcements as announcements
 
 -- a step of a transcript, over user's names
 pub data Transcribed : Type 0 where
@@ -56,7 +56,7 @@ abbrev pub transcript : (ℕ → Variable) → Announcement → Option Transcrib
 transcript variables (UserVar v None) = name_was_removed (variables v).name
 transcript variables (UserVar v (Some u)) = naming_transcript u (variables v).name
 transcript variables (DeleteVar v) = None
-transcript variables (told.AddClause id clause) = Some (AddClause (in_user_names variables clause))
+transcript variables (announcements.AddClause id clause) = Some (AddClause (in_user_names variables clause))
 transcript variables (DuplicatedClause id same clause) = Some (AddClause (in_user_names variables clause))
 transcript variables (TautologicalClause id clause) = Some (AddClause (in_user_names variables clause))
 transcript variables (AtClause id redundant clause ids) = deriving_of clause
@@ -64,9 +64,9 @@ transcript variables (MakeIrredundant id clause) = None
 transcript variables (DeleteClause id clause) = None
 transcript variables (DeleteAtClause id kept clause ids) = None
 transcript variables (DeleteRatClause id kept clause) = None
-transcript variables (told.Model ls) = Some (Model (in_user_names variables ls))
+transcript variables (announcements.Model ls) = Some (Model (in_user_names variables ls))
 transcript variables (Assumptions ls) = Some (Assume (in_user_names variables ls))
-transcript variables (told.FailedAssumptions core ids) = Some (FailedAssumptions (in_user_names variables core))
+transcript variables (announcements.FailedAssumptions core ids) = Some (FailedAssumptions (in_user_names variables core))
 
 -- one step of a transcript before these, if there is one
 abbrev pub with_transcript : Option Transcribed → List Transcribed → List Transcribed

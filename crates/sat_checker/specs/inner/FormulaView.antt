@@ -41,11 +41,11 @@ last_in (code.Long id) = LongClause id
 abbrev pub standing_in : Status → RestOfStored
 standing_in s = record { unsat = s.unsat; conflict = s.conflict; last = last_in s.last; next_id = s.next_id; ended = s.ended; var_deleted = s.var_deleted }
 
--- No other literal's unit has this id, and a unit of this literal that came in later has a later one.
+-- No other literal's unit has this id, and a unit of this literal that was stored later has a higher one.
 abbrev pub IsIdOfUnit : ℕ → ℕ → StoredUnit → Type 0
 IsIdOfUnit id l u = (u.id ≡ id → u.literal ≡ l) × (u.literal ≡ l → id ≤ u.id)
 
--- if the last irredundant clause stored is a unit, its literal was put under its id, though it may be removed by now
+-- if the last irredundant clause stored is a unit, its literal was stored under its id, though it may have been removed since
 abbrev pub LastUnitIsPut : LastClause → List StoredUnit → ℕ → Type 0
 LastUnitIsPut code.NoneYet units next_id = Unit {0}
 LastUnitIsPut (code.Empty id) units next_id = Unit {0}
@@ -71,7 +71,7 @@ pub record KeepsParts (formula : Formula) (kept : List StoredClause) (solver_nam
 abbrev pub KeepsFormula : Formula → Stored → Type 0
 KeepsFormula formula f = KeepsParts formula f.clauses f.solver_names f.width f.units (standing_of f)
 
--- with all clauses filed by the hashes of now
+-- with all clauses filed by the current hashes
 abbrev pub refiled_in : Formula → Formula
 refiled_in formula = record formula { store = refiled formula.store }
 
@@ -81,7 +81,7 @@ KeepsOrSpends (Ok x) kept g = kept
 KeepsOrSpends (Err OutOfMemory) kept g = Unit {0}
 KeepsOrSpends (Err CounterEnd) kept g = IsSpent g
 
--- the formula is changed so
+-- the formula is changed in this way
 abbrev pub FormulaEffect : {T : Type 0} → Result T StoreError → Formula → (Stored → Stored) → Formula → Type 0
 FormulaEffect result old change new = (f : Stored) → KeepsFormula old f → KeepsOrSpends result (KeepsFormula new (change f)) (change f)
 
@@ -97,7 +97,7 @@ pub record ChecksAs (formula : Formula) (f : Stored) : Type 0 where
   pub units : map (λ u. u.literal) formula.units.units ≡ unit_literals f
   pub room : HasStoredRoom formula.units.room f.clauses
 
--- but for notes, marks and more room it's the same
+-- only notes, marks and room differ
 pub record ChecksBeside (old new : Formula) : Type 0 where
   pub store : new.store ≡ old.store
   pub status : new.status ≡ old.status
@@ -105,7 +105,7 @@ pub record ChecksBeside (old new : Formula) : Type 0 where
   pub room : RoomStays old.units.room new.units.room
   pub marks : RoomStays old.marks.room new.marks.room
 
--- a deletion is accepted, and what it leaves is kept, or it's refused
+-- a deletion is accepted, and what it leaves is stored, or it is refused
 abbrev pub DeletionEffect : Bool → Formula → Step → Formula → Type 0
 DeletionEffect accepted old step new = (f : Stored) → KeepsFormula old f → MatchBool accepted (Accepts f step × KeepsFormula new (effect step f)) (Accepts f step → ⊥)
 

@@ -16,8 +16,8 @@ abbrev pub stands_first : List ℕ → ℕ → Bool
 stands_first [] l = false
 stands_first (m ∷ ms) l = if m == l then true else if m == negated l then false else stands_first ms l
 
--- As far as there is room, the units are assumed. Where there is none, a literal is a unit if it stands first among
--- those that came in.
+-- Units are assumed as far as there is room. A literal without room is a unit if it is the first of its variable
+-- among those that were added.
 pub record AssumesUnits (trail : LiteralsAndRoom) (before : List ℕ) (f : Stored) : Type 0 where
   pub agrees : AgreesOn trail.room trail.literals (unit_literals f)
   pub others : (l : ℕ) → is_among trail.room l ≡ false → is_unit f l ≡ stands_first before l

@@ -9,12 +9,12 @@ use Rattle.sat_checker.specs.declared.store.links.Pair.{Pair}
 abbrev pub without_place : ℕ → List ℕ → List ℕ
 without_place place = filter (λ p. not (p == place))
 
--- the pairs of the clauses that aren't gone, the first slot being at this place
+-- the pairs of the clauses that are not removed, if the first slot is at this place
 abbrev pub pairs_from : ℕ → List Slot → List Pair
 pairs_from place [] = []
 pairs_from place (s ∷ ss) = if is_gone s then pairs_from (place + 1) ss else (record { hash = mixed s.hash; place = place }) ∷ pairs_from (place + 1) ss
 
--- the pairs of all clauses that aren't gone, from the first place on
+-- the pairs of all clauses that are not removed, from the first place on
 abbrev pub pairs_of : List Slot → List Pair
 pairs_of slots = pairs_from 0 slots
 

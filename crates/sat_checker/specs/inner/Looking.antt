@@ -7,7 +7,7 @@ pub record LooksUpTo (count old new : ℕ) : Type 0 where
   pub rise : old ≤ new
   pub most : new ≤ old + count
 
--- as many at most as are counted over what is kept
+-- at most as many as are counted over what is stored
 pub record LooksOver (Kept : Stored → Type 0) (count : Stored → ℕ) (old new : ℕ) : Type 0 where
   pub rise : old ≤ new
   pub most : (f : Stored) → Kept f → new ≤ old + count f

@@ -36,13 +36,13 @@ pub record AreMarks (marks : Table Mark) (literals room : List ℕ) : Type 0 whe
   pub once : NoRepeats literals
   pub within : (l : ℕ) → is_among literals l ≡ true → is_among room l ≡ true
 
--- This many have room, and as many can be held. If a literal has room, its negation has.
+-- This many literals have room, and as many can be held. If a literal has room, so has its negation.
 pub record HoldsRoom (count capacity : ℕ) (room : List ℕ) : Type 0 where
   pub exact : count ≡ length room
   pub enough : count ≤ capacity
   pub paired : (l : ℕ) → is_among room l ≡ is_among room (negated l)
 
--- The list has lost the item at a place, where its last one is now.
+-- The item at a place was removed from the list, and the last one moved to its place.
 pub record LosesAt (place : ℕ) (old new : List ℕ) : Type 0 where
   pub count : length new + 1 ≡ length old
   pub each : (i : ℕ) → i < length new → get_or new i 0 ≡ (if i == place then get_or old (length old - 1) 0 else get_or old i 0)

@@ -1,10 +1,10 @@
--- What the backward pass has marked, and the ids that it has taken.
+-- What the backward pass has marked, and the ids that it has listed.
 use Rattle.std.specs.Prelude.{ℕ, ◌≡◌, map, reverse}
 use Rattle.sat_checker.specs.LiteralSets.{is_among}
 use Rattle.sat_checker.specs.announcements.Needed.{ConflictCauses}
 use Rattle.sat_checker.specs.declared.rup.needed.Needed.{Needed}
 
--- just the literals that the conflict rests on are marked, and the ids are those of the clauses needed, the last one first
+-- exactly the literals that the conflict rests on are marked, and the ids are those of the clauses needed, the last one first
 pub record IsFollowed (needed : Needed) (g : ConflictCauses) : Type 0 where
   pub marked : (m : ℕ) → is_among needed.marked.literals m ≡ is_among g.literals m
   pub ids : needed.ids.items ≡ reverse (map (λ c. c.id) g.clauses)

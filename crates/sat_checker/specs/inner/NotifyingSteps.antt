@@ -20,12 +20,12 @@ use Rattle.sat_checker.specs.declared.announce.announcement.Was.{Was}
 abbrev pub announced_by : (ℕ → Variable) → List Announcement → List Notice
 announced_by variables = map (λ a. record { announcement = a; variables = variables })
 
--- a variable, and what is kept of it
+-- a variable, and its data
 abbrev pub was_of : Option Was → Option (ℕ × Variable)
 was_of None = None
 was_of (Some was) = Some (was.var, variable_of_data was.data)
 
--- the variables, but for one that is as it was
+-- the variables, with the earlier data of one of them
 abbrev pub put_back : Option (ℕ × Variable) → (ℕ → Variable) → ℕ → Variable
 put_back None variables = variables
 put_back (Some was) variables = λ v. if v == was.0 then was.1 else variables v
@@ -60,11 +60,11 @@ pub record SameStateAndLooks {L : Type 0} (old new : CheckerView L) : Type 0 whe
 abbrev pub IsUnmovedByNotices : {L : Type 0} → (L → Notice → Result Unit ProcessingError → L → Type 0) → L → Type 0
 IsUnmovedByNotices Hears l = (t : Notice) → Hears l t (Ok tt) l
 
-module _ {L : Type 0} (Hears : L → Notice → Result Unit ProcessingError → L → Type 0) (told : List Notice) where
+module _ {L : Type 0} (Hears : L → Notice → Result Unit ProcessingError → L → Type 0) (reported : List Notice) where
   -- all was announced, or up to a fault, and this is recorded
   abbrev pub TakenIn : Result Unit CheckerError → CheckerView L → CheckerView L → Type 0
-  TakenIn (Ok x) old new = (has_failed new ≡ false) × (new.kernel.records ≡ records_in new.kernel.state.formula.status) × HearsAll Hears told old.listeners new.listeners
-  TakenIn (Err e) old new = (has_failed new ≡ true) × (new.kernel.records ≡ records_in new.kernel.state.formula.status) × (f : ProcessingError) × (e ≡ fault_of f) × HearsUpTo Hears f told old.listeners new.listeners
+  TakenIn (Ok x) old new = (has_failed new ≡ false) × (new.kernel.records ≡ records_in new.kernel.state.formula.status) × HearsAll Hears reported old.listeners new.listeners
+  TakenIn (Err e) old new = (has_failed new ≡ true) × (new.kernel.records ≡ records_in new.kernel.state.formula.status) × (f : ProcessingError) × (e ≡ fault_of f) × HearsUpTo Hears f reported old.listeners new.listeners
 
   -- the same, and the state and the looks are as they were
   abbrev pub NotifiesAndKeepsState : Result Unit CheckerError → CheckerView L → CheckerView L → Type 0

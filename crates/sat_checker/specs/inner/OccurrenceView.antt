@@ -20,7 +20,7 @@ times_stored l (s ∷ ss) = (if is_gone s then 0 else times_in l s.clause.litera
 abbrev pub count_at : Occurrences → ℕ → ℕ
 count_at kept l = value_at 0 kept.counts l
 
--- the clauses that aren't gone are found by their hashes, and their literals are counted
+-- the clauses that are not removed are found by their hashes, and their literals are counted
 pub record SlotsInvariant (slots : List Slot) (index : Indexed) (kept : Occurrences) : Type 0 where
   pub files : IndexesSlots index slots
   pub counted : (l : ℕ) → count_at kept l ≡ times_stored l slots

@@ -27,11 +27,11 @@ abbrev pub named : List ℕ → List Slot → List StoredClause
 named [] slots = []
 named (hash ∷ hashes) slots = filed hash slots ++ named hashes slots
 
--- a note of a place and a literal, as the clause there that made the literal true
+-- a note of a place and a literal, as the clause there that implied the literal
 abbrev pub reason_in : List Slot → noted.Reason → Reason
 reason_in slots r = record { clause = clause_at slots r.place; literal = r.lit }
 
--- the clauses that made a literal true, in the order passed
+-- the clauses that implied a literal, in the order passed
 abbrev pub reasons_in : List Slot → WalkNotes → List Reason
 reasons_in slots passed = map (reason_in slots) passed.reasons
 
@@ -54,7 +54,7 @@ abbrev pub conflict_length : List Slot → Option ℕ → ℕ
 conflict_length slots None = 0
 conflict_length slots (Some place) = length (literals_at slots place)
 
--- the number of literals of the clauses that were noted: those that made a literal true, and the falsified one
+-- the number of literals of the clauses that were noted: those that implied a literal, and the falsified one
 abbrev pub noted_length : List Slot → WalkNotes → ℕ
 noted_length slots passed = total_length (map (λ r. literals_at slots r.place) passed.reasons) + conflict_length slots passed.conflict
 

@@ -8,7 +8,7 @@ use Rattle.sat_checker.specs.HasherView.{solver_name_of, width_of}
 use Rattle.sat_checker.specs.declared.hash.ClauseHasher.{ClauseHasher}
 use Rattle.sat_checker.specs.declared.store.slots.ClauseLits.{ClauseLits}
 
--- the literals that lie inline, or in the buffer
+-- the literals that are stored inline, or in the buffer
 abbrev pub lits_in : List ℕ → ClauseLits → List ℕ
 lits_in buffer c = if nat_le c.len 4 then take c.len c.inline else slice_range buffer c.start (c.start + c.len)
 
@@ -25,7 +25,7 @@ pub record Slot : Type 0 where
 abbrev pub slot_with : ℕ → ℕ → ℕ → ℕ → List ℕ → Slot
 slot_with id irredundant redundant hash literals = record { clause = record { id = id; literals = literals; irredundant = irredundant; redundant = redundant }; hash = hash }
 
--- the slot of a clause that is gone
+-- the slot of a removed clause
 abbrev pub unstored : ℕ → ℕ → List ℕ → Slot
 unstored id hash literals = slot_with id 0 0 hash literals
 
@@ -45,11 +45,11 @@ all_lits = map (λ s. s.clause.literals)
 abbrev pub slot_count : Bool → Slot → ℕ
 slot_count redundant s = if redundant then s.clause.redundant else s.clause.irredundant
 
--- one count more of the clause at a place
+-- the clause at a place has one count more
 abbrev pub with_count_at : Bool → ℕ → List Slot → List Slot
 with_count_at redundant place slots = slice_set slots place (record (slot_at slots place) { clause = with_count redundant (slot_at slots place).clause })
 
--- one count less of the clause at a place, which may be gone then
+-- the clause at a place has one count less, and is removed if that was its last
 abbrev pub without_count_at : Bool → ℕ → List Slot → List Slot
 without_count_at redundant place slots = slice_set slots place (record (slot_at slots place) { clause = without_count redundant (slot_at slots place).clause })
 
@@ -57,11 +57,11 @@ without_count_at redundant place slots = slice_set slots place (record (slot_at 
 abbrev pub with_hash_at : ℕ → ℕ → List Slot → List Slot
 with_hash_at hash place slots = slice_set slots place (record (slot_at slots place) { hash = hash })
 
--- the ids by place, those of clauses that are gone among them
+-- the ids by place, including those of removed clauses
 abbrev pub slot_ids : List Slot → List ℕ
 slot_ids = map (λ s. s.clause.id)
 
--- the clauses that aren't gone
+-- the clauses that are not removed
 abbrev pub live : List Slot → List StoredClause
 live [] = []
 live (s ∷ ss) = unless_gone s.clause ++ live ss
@@ -70,20 +70,20 @@ live (s ∷ ss) = unless_gone s.clause ++ live ss
 abbrev pub is_gone : Slot → Bool
 is_gone s = s.clause.irredundant == 0 && s.clause.redundant == 0
 
--- how many are gone
+-- the number of removed clauses
 abbrev pub gone_count : List Slot → ℕ
 gone_count [] = 0
 gone_count (s ∷ ss) = (if is_gone s then 1 else 0) + gone_count ss
 
--- without those that are gone
+-- without the removed clauses
 abbrev pub slots_present : List Slot → List Slot
 slots_present = filter (λ s. not (is_gone s))
 
--- those that are gone were dropped, or none was
+-- the removed clauses were dropped, or nothing changed
 abbrev pub MayDrop : List Slot → List Slot → Type 0
 MayDrop old new = (new ≡ old) ⊎ (new ≡ slots_present old)
 
--- a clause with this id at this place, which isn't gone
+-- a clause with this id at this place, which is not removed
 pub record IsPresentAt (slots : List Slot) (id place : ℕ) : Type 0 where
   pub inside : place < length slots
   pub id_is : (slot_at slots place).clause.id ≡ id
@@ -93,7 +93,7 @@ pub record IsPresentAt (slots : List Slot) (id place : ℕ) : Type 0 where
 abbrev pub stored_slot : Bool → ℕ → ℕ → List ℕ → Slot
 stored_slot redundant id hash literals = record { clause = new_clause redundant id literals; hash = hash }
 
--- it isn't gone and has this hash
+-- it is not removed, and has this hash
 abbrev pub is_filed : ℕ → Slot → Bool
 is_filed hash s = not (is_gone s) && s.hash == hash
 
@@ -105,11 +105,11 @@ bucket_in hash slots = all_lits (filter (is_filed hash) slots)
 abbrev pub bucket_of : List Slot → ℕ → List (List ℕ)
 bucket_of slots hash = bucket_in hash slots
 
--- the number of literals of the clauses that aren't gone
+-- the number of literals of the clauses that are not removed
 abbrev pub live_length : List Slot → ℕ
 live_length slots = total_length (map (λ c. c.literals) (live slots))
 
--- the places of a hash, the first slot being at this place
+-- the places of a hash, if the first slot is at this place
 abbrev pub places_from : ℕ → ℕ → List Slot → List ℕ
 places_from place hash [] = []
 places_from place hash (s ∷ ss) = if is_filed hash s then place ∷ places_from (place + 1) hash ss else places_from (place + 1) hash ss
@@ -126,7 +126,7 @@ is_same_at slots literals place = same_literals (literals_at slots place) litera
 abbrev pub found_among : List Slot → List ℕ → List ℕ → Option ℕ
 found_among slots literals = find (is_same_at slots literals)
 
--- with the hash by these names and of this width, unless it's gone
+-- with the hash by these names and of this width, unless it is removed
 abbrev pub hashed_by : (ℕ → Option ℕ) → ℕ → Slot → Slot
 hashed_by names width s = if is_gone s then s else record s { hash = hash_by names width s.clause.literals }
 
@@ -134,6 +134,6 @@ hashed_by names width s = if is_gone s then s else record s { hash = hash_by nam
 abbrev pub all_hashed_by : (ℕ → Option ℕ) → ℕ → List Slot → List Slot
 all_hashed_by names width = map (hashed_by names width)
 
--- with the hashes of this hasher, unless they are gone
+-- with the hashes of this hasher, unless they are removed
 abbrev pub hashed_anew : ClauseHasher → List Slot → List Slot
 hashed_anew h slots = all_hashed_by (solver_name_of h) (width_of h) slots

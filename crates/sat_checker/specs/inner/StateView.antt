@@ -12,19 +12,19 @@ use Rattle.sat_checker.specs.inner.VariablesView.{KeepsVariables}
 use Rattle.sat_checker.specs.declared.state.State.{State}
 use Rattle.sat_checker.specs.declared.store.StoreError.{StoreError}
 
--- it has this once all clauses are filed by the current hashes
+-- it stores this, once all clauses are filed by the current hashes
 pub record KeepsStored (state : State) (f : Stored) : Type 0 where
   pub formula : KeepsFormula (refiled_in state.formula) f
   pub variables : KeepsVariables state.variables f.variables
   pub assumed : state.assumed ≡ canonical f.assumed
 
--- it has this, and all clauses are filed by the current hashes
+-- it stores this, and all clauses are filed by the current hashes
 pub record KeepsFiled (state : State) (f : Stored) : Type 0 where
   pub formula : KeepsFormula state.formula f
   pub variables : KeepsVariables state.variables f.variables
   pub assumed : state.assumed ≡ canonical f.assumed
 
--- Whatever state was kept, a step that it accepts is one that the definition accepts, and what the step leaves is kept then. One that it refuses is one that the definition refuses, and it gives an error only for one that the definition accepts.
+-- Whatever was stored, a step is accepted only if the definition accepts it, and then what the step leaves is stored. A step is refused only if the definition refuses it, and an error is returned only for one that the definition accepts.
 abbrev pub DecidesStep : Result Bool StoreError → State → Step → State → Type 0
 DecidesStep result old step new = (f : Stored) → KeepsStored old f → FormulaEffectIf result (Accepts f step) (KeepsStored new (effect step f)) (effect step f)
 

@@ -34,11 +34,11 @@ refiled store = record store { clauses = (if store.stale then hashed_anew store.
 abbrev pub store_count_in : Bool → Option StoredClause → ℕ
 store_count_in redundant c = if redundant then redundant_count c else irredundant_count c
 
--- one count less of these literals
+-- these literals have one count less
 abbrev pub with_less : Bool → List ℕ → Stored → Stored
 with_less redundant literals f = record f { clauses = without_clause redundant literals f.clauses }
 
--- a count is taken of these literals, and this is kept, or they have none
+-- these literals lose a count, and this is stored then, or they have none
 abbrev pub TakesCount : Bool → Bool → List ℕ → Stored → Type 0 → Type 0
 TakesCount taken redundant literals f kept = MatchBool taken ((0 < store_count_in redundant (clause_with literals f.clauses)) × kept) (0 < store_count_in redundant (clause_with literals f.clauses) → ⊥)
 

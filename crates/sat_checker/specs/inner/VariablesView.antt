@@ -44,7 +44,7 @@ pub record KeepsVariables (vs : Variables) (variables : ℕ → Variable) : Type
   pub each : (v : ℕ) → variable_at vs v ≡ variables v
   pub holders : (name v : ℕ) → (holder_at vs name ≡ Some v) ↔ ((variables v).name ≡ Some name)
 
--- the step is accepted, and then its variables are kept, or it's refused
+-- the step is accepted, and its variables are stored, or it is refused
 abbrev pub VariablesAnswer : Variables → Step → Variables → Bool → Type 0
 VariablesAnswer old step new accepted =
     (f : Stored) → KeepsVariables old f.variables → MatchBool accepted (Accepts f step × KeepsVariables new (effect step f).variables) (Accepts f step → ⊥)

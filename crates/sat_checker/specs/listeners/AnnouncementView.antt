@@ -38,7 +38,7 @@ announcement_of (code.Model assignment) = Model assignment.now
 announcement_of (code.Assumptions assumptions) = Assumptions assumptions.now
 announcement_of (code.FailedAssumptions core ids) = FailedAssumptions core.now ids.now
 
--- the variables, but for one that is as it was
+-- the variables, with the earlier data of one of them
 abbrev pub looked_up : Option (Bor Was) → (ℕ → Variable) → ℕ → Variable
 looked_up None variables = variables
 looked_up (Some was) variables = λ v. if v == was.now.var then variable_of_data was.now.data else variables v

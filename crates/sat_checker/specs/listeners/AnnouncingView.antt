@@ -9,7 +9,7 @@ use Rattle.sat_checker.specs.declared.announce.announcing.Change.{Change}
 use Rattle.sat_checker.specs.declared.announce.announcing.Change.TheVariants as changes
 use Rattle.sat_checker.specs.declared.announce.announcing.Deletion.{Deletion}
 
--- a derived clause that changes what is stored so
+-- a derived clause that changes what is stored in this way
 abbrev pub stored_as : Change → ℕ → Bool → List ℕ → List ℕ → List Announcement
 stored_as changes.New id redundant literals ids = AtClause id redundant literals ids ∷ []
 stored_as (changes.Irredundant same) id redundant literals ids = MakeIrredundant same literals ∷ []
@@ -19,7 +19,7 @@ stored_as changes.Neither id redundant literals ids = []
 abbrev pub change_in : Bool → Placed → Change
 change_in redundant p = if p.is_new then changes.New else if redundant then changes.Neither else if p.irredundant == 0 then changes.Irredundant p.id else changes.Neither
 
--- a clause of these literals is deleted, which stood so
+-- a clause with these literals is deleted, which was stored in this way
 abbrev pub deletion_announced : List ℕ → Deletion → List Announcement
 deletion_announced literals d = if d.redundant then redundant_deleted (found_in literals d.stored) else irredundant_deleted (one d.from) (found_in literals d.stored)
 

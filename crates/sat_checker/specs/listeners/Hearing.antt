@@ -22,18 +22,18 @@ module _ {L : Type 0} (Hears : L → Notice → Result Unit ProcessingError → 
   HearsAll [] old new = new ≡ old
   HearsAll (t ∷ ts) old new = (mid : L) × HearsSame old t (Ok tt) mid × HearsAll ts mid new
 
-  -- all are heard once, in order, up to one for which this fault is returned; those after it aren't announced
+  -- all are heard once, in order, up to one for which this fault is returned; those after it are not announced
   abbrev pub HearsUpTo : ProcessingError → List Notice → L → L → Type 0
   HearsUpTo e [] old new = ⊥
   HearsUpTo e (t ∷ ts) old new = HearsSame old t (Err e) new ⊎ ((mid : L) × HearsSame old t (Ok tt) mid × HearsUpTo e ts mid new)
 
   -- All this was announced, and they have heard what follows its first part, which was announced earlier.
   abbrev pub HearsSince : List Notice → List Notice → L → L → Type 0
-  HearsSince before told old new = (since : List Notice) × (told ≡ before ++ since) × HearsAll since old new
+  HearsSince before reported old new = (since : List Notice) × (reported ≡ before ++ since) × HearsAll since old new
 
   -- up to this fault
   abbrev pub HearsSinceUpTo : ProcessingError → List Notice → List Notice → L → L → Type 0
-  HearsSinceUpTo e before told old new = (since : List Notice) × (told ≡ before ++ since) × HearsUpTo e since old new
+  HearsSinceUpTo e before reported old new = (since : List Notice) × (reported ≡ before ++ since) × HearsUpTo e since old new
 
 -- what these steps announced, with the empty clause of a unit conflict that they left once it isn't pending any more
 abbrev pub notices_by : Option (ℕ × ℕ) → List Step → List Notice

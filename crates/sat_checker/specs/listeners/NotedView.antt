@@ -14,7 +14,7 @@ use Rattle.sat_checker.specs.declared.state.State.{State}
 
 -- if there is a listener, this follows what was noted before
 abbrev pub AppendsNews : Notes → List Announcement → Notes → Type 0
-AppendsNews before told after = IsTrue before.hears → after.news ≡ before.news ++ told
+AppendsNews before reported after = IsTrue before.hears → after.news ≡ before.news ++ reported
 
 -- if the step is accepted, what it announces is noted
 abbrev pub Announces : Result Bool StoreError → State → Step → Notes → Notes → Type 0

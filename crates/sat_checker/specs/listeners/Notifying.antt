@@ -12,14 +12,14 @@ pub record AllNotified {B : Type 0} (Called : Result Unit Error → B → B → 
 
 -- one returned this fault; those before it were called once, and those after it weren't called
 pub record SomeNotified {B : Type 0} (Called : Result Unit Error → B → B → Type 0) (cause : Error) (before after : List B) : Type 0 where
-  pub told_before : List B
-  pub told_after : List B
+  pub notified_before : List B
+  pub notified_after : List B
   pub failed_before : B
   pub failed_after : B
   pub rest : List B
-  pub were : before ≡ told_before ++ failed_before ∷ rest
-  pub are : after ≡ told_after ++ failed_after ∷ rest
-  pub told : AllNotified Called told_before told_after
+  pub were : before ≡ notified_before ++ failed_before ∷ rest
+  pub are : after ≡ notified_after ++ failed_after ∷ rest
+  pub notified : AllNotified Called notified_before notified_after
   pub failed : Called (Err cause) failed_before failed_after
 
 -- the listeners, in the order in which they were added

@@ -20,7 +20,7 @@ HearsEach Takes Reads old t result new = Notifies (λ r b d. Takes b t r d) (λ 
 
 -- without listeners there is no fault
 abbrev pub NoListenerNoFault : {P T : Type 0} → (P → Notice → Result Unit Error → P → Type 0) → (T → Transcribed → Result Unit Error → T → Type 0) → Type 0
-NoListenerNoFault {P = P} {T = T} Takes Reads = (e : ProcessingError) (told : List Notice) (old new : Processing P T) → listeners_of old ≡ record { processors = []; transcripts = [] } → HearsUpTo (HearsEach Takes Reads) e told old new → ⊥
+NoListenerNoFault {P = P} {T = T} Takes Reads = (e : ProcessingError) (reported : List Notice) (old new : Processing P T) → listeners_of old ≡ record { processors = []; transcripts = [] } → HearsUpTo (HearsEach Takes Reads) e reported old new → ⊥
 
 -- a listener returned a fault
 abbrev pub IsListenerFault : {P T : Type 0} → Processing P T → CheckerError → Type 0

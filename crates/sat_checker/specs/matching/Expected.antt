@@ -57,7 +57,7 @@ expected j (Hide names ∷ commands) outcomes = hiding names j ++ expected (acce
 expected j (Witness names ∷ commands) outcomes = setting Witnessed names j ++ expected (accepted (Witness names) j) commands outcomes
 expected j (Sample names ∷ commands) outcomes = setting Sampled names j ++ expected (accepted (Sample names) j) commands outcomes
 
--- the literal of a proof variable that stands for this one: variables are read only through explicit names
+-- the literal of a proof variable that corresponds to this one: variables are read only through explicit names
 pub record Spells (variable_of : ℕ → Option ℕ) (l : Literal) (code : ℕ) : Type 0 where
   pub variable : ℕ
   pub named : variable_of l.name ≡ Some variable

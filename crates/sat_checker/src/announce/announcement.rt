@@ -39,7 +39,7 @@ pub enum CheckedProofStep<'a> {
         var: Var,
         user_var: Option<CheckedUserVar>,
     },
-    /// A variable is removed with its unit, which alone still mentions it. It is unknown from now on.
+    /// A variable is removed with its unit, the last clause that mentions it. It is unknown from now on.
     DeleteVar {
         var: Var,
     },
@@ -158,7 +158,7 @@ impl<'a> CheckerData<'a> {
         self.variables.data(proof_var)
     }
 
-    /// Returns the name that the user gave.
+    /// Returns the explicit name of a variable, if it has one.
     pub(crate) fn explicit_name(self, proof_var: Var) -> Option<Var>
         ensures { result ≡ (variables_of self.entry proof_var).name }
     {

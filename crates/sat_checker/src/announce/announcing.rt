@@ -2,7 +2,7 @@
 ghost use Rattle.std.specs.Prelude.{◌≡◌, ◌+◌, ◌++◌, ◌∷◌, [], OnOk, OnErr, if◌then◌else◌};
 ghost use Rattle.sat_checker.specs.Looks.{literal_count};
 ghost use Rattle.sat_checker.specs.Stored.{Stored};
-ghost use Rattle.sat_checker.specs.announcements.Announcements as told;
+ghost use Rattle.sat_checker.specs.announcements.Announcements as announcements;
 ghost use Rattle.sat_checker.specs.announcements.Announcements.{id_of_set, input_set, irredundant_deleted};
 ghost use Rattle.sat_checker.specs.announcements.Announcements.{is_sample, has_witness_mode, last_id, mode_change, naming};
 ghost use Rattle.sat_checker.specs.announcements.Announcements.{one, redundant_deleted, renaming};
@@ -129,7 +129,7 @@ impl News {
         same: Option<u64>,
     ) -> Result<(), AllocError>
         ensures ok { OnOk result (self.new ≡ self.old
-            ++ (if both_signs then told.TautologicalClause id literals.now ∷ [] else input_set id literals.now same)) }
+            ++ (if both_signs then announcements.TautologicalClause id literals.now ∷ [] else input_set id literals.now same)) }
         ensures err { OnErr result (self.new ≡ self.old) }
     {
         if both_signs {

@@ -1,7 +1,7 @@
 //! Announcements that wait until their step is accepted.
 ghost use Rattle.std.specs.Prelude.{true, ◌≡◌, ◌<◌, ◌++◌, ◌∷◌, [], length, slice_index_or, take, OnOk, OnErr};
 ghost use Rattle.std.specs.Option.{option_map};
-ghost use Rattle.sat_checker.specs.announcements.Announcements as told;
+ghost use Rattle.sat_checker.specs.announcements.Announcements as announcements;
 ghost use Rattle.sat_checker.specs.announcements.Announcements.{Announcement};
 ghost use Rattle.sat_checker.specs.listeners.AnnouncementView.{announcement_of, announced_user};
 ghost use Rattle.sat_checker.specs.listeners.NewsView.{announcement_with};
@@ -183,7 +183,7 @@ impl News {
 
     /// Adds a `UserVar`.
     pub fn user_var(&mut self, var: Var, user: Option<CheckedUserVar>) -> Result<(), AllocError>
-        ensures ok { OnOk result (self.new ≡ self.old ++ told.UserVar var (option_map announced_user user) ∷ []) }
+        ensures ok { OnOk result (self.new ≡ self.old ++ announcements.UserVar var (option_map announced_user user) ∷ []) }
         ensures err { OnErr result (self.new ≡ self.old) }
     {
         self.push(Kind::UserVar(var, user), &[], &[])
@@ -191,7 +191,7 @@ impl News {
 
     /// Adds a `DeleteVar`.
     pub fn delete_var(&mut self, var: Var) -> Result<(), AllocError>
-        ensures ok { OnOk result (self.new ≡ self.old ++ told.DeleteVar var ∷ []) }
+        ensures ok { OnOk result (self.new ≡ self.old ++ announcements.DeleteVar var ∷ []) }
         ensures err { OnErr result (self.new ≡ self.old) }
     {
         self.push(Kind::DeleteVar(var), &[], &[])
@@ -199,7 +199,7 @@ impl News {
 
     /// Adds an `AddClause`.
     pub fn add_clause(&mut self, id: u64, clause: &[Lit]) -> Result<(), AllocError>
-        ensures ok { OnOk result (self.new ≡ self.old ++ told.AddClause id clause.now ∷ []) }
+        ensures ok { OnOk result (self.new ≡ self.old ++ announcements.AddClause id clause.now ∷ []) }
         ensures err { OnErr result (self.new ≡ self.old) }
     {
         self.push(Kind::AddClause(id), clause, &[])
@@ -212,7 +212,7 @@ impl News {
         same_as: u64,
         clause: &[Lit],
     ) -> Result<(), AllocError>
-        ensures ok { OnOk result (self.new ≡ self.old ++ told.DuplicatedClause id same_as clause.now ∷ []) }
+        ensures ok { OnOk result (self.new ≡ self.old ++ announcements.DuplicatedClause id same_as clause.now ∷ []) }
         ensures err { OnErr result (self.new ≡ self.old) }
     {
         self.push(Kind::DuplicatedClause(id, same_as), clause, &[])
@@ -220,7 +220,7 @@ impl News {
 
     /// Adds a `TautologicalClause`.
     pub fn tautological_clause(&mut self, id: u64, clause: &[Lit]) -> Result<(), AllocError>
-        ensures ok { OnOk result (self.new ≡ self.old ++ told.TautologicalClause id clause.now ∷ []) }
+        ensures ok { OnOk result (self.new ≡ self.old ++ announcements.TautologicalClause id clause.now ∷ []) }
         ensures err { OnErr result (self.new ≡ self.old) }
     {
         self.push(Kind::TautologicalClause(id), clause, &[])
@@ -234,7 +234,7 @@ impl News {
         clause: &[Lit],
         propagations: &[u64],
     ) -> Result<(), AllocError>
-        ensures ok { OnOk result (self.new ≡ self.old ++ told.AtClause id redundant clause.now propagations.now ∷ []) }
+        ensures ok { OnOk result (self.new ≡ self.old ++ announcements.AtClause id redundant clause.now propagations.now ∷ []) }
         ensures err { OnErr result (self.new ≡ self.old) }
     {
         self.push(Kind::AtClause(id, redundant), clause, propagations)
@@ -242,7 +242,7 @@ impl News {
 
     /// Adds a `MakeIrredundant`.
     pub fn make_irredundant(&mut self, id: u64, clause: &[Lit]) -> Result<(), AllocError>
-        ensures ok { OnOk result (self.new ≡ self.old ++ told.MakeIrredundant id clause.now ∷ []) }
+        ensures ok { OnOk result (self.new ≡ self.old ++ announcements.MakeIrredundant id clause.now ∷ []) }
         ensures err { OnErr result (self.new ≡ self.old) }
     {
         self.push(Kind::MakeIrredundant(id), clause, &[])
@@ -250,7 +250,7 @@ impl News {
 
     /// Adds a `DeleteClause`.
     pub fn delete_clause(&mut self, id: u64, clause: &[Lit]) -> Result<(), AllocError>
-        ensures ok { OnOk result (self.new ≡ self.old ++ told.DeleteClause id clause.now ∷ []) }
+        ensures ok { OnOk result (self.new ≡ self.old ++ announcements.DeleteClause id clause.now ∷ []) }
         ensures err { OnErr result (self.new ≡ self.old) }
     {
         self.push(Kind::DeleteClause(id), clause, &[])
@@ -265,7 +265,7 @@ impl News {
         propagations: &[u64],
     ) -> Result<(), AllocError>
         ensures ok { OnOk result
-            (self.new ≡ self.old ++ told.DeleteAtClause id keep_as_redundant clause.now propagations.now ∷ []) }
+            (self.new ≡ self.old ++ announcements.DeleteAtClause id keep_as_redundant clause.now propagations.now ∷ []) }
         ensures err { OnErr result (self.new ≡ self.old) }
     {
         self.push(
@@ -277,7 +277,7 @@ impl News {
 
     /// Adds a `Model`.
     pub fn model(&mut self, assignment: &[Lit]) -> Result<(), AllocError>
-        ensures ok { OnOk result (self.new ≡ self.old ++ told.Model assignment.now ∷ []) }
+        ensures ok { OnOk result (self.new ≡ self.old ++ announcements.Model assignment.now ∷ []) }
         ensures err { OnErr result (self.new ≡ self.old) }
     {
         self.push(Kind::Model, assignment, &[])
@@ -285,7 +285,7 @@ impl News {
 
     /// Adds an `Assumptions`.
     pub fn assumptions(&mut self, assumptions: &[Lit]) -> Result<(), AllocError>
-        ensures ok { OnOk result (self.new ≡ self.old ++ told.Assumptions assumptions.now ∷ []) }
+        ensures ok { OnOk result (self.new ≡ self.old ++ announcements.Assumptions assumptions.now ∷ []) }
         ensures err { OnErr result (self.new ≡ self.old) }
     {
         self.push(Kind::Assumptions, assumptions, &[])
@@ -297,7 +297,7 @@ impl News {
         core: &[Lit],
         propagations: &[u64],
     ) -> Result<(), AllocError>
-        ensures ok { OnOk result (self.new ≡ self.old ++ told.FailedAssumptions core.now propagations.now ∷ []) }
+        ensures ok { OnOk result (self.new ≡ self.old ++ announcements.FailedAssumptions core.now propagations.now ∷ []) }
         ensures err { OnErr result (self.new ≡ self.old) }
     {
         self.push(Kind::FailedAssumptions, core, propagations)

@@ -6,7 +6,7 @@ ghost use Rattle.sat_base.specs.values.Literals.{negated};
 ghost use Rattle.sat_checker.specs.LiteralSets.{canonical};
 ghost use Rattle.sat_checker.specs.Looks.{literal_count};
 ghost use Rattle.sat_checker.specs.Stored.{Stored};
-ghost use Rattle.sat_checker.specs.announcements.Announcements as told;
+ghost use Rattle.sat_checker.specs.announcements.Announcements as announcements;
 ghost use Rattle.sat_checker.specs.announcements.Announcements.{announced, derived, derived_set, id_of_set, input};
 ghost use Rattle.sat_checker.specs.announcements.Announcements.{mode_change, renaming};
 ghost use Rattle.sat_checker.specs.announcements.Needed.{propagations};
@@ -105,7 +105,7 @@ impl Notes {
 
     /// Notes that a variable was deleted.
     pub fn var_deleted(&mut self, var: Var) -> Result<(), AllocError>
-        ensures { OnOk result (AppendsNews self.old (told.DeleteVar var ∷ []) self.new) }
+        ensures { OnOk result (AppendsNews self.old (announcements.DeleteVar var ∷ []) self.new) }
     {
         if !self.hears {
             return Ok(());
@@ -145,7 +145,7 @@ impl Notes {
 
     /// Notes a model.
     pub fn model(&mut self, assignment: &[Lit]) -> Result<(), AllocError>
-        ensures { OnOk result (AppendsNews self.old (told.Model assignment.now ∷ []) self.new) }
+        ensures { OnOk result (AppendsNews self.old (announcements.Model assignment.now ∷ []) self.new) }
     {
         if !self.hears {
             return Ok(());
@@ -155,7 +155,7 @@ impl Notes {
 
     /// Notes assumptions.
     pub fn assumptions(&mut self, assumptions: &[Lit]) -> Result<(), AllocError>
-        ensures { OnOk result (AppendsNews self.old (told.Assumptions assumptions.now ∷ []) self.new) }
+        ensures { OnOk result (AppendsNews self.old (announcements.Assumptions assumptions.now ∷ []) self.new) }
     {
         if !self.hears {
             return Ok(());
@@ -196,7 +196,7 @@ impl Formula {
         proof: DeleteClauseProof,
         looks: &mut Looks,
     ) -> Deletion
-        ensures told { IsTrue notes.now.hears → (f : Stored) → KeepsFormula self.now f
+        ensures reported { IsTrue notes.now.hears → (f : Stored) → KeepsFormula self.now f
             → (clause : List ℕ) → literals.now ≡ canonical clause
             → deletion_announced literals.now result ≡ announced f (DeleteClause clause (deletion_of proof)) }
         ensures looks { LooksOver (KeepsFormula self.now) literal_count looks.old looks.new }
@@ -220,7 +220,7 @@ impl Formula {
         proof: DeleteClauseProof,
         looks: &mut Looks,
     ) -> Deletion
-        ensures told { (f : Stored) → KeepsFormula self.now f → (clause : List ℕ) → literals.now ≡ canonical clause
+        ensures reported { (f : Stored) → KeepsFormula self.now f → (clause : List ℕ) → literals.now ≡ canonical clause
             → deletion_announced literals.now result ≡ announced f (DeleteClause clause (deletion_of proof)) }
         ensures looks { LooksOver (KeepsFormula self.now) literal_count looks.old looks.new }
     {

@@ -39,7 +39,7 @@ one_each : {A : Type 0} (P : A → Type 0) (x : A) (xs : List A) → AllByRecurs
 one_each P x [] h k = absurd k
 one_each P x (y ∷ ys) h k = elim k [ inl e ↦ subst P (sym e) h.0 | inr m ↦ one_each P x ys h.1 m ]
 
--- the same, before it's told
+-- the same, before it is reported
 abbrev IsNews : ℕ → List ℕ → List Announcement → Type 0
 IsNews id clause news = (a : Announcement) × IsOneOf a news × IsAnnouncedAs id clause a
 
@@ -96,27 +96,27 @@ long_not_empty : (id : ℕ) (x : Option StoredClause) (last : Last) → long_at 
 long_not_empty id None last e = e
 long_not_empty id (Some c) last e = absurd cc
 
--- what was announced stays announced as more is told
-reported_more : (f : Stored) (told next : List Notice) → ((id : ℕ) (ls : List ℕ) → IsAnnounced id ls told → IsAnnounced id ls next) → AreAnnounced f told → AreAnnounced f next
-reported_more f told next w a = record {
-  clauses = each_more (λ c. IsAnnounced c.id c.literals told) (λ c. IsAnnounced c.id c.literals next) (λ c. w c.id c.literals) f.clauses a.clauses;
-  units = each_more (λ u. IsAnnounced u.id (u.literal ∷ []) told) (λ u. IsAnnounced u.id (u.literal ∷ []) next) (λ u. w u.id (u.literal ∷ [])) f.units a.units;
+-- what was announced stays announced when more is reported
+reported_more : (f : Stored) (reported next : List Notice) → ((id : ℕ) (ls : List ℕ) → IsAnnounced id ls reported → IsAnnounced id ls next) → AreAnnounced f reported → AreAnnounced f next
+reported_more f reported next w a = record {
+  clauses = each_more (λ c. IsAnnounced c.id c.literals reported) (λ c. IsAnnounced c.id c.literals next) (λ c. w c.id c.literals) f.clauses a.clauses;
+  units = each_more (λ u. IsAnnounced u.id (u.literal ∷ []) reported) (λ u. IsAnnounced u.id (u.literal ∷ []) next) (λ u. w u.id (u.literal ∷ [])) f.units a.units;
   last = λ id e. w id [] (a.last id e);
   conflict = λ ids e. let k = a.conflict ids e in (k.0, k.1, k.2, w ids.1 (negated k.0.literal ∷ []) k.3);
 }
 
-module _ (told : List Notice) where
+module _ (reported : List Notice) where
   abbrev AreClauses : List StoredClause → Type 0
-  AreClauses = AllByRecursion (λ c. IsAnnounced c.id c.literals told)
+  AreClauses = AllByRecursion (λ c. IsAnnounced c.id c.literals reported)
 
   abbrev AreUnits : List StoredUnit → Type 0
-  AreUnits = AllByRecursion (λ u. IsAnnounced u.id (u.literal ∷ []) told)
+  AreUnits = AllByRecursion (λ u. IsAnnounced u.id (u.literal ∷ []) reported)
 
   abbrev IsConflict : List StoredUnit → ℕ × ℕ → Type 0
-  IsConflict us ids = (u : StoredUnit) × IsOneOf u us × (u.id ≡ ids.0) × IsAnnounced ids.1 (negated u.literal ∷ []) told
+  IsConflict us ids = (u : StoredUnit) × IsOneOf u us × (u.id ≡ ids.0) × IsAnnounced ids.1 (negated u.literal ∷ []) reported
 
   -- other fields don't matter
-  aside : (f g : Stored) → g.clauses ≡ f.clauses → g.units ≡ f.units → g.last ≡ f.last → g.conflict ≡ f.conflict → AreAnnounced f told → AreAnnounced g told
+  aside : (f g : Stored) → g.clauses ≡ f.clauses → g.units ≡ f.units → g.last ≡ f.last → g.conflict ≡ f.conflict → AreAnnounced f reported → AreAnnounced g reported
   aside f g c u l k a = record {
     clauses = subst AreClauses (sym c) a.clauses;
     units = subst AreUnits (sym u) a.units;
@@ -125,19 +125,19 @@ module _ (told : List Notice) where
   }
 
   -- a clause that comes in was announced, if it's new
-  clauses_with : (r : Bool) (n : ℕ) (ls : List ℕ) (cs : List StoredClause) → (clause_with ls cs ≡ None → IsAnnounced n ls told) → AreClauses cs → AreClauses (with_stored_clause r n ls cs)
+  clauses_with : (r : Bool) (n : ℕ) (ls : List ℕ) (cs : List StoredClause) → (clause_with ls cs ≡ None → IsAnnounced n ls reported) → AreClauses cs → AreClauses (with_stored_clause r n ls cs)
   clauses_with true n ls [] new h = (new refl, tt)
   clauses_with false n ls [] new h = (new refl, tt)
   clauses_with r n ls (c ∷ cs) new h = go r (λ k. clauses_with r n ls cs k h.1) (same_literals c.literals ls) new
     where
-      go : (r : Bool) → ((clause_with ls cs ≡ None → IsAnnounced n ls told) → AreClauses (with_stored_clause r n ls cs)) → (b : Bool) → (cond b (Some c) (clause_with ls cs) ≡ None → IsAnnounced n ls told)
+      go : (r : Bool) → ((clause_with ls cs ≡ None → IsAnnounced n ls reported) → AreClauses (with_stored_clause r n ls cs)) → (b : Bool) → (cond b (Some c) (clause_with ls cs) ≡ None → IsAnnounced n ls reported)
           → AreClauses (cond b (with_count r c ∷ cs) (c ∷ with_stored_clause r n ls cs))
       go true ih true k = h
       go false ih true k = h
       go r ih false k = (h.0, ih k)
 
   -- one count less
-  clauses_unless : (c : StoredClause) (b : Bool) (cs : List StoredClause) → IsAnnounced c.id c.literals told → AreClauses cs → AreClauses (cond b [] (c ∷ []) ++ cs)
+  clauses_unless : (c : StoredClause) (b : Bool) (cs : List StoredClause) → IsAnnounced c.id c.literals reported → AreClauses cs → AreClauses (cond b [] (c ∷ []) ++ cs)
   clauses_unless c true cs i h = h
   clauses_unless c false cs i h = (i, h)
 
@@ -145,7 +145,7 @@ module _ (told : List Notice) where
   clauses_without r ls [] h = tt
   clauses_without r ls (c ∷ cs) h = go (clauses_without r ls cs h.1) (same_literals c.literals ls)
     where
-      less : (r : Bool) → IsAnnounced (without_count r c).id (without_count r c).literals told
+      less : (r : Bool) → IsAnnounced (without_count r c).id (without_count r c).literals reported
       less true = h.0
       less false = h.0
 
@@ -153,7 +153,7 @@ module _ (told : List Notice) where
       go ih true = clauses_unless (without_count r c) _ cs (less r) h.1
       go ih false = (h.0, ih)
 
-  units_push : (us : List StoredUnit) (u : StoredUnit) → AreUnits us → IsAnnounced u.id (u.literal ∷ []) told → AreUnits (us ++ u ∷ [])
+  units_push : (us : List StoredUnit) (u : StoredUnit) → AreUnits us → IsAnnounced u.id (u.literal ∷ []) reported → AreUnits (us ++ u ∷ [])
   units_push [] u h i = (i, tt)
   units_push (w ∷ ws) u h i = (h.0, units_push ws u h.1 i)
 
@@ -166,7 +166,7 @@ module _ (told : List Notice) where
       go ih false = ih
 
   -- a unit whose negation is stored was announced, and so was that one
-  contradiction : (l : ℕ) (f : Stored) → IsAnnounced f.next_id (l ∷ []) told → AreAnnounced f told → AreAnnounced (with_contradiction l f) told
+  contradiction : (l : ℕ) (f : Stored) → IsAnnounced f.next_id (l ∷ []) reported → AreAnnounced f reported → AreAnnounced (with_contradiction l f) reported
   contradiction l f new a = record { clauses = a.clauses; units = a.units; last = a.last; conflict = go f.conflict refl (unit_id (negated l) f.units) refl }
     where
       go : (x : Option (ℕ × ℕ)) → f.conflict ≡ x → (y : Option ℕ) → unit_id (negated l) f.units ≡ y → (ids : ℕ × ℕ) → first_conflict x y f.next_id ≡ Some ids → IsConflict f.units ids
@@ -176,9 +176,9 @@ module _ (told : List Notice) where
           let w = unit_found (negated l) id f.units s in
           let is : (id, f.next_id) ≡ ids = cc in
           let back : l ≡ negated w.unit.literal = sym (ap negated w.literal_is ∙ negated-negated l) in
-          subst (IsConflict f.units) is (w.unit, w.stored, w.id_is, subst (λ m. IsAnnounced f.next_id (m ∷ []) told) back new)
+          subst (IsConflict f.units) is (w.unit, w.stored, w.id_is, subst (λ m. IsAnnounced f.next_id (m ∷ []) reported) back new)
 
-  new_unit : (l : ℕ) (f : Stored) → IsAnnounced f.next_id (l ∷ []) told → AreAnnounced f told → AreAnnounced (with_new_unit l f) told
+  new_unit : (l : ℕ) (f : Stored) → IsAnnounced f.next_id (l ∷ []) reported → AreAnnounced f reported → AreAnnounced (with_new_unit l f) reported
   new_unit l f new a =
       let u : StoredUnit = record { id = f.next_id; literal = l } in
       record {
@@ -188,16 +188,16 @@ module _ (told : List Notice) where
         conflict = λ ids e. let k = a.conflict ids e in (k.0, one_front k.0 f.units (u ∷ []) k.1, k.2, k.3);
       }
 
-  unit_announced : (l : ℕ) (f : Stored) → (unit_id l f.units ≡ None → IsAnnounced f.next_id (l ∷ []) told) → AreAnnounced f told → AreAnnounced (with_unit l f) told
+  unit_announced : (l : ℕ) (f : Stored) → (unit_id l f.units ≡ None → IsAnnounced f.next_id (l ∷ []) reported) → AreAnnounced f reported → AreAnnounced (with_unit l f) reported
   unit_announced l f new a = go (is_unit f l) refl (is_unit f (negated l))
     where
-      go : (b : Bool) → is_unit f l ≡ b → (d : Bool) → AreAnnounced (cond b f (cond d (with_contradiction l f) (with_new_unit l f))) told
+      go : (b : Bool) → is_unit f l ≡ b → (d : Bool) → AreAnnounced (cond b f (cond d (with_contradiction l f) (with_new_unit l f))) reported
       go true e d = a
       go false e true = contradiction l f (new (unit_none l f.units e)) a
       go false e false = new_unit l f (new (unit_none l f.units e)) a
 
   -- a set that comes in was announced, if it's new
-  set_announced : (r : Bool) (ls : List ℕ) (f : Stored) → (id_of_set ls f ≡ None → IsAnnounced f.next_id ls told) → AreAnnounced f told → AreAnnounced (with_set r ls f) told
+  set_announced : (r : Bool) (ls : List ℕ) (f : Stored) → (id_of_set ls f ≡ None → IsAnnounced f.next_id ls reported) → AreAnnounced f reported → AreAnnounced (with_set r ls f) reported
   set_announced r [] f new a = aside f (with_set r [] f) refl refl refl refl a
   set_announced r (l ∷ []) f new a = unit_announced l f new a
   set_announced r (l ∷ m ∷ ls) f new a = record {
@@ -207,32 +207,32 @@ module _ (told : List Notice) where
     conflict = a.conflict;
   }
 
-  last_announced : (ls : List ℕ) (f g : Stored) → (id_of_set ls f ≡ None → IsAnnounced f.next_id ls told) → AreAnnounced f told → (id : ℕ) → place_of f.next_id ls g f.last ≡ Empty id → IsAnnounced id [] told
-  last_announced [] f g new a id e = let is : f.next_id ≡ id = cc in subst (λ i. IsAnnounced i [] told) is (new refl)
+  last_announced : (ls : List ℕ) (f g : Stored) → (id_of_set ls f ≡ None → IsAnnounced f.next_id ls reported) → AreAnnounced f reported → (id : ℕ) → place_of f.next_id ls g f.last ≡ Empty id → IsAnnounced id [] reported
+  last_announced [] f g new a id e = let is : f.next_id ≡ id = cc in subst (λ i. IsAnnounced i [] reported) is (new refl)
   last_announced (l ∷ []) f g new a id e = a.last id (unit_not_empty l id g.units f.last e)
   last_announced (l ∷ m ∷ ls) f g new a id e = a.last id (long_not_empty id (clause_with (l ∷ m ∷ ls) g.clauses) f.last e)
 
-  canonical_announced : (r : Bool) (ls : List ℕ) (f : Stored) → (id_of_set ls f ≡ None → IsAnnounced f.next_id ls told) → AreAnnounced f told → AreAnnounced (with_canonical r ls f) told
+  canonical_announced : (r : Bool) (ls : List ℕ) (f : Stored) → (id_of_set ls f ≡ None → IsAnnounced f.next_id ls reported) → AreAnnounced f reported → AreAnnounced (with_canonical r ls f) reported
   canonical_announced true ls f new a = set_announced true ls f new a
   canonical_announced false ls f new a =
       let s = set_announced false ls f new a in
       record { clauses = s.clauses; units = s.units; last = last_announced ls f (with_set false ls f) new a; conflict = s.conflict }
 
-  stored_announced : (r : Bool) (c : List ℕ) (f : Stored) → (is_tautology c ≡ false → id_of_set (canonical c) f ≡ None → IsAnnounced f.next_id (canonical c) told) → AreAnnounced f told → AreAnnounced (with_stored r c f) told
+  stored_announced : (r : Bool) (c : List ℕ) (f : Stored) → (is_tautology c ≡ false → id_of_set (canonical c) f ≡ None → IsAnnounced f.next_id (canonical c) reported) → AreAnnounced f reported → AreAnnounced (with_stored r c f) reported
   stored_announced r c f new a = go (is_tautology c) refl
     where
-      go : (b : Bool) → is_tautology c ≡ b → AreAnnounced (cond b f (with_canonical r (canonical c) f)) told
+      go : (b : Bool) → is_tautology c ≡ b → AreAnnounced (cond b f (with_canonical r (canonical c) f)) reported
       go true e = a
       go false e = canonical_announced r (canonical c) f (new e) a
 
-  input_announced : (c : List ℕ) (f : Stored) → (is_tautology c ≡ false → id_of_set (canonical c) f ≡ None → IsAnnounced f.next_id (canonical c) told) → AreAnnounced f told → AreAnnounced (with_input c f) told
+  input_announced : (c : List ℕ) (f : Stored) → (is_tautology c ≡ false → id_of_set (canonical c) f ≡ None → IsAnnounced f.next_id (canonical c) reported) → AreAnnounced f reported → AreAnnounced (with_input c f) reported
   input_announced c f new a = aside (with_stored false c f) (with_input c f) refl refl refl refl (stored_announced false c f new a)
 
-  known_announced : (vs : List ℕ) (f : Stored) → AreAnnounced f told → AreAnnounced (with_known vs f) told
+  known_announced : (vs : List ℕ) (f : Stored) → AreAnnounced f reported → AreAnnounced (with_known vs f) reported
   known_announced vs f a = aside f (with_known vs f) refl refl refl refl a
 
   -- each in turn, those before it being units by then
-  units_announced : (us : List (ℕ × ℕ)) (f : Stored) → ((id : ℕ) (ls : List ℕ) → IsNews id ls (derived_units us f) → IsAnnounced id ls told) → AreAnnounced f told → AreAnnounced (with_units (map (λ u. u.0) us) f) told
+  units_announced : (us : List (ℕ × ℕ)) (f : Stored) → ((id : ℕ) (ls : List ℕ) → IsNews id ls (derived_units us f) → IsAnnounced id ls reported) → AreAnnounced f reported → AreAnnounced (with_units (map (λ u. u.0) us) f) reported
   units_announced [] f w a = a
   units_announced (u ∷ us) f w a =
       let this : List Announcement = derived false (u.0 ∷ []) (u.1 ∷ []) f in
@@ -240,11 +240,11 @@ module _ (told : List Notice) where
       units_announced us (with_unit u.0 f) (λ id ls n. w id ls (news_behind id ls this others n))
       (unit_announced u.0 f (λ e. w f.next_id (u.0 ∷ []) (news_front f.next_id (u.0 ∷ []) this others (derived_news false (u.0 ∷ []) (u.1 ∷ []) f refl e))) a)
 
-  deleted_announced : (r : Bool) (ls : List ℕ) (f : Stored) → AreAnnounced f told → AreAnnounced (record f { clauses = without_clause r ls f.clauses }) told
+  deleted_announced : (r : Bool) (ls : List ℕ) (f : Stored) → AreAnnounced f reported → AreAnnounced (record f { clauses = without_clause r ls f.clauses }) reported
   deleted_announced r ls f a = record { clauses = clauses_without r ls f.clauses a.clauses; units = a.units; last = a.last; conflict = a.conflict }
 
   -- what a step leaves, where no unit conflict was pending
-  effect_announced : (step : Step) (f : Stored) → f.conflict ≡ None → ((id : ℕ) (ls : List ℕ) → IsNews id ls (announced f step) → IsAnnounced id ls told) → AreAnnounced f told → AreAnnounced (effect step f) told
+  effect_announced : (step : Step) (f : Stored) → f.conflict ≡ None → ((id : ℕ) (ls : List ℕ) → IsNews id ls (announced f step) → IsAnnounced id ls reported) → AreAnnounced f reported → AreAnnounced (effect step f) reported
   effect_announced (SolverVarName v None) f n w a = aside f (effect (SolverVarName v None) f) refl refl refl refl a
   effect_announced (UserVarName v (Some name)) f n w a = aside f (effect (UserVarName v (Some name)) f) refl refl refl refl a
   effect_announced (DeleteVar v) f n w a = record {
@@ -255,14 +255,14 @@ module _ (told : List Notice) where
   }
   effect_announced (AddClause c) f n w a = go f.unsat w
     where
-      go : (b : Bool) → ((id : ℕ) (ls : List ℕ) → IsNews id ls (cond b [] (input c f)) → IsAnnounced id ls told) → AreAnnounced (cond b f (with_input c (with_literals_known c f))) told
+      go : (b : Bool) → ((id : ℕ) (ls : List ℕ) → IsNews id ls (cond b [] (input c f)) → IsAnnounced id ls reported) → AreAnnounced (cond b f (with_input c (with_literals_known c f))) reported
       go true w = a
       go false w = input_announced c (with_literals_known c f) (λ t e. w f.next_id (canonical c) (input_news c f t (sym (known_set (canonical c) (map variable c) f) ∙ e))) (known_announced (map variable c) f a)
   effect_announced (AtClause r c hs) f n w a =
       stored_announced r c (with_literals_known c f) (λ t e. w f.next_id (canonical c) (derived_news r c hs f t (sym (known_set (canonical c) (map variable c) f) ∙ e))) (known_announced (map variable c) f a)
   effect_announced (UnitClauses us) f n w a =
       let ls : List ℕ = map (λ u. u.0) us in
-      subst (λ g. AreAnnounced g told) (sym (known_units (map variable ls) ls f)) (known_announced (map variable ls) (with_units ls f) (units_announced us f w a))
+      subst (λ g. AreAnnounced g reported) (sym (known_units (map variable ls) ls f)) (known_announced (map variable ls) (with_units ls f) (units_announced us f w a))
   effect_announced (DeleteClause c Redundant) f n w a = deleted_announced true (canonical c) f a
   effect_announced (DeleteClause c Satisfied) f n w a = deleted_announced false (canonical c) f a
   effect_announced (DeleteClause c Simplified) f n w a = deleted_announced false (canonical c) f a
@@ -270,28 +270,28 @@ module _ (told : List Notice) where
   effect_announced (FailedAssumptions core hs) f n w a = a
   effect_announced step f n w a = aside f (effect step f) refl refl refl refl a
 
-  settled_announced : (f : Stored) → AreAnnounced f told → AreAnnounced (settled f) told
+  settled_announced : (f : Stored) → AreAnnounced f reported → AreAnnounced (settled f) reported
   settled_announced f a = go f.conflict
     where
-      go : (x : Option (ℕ × ℕ)) → AreAnnounced (settled_by x f) told
+      go : (x : Option (ℕ × ℕ)) → AreAnnounced (settled_by x f) reported
       go None = a
       go (Some units) = record { clauses = a.clauses; units = a.units; last = a.last; conflict = λ ids e. absurd cc }
 
--- once the empty clause of a unit conflict was told
+-- once the empty clause of a unit conflict was reported
 ready_announced : (steps : List Step) → AreAnnounced (stored_after steps) (notices_after steps) → AreAnnounced (ready_after steps) (all_notices_after steps)
 ready_announced steps a =
-    let told : List Notice = notices_after steps in
+    let reported : List Notice = notices_after steps in
     let waiting : List Notice = notices_over (stored_after steps) (delayed (stored_after steps)) in
-    settled_announced (told ++ waiting) (stored_after steps) (reported_more (stored_after steps) told (told ++ waiting) (λ id ls t. reported_front id ls told waiting t) a)
+    settled_announced (reported ++ waiting) (stored_after steps) (reported_more (stored_after steps) reported (reported ++ waiting) (λ id ls t. reported_front id ls reported waiting t) a)
 
 pub identified : IdsAreAnnounced
 identified [] = record { clauses = tt; units = tt; last = λ id e. absurd cc; conflict = λ ids e. absurd cc }
 identified (step ∷ earlier) =
     let f : Stored = ready_after earlier in
-    let told : List Notice = all_notices_after earlier in
+    let reported : List Notice = all_notices_after earlier in
     let more : List Notice = notices_over f (announced f step) in
-    effect_announced (told ++ more) step f (settled_none (stored_after earlier)) (λ id ls n. reported_behind id ls told more (news_reported f id ls (announced f step) n))
-    (reported_more f told (told ++ more) (λ id ls t. reported_front id ls told more t) (ready_announced earlier (identified earlier)))
+    effect_announced (reported ++ more) step f (settled_none (stored_after earlier)) (λ id ls n. reported_behind id ls reported more (news_reported f id ls (announced f step) n))
+    (reported_more f reported (reported ++ more) (λ id ls t. reported_front id ls reported more t) (ready_announced earlier (identified earlier)))
 
 -- the two ids of a delayed empty clause
 pub conflict_named : ConflictIsAnnounced
@@ -300,43 +300,43 @@ conflict_named steps id i j e = go f.conflict refl e
     f : Stored
     f = stored_after steps
 
-    told : List Notice
-    told = notices_after steps
+    reported : List Notice
+    reported = notices_after steps
 
-    go : (x : Option (ℕ × ℕ)) → f.conflict ≡ x → delayed_by f.next_id x ≡ announcements.AtClause id false [] (i ∷ j ∷ []) ∷ [] → (l : ℕ) × IsAnnounced i (l ∷ []) told × IsAnnounced j (negated l ∷ []) told
+    go : (x : Option (ℕ × ℕ)) → f.conflict ≡ x → delayed_by f.next_id x ≡ announcements.AtClause id false [] (i ∷ j ∷ []) ∷ [] → (l : ℕ) × IsAnnounced i (l ∷ []) reported × IsAnnounced j (negated l ∷ []) reported
     go None s k = absurd cc
     go (Some ids) s k =
         let a = identified steps in
         let c = a.conflict ids s in
         let first : ids.0 ≡ i = cc in
         let second : ids.1 ≡ j = cc in
-        let this = one_each (λ u. IsAnnounced u.id (u.literal ∷ []) told) c.0 f.units a.units c.1 in
-        (c.0.literal, subst (λ x. IsAnnounced x (c.0.literal ∷ []) told) (c.2 ∙ first) this, subst (λ x. IsAnnounced x (negated c.0.literal ∷ []) told) second c.3)
+        let this = one_each (λ u. IsAnnounced u.id (u.literal ∷ []) reported) c.0 f.units a.units c.1 in
+        (c.0.literal, subst (λ x. IsAnnounced x (c.0.literal ∷ []) reported) (c.2 ∙ first) this, subst (λ x. IsAnnounced x (negated c.0.literal ∷ []) reported) second c.3)
 
 -- these ids are the one of an announced part of the clause
 abbrev NamesPart : List Notice → List ℕ → List ℕ → Type 0
-NamesPart told clause ids = (id : ℕ) × (part : List ℕ) × (ids ≡ id ∷ []) × (is_part part clause ≡ true) × IsAnnounced id part told
+NamesPart reported clause ids = (id : ℕ) × (part : List ℕ) × (ids ≡ id ∷ []) × (is_part part clause ≡ true) × IsAnnounced id part reported
 
 -- the id of the last irredundant clause stored, while it's still there
-last_named : (f : Stored) (told : List Notice) → AreAnnounced f told → (clause : List ℕ) (last : Last) → f.last ≡ last → IsStrictSubset (last_literals last f) clause → NamesPart told clause (one (last_id last))
-last_named f told a clause NoneYet is s = absurd s
-last_named f told a clause (Empty id) is s = (id, [], refl, s.0, a.last id is)
-last_named f told a clause (UnitClause id) is s = go (unit_numbered id f.units) refl s
+last_named : (f : Stored) (reported : List Notice) → AreAnnounced f reported → (clause : List ℕ) (last : Last) → f.last ≡ last → IsStrictSubset (last_literals last f) clause → NamesPart reported clause (one (last_id last))
+last_named f reported a clause NoneYet is s = absurd s
+last_named f reported a clause (Empty id) is s = (id, [], refl, s.0, a.last id is)
+last_named f reported a clause (UnitClause id) is s = go (unit_numbered id f.units) refl s
   where
-    go : (x : Option (List ℕ)) → unit_numbered id f.units ≡ x → IsStrictSubset x clause → NamesPart told clause (id ∷ [])
+    go : (x : Option (List ℕ)) → unit_numbered id f.units ≡ x → IsStrictSubset x clause → NamesPart reported clause (id ∷ [])
     go None e k = absurd k
     go (Some ls) e k =
         let u = unit_of id ls f.units e in
-        let this = one_each (λ w. IsAnnounced w.id (w.literal ∷ []) told) u.unit f.units a.units u.stored in
-        (id, ls, refl, k.0, subst (λ x. IsAnnounced x ls told) u.id_is (subst (λ x. IsAnnounced u.unit.id x told) u.literals_are this))
-last_named f told a clause (LongClause id) is s = go (clause_numbered id f.clauses) refl s
+        let this = one_each (λ w. IsAnnounced w.id (w.literal ∷ []) reported) u.unit f.units a.units u.stored in
+        (id, ls, refl, k.0, subst (λ x. IsAnnounced x ls reported) u.id_is (subst (λ x. IsAnnounced u.unit.id x reported) u.literals_are this))
+last_named f reported a clause (LongClause id) is s = go (clause_numbered id f.clauses) refl s
   where
-    go : (x : Option (List ℕ)) → clause_numbered id f.clauses ≡ x → IsStrictSubset x clause → NamesPart told clause (id ∷ [])
+    go : (x : Option (List ℕ)) → clause_numbered id f.clauses ≡ x → IsStrictSubset x clause → NamesPart reported clause (id ∷ [])
     go None e k = absurd k
     go (Some ls) e k =
         let c = signed id ls f.clauses e in
-        let this = one_each (λ w. IsAnnounced w.id w.literals told) c.clause f.clauses a.clauses c.stored in
-        (id, ls, refl, k.0, subst (λ x. IsAnnounced x ls told) c.id_is (subst (λ x. IsAnnounced c.clause.id x told) c.literals_are this))
+        let this = one_each (λ w. IsAnnounced w.id w.literals reported) c.clause f.clauses a.clauses c.stored in
+        (id, ls, refl, k.0, subst (λ x. IsAnnounced x ls reported) c.id_is (subst (λ x. IsAnnounced c.clause.id x reported) c.literals_are this))
 
 pub simplified_named : SimplifiedIsAnnounced
 simplified_named steps clause ok = last_named (ready_after steps) (all_notices_after steps) (ready_announced steps (identified steps)) clause (ready_after steps).last refl ok.1

@@ -96,7 +96,7 @@ module _ {P T : Type 0} (Takes : P → Notice → Result Unit Error → P → Ty
   no_front {B} (y ∷ ys) x rest e = absurd (let d : ◌≡◌ {A = List B} [] (y ∷ (ys ++ x ∷ rest)) = e in cc)
 
   none_among : {B : Type 0} (Called : Result Unit Error → B → B → Type 0) (cause : Error) (xs ys : List B) → xs ≡ [] → SomeNotified Called cause xs ys → ⊥
-  none_among Called cause xs ys e s = no_front s.told_before s.failed_before s.rest (sym e ∙ s.were)
+  none_among Called cause xs ys e s = no_front s.notified_before s.failed_before s.rest (sym e ∙ s.were)
 
   none_zipped : {B : Type 0} (R : B → B → Type 0) (ys : List B) → AllZip R [] ys → ys ≡ []
   none_zipped R [] h = refl

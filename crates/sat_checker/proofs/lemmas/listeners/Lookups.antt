@@ -1,4 +1,4 @@
--- What may be looked up as a step is told: names and modes from before it.
+-- What may be looked up while a step is reported: names and modes from before it.
 use Rattle.std.proofs.Common.{ℕ, ◌≡◌, Bool, true, false, cond, eqb, List, [], ◌∷◌, map, None, Some, refl, sym, ap, ◌∙◌}
 use Rattle.std.proofs.lemmas.Bool.{eqb-true}
 use Rattle.sat_base.specs.values.Literals.{variable}

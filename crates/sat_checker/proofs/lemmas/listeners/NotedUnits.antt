@@ -19,7 +19,7 @@ pub record Noted (F : Formula) (f : Stored) (all left : List (ℕ × ℕ)) (befo
   pub kept : KeepsFormula F now
   pub long : AreLong now
   pub hears : notes.hears ≡ before.hears
-  pub told : IsTrue before.hears → notes.news ++ derived_units left now ≡ before.news ++ derived_units all f
+  pub reported : IsTrue before.hears → notes.news ++ derived_units left now ≡ before.news ++ derived_units all f
 
 clauses_stay : (l : ℕ) (f : Stored) → (with_unit l f).clauses ≡ f.clauses
 clauses_stay l f = go (is_unit f l) (is_unit f (negated l))
@@ -37,16 +37,16 @@ noted_more F f all i u inside is before notes noted G more h e k = record {
   kept = k;
   long = λ l. ap (clause_with (l ∷ [])) (clauses_stay u.0 noted.now) ∙ noted.long l;
   hears = h ∙ noted.hears;
-  told = λ t.
+  reported = λ t.
       ap (λ x. x ++ derived_units (drop (i + 1) all) (with_unit u.0 noted.now)) (e (noted.hears ∙ t))
       ∙ append_assoc notes.news (derived false (u.0 ∷ []) (u.1 ∷ []) noted.now) (derived_units (drop (i + 1) all) (with_unit u.0 noted.now))
       ∙ ap (λ us. notes.news ++ derived_units us noted.now) (sym (drop_more all i u inside ∙ ap (λ x. x ∷ drop (i + 1) all) (sym is)))
-      ∙ noted.told t;
+      ∙ noted.reported t;
 }
 
 -- none is left
 pub noted_all : (F : Formula) (f : Stored) (all : List (ℕ × ℕ)) (i : ℕ) (before notes : Notes) → length all ≤ i → Noted F f all (drop i all) before notes → AppendsNews before (derived_units all f) notes
-noted_all F f all i before notes l noted = λ t. sym (none_behind notes.news) ∙ ap (λ us. notes.news ++ derived_units us noted.now) (sym (past all i l)) ∙ noted.told t
+noted_all F f all i before notes l noted = λ t. sym (none_behind notes.news) ∙ ap (λ us. notes.news ++ derived_units us noted.now) (sym (past all i l)) ∙ noted.reported t
   where
     past : (xs : List (ℕ × ℕ)) (i : ℕ) → length xs ≤ i → drop i xs ≡ []
     past [] zero l = refl

@@ -77,5 +77,5 @@ pub looks_followed : (before old mid noted len n l : ℕ) → old ≤ before + l
 looks_followed before old mid noted len n l b h r k = let e = once_more n l in omega arith
 
 -- what was noted behind other notes, which announce the same so far
-pub noted_behind : (before mid after : Notes) (told : List Announcement) → mid.hears ≡ before.hears → mid.news ≡ before.news → AppendsNews mid told after → AppendsNews before told after
-noted_behind before mid after told h n a = λ t. a (subst IsTrue (sym h) t) ∙ ap (λ xs. xs ++ told) n
+pub noted_behind : (before mid after : Notes) (reported : List Announcement) → mid.hears ≡ before.hears → mid.news ≡ before.news → AppendsNews mid reported after → AppendsNews before reported after
+noted_behind before mid after reported h n a = λ t. a (subst IsTrue (sym h) t) ∙ ap (λ xs. xs ++ reported) n

@@ -22,7 +22,7 @@ use Rattle.sat_checker.specs.declared.error.CheckerDimacsError.TheVariants as re
 use Rattle.sat_checker.proofs.lemmas.listeners.Heard.{nobody_fails}
 
 module _ {P T : Type 0} (Takes : P → Notice → Result Unit Error → P → Type 0) (Reads : T → Transcribed → Result Unit Error → T → Type 0) where
-  -- all was told before, for those who listen now
+  -- all was reported before to the current listeners
   abbrev before : CheckerView (Processing P T) → List Step → List Notice
   before old steps = notices_by old.kernel.state.formula.status.conflict steps
 
@@ -30,8 +30,8 @@ module _ {P T : Type 0} (Takes : P → Notice → Result Unit Error → P → Ty
   stands_here old steps s = record { kernel = s; heard = λ e. ([], sym (append-nil (before old steps)), refl) }
 
   module _ (earlier : List Notice) (begun : Processing P T) (e : ProcessingError) where
-    broken : (told : List Notice) (new : CheckerView (Processing P T)) (steps : List Step) → FailsAtListener (HearsEach Takes Reads) earlier begun e told new steps → listeners_of begun ≡ record { processors = []; transcripts = [] } → ⊥
-    broken told new steps b none = nobody_fails Takes Reads e b.heard.0 begun new.listeners none b.heard.2
+    broken : (reported : List Notice) (new : CheckerView (Processing P T)) (steps : List Step) → FailsAtListener (HearsEach Takes Reads) earlier begun e reported new steps → listeners_of begun ≡ record { processors = []; transcripts = [] } → ⊥
+    broken reported new steps b none = nobody_fails Takes Reads e b.heard.0 begun new.listeners none b.heard.2
 
     broken_at : (new : CheckerView (Processing P T)) (step : Step) (steps : List Step) → BreaksAt (HearsEach Takes Reads) earlier begun e new step steps → listeners_of begun ≡ record { processors = []; transcripts = [] } → ⊥
     broken_at new step steps h none = elim h [

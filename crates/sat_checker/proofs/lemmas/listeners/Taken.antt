@@ -1,4 +1,4 @@
--- A unit conflict is settled and told, and a step is taken in and told.
+-- A unit conflict is settled and reported, and a step is accepted and reported.
 use Rattle.std.proofs.Common.{ℕ, ◌+◌, ◌≤◌, ◌≡◌, Bool, true, false, List, [], ◌∷◌, ◌++◌, Option, None, Some, Result, Ok, Err, inl, inr, refl, sym, ap, subst, ◌∙◌, arith}
 use Rattle.std.proofs.lemmas.Bool.{true≢false}
 use Rattle.std.specs.Result.{is_err, OnOk, OnErr, IsErrOf}
@@ -93,18 +93,18 @@ module _ (old : Kernel) (steps : List Step) (s : kernels.HasAccepted old steps) 
   pub leaves_conflict : LeavesConflict steps
   leaves_conflict e = absurd (let g : ◌≡◌ {A = Option (ℕ × ℕ)} None (Some (one, other)) = sym e ∙ left in cc)
 
-  -- it wasn't settled, or not told
+  -- it was not settled, or not reported
   module _ (new : Kernel) (looks : kernels.kernel_looks new ≡ kernels.kernel_looks old) (same : new.records ≡ old.records) (failed : kernels.kernel_has_failed new ≡ true) where
     pub unsettled_judges : IsSpent (settled kept.formula) → kernels.AnswersDelayed (Err errors.CounterEnd) old new steps
     unsettled_judges h = (well, looks, settled_spent h, settled_fails new same failed)
 
-    pub untold_judges : (f : ProcessingError) → kernels.AnswersDelayed (Err (fault_of f)) old new steps
-    untold_judges faults.OutOfMemory = (well, looks, leaves_conflict, settled_fails new same failed)
-    untold_judges (faults.ProofProcessorError cause) = (well, looks, leaves_conflict, settled_fails new same failed)
+    pub unreported_judges : (f : ProcessingError) → kernels.AnswersDelayed (Err (fault_of f)) old new steps
+    unreported_judges faults.OutOfMemory = (well, looks, leaves_conflict, settled_fails new same failed)
+    unreported_judges (faults.ProofProcessorError cause) = (well, looks, leaves_conflict, settled_fails new same failed)
 
-    pub unsettled_tells : {L : Type 0} (Hears : L → Notice → Result Unit ProcessingError → L → Type 0) (before : List Notice) (begun l : L) → HearsSince Hears before (notices_by old.state.formula.status.conflict steps) begun l → IsSpent (settled kept.formula)
+    pub unsettled_notifies : {L : Type 0} (Hears : L → Notice → Result Unit ProcessingError → L → Type 0) (before : List Notice) (begun l : L) → HearsSince Hears before (notices_by old.state.formula.status.conflict steps) begun l → IsSpent (settled kept.formula)
         → AnswersDelayed Hears before begun (Err errors.CounterEnd) (seen old l) (seen new l) steps
-    unsettled_tells Hears before begun l heard h = (
+    unsettled_notifies Hears before begun l heard h = (
       well,
       looks,
       settled_spent h,
@@ -124,17 +124,17 @@ module _ (old : Kernel) (steps : List Step) (s : kernels.HasAccepted old steps) 
     so_far : HearsSince Hears before (notices_after steps) begun l
     so_far = subst (λ c. HearsSince Hears before (notices_by c steps) begun l) waits heard
 
-    abbrev one_told : List Notice
-    one_told = announced_by names (AtClause old.state.formula.status.next_id false [] (one ∷ other ∷ []) ∷ [])
+    abbrev one_reported : List Notice
+    one_reported = announced_by names (AtClause old.state.formula.status.next_id false [] (one ∷ other ∷ []) ∷ [])
 
     lookups : (v : ℕ) → Alike (names v) ((stored_after steps).variables v)
     lookups v = subst (λ f. Alike (names v) (f.variables v)) is_stored (equal_alike names kept.formula.variables (λ w. each w ∙ kept.keeps.variables.each w) v)
 
-    pub conflict_heard : (m : L) → HearsAll Hears one_told l m → HearsSince Hears before (all_notices_after steps) begun m
+    pub conflict_heard : (m : L) → HearsAll Hears one_reported l m → HearsSince Hears before (all_notices_after steps) begun m
     conflict_heard m h = since_more Hears before (notices_after steps) (notices_over (stored_after steps) (delayed (stored_after steps))) begun l m so_far
         (subst (λ xs. HearsAll Hears (notices_over (stored_after steps) xs) l m) (sym conflict_reported) (all_alike Hears names (stored_after steps).variables lookups (AtClause old.state.formula.status.next_id false [] (one ∷ other ∷ []) ∷ []) l m h))
 
-    pub conflict_broken : (e : ProcessingError) (m : L) → HearsUpTo Hears e one_told l m → HearsSinceUpTo Hears e before (all_notices_after steps) begun m
+    pub conflict_broken : (e : ProcessingError) (m : L) → HearsUpTo Hears e one_reported l m → HearsSinceUpTo Hears e before (all_notices_after steps) begun m
     conflict_broken e m h = since_up_to_more Hears e before (notices_after steps) (notices_over (stored_after steps) (delayed (stored_after steps))) begun l m so_far
         (subst (λ xs. HearsUpTo Hears e (notices_over (stored_after steps) xs) l m) (sym conflict_reported) (up_to_alike Hears names (stored_after steps).variables lookups e (AtClause old.state.formula.status.next_id false [] (one ∷ other ∷ []) ∷ []) l m h))
 
@@ -149,7 +149,7 @@ changed_same step g h e = refl
 records_same : (new : Kernel) (g : Stored) → KeepsFormula (refiled_in new.state.formula) g → records_in new.state.formula.status ≡ records_of g
 records_same new g k = ap (λ (z : RestOfStored). record { unsat = z.unsat; ended = z.ended; var_deleted = z.var_deleted }) k.status
 
--- nothing waits, so all was told
+-- nothing waits, so all was reported
 reported_now : (c : Option (ℕ × ℕ)) (steps : List Step) → (stored_after steps).conflict ≡ c → notices_after steps ≡ notices_by c steps
 reported_now (Some units) steps e = refl
 reported_now None steps e =
@@ -193,25 +193,25 @@ module _ (old : Kernel) (steps : List Step) (s : kernels.HasAccepted old steps) 
 
         pub step_heard : (c : Option (ℕ × ℕ)) (m : L) → new.state.formula.status.conflict ≡ c → HearsAll Hears (announced_by names news) l m → HearsSince Hears before (notices_by c (step ∷ steps)) begun m
         step_heard c m e h =
-            let told : HearsAll Hears (notices_over (ready_after steps) (announced (ready_after steps) step)) l m =
+            let reported : HearsAll Hears (notices_over (ready_after steps) (announced (ready_after steps) step)) l m =
             subst (λ xs. HearsAll Hears (notices_over (ready_after steps) xs) l m) noted (all_alike Hears names (ready_after steps).variables looked news l m h) in
             subst (λ ts. HearsSince Hears before ts begun m) (reported_step step steps ∙ reported_now c (step ∷ steps) (sym (ap (λ (z : RestOfStored). z.conflict) k.formula.status) ∙ e))
-            (since_more Hears before (all_notices_after steps) (notices_over (ready_after steps) (announced (ready_after steps) step)) begun l m all_before told)
+            (since_more Hears before (all_notices_after steps) (notices_over (ready_after steps) (announced (ready_after steps) step)) begun l m all_before reported)
 
         pub step_broken : (e : ProcessingError) (m : L) → HearsUpTo Hears e (announced_by names news) l m → HearsSinceUpTo Hears e before (notices_after (step ∷ steps)) begun m
         step_broken e m h =
-            let told : HearsUpTo Hears e (notices_over (ready_after steps) (announced (ready_after steps) step)) l m =
+            let reported : HearsUpTo Hears e (notices_over (ready_after steps) (announced (ready_after steps) step)) l m =
             subst (λ xs. HearsUpTo Hears e (notices_over (ready_after steps) xs) l m) noted (up_to_alike Hears names (ready_after steps).variables looked e news l m h) in
-            subst (λ ts. HearsSinceUpTo Hears e before ts begun m) (reported_step step steps) (since_up_to_more Hears e before (all_notices_after steps) (notices_over (ready_after steps) (announced (ready_after steps) step)) begun l m all_before told)
+            subst (λ ts. HearsSinceUpTo Hears e before ts begun m) (reported_step step steps) (since_up_to_more Hears e before (all_notices_after steps) (notices_over (ready_after steps) (announced (ready_after steps) step)) begun l m all_before reported)
 
-pub taken_on : {L : Type 0} (Hears : L → Notice → Result Unit ProcessingError → L → Type 0) (told : List Notice) (mid : Kernel) (l : L) (new : Kernel) (m : L) (r : Result Unit CheckerError) → NotifiesAndKeepsState Hears told r (seen mid l) (seen new m) → OnOk r (kernels.kernel_has_failed new ≡ false)
-taken_on Hears told mid l new m (Ok x) t = t.1.0
-taken_on Hears told mid l new m (Err e) t = tt
+pub taken_on : {L : Type 0} (Hears : L → Notice → Result Unit ProcessingError → L → Type 0) (reported : List Notice) (mid : Kernel) (l : L) (new : Kernel) (m : L) (r : Result Unit CheckerError) → NotifiesAndKeepsState Hears reported r (seen mid l) (seen new m) → OnOk r (kernels.kernel_has_failed new ≡ false)
+taken_on Hears reported mid l new m (Ok x) t = t.1.0
+taken_on Hears reported mid l new m (Err e) t = tt
 
 -- what is recorded may differ before
-pub taken_from : {L : Type 0} (Hears : L → Notice → Result Unit ProcessingError → L → Type 0) (told : List Notice) (old mid : Kernel) (l : L) (new : Kernel) (m : L) (r : Result Unit CheckerError) → mid.state ≡ old.state → kernels.kernel_looks mid ≡ kernels.kernel_looks old → NotifiesAndKeepsState Hears told r (seen mid l) (seen new m) → NotifiesAndKeepsState Hears told r (seen old l) (seen new m)
-taken_from Hears told old mid l new m (Ok x) s k t = (record { state = t.0.state ∙ s; looks = t.0.looks ∙ k }, t.1)
-taken_from Hears told old mid l new m (Err e) s k t = (record { state = t.0.state ∙ s; looks = t.0.looks ∙ k }, t.1)
+pub taken_from : {L : Type 0} (Hears : L → Notice → Result Unit ProcessingError → L → Type 0) (reported : List Notice) (old mid : Kernel) (l : L) (new : Kernel) (m : L) (r : Result Unit CheckerError) → mid.state ≡ old.state → kernels.kernel_looks mid ≡ kernels.kernel_looks old → NotifiesAndKeepsState Hears reported r (seen mid l) (seen new m) → NotifiesAndKeepsState Hears reported r (seen old l) (seen new m)
+taken_from Hears reported old mid l new m (Ok x) s k t = (record { state = t.0.state ∙ s; looks = t.0.looks ∙ k }, t.1)
+taken_from Hears reported old mid l new m (Err e) s k t = (record { state = t.0.state ∙ s; looks = t.0.looks ∙ k }, t.1)
 
 -- what was noted, where somebody listens, is what is announced
 pub noted_reported : (begun noted : Notes) (hears : Bool) (step : Step) (f : Stored) (old new : ℕ → Variable) (was : Option (ℕ × Variable)) → begun.hears ≡ hears → (hears ≡ true → begun.news ≡ []) → (hears ≡ true → was ≡ changed_by old step) → AppendsNews begun (announced f step) noted
@@ -237,8 +237,8 @@ module _ (old : Kernel) (steps : List Step) (s : kernels.HasAccepted old steps) 
   pub refused_judges : (new : Kernel) → (Accepts (ready_after steps) step → ⊥) → new.records ≡ old.records → kernels.kernel_has_failed new ≡ true → kernels.AnswersStep (Err errors.CheckFailed) old step new steps
   refused_judges new h r f = (well, h, step_fails old steps s well none step new r f)
 
-  module _ {L : Type 0} (Hears : L → Notice → Result Unit ProcessingError → L → Type 0) (told : List Notice) (mid : Kernel) (l : L) (accepts : Accepts (ready_after steps) step) (k : KeepsStored mid.state (effect step (ready_after steps))) where
-    pub taken_judges : (new : Kernel) (m : L) (r : Result Unit CheckerError) → NotifiesAndKeepsState Hears told r (seen mid l) (seen new m) → kernels.AnswersStep r old step new steps
+  module _ {L : Type 0} (Hears : L → Notice → Result Unit ProcessingError → L → Type 0) (reported : List Notice) (mid : Kernel) (l : L) (accepts : Accepts (ready_after steps) step) (k : KeepsStored mid.state (effect step (ready_after steps))) where
+    pub taken_judges : (new : Kernel) (m : L) (r : Result Unit CheckerError) → NotifiesAndKeepsState Hears reported r (seen mid l) (seen new m) → kernels.AnswersStep r old step new steps
     taken_judges new m (Ok x) t = (
       well,
       record { accepts = accepts; stands = step_stands old steps s well none step new accepts (subst (λ z. KeepsStored z (effect step (ready_after steps))) (sym t.0.state) k) t.1.1; goes_on = t.1.0 },
@@ -259,20 +259,20 @@ module _ (old : Kernel) (steps : List Step) (s : kernels.HasAccepted old steps) 
     failed_with : (new : Kernel) (m : L) → new.records ≡ old.records → kernels.kernel_has_failed new ≡ true → Fails Hears before begun (seen new m) steps
     failed_with new m r f = failing Hears before begun (seen new m) steps (step_fails old steps s well none step new r f)
 
-    pub short_tells : (new : Kernel) (error : StoreError) → FormulaEffectIf (Err error) (Accepts (ready_after steps) step) (KeepsStored new.state (effect step (ready_after steps))) (effect step (ready_after steps)) → new.records ≡ old.records → kernels.kernel_has_failed new ≡ true
+    pub short_notifies : (new : Kernel) (error : StoreError) → FormulaEffectIf (Err error) (Accepts (ready_after steps) step) (KeepsStored new.state (effect step (ready_after steps))) (effect step (ready_after steps)) → new.records ≡ old.records → kernels.kernel_has_failed new ≡ true
         → AnswersStep Hears before begun (Err (failure_of error)) (seen old l) step (seen new l) steps
-    short_tells new stores.OutOfMemory h r f = (well, inl (h, record { fails = failed_with new l r f; heard = inr before_it }))
-    short_tells new stores.CounterEnd h r f = (well, inr h, record { fails = failed_with new l r f; heard = inr before_it })
+    short_notifies new stores.OutOfMemory h r f = (well, inl (h, record { fails = failed_with new l r f; heard = inr before_it }))
+    short_notifies new stores.CounterEnd h r f = (well, inr h, record { fails = failed_with new l r f; heard = inr before_it })
 
-    pub refused_tells : (new : Kernel) → (Accepts (ready_after steps) step → ⊥) → new.records ≡ old.records → kernels.kernel_has_failed new ≡ true → AnswersStep Hears before begun (Err errors.CheckFailed) (seen old l) step (seen new l) steps
-    refused_tells new h r f = (well, h, record { fails = failed_with new l r f; heard = before_it })
+    pub refused_notifies : (new : Kernel) → (Accepts (ready_after steps) step → ⊥) → new.records ≡ old.records → kernels.kernel_has_failed new ≡ true → AnswersStep Hears before begun (Err errors.CheckFailed) (seen old l) step (seen new l) steps
+    refused_notifies new h r f = (well, h, record { fails = failed_with new l r f; heard = before_it })
 
     module _ (mid : Kernel) (accepts : Accepts (ready_after steps) step) (k : KeepsStored mid.state (effect step (ready_after steps))) (news : List Announcement) (noted : news ≡ announced (ready_after steps) step) (was : Option (ℕ × Variable)) (put : was ≡ changed_by (variable_at old.state.variables) step) where
-      abbrev told : List Notice
-      told = announced_by (put_back was (variable_at mid.state.variables)) news
+      abbrev reported : List Notice
+      reported = announced_by (put_back was (variable_at mid.state.variables)) news
 
-      pub taken_tells : (new : Kernel) (m : L) (r : Result Unit CheckerError) → NotifiesAndKeepsState Hears told r (seen mid l) (seen new m) → AnswersStep Hears before begun r (seen old l) step (seen new m) steps
-      taken_tells new m (Ok x) t = (
+      pub taken_notifies : (new : Kernel) (m : L) (r : Result Unit CheckerError) → NotifiesAndKeepsState Hears reported r (seen mid l) (seen new m) → AnswersStep Hears before begun r (seen old l) step (seen new m) steps
+      taken_notifies new m (Ok x) t = (
         well,
         record {
           accepts = accepts;
@@ -283,12 +283,12 @@ module _ (old : Kernel) (steps : List Step) (s : kernels.HasAccepted old steps) 
           goes_on = t.1.0;
         },
       )
-      taken_tells new m (Err e) t = subst (λ z. AnswersStep Hears before begun (Err z) (seen old l) step (seen new m) steps) (sym t.1.3) (go t.1.2 t.1.4)
+      taken_notifies new m (Err e) t = subst (λ z. AnswersStep Hears before begun (Err z) (seen old l) step (seen new m) steps) (sym t.1.3) (go t.1.2 t.1.4)
         where
           fails : Fails Hears before begun (seen new m) (step ∷ steps)
           fails = failing Hears before begun (seen new m) (step ∷ steps) (record { stands = step_stands old steps s well none step new accepts (subst (λ z. KeepsStored z (effect step (ready_after steps))) (sym t.0.state) k) t.1.1; failed = t.1.0 })
 
-          go : (f : ProcessingError) → HearsUpTo Hears f told l m → AnswersStep Hears before begun (Err (fault_of f)) (seen old l) step (seen new m) steps
+          go : (f : ProcessingError) → HearsUpTo Hears f reported l m → AnswersStep Hears before begun (Err (fault_of f)) (seen old l) step (seen new m) steps
           go faults.OutOfMemory u = (well, inr (inr (accepts, record { fails = fails; heard = step_broken old steps s well none step Hears before begun l heard mid k news noted was put faults.OutOfMemory m u })))
           go (faults.ProofProcessorError cause) u = (well, inr (accepts, record { fails = fails; heard = step_broken old steps s well none step Hears before begun l heard mid k news noted was put (faults.ProofProcessorError cause) m u }))
 
@@ -318,7 +318,7 @@ module _ {L : Type 0} (Hears : L → Notice → Result Unit ProcessingError → 
 -- A UNIT CONFLICT BEFORE A STEP
 
 module _ {L : Type 0} (Hears : L → Notice → Result Unit ProcessingError → L → Type 0) (before : List Notice) (begun : L) (steps : List Step) (step : Step) where
-  -- it couldn't be settled, or not be told
+  -- it could not be settled, or not be reported
   pub delayed_stops : (old new : CheckerView L) (e : CheckerError) → AnswersDelayed Hears before begun (Err e) old new steps → AnswersStep Hears before begun (Err e) old step new steps
   delayed_stops old new errors.CounterEnd a = (a.0, inl a.2, a.3)
   delayed_stops old new errors.OutOfMemory a = (a.0, inr (inl (a.2, a.3)))

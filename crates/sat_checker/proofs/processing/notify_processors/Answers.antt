@@ -7,12 +7,12 @@ loop-processor-preserved g c =
     let same : length c.loop-processor.processors ≡ length c.args.processors.now = c.loop-processor.auto.processors in
     let within : c.loop-processor.processor-index < length c.loop-processor.processors = omega arith in
     record {
-      told = reported_more _ c.args.processors.now c.loop-processor.processors c.loop-processor.processor-index _ c.process_step.new.self same within c.loop-processor.invariant.told c.loop-processor.invariant.rest (ap (get_or c.loop-processor.processors c.loop-processor.processor-index) c.processor-item.is) c.in-Ok.ensures;
-      rest = rest_more _ c.args.processors.now c.loop-processor.processors c.loop-processor.processor-index _ c.process_step.new.self same within c.loop-processor.invariant.told c.loop-processor.invariant.rest (ap (get_or c.loop-processor.processors c.loop-processor.processor-index) c.processor-item.is);
+      notified = reported_more _ c.args.processors.now c.loop-processor.processors c.loop-processor.processor-index _ c.process_step.new.self same within c.loop-processor.invariant.notified c.loop-processor.invariant.rest (ap (get_or c.loop-processor.processors c.loop-processor.processor-index) c.processor-item.is) c.in-Ok.ensures;
+      rest = rest_more _ c.args.processors.now c.loop-processor.processors c.loop-processor.processor-index _ c.process_step.new.self same within c.loop-processor.invariant.notified c.loop-processor.invariant.rest (ap (get_or c.loop-processor.processors c.loop-processor.processor-index) c.processor-item.is);
     }
 
 pub returns-in-Err-clause-err : goal.returns-in-Err-clause-err
 returns-in-Err-clause-err g c =
     let same : length c.loop-processor.processors ≡ length c.args.processors.now = c.loop-processor.auto.processors in
     let within : c.loop-processor.processor-index < length c.loop-processor.processors = omega arith in
-    failed_there _ c.args.processors.now c.loop-processor.processors c.loop-processor.processor-index _ c.process_step.new.self same within c.loop-processor.invariant.told c.loop-processor.invariant.rest (ap (get_or c.loop-processor.processors c.loop-processor.processor-index) c.processor-item.is) c.in-Err.cause c.in-Err.ensures
+    failed_there _ c.args.processors.now c.loop-processor.processors c.loop-processor.processor-index _ c.process_step.new.self same within c.loop-processor.invariant.notified c.loop-processor.invariant.rest (ap (get_or c.loop-processor.processors c.loop-processor.processor-index) c.processor-item.is) c.in-Err.cause c.in-Err.ensures

@@ -7,12 +7,12 @@ loop-transcript-preserved g c =
     let same : length c.loop-transcript.transcripts ≡ length c.args.transcripts.now = c.loop-transcript.auto.transcripts in
     let within : c.loop-transcript.transcript-index < length c.loop-transcript.transcripts = omega arith in
     record {
-      told = reported_more _ c.args.transcripts.now c.loop-transcript.transcripts c.loop-transcript.transcript-index _ c.process_step.new.self same within c.loop-transcript.invariant.told c.loop-transcript.invariant.rest (ap (get_or c.loop-transcript.transcripts c.loop-transcript.transcript-index) c.transcript-item.is) c.in-Ok.ensures;
-      rest = rest_more _ c.args.transcripts.now c.loop-transcript.transcripts c.loop-transcript.transcript-index _ c.process_step.new.self same within c.loop-transcript.invariant.told c.loop-transcript.invariant.rest (ap (get_or c.loop-transcript.transcripts c.loop-transcript.transcript-index) c.transcript-item.is);
+      notified = reported_more _ c.args.transcripts.now c.loop-transcript.transcripts c.loop-transcript.transcript-index _ c.process_step.new.self same within c.loop-transcript.invariant.notified c.loop-transcript.invariant.rest (ap (get_or c.loop-transcript.transcripts c.loop-transcript.transcript-index) c.transcript-item.is) c.in-Ok.ensures;
+      rest = rest_more _ c.args.transcripts.now c.loop-transcript.transcripts c.loop-transcript.transcript-index _ c.process_step.new.self same within c.loop-transcript.invariant.notified c.loop-transcript.invariant.rest (ap (get_or c.loop-transcript.transcripts c.loop-transcript.transcript-index) c.transcript-item.is);
     }
 
 pub returns-in-Err-clause-err : goal.returns-in-Err-clause-err
 returns-in-Err-clause-err g c =
     let same : length c.loop-transcript.transcripts ≡ length c.args.transcripts.now = c.loop-transcript.auto.transcripts in
     let within : c.loop-transcript.transcript-index < length c.loop-transcript.transcripts = omega arith in
-    failed_there _ c.args.transcripts.now c.loop-transcript.transcripts c.loop-transcript.transcript-index _ c.process_step.new.self same within c.loop-transcript.invariant.told c.loop-transcript.invariant.rest (ap (get_or c.loop-transcript.transcripts c.loop-transcript.transcript-index) c.transcript-item.is) c.in-Err.cause c.in-Err.ensures
+    failed_there _ c.args.transcripts.now c.loop-transcript.transcripts c.loop-transcript.transcript-index _ c.process_step.new.self same within c.loop-transcript.invariant.notified c.loop-transcript.invariant.rest (ap (get_or c.loop-transcript.transcripts c.loop-transcript.transcript-index) c.transcript-item.is) c.in-Err.cause c.in-Err.ensures

@@ -8,7 +8,7 @@ pub returns-clause-checks : goal.returns-clause-checks
 returns-clause-checks g c = λ before begun steps s.
     let k = s.kernel.kept c.if-self.false in
     clause_checked (HearsEach g.P.ProofProcessor.takes g.T.ProofTranscriptProcessor.reads) before begun c.check_step.result (seen_of c.args.self.now) (seen_of c.check_step.new.self) c.args.clause.now steps
-    (may_add c.args.self.now.kernel.state steps k c.args.clause.now (c.if-not-may_add.ensures k.formula k.keeps)) (c.check_step.ensures.tells before begun steps s)
+    (may_add c.args.self.now.kernel.state steps k c.args.clause.now (c.if-not-may_add.ensures k.formula k.keeps)) (c.check_step.ensures.notifies before begun steps s)
 
 pub returns-then-self-clause-checks : goal.returns-then-self-clause-checks
 returns-then-self-clause-checks g c = λ before begun steps s. (c.if-self.true, refl)

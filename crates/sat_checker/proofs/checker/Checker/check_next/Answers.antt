@@ -21,12 +21,12 @@ returns-in-Err-check_step-clause-steps_on g c = λ before begun earlier stands.
     let n = c.in_default.ensures.answer in
     step_stops (HearsFirst g.O.ProofProcessor.takes (HearsEach g.P.ProofProcessor.takes g.T.ProofTranscriptProcessor.reads)) before begun (at_source (seen_with c.args.own.now c.args.self.now) (reader_source S c.args.steps.now)) (at_source _ (reader_source S c.advance.new.self)) c.in-Err-check_step.error earlier (step_of c.step-step.result) c.requires.well
     (record { text = n.0; passes = n.1; spelt = subst (λ z. SpellsStep z n.0) (sym c.step-step.ensures) n.2; looks = c.in-Err-check_step.ensures.looks earlier stands.kernel })
-    (c.in-Err-check_step.ensures.tells before begun earlier stands)
+    (c.in-Err-check_step.ensures.notifies before begun earlier stands)
 
 pub returns-in-Ok-clause-steps_on : goal.returns-in-Ok-clause-steps_on
 returns-in-Ok-clause-steps_on g c = λ before begun earlier stands.
     let n = c.in_default.ensures.answer in
-    let a = c.in-Ok.ensures.tells before begun earlier stands in (
+    let a = c.in-Ok.ensures.notifies before begun earlier stands in (
       step_of c.step-step.result,
       record { text = n.0; passes = n.1; spelt = subst (λ z. SpellsStep z n.0) (sym c.step-step.ensures) n.2; looks = c.in-Ok.ensures.looks earlier stands.kernel },
       c.is_end.ensures,

@@ -5,9 +5,9 @@ use Rattle.sat_checker.proofs.lemmas.listeners.Alone.{stands_up, delayed_down}
 use Rattle.sat_checker.proofs.lemmas.listeners.Somebody.{delayed_faults}
 use Rattle.sat_checker.proofs.checker.CheckerSelfChecker.self_check_delayed_steps.Goals as goal
 
-pub returns-clause-tells : goal.returns-clause-tells
-returns-clause-tells g c = λ before begun steps s.
-    delayed_down (HearsEach g.P.ProofProcessor.takes g.T.ProofTranscriptProcessor.reads) _ before begun c.settle.result _ _ steps (c.settle.ensures.tells before (hearers _ begun) steps (stands_up (HearsEach g.P.ProofProcessor.takes g.T.ProofTranscriptProcessor.reads) _ before begun c.args.self.now.kernel c.args.self.now.processing steps s))
+pub returns-clause-notifies : goal.returns-clause-notifies
+returns-clause-notifies g c = λ before begun steps s.
+    delayed_down (HearsEach g.P.ProofProcessor.takes g.T.ProofTranscriptProcessor.reads) _ before begun c.settle.result _ _ steps (c.settle.ensures.notifies before (hearers _ begun) steps (stands_up (HearsEach g.P.ProofProcessor.takes g.T.ProofTranscriptProcessor.reads) _ before begun c.args.self.now.kernel c.args.self.now.processing steps s))
 
 pub returns-clause-faults : goal.returns-clause-faults
-returns-clause-faults g c = λ steps s. delayed_faults g.P.ProofProcessor.takes g.T.ProofTranscriptProcessor.reads (seen_of c.args.self.now) _ steps s c.settle.result (returns-clause-tells g c)
+returns-clause-faults g c = λ steps s. delayed_faults g.P.ProofProcessor.takes g.T.ProofTranscriptProcessor.reads (seen_of c.args.self.now) _ steps s c.settle.result (returns-clause-notifies g c)

@@ -28,8 +28,8 @@ returns-clause-stored c = λ clause e f k.
     subst (λ g. KeepsOrSpends c.store_canonical.result (KeepsFormula c.store_canonical.new.self g) g) same (c.store_canonical.ensures.stored f k)
 
 pub returns-clause-change : goal.returns-clause-change
-returns-clause-change c = IfOk-weaker c.store_canonical.result _ _ (λ change told f k long ids.
-    told f k long ids
+returns-clause-change c = IfOk-weaker c.store_canonical.result _ _ (λ change reported f k long ids.
+    reported f k long ids
     ∙ sym (ap (λ b. cond b [] (derived_set c.args.redundant c.args.literals.now ids f (id_of_set c.args.literals.now f))) (sym c.has_both_signs.ensures ∙ c.if-has_both_signs.false)))
     c.store_canonical.ensures.change
 

@@ -10,21 +10,21 @@ use Rattle.sat_checker.proofs.lemmas.listeners.Heard.{none_there}
 use Rattle.sat_checker.proofs.lemmas.listeners.Taken.{delayed_stops, settled_goes_on, stops_judges, goes_on_judges, stops_looks}
 use Rattle.sat_checker.proofs.kernel.Kernel.check_step.Goals as goal
 
-pub returns-in-Err-clause-tells : goal.returns-in-Err-clause-tells
-returns-in-Err-clause-tells g c = λ before begun steps s.
-    delayed_stops (HearsFirst g.O.ProofProcessor.takes (HearsEach g.P.ProofProcessor.takes g.T.ProofTranscriptProcessor.reads)) before begun steps (step_of c.args.step.now) (seen c.args.self.now (hearers c.args.own.now c.args.others.now)) (seen c.settle.new.self (hearers c.settle.new.own c.settle.new.others)) c.in-Err.error (c.in-Err.ensures.tells before begun steps s)
+pub returns-in-Err-clause-notifies : goal.returns-in-Err-clause-notifies
+returns-in-Err-clause-notifies g c = λ before begun steps s.
+    delayed_stops (HearsFirst g.O.ProofProcessor.takes (HearsEach g.P.ProofProcessor.takes g.T.ProofTranscriptProcessor.reads)) before begun steps (step_of c.args.step.now) (seen c.args.self.now (hearers c.args.own.now c.args.others.now)) (seen c.settle.new.self (hearers c.settle.new.own c.settle.new.others)) c.in-Err.error (c.in-Err.ensures.notifies before begun steps s)
 
-pub returns-in-Ok-clause-tells : goal.returns-in-Ok-clause-tells
-returns-in-Ok-clause-tells g c = λ before begun steps s.
-    let a = c.in-Ok.ensures.tells before begun steps s in
+pub returns-in-Ok-clause-notifies : goal.returns-in-Ok-clause-notifies
+returns-in-Ok-clause-notifies g c = λ before begun steps s.
+    let a = c.in-Ok.ensures.notifies before begun steps s in
     settled_goes_on (HearsFirst g.O.ProofProcessor.takes (HearsEach g.P.ProofProcessor.takes g.T.ProofTranscriptProcessor.reads)) before begun steps (step_of c.args.step.now) (seen c.args.self.now (hearers c.args.own.now c.args.others.now)) (seen c.settle.new.self (hearers c.settle.new.own c.settle.new.others)) (seen c.step.new.self (hearers c.step.new.own c.step.new.others)) c.step.result
-    c.if-self.false a.3 (c.step.ensures.tells before begun steps a.2)
+    c.if-self.false a.3 (c.step.ensures.notifies before begun steps a.2)
 
 pub returns-then-self-clause-judges : goal.returns-then-self-clause-judges
 returns-then-self-clause-judges g c = λ steps s. (c.if-self.true, record { stands = s; failed = c.if-self.true })
 
-pub returns-then-self-clause-tells : goal.returns-then-self-clause-tells
-returns-then-self-clause-tells g c = λ before begun steps s. (c.if-self.true, refl)
+pub returns-then-self-clause-notifies : goal.returns-then-self-clause-notifies
+returns-then-self-clause-notifies g c = λ before begun steps s. (c.if-self.true, refl)
 
 pub returns-in-Err-clause-judges : goal.returns-in-Err-clause-judges
 returns-in-Err-clause-judges g c = λ steps s.

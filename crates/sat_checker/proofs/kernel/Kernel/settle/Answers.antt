@@ -11,8 +11,8 @@ returns-then-is_none-clause-goes_on g c = (c.requires, is_none_none c.args.self.
 pub returns-then-is_none-clause-looks : goal.returns-then-is_none-clause-looks
 returns-then-is_none-clause-looks g c = refl
 
-pub returns-then-is_none-clause-tells : goal.returns-then-is_none-clause-tells
-returns-then-is_none-clause-tells g c = λ before begun steps s. (c.requires, refl, s, c.requires, is_none_none c.args.self.now.state.formula.status.conflict c.if-is_none.ensures)
+pub returns-then-is_none-clause-notifies : goal.returns-then-is_none-clause-notifies
+returns-then-is_none-clause-notifies g c = λ before begun steps s. (c.requires, refl, s, c.requires, is_none_none c.args.self.now.state.formula.status.conflict c.if-is_none.ensures)
 
 pub returns-clause-judges : goal.returns-clause-judges
 returns-clause-judges g c = c.settle_conflict.ensures.judges
@@ -23,5 +23,5 @@ returns-clause-goes_on g c = c.settle_conflict.ensures.goes_on
 pub returns-clause-looks : goal.returns-clause-looks
 returns-clause-looks g c = c.settle_conflict.ensures.looks
 
-pub returns-clause-tells : goal.returns-clause-tells
-returns-clause-tells g c = c.settle_conflict.ensures.tells
+pub returns-clause-notifies : goal.returns-clause-notifies
+returns-clause-notifies g c = c.settle_conflict.ensures.notifies

@@ -4,19 +4,19 @@ use Rattle.sat_checker.specs.listeners.AnnouncementView.{variables_of}
 use Rattle.sat_checker.specs.listeners.Hearing.{hearers, HearsFirst}
 use Rattle.sat_checker.specs.listeners.ProcessingView.{HearsEach}
 use Rattle.sat_checker.proofs.lemmas.listeners.Heard.{same_itself}
-use Rattle.sat_checker.proofs.lemmas.listeners.Taken.{leaves_conflict, settled_stands, turned, turned_none, turned_spent, unsettled_judges, unsettled_tells, untold_judges, conflict_heard, conflict_broken, delayed_ok, delayed_err}
+use Rattle.sat_checker.proofs.lemmas.listeners.Taken.{leaves_conflict, settled_stands, turned, turned_none, turned_spent, unsettled_judges, unsettled_notifies, unreported_judges, conflict_heard, conflict_broken, delayed_ok, delayed_err}
 use Rattle.sat_checker.proofs.kernel.Kernel.settle_conflict.Goals as goal
 
-pub returns-in-Ok-clause-tells : goal.returns-in-Ok-clause-tells
-returns-in-Ok-clause-tells g c = λ before begun steps s.
+pub returns-in-Ok-clause-notifies : goal.returns-in-Ok-clause-notifies
+returns-in-Ok-clause-notifies g c = λ before begun steps s.
     let k = s.kernel.kept c.requires in
     let stands = settled_stands c.args.self.now steps s.kernel c.requires c.in-Some.stored c.in-Some.contradicting c.in-Some.is _ (λ f. turned c.settle.result _ (settled k.formula) (sym c.if-is_err.ensures.value) (c.settle.ensures.settles k.formula f)) refl refl refl in
     let heard = conflict_heard c.args.self.now steps s.kernel c.requires c.in-Some.stored c.in-Some.contradicting c.in-Some.is (HearsFirst g.O.ProofProcessor.takes (HearsEach g.P.ProofProcessor.takes g.T.ProofTranscriptProcessor.reads)) before begun (hearers c.args.own.now c.args.others.now) (s.heard c.requires) (variables_of c.new.result)
     (λ v. ap (λ z. z v) c.new.ensures) (hearers c.step_with.new.own c.step_with.new.self) (hearers c.step_with.new.own c.step_with.new.self, (_, same_itself _, c.in-Ok.ensures), refl) in
     delayed_ok (HearsFirst g.O.ProofProcessor.takes (HearsEach g.P.ProofProcessor.takes g.T.ProofTranscriptProcessor.reads)) before begun c.args.self.now _ (hearers c.args.own.now c.args.others.now) (hearers c.step_with.new.own c.step_with.new.self) steps c.requires refl stands c.requires (turned_none c.settle.result _ (sym c.if-is_err.ensures.value) c.settle.ensures.none) heard
 
-pub returns-in-Err-clause-tells : goal.returns-in-Err-clause-tells
-returns-in-Err-clause-tells g c = λ before begun steps s.
+pub returns-in-Err-clause-notifies : goal.returns-in-Err-clause-notifies
+returns-in-Err-clause-notifies g c = λ before begun steps s.
     let k = s.kernel.kept c.requires in
     let stands = settled_stands c.args.self.now steps s.kernel c.requires c.in-Some.stored c.in-Some.contradicting c.in-Some.is _ (λ f. turned c.settle.result _ (settled k.formula) (sym c.if-is_err.ensures.value) (c.settle.ensures.settles k.formula f)) refl refl refl in
     let heard = conflict_broken c.args.self.now steps s.kernel c.requires c.in-Some.stored c.in-Some.contradicting c.in-Some.is (HearsFirst g.O.ProofProcessor.takes (HearsEach g.P.ProofProcessor.takes g.T.ProofTranscriptProcessor.reads)) before begun (hearers c.args.own.now c.args.others.now) (s.heard c.requires) (variables_of c.new.result)
@@ -26,18 +26,18 @@ returns-in-Err-clause-tells g c = λ before begun steps s.
 pub returns-in_default-clause-judges : goal.returns-in_default-clause-judges
 returns-in_default-clause-judges g c = λ steps s. (c.requires, refl, s, c.requires, c.in_default.is)
 
-pub returns-in_default-clause-tells : goal.returns-in_default-clause-tells
-returns-in_default-clause-tells g c = λ before begun steps s. (c.requires, refl, s, c.requires, c.in_default.is)
+pub returns-in_default-clause-notifies : goal.returns-in_default-clause-notifies
+returns-in_default-clause-notifies g c = λ before begun steps s. (c.requires, refl, s, c.requires, c.in_default.is)
 
 pub returns-then-is_err-clause-judges : goal.returns-then-is_err-clause-judges
 returns-then-is_err-clause-judges g c = λ steps s.
     let k = s.kept c.requires in
     unsettled_judges c.args.self.now steps s c.requires c.in-Some.stored c.in-Some.contradicting c.in-Some.is _ refl refl refl (turned_spent c.settle.result _ (settled k.formula) (sym c.is_err.ensures.value ∙ c.if-is_err.true) c.settle.ensures.spent (c.settle.ensures.settles k.formula k.keeps.formula))
 
-pub returns-then-is_err-clause-tells : goal.returns-then-is_err-clause-tells
-returns-then-is_err-clause-tells g c = λ before begun steps s.
+pub returns-then-is_err-clause-notifies : goal.returns-then-is_err-clause-notifies
+returns-then-is_err-clause-notifies g c = λ before begun steps s.
     let k = s.kernel.kept c.requires in
-    unsettled_tells c.args.self.now steps s.kernel c.requires c.in-Some.stored c.in-Some.contradicting c.in-Some.is _ refl refl refl (HearsFirst g.O.ProofProcessor.takes (HearsEach g.P.ProofProcessor.takes g.T.ProofTranscriptProcessor.reads)) before begun (hearers c.args.own.now c.args.others.now) (s.heard c.requires)
+    unsettled_notifies c.args.self.now steps s.kernel c.requires c.in-Some.stored c.in-Some.contradicting c.in-Some.is _ refl refl refl (HearsFirst g.O.ProofProcessor.takes (HearsEach g.P.ProofProcessor.takes g.T.ProofTranscriptProcessor.reads)) before begun (hearers c.args.own.now c.args.others.now) (s.heard c.requires)
     (turned_spent c.settle.result _ (settled k.formula) (sym c.is_err.ensures.value ∙ c.if-is_err.true) c.settle.ensures.spent (c.settle.ensures.settles k.formula k.keeps.formula))
 
 pub returns-in-Ok-clause-judges : goal.returns-in-Ok-clause-judges
@@ -52,7 +52,7 @@ returns-in-Ok-clause-judges g c = λ steps s.
     )
 
 pub returns-in-Err-clause-judges : goal.returns-in-Err-clause-judges
-returns-in-Err-clause-judges g c = λ steps s. rw c.fault.ensures (untold_judges c.args.self.now steps s c.requires c.in-Some.stored c.in-Some.contradicting c.in-Some.is _ refl refl refl c.in-Err.error)
+returns-in-Err-clause-judges g c = λ steps s. rw c.fault.ensures (unreported_judges c.args.self.now steps s c.requires c.in-Some.stored c.in-Some.contradicting c.in-Some.is _ refl refl refl c.in-Err.error)
 
 pub returns-in-Err-clause-looks : goal.returns-in-Err-clause-looks
 returns-in-Err-clause-looks g c = refl

@@ -10,7 +10,7 @@ use Rattle.sat_checker.specs.listeners.Hearing.{hearers, HearsFirst}
 use Rattle.sat_checker.specs.listeners.ProcessingView.{HearsEach}
 use Rattle.sat_checker.proofs.lemmas.announcements.Long.{after_any}
 use Rattle.sat_checker.proofs.lemmas.variables.Keeping.{match_true, match_false}
-use Rattle.sat_checker.proofs.lemmas.listeners.Taken.{ready_kept, noted_reported, taken_on, refused_judges, refused_tells, short_judges, short_tells, taken_judges, taken_tells}
+use Rattle.sat_checker.proofs.lemmas.listeners.Taken.{ready_kept, noted_reported, taken_on, refused_judges, refused_notifies, short_judges, short_notifies, taken_judges, taken_notifies}
 use Rattle.sat_checker.proofs.kernel.Kernel.step.Goals as goal
 
 pub take_in-requires-clause-well : goal.take_in-requires-clause-well
@@ -26,14 +26,14 @@ returns-in-Ok-true-clause-judges g c = λ steps s.
     taken_judges c.args.self.now steps s c.requires.well c.requires.settled (step_of c.args.step.now) (HearsFirst g.O.ProofProcessor.takes (HearsEach g.P.ProofProcessor.takes g.T.ProofTranscriptProcessor.reads)) _ _ (hearers c.args.own.now c.args.others.now) turned.0 turned.1 c.take_in.new.self (hearers c.take_in.new.own c.take_in.new.others) c.take_in.result
     (c.take_in.ensures (announced_by (put_back (was_of c.changed-was.result) (variable_at c.step.new.self.variables)) c.step.new.notes.news) (λ h. refl))
 
-pub returns-in-Ok-true-clause-tells : goal.returns-in-Ok-true-clause-tells
-returns-in-Ok-true-clause-tells g c = λ before begun steps s.
+pub returns-in-Ok-true-clause-notifies : goal.returns-in-Ok-true-clause-notifies
+returns-in-Ok-true-clause-notifies g c = λ before begun steps s.
     let k = ready_kept c.args.self.now steps s.kernel c.requires.well c.requires.settled in
     let turned = match_true c.in-Ok-true.field-0 _ _ (c.in-Ok-true.ensures.decides (ready_after steps) k) (search rules) in
-    let told = announced_by (put_back (changed_by (variable_at c.args.self.now.state.variables) (step_of c.args.step.now)) (variable_at c.step.new.self.variables)) (announced (ready_after steps) (step_of c.args.step.now)) in
-    taken_tells c.args.self.now steps s.kernel c.requires.well c.requires.settled (step_of c.args.step.now) (HearsFirst g.O.ProofProcessor.takes (HearsEach g.P.ProofProcessor.takes g.T.ProofTranscriptProcessor.reads)) before begun (hearers c.args.own.now c.args.others.now) (s.heard c.requires.well)
+    let reported = announced_by (put_back (changed_by (variable_at c.args.self.now.state.variables) (step_of c.args.step.now)) (variable_at c.step.new.self.variables)) (announced (ready_after steps) (step_of c.args.step.now)) in
+    taken_notifies c.args.self.now steps s.kernel c.requires.well c.requires.settled (step_of c.args.step.now) (HearsFirst g.O.ProofProcessor.takes (HearsEach g.P.ProofProcessor.takes g.T.ProofTranscriptProcessor.reads)) before begun (hearers c.args.own.now c.args.others.now) (s.heard c.requires.well)
     _ turned.0 turned.1 (announced (ready_after steps) (step_of c.args.step.now)) refl (changed_by (variable_at c.args.self.now.state.variables) (step_of c.args.step.now)) refl c.take_in.new.self (hearers c.take_in.new.own c.take_in.new.others) c.take_in.result
-    (c.take_in.ensures told (λ h.
+    (c.take_in.ensures reported (λ h.
     noted_reported c.begin.new.self c.step.new.notes c.args.hears (step_of c.args.step.now) (ready_after steps) (variable_at c.args.self.now.state.variables) (variable_at c.step.new.self.variables) (was_of c.changed-was.result) c.begin.ensures.hears c.begin.ensures.none c.changed-was.ensures
     (c.in-Ok-true.ensures.noted (search rules) (ready_after steps) k (after_any steps)) h))
 
@@ -46,20 +46,20 @@ returns-in-Err-clause-judges g c = λ steps s.
     let k = ready_kept c.args.self.now steps s c.requires.well c.requires.settled in
     rw c.from.ensures (short_judges c.args.self.now steps s c.requires.well c.requires.settled (step_of c.args.step.now) _ c.in-Err.error (c.in-Err.ensures.decides (ready_after steps) k) refl refl)
 
-pub returns-in-Err-clause-tells : goal.returns-in-Err-clause-tells
-returns-in-Err-clause-tells g c = λ before begun steps s.
+pub returns-in-Err-clause-notifies : goal.returns-in-Err-clause-notifies
+returns-in-Err-clause-notifies g c = λ before begun steps s.
     let k = ready_kept c.args.self.now steps s.kernel c.requires.well c.requires.settled in
-    rw c.from.ensures (short_tells c.args.self.now steps s.kernel c.requires.well c.requires.settled (step_of c.args.step.now) (HearsFirst g.O.ProofProcessor.takes (HearsEach g.P.ProofProcessor.takes g.T.ProofTranscriptProcessor.reads)) before begun (hearers c.args.own.now c.args.others.now) (s.heard c.requires.well) _ c.in-Err.error (c.in-Err.ensures.decides (ready_after steps) k) refl refl)
+    rw c.from.ensures (short_notifies c.args.self.now steps s.kernel c.requires.well c.requires.settled (step_of c.args.step.now) (HearsFirst g.O.ProofProcessor.takes (HearsEach g.P.ProofProcessor.takes g.T.ProofTranscriptProcessor.reads)) before begun (hearers c.args.own.now c.args.others.now) (s.heard c.requires.well) _ c.in-Err.error (c.in-Err.ensures.decides (ready_after steps) k) refl refl)
 
 pub returns-in-Ok-false-clause-judges : goal.returns-in-Ok-false-clause-judges
 returns-in-Ok-false-clause-judges g c = λ steps s.
     let k = ready_kept c.args.self.now steps s c.requires.well c.requires.settled in
     refused_judges c.args.self.now steps s c.requires.well c.requires.settled (step_of c.args.step.now) _ (match_false c.in-Ok-false.field-0 _ _ (c.in-Ok-false.ensures.decides (ready_after steps) k) (search rules)) refl refl
 
-pub returns-in-Ok-false-clause-tells : goal.returns-in-Ok-false-clause-tells
-returns-in-Ok-false-clause-tells g c = λ before begun steps s.
+pub returns-in-Ok-false-clause-notifies : goal.returns-in-Ok-false-clause-notifies
+returns-in-Ok-false-clause-notifies g c = λ before begun steps s.
     let k = ready_kept c.args.self.now steps s.kernel c.requires.well c.requires.settled in
-    refused_tells c.args.self.now steps s.kernel c.requires.well c.requires.settled (step_of c.args.step.now) (HearsFirst g.O.ProofProcessor.takes (HearsEach g.P.ProofProcessor.takes g.T.ProofTranscriptProcessor.reads)) before begun (hearers c.args.own.now c.args.others.now) (s.heard c.requires.well)
+    refused_notifies c.args.self.now steps s.kernel c.requires.well c.requires.settled (step_of c.args.step.now) (HearsFirst g.O.ProofProcessor.takes (HearsEach g.P.ProofProcessor.takes g.T.ProofTranscriptProcessor.reads)) before begun (hearers c.args.own.now c.args.others.now) (s.heard c.requires.well)
     _ (match_false c.in-Ok-false.field-0 _ _ (c.in-Ok-false.ensures.decides (ready_after steps) k) (search rules)) refl refl
 
 pub returns-in-Ok-false-clause-looks : goal.returns-in-Ok-false-clause-looks

@@ -43,7 +43,7 @@ returns-then-not-delete-clause-looks c = record {
   rise = grind (arith, common_steps);
   most = λ f k.
       let filed = c.file.ensures.looks.most f k.formula in
-      let told = c.deletion-deletion.ensures.looks.most f (c.file.ensures.kept f k.formula) in
+      let most = c.deletion-deletion.ensures.looks.most f (c.file.ensures.kept f k.formula) in
       let gone = c.delete.ensures.looks.most f (c.file.ensures.kept f k.formula) in
       omega arith;
 }
@@ -53,7 +53,7 @@ returns-in_err-deleted-clause-looks c = record {
   rise = grind (arith, common_steps);
   most = λ f k.
       let filed = c.file.ensures.looks.most f k.formula in
-      let told = c.deletion-deletion.ensures.looks.most f (c.file.ensures.kept f k.formula) in
+      let most = c.deletion-deletion.ensures.looks.most f (c.file.ensures.kept f k.formula) in
       let gone = c.delete.ensures.looks.most f (c.file.ensures.kept f k.formula) in
       omega arith;
 }
@@ -63,7 +63,7 @@ returns-in_err-compact-clause-looks c = record {
   rise = grind (arith, common_steps);
   most = λ f k.
       let filed = c.file.ensures.looks.most f k.formula in
-      let told = c.deletion-deletion.ensures.looks.most f (c.file.ensures.kept f k.formula) in
+      let most = c.deletion-deletion.ensures.looks.most f (c.file.ensures.kept f k.formula) in
       let gone = c.delete.ensures.looks.most f (c.file.ensures.kept f k.formula) in
       omega arith;
 }
@@ -73,11 +73,11 @@ returns-clause-looks c = record {
   rise = grind (arith, common_steps);
   most = λ f k.
       let filed = c.file.ensures.looks.most f k.formula in
-      let told = c.deletion-deletion.ensures.looks.most f (c.file.ensures.kept f k.formula) in
+      let most = c.deletion-deletion.ensures.looks.most f (c.file.ensures.kept f k.formula) in
       let gone = c.delete.ensures.looks.most f (c.file.ensures.kept f k.formula) in
       omega arith;
 }
 
 pub returns-clause-noted : goal.returns-clause-noted
 returns-clause-noted c = λ t f k long.
-    deletion_noted f c.args.clause.now (deletion_of c.args.proof) c.in-Ok.literals.now c.deletion-deletion.result c.args.notes.now c.deleted.new.self (λ h. c.deletion-deletion.ensures.told h f (c.file.ensures.kept f k.formula) c.args.clause.now c.in-Ok.ensures.set) c.in_ok-deleted.ensures
+    deletion_noted f c.args.clause.now (deletion_of c.args.proof) c.in-Ok.literals.now c.deletion-deletion.result c.args.notes.now c.deleted.new.self (λ h. c.deletion-deletion.ensures.reported h f (c.file.ensures.kept f k.formula) c.args.clause.now c.in-Ok.ensures.set) c.in_ok-deleted.ensures
