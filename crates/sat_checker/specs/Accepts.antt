@@ -12,13 +12,13 @@ use Rattle.sat_checker.specs.Storing.{clause_with, irredundant_count, redundant_
 abbrev pub PassesByHashes : Stored → List ℕ → List ℕ → Type 0
 PassesByHashes f clause hashes = PassesCheck (unit_literals f) clause (map (bucket f) hashes)
 
--- no variable has the name, and this one has none and isn't hidden
+-- whether a variable may get a name: no variable has the name, and this one has none and is not hidden
 pub record MayGetName (f : Stored) (v name : ℕ) : Type 0 where
   pub free : (w : ℕ) → name_of w f ≢ Some name
   pub nameless : name_of v f ≡ None
   pub not_hidden : mode_of v f ≢ Hide
 
--- it's known, has no name, and is neither in a stored clause of two literals or more nor assumed
+-- whether a variable may be deleted: it is known, has no name, and is neither in a stored clause of two literals or more nor assumed
 pub record MayBeDeleted (f : Stored) (v : ℕ) : Type 0 where
   pub known : is_known v f ≡ true
   pub nameless : name_of v f ≡ None
@@ -34,7 +34,7 @@ abbrev pub PassInTurn : Stored → List (ℕ × ℕ) → Type 0
 PassInTurn f [] = Unit {0}
 PassInTurn f (u ∷ us) = PassesByHashes f (u.0 ∷ []) (u.1 ∷ []) × PassInTurn (with_unit u.0 f) us
 
--- it was last_literals, and is a part of the clause but not all of it
+-- the list, if there is one, is a part of the clause but not all of it
 abbrev pub IsStrictSubset : Option (List ℕ) → List ℕ → Type 0
 IsStrictSubset None clause = ⊥
 IsStrictSubset (Some ls) clause = (is_part ls clause ≡ true) × (is_part clause ls ≡ false)

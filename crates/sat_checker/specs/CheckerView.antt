@@ -15,12 +15,12 @@ use Rattle.sat_checker.specs.declared.error.CheckerError.TheVariants as errors
 use Rattle.sat_checker.specs.declared.processing.ProcessingError.{ProcessingError}
 use Rattle.sat_checker.specs.declared.processing.ProcessingError.TheVariants as faults
 
--- what judges the steps, and the listeners
+-- what contracts see of a checker: what judges the steps, and the listeners
 pub record CheckerView (L : Type 0) : Type 0 where
   pub kernel : Kernel
   pub listeners : L
 
--- this kernel, with these listeners
+-- the view of this kernel, with these listeners
 abbrev pub seen : {L : Type 0} → Kernel → L → CheckerView L
 seen kernel listeners = record { kernel = kernel; listeners = listeners }
 
@@ -28,11 +28,11 @@ seen kernel listeners = record { kernel = kernel; listeners = listeners }
 abbrev pub kernel_of : {P T : Type 0} → Checker P T → Kernel
 kernel_of c = c.kernel
 
--- with the processors and transcripts that were added
+-- the view of a checker, with the processors and transcripts that were added
 abbrev pub seen_of : {P T : Type 0} → Checker P T → CheckerView (Processing P T)
 seen_of c = seen c.kernel c.processing
 
--- and with one that a single call lends
+-- the view of a checker, with a processor that one call lends besides
 abbrev pub seen_with : {V P T : Type 0} → V → Checker P T → CheckerView (Hearers V (Processing P T))
 seen_with own c = seen c.kernel (hearers own c.processing)
 
@@ -80,12 +80,12 @@ module _ {L : Type 0} (Hears : L → Notice → Result Unit ProcessingError → 
     pub stands : HasAccepted new steps
     pub failed : has_failed new ≡ true
 
-  -- what waited was announced, and no more
+  -- the checker failed, and has announced what waited, and no more
   pub record FailsRefusing (new : CheckerView L) (steps : List Step) : Type 0 where
     pub fails : Fails new steps
     pub heard : HearsSince Hears before (all_notices_after steps) begun new.listeners
 
-  -- nothing more was announced, or only what waited
+  -- the checker failed, and has announced nothing more, or only what waited
   pub record FailsBeforeStep (new : CheckerView L) (steps : List Step) : Type 0 where
     pub fails : Fails new steps
     pub heard : HearsSince Hears before (notices_after steps) begun new.listeners ⊎ HearsSince Hears before (all_notices_after steps) begun new.listeners
@@ -95,7 +95,7 @@ module _ {L : Type 0} (Hears : L → Notice → Result Unit ProcessingError → 
     pub fails : Fails new steps
     pub heard : HearsSinceUpTo Hears e before reported begun new.listeners
 
-  -- for a pending unit conflict, or for what an accepted step announces; that step then counts as accepted
+  -- a listener returned a fault for a pending unit conflict, or for what an accepted step announces; that step then counts as accepted
   abbrev pub BreaksAt : ProcessingError → CheckerView L → Step → List Step → Type 0
   BreaksAt e new step steps =
       (kernels.LeavesConflict steps × FailsAtListener e (all_notices_after steps) new steps)
@@ -154,10 +154,10 @@ module _ {L : Type 0} (Hears : L → Notice → Result Unit ProcessingError → 
   abbrev pub ChecksStep : Result Unit CheckerError → CheckerView L → Step → CheckerView L → Type 0
   ChecksStep result old step new = (before : List Notice) (begun : L) (steps : List Step) → HasAccepted Hears before begun old steps → AnswersStep Hears before begun result old step new steps
 
-  -- so does the result when a pending unit conflict is settled
+  -- the result when a pending unit conflict is settled means this, whatever was accepted and announced earlier
   abbrev pub ChecksDelayed : Result Unit CheckerError → CheckerView L → CheckerView L → Type 0
   ChecksDelayed result old new = (before : List Notice) (begun : L) (steps : List Step) → HasAccepted Hears before begun old steps → AnswersDelayed Hears before begun result old new steps
 
-  -- and the result for a clause of the formula
+  -- the result for a clause of the formula means this, whatever was accepted and announced earlier
   abbrev pub ChecksClause : Result Unit CheckerError → CheckerView L → List ℕ → CheckerView L → Type 0
   ChecksClause result old clause new = (before : List Notice) (begun : L) (steps : List Step) → HasAccepted Hears before begun old steps → AnswersClause Hears before begun result old clause new steps

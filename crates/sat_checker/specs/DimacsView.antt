@@ -24,7 +24,7 @@ use Rattle.sat_checker.specs.declared.error.CheckerDimacsError.TheVariants as re
 abbrev pub AreOfFront : List ℕ → List (List ℕ) → Type 0
 AreOfFront text clauses = (front : List ℕ) × (left : List ℕ) × (text ≡ front ++ left) × (clauses ≡ (dimacs (up_to_last_blank front)).clauses)
 
--- those, or all of the text
+-- the clauses that were read: those of the words that have ended, or all of the text
 abbrev pub AreRead : List ℕ → List (List ℕ) → Type 0
 AreRead text clauses = AreOfFront text clauses ⊎ (clauses ≡ (dimacs text).clauses)
 
@@ -79,6 +79,6 @@ DimacsFaultNeedsListener result old = (steps : List Step) → kernels.HasAccepte
 abbrev pub EndedStayFirst : Type 0
 EndedStayFirst = (text rest : List ℕ) → AreFirst (dimacs (up_to_last_blank text)).clauses (text ++ rest)
 
--- and so do those that are read
+-- the clauses that are read from a text stay the first, whatever follows
 abbrev pub ReadAreFirst : Type 0
 ReadAreFirst = (text : List ℕ) (clauses : List (List ℕ)) → AreRead text clauses → AreFirst clauses text

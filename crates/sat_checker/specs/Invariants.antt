@@ -17,16 +17,16 @@ abbrev pub EachOnce : List StoredClause → Type 0
 EachOnce [] = Unit {0}
 EachOnce (c ∷ cs) = (clause_with c.literals cs ≡ None) × EachOnce cs
 
--- all of them have a count
+-- every clause has a count
 abbrev pub EachCounted : List StoredClause → Type 0
 EachCounted = AllByRecursion (λ c. 0 < c.irredundant + c.redundant)
 
--- in order of ids, all of which were given
+-- clauses are in order of ids, all of which were given
 pub record IdsRise (f : Stored) : Type 0 where
   pub rising : IsIncreasing (map (λ c. c.id) f.clauses)
   pub given : AllByRecursion (λ id. id < f.next_id) (map (λ c. c.id) f.clauses)
 
--- two different literals or more, sorted, and not both signs of a variable
+-- every clause has two literals or more, sorted, different, and not both signs of a variable
 pub record IsProper (literals : List ℕ) : Type 0 where
   pub two : 2 ≤ length literals
   pub sorted : IsIncreasing literals
@@ -109,7 +109,7 @@ LastStays = (f : Stored) (step : Step) → leaves_last step ≡ true → last_li
 abbrev pub LastIsSettled : Type 0
 LastIsSettled = (f : Stored) → last_literals (settled f).last (settled f) ≡ last_literals f.last f
 
--- a unit satisfies it, or it has an irredundant count
+-- a unit satisfies the clause, or it has an irredundant count
 abbrev pub Supported : List ℕ → List StoredClause → List ℕ → Type 0
 Supported us cs ls = (list_any (is_among us) ls ≡ true) ⊎ (0 < irredundant_count (clause_with ls cs))
 
@@ -120,7 +120,7 @@ LastHolds (Empty id) unsat us cs = unsat ≡ true
 LastHolds (UnitClause id) unsat us cs = Unit {0}
 LastHolds (LongClause id) unsat us cs = (ls : List ℕ) → clause_numbered id cs ≡ Some ls → Supported us cs ls
 
--- its id was given
+-- the id of the last irredundant clause stored was given
 abbrev pub LastBelow : ℕ → Last → Type 0
 LastBelow n NoneYet = Unit {0}
 LastBelow n (Empty id) = id < n
@@ -138,7 +138,7 @@ pub record Orderly (f : Stored) : Type 0 where
 abbrev pub AlwaysOrderly : Type 0
 AlwaysOrderly = (steps : List Step) → AcceptsAll steps → Orderly (ready_after steps)
 
--- the same is known of variables, and the same is assumed
+-- both have the same variables and the same assumptions
 pub record SameVariables (f g : Stored) : Type 0 where
   pub variables : g.variables ≡ f.variables
   pub deleted : g.var_deleted ≡ f.var_deleted

@@ -32,7 +32,7 @@ pub record KeepsAfter (state : State) (steps : List Step) : Type 0 where
   pub keeps : KeepsStored state formula
   pub left : (formula ≡ stored_after steps) ⊎ (formula ≡ ready_after steps)
 
--- of what is stored, what can still be returned after a later step has failed
+-- the records of what is stored, which can still be returned after a later step has failed
 abbrev pub records_of : Stored → Records
 records_of f = record { unsat = f.unsat; ended = f.ended; var_deleted = f.var_deleted }
 
@@ -62,7 +62,7 @@ abbrev pub AnswersStep : Result Unit CheckerError → Kernel → Step → Kernel
 AnswersStep (Ok x) old step new steps = (kernel_has_failed old ≡ false) × AcceptsStep new step steps
 AnswersStep (Err errors.CheckFailed) old step new steps = (kernel_has_failed old ≡ false) × (Accepts (ready_after steps) step → ⊥) × Fails new steps
 AnswersStep (Err errors.CounterEnd) old step new steps = (kernel_has_failed old ≡ false) × SpentBy step (stored_after steps) × Fails new steps
--- for the step, which would be accepted; while a pending conflict was announced; or while the step was, which then counts as accepted
+-- memory ran out for the step, which would be accepted; while a pending conflict was announced; or while the step was, which then counts as accepted
 AnswersStep (Err errors.OutOfMemory) old step new steps =
     (kernel_has_failed old ≡ false)
     × ((Accepts (ready_after steps) step × Fails new steps)
@@ -102,7 +102,7 @@ AnswersDelayed (Ok x) old new steps = (kernel_has_failed old ≡ false) × (kern
 AnswersDelayed (Err errors.CounterEnd) old new steps = (kernel_has_failed old ≡ false) × (kernel_looks new ≡ kernel_looks old) × IsSpent (ready_after steps) × Fails new steps
 AnswersDelayed (Err errors.HasFailed) old new steps = (kernel_has_failed old ≡ true) × Fails new steps
 AnswersDelayed (Err errors.CheckFailed) old new steps = ⊥
--- while it is announced
+-- memory ran out while the conflict was announced
 AnswersDelayed (Err errors.OutOfMemory) old new steps = (kernel_has_failed old ≡ false) × (kernel_looks new ≡ kernel_looks old) × LeavesConflict steps × Fails new steps
 AnswersDelayed (Err (errors.ProofProcessorError cause)) old new steps = (kernel_has_failed old ≡ false) × (kernel_looks new ≡ kernel_looks old) × LeavesConflict steps × Fails new steps
 AnswersDelayed (Err errors.ProofIncomplete) old new steps = ⊥

@@ -36,7 +36,7 @@ CoresAssumed = (f : Stored) (core hashes : List ℕ) → Accepts f (FailedAssump
 abbrev pub NamedIsKnown : Type 0
 NamedIsKnown = (f : Stored) (v name : ℕ) → is_known v (effect (UserVarName v (Some name)) f) ≡ true
 
--- what is known stays so until it is deleted
+-- a known variable remains known until it is deleted
 abbrev pub KnownStays : Type 0
 KnownStays = (f : Stored) (step : Step) (v : ℕ) → is_known v f ≡ true → (is_known v (effect step f) ≡ true) ⊎ (step ≡ DeleteVar v)
 

@@ -42,11 +42,11 @@ LeadingPasses = (f : Stored) (clause hashes : List ℕ) (named : List (List ℕ)
 abbrev pub TurnsLead : Type 0
 TurnsLead = (assumed : List ℕ) (clauses : List (List ℕ)) → UnitInTurn assumed clauses → LeadsToConflict (is_among assumed) clauses
 
--- and they cannot all be true if the assumed literals are
+-- clauses that are unit in turn cannot all be true if the assumed literals are
 abbrev pub TurnsConflict : Type 0
 TurnsConflict = (a : Valuation) (assumed : List ℕ) (clauses : List (List ℕ)) → UnitInTurn assumed clauses → EachTrue a assumed → EachHolds a clauses → ⊥
 
--- what leads to a conflict also does so if more holds
+-- clauses that lead to a conflict also do so under more assumed literals
 abbrev pub LeadsOnMore : Type 0
 LeadsOnMore = (clauses : List (List ℕ)) (p q : ℕ → Bool) → ((l : ℕ) → p l ≡ true → q l ≡ true) → LeadsToConflict p clauses → LeadsToConflict q clauses
 

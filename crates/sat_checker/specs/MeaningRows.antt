@@ -57,6 +57,6 @@ LooksOfKinds =
     map (most_looks (ready_by four_clauses)) (AddClause (0 ∷ []) ∷ AtClause true (0 ∷ []) (1 ∷ 2 ∷ []) ∷ UnitClauses ((0, 1) ∷ []) ∷ FailedAssumptions [] (1 ∷ []) ∷ End ∷ [])
     ≡ 40 ∷ 72 ∷ 56 ∷ 56 ∷ 40 ∷ []
 
--- of none, of one clause of two literals, and of both
+-- nothing is stored before the first step, and a clause of two literals before both others
 abbrev pub LooksOfAll : Type 0
 LooksOfAll = most_looks_of (behind (AddClause (0 ∷ 2 ∷ []) ∷ AddClause (4 ∷ []) ∷ End ∷ []) []) ≡ 20

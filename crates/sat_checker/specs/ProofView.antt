@@ -86,7 +86,7 @@ module _ {L : Type 0} (Hears : L → Notice → Result Unit ProcessingError → 
   AnswersProof (Err errors.IoError) old new from to earlier =
       (passed : List Step) × (rest : List ℕ) × ReadsProofPart old new from to earlier passed [] rest × ReadFails from to
       × IsProperFront SpellsStep rest × StandsUnfailed new (taken_after passed earlier)
-  -- while a step was read, after one of its bytes, or while it was checked or announced
+  -- memory ran out while a step was read, after one of its bytes, or while it was checked or announced
   AnswersProof (Err errors.OutOfMemory) old new from to earlier =
       (passed : List Step) × (rest : List ℕ) × NoReadFailed from to
       × ((ReadsProofPart old new from to earlier passed [] rest × BeginsWithStep rest × FailsBeforeStep Hears before begun new (taken_after passed earlier))

@@ -134,7 +134,7 @@ SimplifiedByPart = let steps : List Step = AddClause (0 ∷ 2 ∷ 4 ∷ []) ∷ 
 abbrev pub SimplifiedByItself : Type 0
 SimplifiedByItself = LastRefused (AddClause (0 ∷ 2 ∷ []) ∷ []) (DeleteClause (0 ∷ 2 ∷ []) Simplified)
 
--- nor by one that was removed
+-- no clause is deleted by one that was removed
 abbrev pub SimplifiedByGone : Type 0
 SimplifiedByGone = LastRefused (AddClause (0 ∷ []) ∷ AddClause (0 ∷ 2 ∷ 4 ∷ []) ∷ AddClause (0 ∷ 2 ∷ []) ∷ DeleteClause (0 ∷ 2 ∷ []) Satisfied ∷ []) (DeleteClause (0 ∷ 2 ∷ 4 ∷ []) Simplified)
 
@@ -151,15 +151,15 @@ UnitForgotten = let steps : List Step = AddClause (0 ∷ []) ∷ DeleteVar 0 ∷
 abbrev pub InClause : Type 0
 InClause = LastRefused (AddClause (0 ∷ 2 ∷ []) ∷ []) (DeleteVar 0)
 
--- a variable that has a name isn't deleted
+-- a variable that has a name is not deleted
 abbrev pub WithName : Type 0
 WithName = LastRefused (UserVarName 0 (Some 7) ∷ []) (DeleteVar 0)
 
--- nor is one that the last assumptions mention
+-- a variable that the last assumptions mention is not deleted
 abbrev pub DeletesAssumed : Type 0
 DeletesAssumed = LastRefused (Assumptions (1 ∷ []) ∷ []) (DeleteVar 0)
 
--- nor one that no step has made known
+-- a variable that no step has made known is not deleted
 abbrev pub Unknown : Type 0
 Unknown = LastRefused [] (DeleteVar 0)
 
@@ -223,7 +223,7 @@ by_solver_name = AddClause (0 ∷ 2 ∷ []) ∷ SolverVarName 0 (Some 5) ∷ Add
 abbrev pub BySolverName : Type 0
 BySolverName = AllAccepted by_solver_name
 
--- also if the variable that had that name was deleted before
+-- the clause is found under solver name 5 even if the variable that had that name was deleted before
 abbrev pub ByNameLeft : Type 0
 ByNameLeft = AllAccepted (AddClause (0 ∷ []) ∷ SolverVarName 0 (Some 5) ∷ DeleteVar 0 ∷ AddClause (0 ∷ 2 ∷ []) ∷ AddClause (1 ∷ []) ∷ AtClause true (2 ∷ []) (hash_of (10 ∷ 2 ∷ []) ∷ []) ∷ [])
 

@@ -18,7 +18,7 @@ pub record StoredUnit : Type 0 where
   pub id : ℕ
   pub literal : ℕ
 
--- of a variable: steps set sample and witness, and one whose name is removed is hidden
+-- the mode of a variable: steps set sample and witness, and a variable whose name is removed is hidden
 pub data Mode : Type 0 where
   Sample : Mode
   Witness : Mode
@@ -105,7 +105,7 @@ hash_by names width clause = hash_of (map (solver_literal names) clause) / 2 ^ (
 abbrev pub long_clauses : Stored → List (List ℕ)
 long_clauses f = map (λ c. c.literals) f.clauses
 
--- those of one hash, in order of ids
+-- the literals of the clauses with one hash, in order of ids
 abbrev pub bucket : Stored → ℕ → List (List ℕ)
 bucket f hash = filter (λ c. hash_by f.solver_names f.width c == hash) (long_clauses f)
 

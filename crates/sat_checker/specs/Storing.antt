@@ -4,11 +4,11 @@ use Rattle.sat_base.specs.values.Literals.{variable, negated}
 use Rattle.sat_checker.specs.LiteralSets.{is_among, is_tautology, canonical, same_literals}
 use Rattle.sat_checker.specs.Stored.{StoredClause, StoredUnit, Variable, unknown, Last, NoneYet, Empty, UnitClause, LongClause, Stored, is_unit}
 
--- one count more
+-- a clause with one count more
 abbrev pub with_count : Bool → StoredClause → StoredClause
 with_count redundant c = if redundant then record c { redundant = c.redundant + 1 } else record c { irredundant = c.irredundant + 1 }
 
--- stored once
+-- a clause that is stored once
 abbrev pub new_clause : Bool → ℕ → List ℕ → StoredClause
 new_clause redundant id literals = with_count redundant (record { id = id; literals = literals; irredundant = 0; redundant = 0 })
 
@@ -32,7 +32,7 @@ abbrev pub redundant_count : Option StoredClause → ℕ
 redundant_count None = 0
 redundant_count (Some c) = c.redundant
 
--- one count less
+-- a clause with one count less
 abbrev pub without_count : Bool → StoredClause → StoredClause
 without_count redundant c = if redundant then record c { redundant = c.redundant - 1 } else record c { irredundant = c.irredundant - 1 }
 
@@ -75,7 +75,7 @@ abbrev pub settled_by : Option (ℕ × ℕ) → Stored → Stored
 settled_by None f = f
 settled_by (Some units) f = record f { conflict = None; next_id = f.next_id + 1 }
 
--- with no unit conflict pending any more
+-- the stored formula with its pending unit conflict settled
 abbrev pub settled : Stored → Stored
 settled f = settled_by f.conflict f
 

@@ -25,7 +25,7 @@ verdict_of_open assumed (l ∷ m ∷ ls) = rests
 abbrev pub verdict : List ℕ → List ℕ → Verdict
 verdict assumed clause = verdict_of_open assumed (not_false assumed clause)
 
--- what is returned of it
+-- the verdict that a result of the code means
 abbrev pub verdict_of : Look → Verdict
 verdict_of look.Falsified = falsified
 verdict_of (look.Opens l) = opens l

@@ -20,7 +20,7 @@ abbrev pub with_cause : ℕ → StoredClause → ConflictCauses → ConflictCaus
 with_cause l c g =
     if is_among g.literals l then record { literals = others_denied l c.literals ++ g.literals; clauses = c ∷ g.clauses } else g
 
--- by what a clause is: falsified, it is the conflict; unit, its open literal is true for the clauses after it
+-- the causes, by what a clause is: if it is falsified, it is the conflict; if it is unit, its open literal is true for the clauses after it
 abbrev pub causes_by : Verdict → StoredClause → List ℕ → (List ℕ → ConflictCauses) → ConflictCauses
 causes_by falsified c assumed behind = record { literals = map negated c.literals; clauses = c ∷ [] }
 causes_by (opens l) c assumed behind = with_cause l c (behind (l ∷ assumed))

@@ -13,11 +13,11 @@ use Rattle.sat_checker.specs.announcements.Transcripts as transcript
 abbrev pub announcements_of : List Notice → List Announcement
 announcements_of = map (λ t. t.announcement)
 
--- by the end of these steps
+-- what is announced by the end of these steps
 abbrev pub announcements_by : List Step → List Announcement
 announcements_by ss = announcements_of (notices_after (behind ss []))
 
--- and once delayed ones were announced
+-- what is announced once delayed announcements were made
 abbrev pub all_announcements_by : List Step → List Announcement
 all_announcements_by ss = announcements_of (all_notices_after (behind ss []))
 
@@ -29,7 +29,7 @@ transcribed_by ss = transcripts (all_notices_after (behind ss []))
 abbrev pub LastAnnounces : List Step → Step → List Announcement → Type 0
 LastAnnounces before last reported = AllAccepted (before ++ last ∷ []) × (announcements_by (before ++ last ∷ []) ≡ announcements_by before ++ reported)
 
--- and what the transcript says of it
+-- what the transcript says of the last step
 abbrev pub LastReads : List Step → Step → List Transcribed → Type 0
 LastReads before last read = AllAccepted (before ++ last ∷ []) × (transcripts (notices_after (behind (before ++ last ∷ []) [])) ≡ transcripts (notices_after (behind before [])) ++ read)
 
@@ -114,23 +114,23 @@ InputBehindUnsat = LastAnnounces (steps.AddClause [] ∷ []) (steps.AddClause (0
 abbrev pub DerivedNew : Type 0
 DerivedNew = LastAnnounces (steps.AddClause (0 ∷ []) ∷ []) (steps.AtClause true (2 ∷ 0 ∷ []) []) (AtClause 1 true (0 ∷ 2 ∷ []) (0 ∷ []) ∷ [])
 
--- as irredundant if it was only redundant
+-- derived as irredundant, and only redundant before
 abbrev pub DerivedIrredundant : Type 0
 DerivedIrredundant = LastAnnounces as_redundant (steps.AtClause false (2 ∷ 0 ∷ []) []) (MakeIrredundant 1 (0 ∷ 2 ∷ []) ∷ [])
 
--- as redundant if it was redundant: nothing is announced
+-- derived as redundant, and redundant before: nothing is announced
 abbrev pub DerivedRedundantAgain : Type 0
 DerivedRedundantAgain = LastAnnounces as_redundant (steps.AtClause true (2 ∷ 0 ∷ []) []) []
 
--- as irredundant if it was irredundant: nothing is announced
+-- derived as irredundant, and irredundant before: nothing is announced
 abbrev pub DerivedIrredundantAgain : Type 0
 DerivedIrredundantAgain = LastAnnounces (steps.AddClause (0 ∷ []) ∷ steps.AddClause (0 ∷ 2 ∷ []) ∷ []) (steps.AtClause false (0 ∷ 2 ∷ []) []) []
 
--- of a derived unit that was stored before nothing is announced
+-- a derived unit that was stored before: nothing is announced
 abbrev pub DerivedUnitAgain : Type 0
 DerivedUnitAgain = LastAnnounces (steps.AddClause (0 ∷ []) ∷ []) (steps.AtClause false (0 ∷ []) []) []
 
--- of a derived tautology nothing is announced
+-- a derived tautology: nothing is announced
 abbrev pub DerivedTautology : Type 0
 DerivedTautology = LastAnnounces [] (steps.AtClause false (0 ∷ 1 ∷ []) []) []
 
@@ -183,7 +183,7 @@ NameOfKnown = LastAnnounces (as_witness) (UserVarName 0 (Some 7)) (UserVar 0 (So
 abbrev pub NameRemoved : Type 0
 NameRemoved = LastAnnounces named_seven (UserVarName 0 None) (UserVar 0 None ∷ [])
 
--- of a solver's name nothing is announced
+-- a solver's name: nothing is announced
 abbrev pub SolverNameSet : Type 0
 SolverNameSet = LastAnnounces [] (SolverVarName 0 (Some 7)) []
 
@@ -195,7 +195,7 @@ ModeChanged = LastAnnounces named_seven (ChangeSamplingMode 0 false) (UserVar 0 
 abbrev pub ModeLeft : Type 0
 ModeLeft = LastAnnounces named_seven (ChangeSamplingMode 0 true) []
 
--- of a variable that has no name: nothing is announced
+-- the mode of a variable that has no name: nothing is announced
 abbrev pub ModeOfNameless : Type 0
 ModeOfNameless = LastAnnounces (steps.Assumptions (0 ∷ []) ∷ []) (ChangeSamplingMode 0 false) []
 
@@ -256,7 +256,7 @@ abbrev pub ModesRead : Type 0
 ModesRead = LastReads named_seven (ChangeSamplingMode 0 false) (transcript.WitnessVar 7 ∷ [])
     × LastReads (named_seven ++ ChangeSamplingMode 0 false ∷ []) (ChangeSamplingMode 0 true) (transcript.SampleVar 7 ∷ [])
 
--- of clauses: every input clause, the empty derived one, and no other derived or deleted one
+-- transcripts of clauses: every input clause, the empty derived one, and no other derived or deleted one
 abbrev pub InputsRead : Type 0
 InputsRead = LastReads [] (steps.AddClause (2 ∷ 0 ∷ 0 ∷ [])) (transcript.AddClause (0 ∷ 2 ∷ []) ∷ [])
     × LastReads (steps.AddClause (0 ∷ 2 ∷ []) ∷ []) (steps.AddClause (2 ∷ 0 ∷ 0 ∷ [])) (transcript.AddClause (0 ∷ 2 ∷ []) ∷ [])

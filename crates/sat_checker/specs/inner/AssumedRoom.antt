@@ -10,7 +10,7 @@ pub record LiteralsAndRoom : Type 0 where
   pub literals : List ℕ
   pub room : List ℕ
 
--- with room for one more, and for its negation
+-- the room with one more literal, and its negation
 abbrev pub with_room : ℕ → List ℕ → List ℕ
 with_room l room = if is_among room l then room else l ∷ negated l ∷ room
 

@@ -18,7 +18,7 @@ is_out_of_memory texts.Read = false
 is_out_of_memory texts.OutOfMemory = true
 is_out_of_memory texts.HasFailed = false
 
--- it has failed, or not
+-- the checker with this value of whether it has failed
 abbrev pub with_flag : {L : Type 0} → Bool → CheckerView L → CheckerView L
 with_flag b c = record c { kernel = record c.kernel { failed = b } }
 

@@ -8,7 +8,7 @@ use Rattle.sat_checker.specs.declared.store.slots.Entry.{Entry}
 abbrev pub slot_of : List ℕ → Entry → Slot
 slot_of buffer e = record { clause = record { id = e.id; literals = lits_in buffer e.lits; irredundant = e.irredundant; redundant = e.redundant }; hash = e.hash.hash }
 
--- its literals are there, sorted without repeats
+-- the literals of an entry are there, sorted without repeats
 pub record IsEntry (buffer : List ℕ) (e : Entry) : Type 0 where
   pub within : LitsWithin buffer e.lits
   pub increasing : IsIncreasing (lits_in buffer e.lits)

@@ -26,7 +26,7 @@ pub record RestOfStored : Type 0 where
   pub ended : Bool
   pub var_deleted : Bool
 
--- those records of what is stored
+-- what is recorded of the definition's stored formula
 abbrev pub standing_of : Stored → RestOfStored
 standing_of f = record { unsat = f.unsat; conflict = f.conflict; last = f.last; next_id = f.next_id; ended = f.ended; var_deleted = f.var_deleted }
 
@@ -37,7 +37,7 @@ last_in (code.Empty id) = Empty id
 last_in (code.Single id l) = UnitClause id
 last_in (code.Long id) = LongClause id
 
--- those records as the code has them
+-- what is recorded in the code's status
 abbrev pub standing_in : Status → RestOfStored
 standing_in s = record { unsat = s.unsat; conflict = s.conflict; last = last_in s.last; next_id = s.next_id; ended = s.ended; var_deleted = s.var_deleted }
 
@@ -71,11 +71,11 @@ pub record KeepsParts (formula : Formula) (kept : List StoredClause) (solver_nam
 abbrev pub KeepsFormula : Formula → Stored → Type 0
 KeepsFormula formula f = KeepsParts formula f.clauses f.solver_names f.width f.units (standing_of f)
 
--- with all clauses filed by the current hashes
+-- the formula with all clauses filed by the current hashes
 abbrev pub refiled_in : Formula → Formula
 refiled_in formula = record formula { store = refiled formula.store }
 
--- what the result says if this is stored then, and this is what would be
+-- `Ok` means that this is stored; `CounterEnd` means that a number would be past 64 bits in what the definition stores
 abbrev pub KeepsOrSpends : {T : Type 0} → Result T StoreError → Type 0 → Stored → Type 0
 KeepsOrSpends (Ok x) kept g = kept
 KeepsOrSpends (Err OutOfMemory) kept g = Unit {0}

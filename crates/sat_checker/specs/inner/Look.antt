@@ -12,7 +12,7 @@ pub record AssumesMore (old new : LiteralsAndRoom) : Type 0 where
   pub below : drop (length new.literals - length old.literals) new.literals ≡ old.literals
   pub room : RoomStays old.room new.room
 
--- what is said of the walk over a bucket, from the old assumed literals to the new ones
+-- how the walk over a bucket ended, from the old assumed literals to the new ones
 abbrev pub WalksBucket : Walked → List (List ℕ) → List ℕ → List ℕ → Type 0
 WalksBucket Empty clauses old new = (clauses ≡ []) × (new ≡ old)
 WalksBucket Conflict clauses old new = (clauses ≢ []) × (walk old clauses ≡ None)

@@ -12,7 +12,7 @@ pub use Rattle.sat_checker.specs.SortedSets.{NoRepeats, IsIncreasing}
 abbrev pub AreAmong : List ℕ → List ℕ → Type 0
 AreAmong part whole = (l : ℕ) → is_among part l ≡ true → is_among whole l ≡ true
 
--- what is marked of a literal
+-- the mark at the code of a literal
 abbrev pub mark_at : Table Mark → ℕ → Mark
 mark_at = value_at mark.NoRoom
 

@@ -47,11 +47,11 @@ abbrev pub failure_of : StoreError → CheckerError
 failure_of stores.OutOfMemory = errors.OutOfMemory
 failure_of stores.CounterEnd = errors.CounterEnd
 
--- of a status, what can still be returned after a later step has failed
+-- the records of a status, which can still be returned after a later step has failed
 abbrev pub records_in : Status → Records
 records_in s = record { unsat = s.unsat; ended = s.ended; var_deleted = s.var_deleted }
 
--- the state and the looks are as they were
+-- neither the state nor the looks changed
 pub record SameStateAndLooks {L : Type 0} (old new : CheckerView L) : Type 0 where
   pub state : new.kernel.state ≡ old.kernel.state
   pub looks : looks_of new ≡ looks_of old
@@ -66,6 +66,6 @@ module _ {L : Type 0} (Hears : L → Notice → Result Unit ProcessingError → 
   TakenIn (Ok x) old new = (has_failed new ≡ false) × (new.kernel.records ≡ records_in new.kernel.state.formula.status) × HearsAll Hears reported old.listeners new.listeners
   TakenIn (Err e) old new = (has_failed new ≡ true) × (new.kernel.records ≡ records_in new.kernel.state.formula.status) × (f : ProcessingError) × (e ≡ fault_of f) × HearsUpTo Hears f reported old.listeners new.listeners
 
-  -- the same, and the state and the looks are as they were
+  -- the same, and neither the state nor the looks changed
   abbrev pub NotifiesAndKeepsState : Result Unit CheckerError → CheckerView L → CheckerView L → Type 0
   NotifiesAndKeepsState result old new = SameStateAndLooks old new × TakenIn result old new

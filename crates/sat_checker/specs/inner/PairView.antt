@@ -7,7 +7,7 @@ use Rattle.sat_checker.specs.declared.store.links.Pair.{Pair}
 unfoldable pub mixed : ℕ → ℕ
 mixed hash = hash * 0xBF58476D1CE4E5B9 % 2 ^ 64 + hash / 2 ^ 64 * 2 ^ 64
 
--- by hashes, those of one hash by places
+-- the order of pairs: by hashes, and for equal hashes by places
 pub record IsPairBefore (p q : Pair) : Type 0 where
   pub hash : p.hash ≤ q.hash
   pub place : p.hash ≡ q.hash → p.place < q.place
@@ -21,17 +21,17 @@ AreInOrder (p ∷ ps) = AllByRecursion (IsPairBefore p) ps × AreInOrder ps
 abbrev pub is_before : Pair → Pair → Bool
 is_before p q = nat_lt p.hash q.hash || (p.hash == q.hash && nat_lt p.place q.place)
 
--- inserted before the first that it precedes
+-- a pair inserted before the first one that it precedes
 abbrev pub inserted : Pair → List Pair → List Pair
 inserted p [] = p ∷ []
 inserted p (q ∷ qs) = if is_before p q then p ∷ q ∷ qs else q ∷ inserted p qs
 
--- all of them inserted, from the last to the first
+-- all pairs inserted, from the last to the first
 abbrev pub inserted_all : List Pair → List Pair
 inserted_all [] = []
 inserted_all (p ∷ ps) = inserted p (inserted_all ps)
 
--- without the pair of this place
+-- the pairs without that of this place
 abbrev pub without_pair : ℕ → List Pair → List Pair
 without_pair place = filter (λ p. not (p.place == place))
 
@@ -44,11 +44,11 @@ abbrev pub first_of : List ℕ → Option ℕ
 first_of [] = None
 first_of (p ∷ ps) = Some p
 
--- those after a place
+-- the places after this one
 abbrev pub places_behind : ℕ → List ℕ → List ℕ
 places_behind place = filter (nat_lt place)
 
--- those from a place on
+-- the places from this one on
 abbrev pub from_on : Option ℕ → List ℕ → List ℕ
 from_on None places = []
 from_on (Some place) places = filter (nat_le place) places

@@ -71,12 +71,12 @@ pub record MeetsConflict (slots : List Slot) (old : WalkNotes) (assumed : List �
   pub there : AreNotedPlaces slots old → AreNotedPlaces slots new
   pub met : IsConflictPlace slots new.conflict
 
--- by whether it met its conflict
+-- what the notes explain, by whether the walk met its conflict
 abbrev pub NotesReasons : List Slot → Bool → WalkNotes → List ℕ → List StoredClause → WalkNotes → List ℕ → Type 0
 NotesReasons slots true old assumed clauses new more = MeetsConflict slots old assumed clauses new
 NotesReasons slots false old assumed clauses new more = KeepsGround slots old assumed clauses new more []
 
--- by how it ended over a bucket
+-- what the notes explain, by how the walk over a bucket ended
 abbrev pub RecordsWalk : List Slot → Walked → WalkNotes → List ℕ → List StoredClause → WalkNotes → List ℕ → Type 0
 RecordsWalk slots Empty old assumed clauses new more = Unit {0}
 RecordsWalk slots Conflict old assumed clauses new more = MeetsConflict slots old assumed clauses new
@@ -88,10 +88,10 @@ pub record Explains (slots : List Slot) (passed : WalkNotes) (whole : ConflictCa
   pub there : AreNotedPlaces slots passed
   pub met : IsConflictPlace slots passed.conflict
 
--- They do so unless the clause has both signs of a variable or a unit in it.
+-- The notes explain the conflict, unless the clause has both signs of a variable or a unit satisfies it.
 abbrev pub ExplainsUnless : List Slot → WalkNotes → List ℕ → List ℕ → ConflictCauses → Type 0
 ExplainsUnless slots passed units clause whole = list_any (is_among units) clause ≡ false → is_tautology clause ≡ false → Explains slots passed whole
 
--- They do so of the check of a clause by these hashes, under the assumed literals.
+-- The notes explain the check of a clause by these hashes, under the assumed literals.
 abbrev pub ExplainsCheck : List Slot → WalkNotes → List ℕ → List ℕ → List ℕ → Type 0
 ExplainsCheck slots passed assumed clause hashes = ExplainsUnless slots passed assumed clause (conflict_causes (map negated clause ++ assumed) (named hashes slots))

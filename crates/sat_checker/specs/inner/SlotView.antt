@@ -12,7 +12,7 @@ use Rattle.sat_checker.specs.declared.store.slots.ClauseLits.{ClauseLits}
 abbrev pub lits_in : List ℕ → ClauseLits → List ℕ
 lits_in buffer c = if nat_le c.len 4 then take c.len c.inline else slice_range buffer c.start (c.start + c.len)
 
--- those in the buffer are there
+-- literals that are stored in the buffer are there
 abbrev pub LitsWithin : List ℕ → ClauseLits → Type 0
 LitsWithin buffer c = 4 < c.len → c.start + c.len ≤ length buffer
 
@@ -93,7 +93,7 @@ pub record IsPresentAt (slots : List Slot) (id place : ℕ) : Type 0 where
 abbrev pub stored_slot : Bool → ℕ → ℕ → List ℕ → Slot
 stored_slot redundant id hash literals = record { clause = new_clause redundant id literals; hash = hash }
 
--- it is not removed, and has this hash
+-- whether a clause is not removed and has this hash
 abbrev pub is_filed : ℕ → Slot → Bool
 is_filed hash s = not (is_gone s) && s.hash == hash
 
@@ -101,7 +101,7 @@ is_filed hash s = not (is_gone s) && s.hash == hash
 abbrev pub bucket_in : ℕ → List Slot → List (List ℕ)
 bucket_in hash slots = all_lits (filter (is_filed hash) slots)
 
--- the same, as a function of the hash
+-- the literals of the clauses of a hash, as a function of the hash
 abbrev pub bucket_of : List Slot → ℕ → List (List ℕ)
 bucket_of slots hash = bucket_in hash slots
 
@@ -126,14 +126,14 @@ is_same_at slots literals place = same_literals (literals_at slots place) litera
 abbrev pub found_among : List Slot → List ℕ → List ℕ → Option ℕ
 found_among slots literals = find (is_same_at slots literals)
 
--- with the hash by these names and of this width, unless it is removed
+-- a clause with its hash by these names and of this width, unless it is removed
 abbrev pub hashed_by : (ℕ → Option ℕ) → ℕ → Slot → Slot
 hashed_by names width s = if is_gone s then s else record s { hash = hash_by names width s.clause.literals }
 
--- all with the hash by these names and of this width, unless they are removed
+-- the clauses with their hashes by these names and of this width, unless they are removed
 abbrev pub all_hashed_by : (ℕ → Option ℕ) → ℕ → List Slot → List Slot
 all_hashed_by names width = map (hashed_by names width)
 
--- with the hashes of this hasher, unless they are removed
+-- the clauses with their hashes by this hasher, unless they are removed
 abbrev pub hashed_anew : ClauseHasher → List Slot → List Slot
 hashed_anew h slots = all_hashed_by (solver_name_of h) (width_of h) slots

@@ -26,7 +26,7 @@ pub record KeepsHashed (store : Store) (kept : List StoredClause) (solver_names 
 abbrev pub KeepsClauses : Store → Stored → Type 0
 KeepsClauses store f = KeepsHashed store f.clauses f.solver_names f.width
 
--- with all clauses filed by the current hashes, if they wait for it
+-- the store with all clauses filed by the current hashes, if they wait for it
 abbrev pub refiled : Store → Store
 refiled store = record store { clauses = (if store.stale then hashed_anew store.hasher store.clauses else store.clauses); stale = false }
 

@@ -35,7 +35,7 @@ variable_at vs v = variable_of_data (value_at unknown_data vs.data v)
 abbrev pub holder_at : Variables → ℕ → Option ℕ
 holder_at vs name = value_at None vs.holders name
 
--- made known if that is asked
+-- the variable made known, if that is asked
 abbrev pub known_if : Bool → Variable → Variable
 known_if b x = if b then record x { known = true } else x
 

@@ -31,7 +31,7 @@ module _ {L : Type 0} (Hears : L → Notice → Result Unit ProcessingError → 
   abbrev pub HearsSince : List Notice → List Notice → L → L → Type 0
   HearsSince before reported old new = (since : List Notice) × (reported ≡ before ++ since) × HearsAll since old new
 
-  -- up to this fault
+  -- All this was announced up to this fault.
   abbrev pub HearsSinceUpTo : ProcessingError → List Notice → List Notice → L → L → Type 0
   HearsSinceUpTo e before reported old new = (since : List Notice) × (reported ≡ before ++ since) × HearsUpTo e since old new
 
@@ -45,7 +45,7 @@ pub record Hearers (V L : Type 0) : Type 0 where
   pub own : V
   pub others : L
 
--- this one first, and then these
+-- the listeners, with this one first
 abbrev pub hearers : {V L : Type 0} → V → L → Hearers V L
 hearers own others = record { own = own; others = others }
 
@@ -53,6 +53,6 @@ hearers own others = record { own = own; others = others }
 abbrev pub takes_all : {V : Type 0} → V → Notice → Result Unit Error → V → Type 0
 takes_all old t result new = (result ≡ Ok tt) × (new ≡ old)
 
--- it is notified first, and then the others, if it returns no fault
+-- the first listener is notified, and then the others, unless it returns a fault
 abbrev pub HearsFirst : {V L : Type 0} → (V → Notice → Result Unit Error → V → Type 0) → (L → Notice → Result Unit ProcessingError → L → Type 0) → Hearers V L → Notice → Result Unit ProcessingError → Hearers V L → Type 0
 HearsFirst Takes Hears old t result new = NotifiesFirst (λ answer own. Takes old.own t answer own) (Hears old.others t result new.others) result new.own old.others new.others

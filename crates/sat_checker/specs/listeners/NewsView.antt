@@ -7,7 +7,7 @@ use Rattle.sat_checker.specs.declared.announce.news.Kind.{Kind}
 use Rattle.sat_checker.specs.declared.announce.news.Kind.TheVariants as kinds
 use Rattle.sat_checker.specs.declared.announce.news.Item.{Item}
 
--- with these literals and ids
+-- an announcement of this kind, with these literals and ids
 abbrev pub announcement_with : Kind → List ℕ → List ℕ → Announcement
 announcement_with (kinds.UserVar var user) literals ids = UserVar var (option_map announced_user user)
 announcement_with (kinds.DeleteVar var) literals ids = DeleteVar var
@@ -22,11 +22,11 @@ announcement_with kinds.Model literals ids = Model literals
 announcement_with kinds.Assumptions literals ids = Assumptions literals
 announcement_with kinds.FailedAssumptions literals ids = FailedAssumptions literals ids
 
--- with the lists at its places
+-- an announcement with the lists at its places
 abbrev pub announcement_at : List (List ℕ) → List (List ℕ) → Item → Announcement
 announcement_at literals ids i = announcement_with i.kind (slice_index_or literals i.literals []) (slice_index_or ids i.ids [])
 
--- its lists are there
+-- the lists of an item are there
 pub record IsItem (literals ids : List (List ℕ)) (i : Item) : Type 0 where
   pub literals_within : i.literals < length literals
   pub ids_within : i.ids < length ids

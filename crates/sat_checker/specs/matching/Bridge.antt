@@ -26,7 +26,7 @@ AreDistinctVariables (p ∷ ps) = AllByRecursion (λ q. q.0 ≡ p.0 → ⊥) ps 
 abbrev pub HasAcceptedModel : ScriptState → Live → Valuation → Type 0
 HasAcceptedModel j live a = (b : Valuation) × AgreesOnLive live a b × EachHolds b j.clauses
 
--- of the names in use, and of what the steps mean
+-- the bridge between the names in use and what the steps mean
 pub record IsBridge (k : CheckerRules) (j : ScriptState) (earlier : List Step) (live : Live) : Type 0 where
   pub accepted : Accepted k earlier
   pub once : AreDistinctVariables live

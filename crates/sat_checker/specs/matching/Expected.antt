@@ -7,7 +7,7 @@ use Rattle.sat_base.specs.script.ScriptState.{ScriptState, NameMode, Sampled, Wi
 use Rattle.sat_base.specs.steps.Steps.{Step, UserVarName, AddClause, Model, Assumptions, FailedAssumptions, End}
 use Rattle.sat_checker.specs.matching.Checking.{variable_of}
 
--- one for every accepted ask
+-- the outcomes: one for every accepted ask
 pub data Outcome : Type 0 where
   Sat : List Literal → Outcome  -- with a model's line
   Unsat : List Literal → Outcome  -- with a core
@@ -24,17 +24,17 @@ pub data Expected : Type 0 where
   Closes : Expected  -- the end of an ask
   Finish : Expected
 
--- for names that are introduced from left to right
+-- the steps expected for names that are introduced from left to right
 abbrev pub bringing : List ℕ → ScriptState → List Expected
 bringing [] j = []
 bringing (name ∷ names) j = map NewName (new_names name j) ++ bringing names (bring_in name j)
 
--- for names that are hidden
+-- the steps expected for names that are hidden
 abbrev pub hiding : List ℕ → ScriptState → List Expected
 hiding [] j = []
 hiding (name ∷ names) j = map NewName (new_names name j) ++ (NoName name ∷ hiding names (without_name name (bring_in name j)))
 
--- for names whose mode is set
+-- the steps expected for names whose mode is set
 abbrev pub setting : NameMode → List ℕ → ScriptState → List Expected
 setting mode [] j = []
 setting mode (name ∷ names) j = map NewName (new_names name j) ++ setting mode names (with_mode mode name (bring_in name j))
@@ -45,7 +45,7 @@ showing j ask (Sat line) = Shows (map (λ n. n.name) j.in_use) ask line ∷ []
 showing j ask (Unsat core) = Fails ask core ∷ []
 showing j ask Unknown = []
 
--- for commands that aren't refused and their outcomes
+-- the steps expected for commands that are not refused, and their outcomes
 abbrev pub expected : ScriptState → List Command → List Outcome → List Expected
 expected j [] outcomes = Finish ∷ []
 expected j (Clause ls ∷ commands) outcomes = bringing (names_of ls) j ++ (Adds ls ∷ expected (accepted (Clause ls) j) commands outcomes)
@@ -67,7 +67,7 @@ pub record Spells (variable_of : ℕ → Option ℕ) (l : Literal) (code : ℕ) 
 abbrev pub EachSpelt : (ℕ → Option ℕ) → List Literal → List ℕ → Type 0
 EachSpelt names ls codes = AllByRecursion (λ l. (code : ℕ) × Spells names l code × Among code codes) ls
 
--- and nothing else
+-- both lists have the same literals
 abbrev pub SameSet : (ℕ → Option ℕ) → List Literal → List ℕ → Type 0
 SameSet names ls codes = EachSpelt names ls codes × AllByRecursion (λ code. (l : Literal) × Spells names l code × Among l ls) codes
 
