@@ -1,7 +1,7 @@
 -- Pairs that are linked by their places: heads, and links by place.
-use Rattle.std.specs.Prelude.{ℕ, zero, suc, ◌≡◌, ◌≤◌, ◌<◌, ◌==◌, ◌-◌, ◌/◌, ◌^◌, min, nat_le, nat_lt, List, [], ◌∷◌, ◌++◌, length, filter, slice_index_or, Option, None, Some, if◌then◌else◌}
-use Rattle.std.specs.List.{AllByRecursion}
-use Rattle.sat_checker.specs.inner.PairView.{AreInOrder}
+use Rattle.std.specs.Prelude.{All, ℕ, zero, suc, ◌≡◌, ◌≤◌, ◌<◌, ◌==◌, ◌-◌, ◌/◌, ◌^◌, min, nat_le, nat_lt, List, [], ◌∷◌, ◌++◌, length, filter, slice_index_or, Option, None, Some, if◌then◌else◌}
+use Rattle.std.specs.List.{AllByRecursion, IsDistinct}
+use Rattle.sat_checker.specs.inner.PairView.{AreInOrder, same_place}
 use Rattle.sat_checker.specs.declared.store.links.Pair.{Pair}
 use Rattle.sat_checker.specs.declared.store.links.Link.{Link}
 
@@ -17,12 +17,12 @@ link_at links at = slice_index_or links at (record { hash = 0; next = 0 })
 abbrev pub pair_at : List Link → ℕ → Pair
 pair_at links at = record { hash = (link_at links at).hash; place = at }
 
--- from a place on, at most this many
+-- the pairs that are linked from a place on, at most this many
 abbrev pub chain : List Link → ℕ → ℕ → List Pair
 chain links zero at = []
 chain links (suc n) at = if at == nowhere then [] else pair_at links at ∷ chain links n (link_at links at).next
 
--- from a place on
+-- all pairs that are linked from a place on
 abbrev pub rest : List Link → ℕ → List Pair
 rest links at = chain links (length links) at
 
@@ -36,7 +36,7 @@ abbrev pub LinksPairs : List Link → ℕ → List Pair → Type 0
 LinksPairs links at [] = at ≡ nowhere
 LinksPairs links at (p ∷ ps) = IsPairAt links at p × LinksPairs links (link_at links at).next ps
 
--- this many lists, one after another
+-- this many lists, joined in order
 abbrev pub joined : (ℕ → List Pair) → ℕ → List Pair
 joined parts zero = []
 joined parts (suc n) = joined parts n ++ parts n
@@ -63,7 +63,7 @@ pub record IsWalk (links : List Link) (at : ℕ) : Type 0 where
   pub leads : LinksPairs links at (rest links at)
   pub in_order : AreInOrder (rest links at)
 
--- from a place on these pairs are linked; all have this top
+-- these pairs are linked from a place on; all of them have this top
 pub record IsPairChain (links : List Link) (shift count top at : ℕ) (ps : List Pair) : Type 0 where
   pub leads : LinksPairs links at ps
   pub short : length ps ≤ length links
@@ -76,10 +76,17 @@ pub record AreLinked (heads : List ℕ) (links : List Link) (shift : ℕ) : Type
   pub count : length (listed_pairs heads links) ≤ length links
   pub parts : (top : ℕ) → top < length heads → IsPairChain links shift (length heads) top (head_at heads top) (part_at heads links top)
 
--- this is linked, and lists these pairs
+-- the heads and links are linked, and list these pairs
 pub record LinksListPairs (heads : List ℕ) (links : List Link) (shift : ℕ) (pairs : List Pair) : Type 0 where
   pub linked : AreLinked heads links shift
   pub is : listed_pairs heads links ≡ pairs
+
+-- pairs in order, at different places below this one
+pub record FitPlaces (pairs : List Pair) (count : ℕ) : Type 0 where
+  pub in_order : AreInOrder pairs
+  pub apart : IsDistinct same_place pairs
+  pub within : All (λ p. p.place < count) pairs
+  pub few : length pairs ≤ count
 
 -- the pairs whose hash is at most this one
 abbrev pub up_to : ℕ → List Pair → List Pair
@@ -100,7 +107,7 @@ place_before place [] = None
 place_before place (p ∷ []) = None
 place_before place (p ∷ q ∷ qs) = if q.place == place then Some p.place else place_before place (q ∷ qs)
 
--- what is stored of pairs of whose hashes this many bits don't select the head
+-- what holds of heads and links between calls, if this many bits of a hash do not select the head
 pub record AreKeptPairs (heads : List ℕ) (links : List Link) (shift : ℕ) : Type 0 where
   pub linked : AreLinked heads links shift
   pub some : 0 < length links → 0 < length heads

@@ -1,10 +1,10 @@
 //! Pairs of a hash and a place, linked by their places. For every value of the top bits of a hash, a head says where a
 //! search starts.
 ghost use Rattle.std.specs.Prelude.{All, ℕ, ◌≡◌, ◌+◌, ◌<◌, ◌≤◌, ◌++◌, length, OnOk, OnErr, None};
-ghost use Rattle.std.specs.List.{AllByRecursion, IsDistinct};
-ghost use Rattle.sat_checker.specs.inner.PairView.{AreInOrder, inserted, without_pair, places_in, first_of, same_place};
+ghost use Rattle.std.specs.List.{AllByRecursion};
+ghost use Rattle.sat_checker.specs.inner.PairView.{inserted, without_pair, places_in, first_of};
 ghost use Rattle.sat_checker.specs.inner.LinkView.{rest, listed_pairs, top_of, head_at, IsWalk, AreLinked, LinksListPairs, up_to};
-ghost use Rattle.sat_checker.specs.inner.LinkView.{below, last_or, place_before, nowhere};
+ghost use Rattle.sat_checker.specs.inner.LinkView.{below, last_or, place_before, nowhere, FitPlaces};
 
 use sat_base::ClauseHash;
 use std::alloc::AllocError;
@@ -206,10 +206,7 @@ pub(crate) fn link_all(heads: &mut [u32], links: &mut [Link], shift: u32, pairs:
     requires few { length links.old ≤ nowhere }
     requires none { All (λ h. h ≡ nowhere) heads.old }
     requires some { 0 < length heads.old }
-    requires order { AreInOrder pairs.now }
-    requires apart { IsDistinct same_place pairs.now }
-    requires within { All (λ p. p.place < length links.old) pairs.now }
-    requires count { length pairs.now ≤ length links.old }
+    requires pairs { FitPlaces pairs.now (length links.old) }
     requires shift { shift < 64 }
     ensures { LinksListPairs heads.new links.new shift pairs.now }
 {

@@ -19,13 +19,13 @@ loop-done-preserved c =
     let l : i < length pairs = omega (arith, c.loop-done-test.true) in
     let from : i + 1 ≡ length pairs - c.loop-done.done = omega (arith, c.loop-done-test.true) in
     let to : length pairs - (c.loop-done.done + 1) ≡ i = omega arith in
-    let front = front_of pairs i l c.requires.order c.requires.apart in
+    let front = front_of pairs i l c.requires.pairs.in_order c.requires.pairs.apart in
     let left : length (drop (i + 1) pairs) + (i + 1) ≡ length pairs = omega (arith, length-drop (i + 1) pairs) in
     let was : LinksListPairs c.loop-done.heads c.loop-done.links c.args.shift (drop (i + 1) pairs) = subst (λ n. LinksListPairs c.loop-done.heads c.loop-done.links c.args.shift (drop n pairs)) (sym from) c.loop-done.invariant.lists in
     record {
       lists = subst (LinksListPairs _ _ c.args.shift) (sym (ap (λ n. drop n pairs) to ∙ drop_more pairs i (record { hash = 0; place = 0 }) l))
           (put_front c.loop-done.heads c.loop-done.links c.args.shift (drop (i + 1) pairs) (slice_index_or pairs i (record { hash = 0; place = 0 })) c.top-top.result was c.top-top.ensures.within (sym c.top-top.ensures.is)
-          (omega (arith, c.requires.within i (record { hash = 0; place = 0 }) l, c.loop-done.invariant.links)) (omega (arith, left, c.requires.count, c.loop-done.invariant.links)) front.0 front.1);
+          (omega (arith, c.requires.pairs.within i (record { hash = 0; place = 0 }) l, c.loop-done.invariant.links)) (omega (arith, left, c.requires.pairs.few, c.loop-done.invariant.links)) front.0 front.1);
       heads = length-set c.loop-done.heads _ _ ∙ c.loop-done.invariant.heads;
       links = length-set c.loop-done.links _ _ ∙ c.loop-done.invariant.links;
     }
