@@ -240,7 +240,7 @@ impl State {
     {
         self.formula.file(looks);
         let Ok(literals) = sorted_set(&mut self.buffer, clause) else {
-            return self.formula.want_if_deletable(clause, proof, looks);
+            return self.formula.fail_if_deletable(clause, proof, looks);
         };
         let deletion = self.formula.deletion(notes, literals, proof, looks);
         if !self.formula.delete(clause, proof, literals, looks) {

@@ -44,13 +44,13 @@ impl Formula {
         self.marks.undo_to(0);
         match assume_apart(&mut self.marks, literals) {
             Ok(apart) => Ok(apart && self.are_met(literals, looks)),
-            Err(_) => self.want_if_met(literals, looks),
+            Err(_) => self.fail_if_met(literals, looks),
         }
     }
 
     /// Judges a model after memory ran out: the literals are no model of what is stored, or the result is
     /// `OutOfMemory`.
-    fn want_if_met(&mut self, literals: &[Lit], looks: &mut Looks) -> Result<bool, AllocError>
+    fn fail_if_met(&mut self, literals: &[Lit], looks: &mut Looks) -> Result<bool, AllocError>
         requires { self.old.status.unsat ≡ false }
         ensures exact { IfOk result (λ fits. (f : Stored) → KeepsFormula (refiled_in self.old) f
             → IsTrue fits ↔ FitsModel f literals.now) }
@@ -93,7 +93,7 @@ impl Formula {
 
     /// Judges a deletion after memory ran out: the clause may not be deleted by this proof, or the result is
     /// `OutOfMemory`.
-    pub fn want_if_deletable(
+    pub fn fail_if_deletable(
         &mut self,
         clause: &[Lit],
         proof: DeleteClauseProof,
@@ -103,7 +103,7 @@ impl Formula {
             → Accepts f (DeleteClause clause.now (deletion_of proof)) → ⊥)) }
         ensures judged { OnErr result ((f : Stored) → KeepsFormula self.old f
             → Accepts f (DeleteClause clause.now (deletion_of proof))) }
-        ensures wanted { OnErr result (IsErrOf result OutOfMemory) }
+        ensures memory { OnErr result (IsErrOf result OutOfMemory) }
         ensures looks { LooksOver (KeepsFormula self.old) (λ f. 2 * literal_count f) looks.old looks.new }
     {
         if self.may_delete_in_room(clause, proof, looks) {

@@ -1,12 +1,14 @@
-use Rattle.std.proofs.Common.{ℕ, ◌≡◌, ◌+◌, ◌<◌, ◌≤◌, ◌∷◌, suc, length, map, true, None, Some, ◌∙◌, refl, ap, sym, subst, arith}
+use Rattle.std.proofs.Common.{ℕ, List, Option, ◌≡◌, ◌+◌, ◌<◌, ◌≤◌, ◌∷◌, suc, length, map, true, None, Some, ◌∙◌, refl, ap, sym, subst, arith}
 use Rattle.std.proofs.lemmas.Result.{IfOk-from_err, err_from_is_err_and}
 use Rattle.std.specs.Option.{IfSome}
 use Rattle.sat_checker.specs.LiteralSets.{is_among}
 use Rattle.sat_checker.specs.Looks.{total_length}
 use Rattle.sat_checker.specs.inner.PairView.{first_of, places_behind, from_on}
 use Rattle.sat_checker.specs.inner.Reasons.{clause_at, filed, KeepsGround}
-use Rattle.sat_checker.specs.inner.AssumedRoom.{HasClausesRoom}
-use Rattle.sat_checker.specs.inner.SlotView.{literals_at, places_of}
+use Rattle.sat_checker.specs.inner.AssumedRoom.{HasClauseRoom, HasClausesRoom}
+use Rattle.sat_checker.specs.inner.SlotView.{Slot, bucket_in, literals_at, places_of}
+use Rattle.sat_checker.specs.inner.Look.{AssumesMore}
+use Rattle.sat_checker.specs.inner.Looking.{LooksUpTo}
 use Rattle.sat_checker.specs.inner.Walk.{walk}
 use Rattle.sat_checker.proofs.lemmas.propagation.Walking.{Extends-itself, Extends-further, roomy_at, walk_more, walk_ends, looks_more, looks_ended}
 use Rattle.sat_checker.proofs.lemmas.store.Filing.{first_ok, from_first, increasing_places, left_step, next_among}
@@ -14,12 +16,63 @@ use Rattle.sat_checker.proofs.lemmas.store.Finding.{bucket_literals, place_insid
 use Rattle.sat_checker.proofs.lemmas.announcements.Noting.{leads_itself, filed_at, leads_next, ends_next, read_further}
 use Rattle.std.proofs.lemmas.Grind.{common_steps}
 use Rattle.sat_checker.proofs.rup.walk_bucket.Goals as goal
+use Rattle.sat_checker.proofs.rup.walk_bucket.Goals.{After-meet}
 
 no_less : (a b : ℕ) → a ≤ a + b
 no_less a b = omega arith
 
 as_much : (a : ℕ) → a ≤ a
 as_much a = omega arith
+
+-- the clause of this iteration
+module _ (c : After-meet) where
+  abbrev ss : List Slot
+  ss = c.args.clauses.now
+
+  abbrev ps : List ℕ
+  ps = places_of c.args.hash ss
+
+  abbrev place : ℕ
+  place = c.in-Some-next.place
+
+  roomy : HasClausesRoom c.args.assigned.now.room (bucket_in c.args.hash ss) → HasClauseRoom c.loop-next.assigned.room (literals_at ss place)
+  roomy h =
+      roomy_at c.args.assigned.now.room c.loop-next.assigned.room (literals_at ss) ps place c.loop-next.invariant.extends.room (subst (λ o. IfSome o (λ p. is_among ps p ≡ true)) c.in-Some-next.is c.loop-next.invariant.among)
+      (subst (HasClausesRoom c.args.assigned.now.room) (sym (bucket_literals c.args.hash ss)) h)
+
+  same : HasClausesRoom c.args.assigned.now.room (bucket_in c.args.hash ss) → c.meet.new.assigned.room ≡ c.args.assigned.now.room
+  same h = c.meet.ensures.same (roomy h) ∙ c.loop-next.invariant.same h
+
+  extends : AssumesMore c.args.assigned.now c.meet.new.assigned
+  extends = Extends-further c.args.assigned.now c.loop-next.assigned c.meet.new.assigned c.loop-next.invariant.extends c.meet.ensures.extends
+
+-- the clauses from this one on
+module _ (c : After-meet) (next : Option ℕ) (is : next ≡ first_of (places_behind (place c) (ps c))) where
+  abbrev left : List ℕ
+  left = place c ∷ from_on next (ps c)
+
+  left_is : from_on c.loop-next.next (ps c) ≡ left
+  left_is = left_step c.args.hash (ss c) c.loop-next.next (place c) c.in-Some-next.is c.loop-next.invariant.among next is
+
+  walked : walk c.args.assigned.now.literals (bucket_in c.args.hash (ss c)) ≡ walk c.loop-next.assigned.literals (map (literals_at (ss c)) left)
+  walked = c.loop-next.invariant.walked ∙ ap (λ qs. walk c.loop-next.assigned.literals (map (literals_at (ss c)) qs)) left_is
+
+  looks : c.loop-next.looks + total_length (map (literals_at (ss c)) left) ≡ c.args.looks.now + total_length (bucket_in c.args.hash (ss c))
+  looks = ap (λ qs. c.loop-next.looks + total_length (map (literals_at (ss c)) qs)) (sym left_is) ∙ c.loop-next.invariant.looks
+
+  leads : KeepsGround (ss c) c.args.passed.now c.args.assigned.now.literals (filed c.args.hash (ss c)) c.loop-next.passed c.loop-next.assigned.literals (map (clause_at (ss c)) left)
+  leads = subst (λ qs. KeepsGround (ss c) c.args.passed.now c.args.assigned.now.literals (filed c.args.hash (ss c)) c.loop-next.passed c.loop-next.assigned.literals (map (clause_at (ss c)) qs)) left_is c.loop-next.invariant.leads
+
+-- if the walk ends at this clause
+module _ (c : After-meet) where
+  abbrev rest : List ℕ
+  rest = left c (first_of (places_behind (place c) (ps c))) refl
+
+  looked : LooksUpTo (total_length (bucket_in c.args.hash (ss c))) c.args.looks.now c.meet.new.looks
+  looked = record {
+    rise = omega (arith, c.loop-next.invariant.rise, c.meet.ensures.looks);
+    most = looks_ended (literals_at (ss c)) rest 0 (omega arith) _ c.loop-next.looks c.meet.new.looks (looks c _ refl) c.meet.ensures.looks;
+  }
 
 pub returns-in_default-clause-looks : goal.returns-in_default-clause-looks
 returns-in_default-clause-looks c = record { rise = grind (arith, common_steps); most = no_less c.args.looks.now _ }
@@ -61,13 +114,7 @@ pub returns-in_err-meet-clause-says : goal.returns-in_err-meet-clause-says
 returns-in_err-meet-clause-says c = IfOk-from_err c.from_residual.result _ c.from_residual.ensures.0
 
 pub returns-in_err-meet-clause-short : goal.returns-in_err-meet-clause-short
-returns-in_err-meet-clause-short c =
-    let ss = c.args.clauses.now in
-    let ps = places_of c.args.hash c.args.clauses.now in
-    let among = subst (λ o. IfSome o (λ p. is_among ps p ≡ true)) c.in-Some-next.is c.loop-next.invariant.among in
-    let failed = (err_from_is_err_and c.from_residual.result c.from_residual.ensures.1).1 in
-    rw failed (λ roomy. c.in_err-meet.ensures.short (roomy_at c.args.assigned.now.room c.loop-next.assigned.room (literals_at ss) ps c.in-Some-next.place c.loop-next.invariant.extends.room among
-    (subst (HasClausesRoom c.args.assigned.now.room) (sym (bucket_literals c.args.hash ss)) roomy)))
+returns-in_err-meet-clause-short c = rw ((err_from_is_err_and c.from_residual.result c.from_residual.ensures.1).1) (λ h. c.in_err-meet.ensures.short (roomy (goal.at.returns-in_err-meet-clause-short c).After-meet h))
 
 pub returns-in_err-meet-clause-noted : goal.returns-in_err-meet-clause-noted
 returns-in_err-meet-clause-noted c = IfOk-from_err c.from_residual.result _ c.from_residual.ensures.0
@@ -76,82 +123,53 @@ pub returns-in_err-meet-clause-read : goal.returns-in_err-meet-clause-read
 returns-in_err-meet-clause-read c = IfOk-from_err c.from_residual.result _ c.from_residual.ensures.0
 
 pub returns-in_err-meet-clause-extends : goal.returns-in_err-meet-clause-extends
-returns-in_err-meet-clause-extends c = Extends-further c.args.assigned.now c.loop-next.assigned c.meet.new.assigned c.loop-next.invariant.extends c.meet.ensures.extends
+returns-in_err-meet-clause-extends c = extends (goal.at.returns-in_err-meet-clause-extends c).After-meet
 
 pub returns-in_err-meet-clause-looks : goal.returns-in_err-meet-clause-looks
-returns-in_err-meet-clause-looks c = record {
-  rise = grind (arith, common_steps);
-  most =
-      let ps = places_of c.args.hash c.args.clauses.now in
-      let more = from_on (first_of (places_behind c.in-Some-next.place ps)) ps in
-      let left = left_step c.args.hash c.args.clauses.now c.loop-next.next c.in-Some-next.place c.in-Some-next.is c.loop-next.invariant.among (first_of (places_behind c.in-Some-next.place ps)) refl in
-      looks_ended (literals_at c.args.clauses.now) (c.in-Some-next.place ∷ more) 0 (omega arith) _ c.loop-next.looks c.meet.new.looks
-      (ap (λ qs. c.loop-next.looks + total_length (map (literals_at c.args.clauses.now) qs)) (sym left) ∙ c.loop-next.invariant.looks) c.meet.ensures.looks;
-}
+returns-in_err-meet-clause-looks c = looked (goal.at.returns-in_err-meet-clause-looks c).After-meet
 
 pub returns-then-branch-clause-looks : goal.returns-then-branch-clause-looks
-returns-then-branch-clause-looks c = record {
-  rise = grind (arith, common_steps);
-  most =
-      let ps = places_of c.args.hash c.args.clauses.now in
-      let more = from_on (first_of (places_behind c.in-Some-next.place ps)) ps in
-      let left = left_step c.args.hash c.args.clauses.now c.loop-next.next c.in-Some-next.place c.in-Some-next.is c.loop-next.invariant.among (first_of (places_behind c.in-Some-next.place ps)) refl in
-      looks_ended (literals_at c.args.clauses.now) (c.in-Some-next.place ∷ more) 0 (omega arith) _ c.loop-next.looks c.meet.new.looks
-      (ap (λ qs. c.loop-next.looks + total_length (map (literals_at c.args.clauses.now) qs)) (sym left) ∙ c.loop-next.invariant.looks) c.meet.ensures.looks;
-}
+returns-then-branch-clause-looks c = looked (goal.at.returns-then-branch-clause-looks c).After-meet
 
 pub returns-then-branch-clause-extends : goal.returns-then-branch-clause-extends
-returns-then-branch-clause-extends c = Extends-further c.args.assigned.now c.loop-next.assigned c.meet.new.assigned c.loop-next.invariant.extends c.meet.ensures.extends
+returns-then-branch-clause-extends c = extends (goal.at.returns-then-branch-clause-extends c).After-meet
 
 pub returns-then-branch-clause-says : goal.returns-then-branch-clause-says
 returns-then-branch-clause-says c =
-    let ps = places_of c.args.hash c.args.clauses.now in
-    let more = from_on (first_of (places_behind c.in-Some-next.place ps)) ps in
-    let left = left_step c.args.hash c.args.clauses.now c.loop-next.next c.in-Some-next.place c.in-Some-next.is c.loop-next.invariant.among (first_of (places_behind c.in-Some-next.place ps)) refl in (
+    let x = (goal.at.returns-then-branch-clause-says c).After-meet in (
       is_full c.args.hash c.args.clauses.now c.in-Some.first c.in-Some.ensures,
-      walk_ends (literals_at c.args.clauses.now) (c.in-Some-next.place ∷ more) 0 (omega arith) _ c.loop-next.assigned.literals
-          (c.loop-next.invariant.walked ∙ ap (λ qs. walk c.loop-next.assigned.literals (map (literals_at c.args.clauses.now) qs)) left) (rw c.if-branch.true at c.in_ok-meet.ensures.met),
+      walk_ends (literals_at (ss x)) (rest x) 0 (omega arith) _ c.loop-next.assigned.literals (walked x _ refl) (rw c.if-branch.true at c.in_ok-meet.ensures.met),
     )
 
 pub returns-then-branch-clause-noted : goal.returns-then-branch-clause-noted
 returns-then-branch-clause-noted c =
-    let ps = places_of c.args.hash c.args.clauses.now in
-    let more = from_on (first_of (places_behind c.in-Some-next.place ps)) ps in
-    let left = left_step c.args.hash c.args.clauses.now c.loop-next.next c.in-Some-next.place c.in-Some-next.is c.loop-next.invariant.among (first_of (places_behind c.in-Some-next.place ps)) refl in
-    ends_next c.args.clauses.now c.args.passed.now c.loop-next.passed c.meet.new.passed c.args.assigned.now.literals c.loop-next.assigned.literals c.meet.new.assigned.literals (c.in-Some-next.place ∷ more) 0 (omega arith) _
-    (subst (λ qs. KeepsGround c.args.clauses.now c.args.passed.now c.args.assigned.now.literals (filed c.args.hash c.args.clauses.now) c.loop-next.passed c.loop-next.assigned.literals (map (clause_at c.args.clauses.now) qs)) left c.loop-next.invariant.leads)
-    (rw c.if-branch.true at c.in_ok-meet.ensures.noted)
+    let x = (goal.at.returns-then-branch-clause-noted c).After-meet in
+    ends_next (ss x) c.args.passed.now c.loop-next.passed c.meet.new.passed c.args.assigned.now.literals c.loop-next.assigned.literals c.meet.new.assigned.literals (rest x) 0 (omega arith) _
+    (leads x _ refl) (rw c.if-branch.true at c.in_ok-meet.ensures.noted)
 
 pub returns-then-branch-clause-read : goal.returns-then-branch-clause-read
 returns-then-branch-clause-read c = read_further _ _ _ c.args.looks.now c.loop-next.looks c.meet.new.looks _ c.loop-next.invariant.read c.meet.ensures.looks c.in_ok-meet.ensures.read
 
 pub loop-next-smaller : goal.loop-next-smaller
 loop-next-smaller c =
-    let ps = places_of c.args.hash c.args.clauses.now in
-    let e : length (from_on c.loop-next.next ps) ≡ suc (length (from_on c.next-next.result ps)) = ap length (left_step c.args.hash c.args.clauses.now c.loop-next.next c.in-Some-next.place c.in-Some-next.is c.loop-next.invariant.among c.next-next.result c.next-next.ensures) in
-    let l : length (from_on c.next-next.result ps) < length (from_on c.loop-next.next ps) = omega arith in l
+    let x = (goal.at.loop-next-smaller c).After-meet in
+    let e : length (from_on c.loop-next.next (ps x)) ≡ suc (length (from_on c.next-next.result (ps x))) = ap length (left_is x c.next-next.result c.next-next.ensures) in
+    let l : length (from_on c.next-next.result (ps x)) < length (from_on c.loop-next.next (ps x)) = omega arith in l
 
 pub loop-next-preserved : goal.loop-next-preserved
 loop-next-preserved c =
-    let ps = places_of c.args.hash c.args.clauses.now in
-    let more = from_on c.next-next.result ps in
-    let left = left_step c.args.hash c.args.clauses.now c.loop-next.next c.in-Some-next.place c.in-Some-next.is c.loop-next.invariant.among c.next-next.result c.next-next.ensures in
+    let x = (goal.at.loop-next-preserved c).After-meet in
+    let next = c.next-next.result in
+    let is = c.next-next.ensures in
+    let qs = left x next is in
     record {
-      among = next_among c.in-Some-next.place ps c.next-next.result c.next-next.ensures;
-      walked = walk_more (literals_at c.args.clauses.now) (c.in-Some-next.place ∷ more) 0 (omega arith) _ c.loop-next.assigned.literals c.meet.new.assigned.literals
-          (c.loop-next.invariant.walked ∙ ap (λ qs. walk c.loop-next.assigned.literals (map (literals_at c.args.clauses.now) qs)) left) (rw c.if-branch.false at c.in_ok-meet.ensures.met);
-      extends = Extends-further c.args.assigned.now c.loop-next.assigned c.meet.new.assigned c.loop-next.invariant.extends c.meet.ensures.extends;
-      same = λ roomy.
-          let ss = c.args.clauses.now in
-          let ps = places_of c.args.hash c.args.clauses.now in
-          let among = subst (λ o. IfSome o (λ p. is_among ps p ≡ true)) c.in-Some-next.is c.loop-next.invariant.among in
-          c.meet.ensures.same (roomy_at c.args.assigned.now.room c.loop-next.assigned.room (literals_at ss) ps c.in-Some-next.place c.loop-next.invariant.extends.room among
-          (subst (HasClausesRoom c.args.assigned.now.room) (sym (bucket_literals c.args.hash ss)) roomy)) ∙ c.loop-next.invariant.same roomy;
-      looks = looks_more (literals_at c.args.clauses.now) (c.in-Some-next.place ∷ more) 0 (omega arith) _ c.loop-next.looks c.meet.new.looks
-          (ap (λ qs. c.loop-next.looks + total_length (map (literals_at c.args.clauses.now) qs)) (sym left) ∙ c.loop-next.invariant.looks) c.meet.ensures.looks;
-      leads = leads_next c.args.clauses.now c.args.passed.now c.loop-next.passed c.meet.new.passed c.args.assigned.now.literals c.loop-next.assigned.literals c.meet.new.assigned.literals (c.in-Some-next.place ∷ more) 0 (omega arith) _
-          (subst (λ qs. KeepsGround c.args.clauses.now c.args.passed.now c.args.assigned.now.literals (filed c.args.hash c.args.clauses.now) c.loop-next.passed c.loop-next.assigned.literals (map (clause_at c.args.clauses.now) qs)) left c.loop-next.invariant.leads)
-          (rw c.if-branch.false at c.in_ok-meet.ensures.noted);
+      among = next_among (place x) (ps x) next is;
+      walked = walk_more (literals_at (ss x)) qs 0 (omega arith) _ c.loop-next.assigned.literals c.meet.new.assigned.literals (walked x next is) (rw c.if-branch.false at c.in_ok-meet.ensures.met);
+      extends = extends x;
+      same = same x;
+      looks = looks_more (literals_at (ss x)) qs 0 (omega arith) _ c.loop-next.looks c.meet.new.looks (looks x next is) c.meet.ensures.looks;
+      leads = leads_next (ss x) c.args.passed.now c.loop-next.passed c.meet.new.passed c.args.assigned.now.literals c.loop-next.assigned.literals c.meet.new.assigned.literals qs 0 (omega arith) _
+          (leads x next is) (rw c.if-branch.false at c.in_ok-meet.ensures.noted);
       read = read_further _ _ _ c.args.looks.now c.loop-next.looks c.meet.new.looks _ c.loop-next.invariant.read c.meet.ensures.looks c.in_ok-meet.ensures.read;
       rise = omega (arith, c.loop-next.invariant.rise, c.meet.ensures.looks);
     }
@@ -164,20 +182,10 @@ returns-clause-says c =
     )
 
 pub returns-in_err-meet-clause-same : goal.returns-in_err-meet-clause-same
-returns-in_err-meet-clause-same c = λ roomy.
-    let ss = c.args.clauses.now in
-    let ps = places_of c.args.hash c.args.clauses.now in
-    let among = subst (λ o. IfSome o (λ p. is_among ps p ≡ true)) c.in-Some-next.is c.loop-next.invariant.among in
-    c.meet.ensures.same (roomy_at c.args.assigned.now.room c.loop-next.assigned.room (literals_at ss) ps c.in-Some-next.place c.loop-next.invariant.extends.room among
-    (subst (HasClausesRoom c.args.assigned.now.room) (sym (bucket_literals c.args.hash ss)) roomy)) ∙ c.loop-next.invariant.same roomy
+returns-in_err-meet-clause-same c = same (goal.at.returns-in_err-meet-clause-same c).After-meet
 
 pub returns-then-branch-clause-same : goal.returns-then-branch-clause-same
-returns-then-branch-clause-same c = λ roomy.
-    let ss = c.args.clauses.now in
-    let ps = places_of c.args.hash c.args.clauses.now in
-    let among = subst (λ o. IfSome o (λ p. is_among ps p ≡ true)) c.in-Some-next.is c.loop-next.invariant.among in
-    c.meet.ensures.same (roomy_at c.args.assigned.now.room c.loop-next.assigned.room (literals_at ss) ps c.in-Some-next.place c.loop-next.invariant.extends.room among
-    (subst (HasClausesRoom c.args.assigned.now.room) (sym (bucket_literals c.args.hash ss)) roomy)) ∙ c.loop-next.invariant.same roomy
+returns-then-branch-clause-same c = same (goal.at.returns-then-branch-clause-same c).After-meet
 
 pub returns-clause-same : goal.returns-clause-same
 returns-clause-same c = c.loop-next.invariant.same

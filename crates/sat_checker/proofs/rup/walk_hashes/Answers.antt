@@ -1,7 +1,10 @@
-use Rattle.std.proofs.Common.{length, get_or, map, sym, ap, ◌∙◌, arith}
+use Rattle.std.proofs.Common.{ℕ, ◌≡◌, ◌*◌, length, get_or, map, sym, ap, ◌∙◌, arith}
 use Rattle.std.proofs.lemmas.List.{drop_all}
 use Rattle.std.proofs.lemmas.Result.{err_from_is_err_and}
-use Rattle.sat_checker.specs.inner.SlotView.{bucket_of, live}
+use Rattle.sat_checker.specs.inner.SlotView.{bucket_in, bucket_of, live, live_length}
+use Rattle.sat_checker.specs.inner.AssumedRoom.{HasClausesRoom, HasStoredRoom}
+use Rattle.sat_checker.specs.inner.Look.{AssumesMore}
+use Rattle.sat_checker.specs.inner.Looking.{LooksUpTo}
 use Rattle.sat_checker.specs.inner.Walk.{walk_buckets}
 use Rattle.sat_checker.specs.inner.Reasons.{named}
 use Rattle.sat_checker.proofs.lemmas.propagation.Walking.{Extends-further, buckets-open, buckets-conflict, buckets-empty}
@@ -9,28 +12,36 @@ use Rattle.sat_checker.proofs.lemmas.store.Buckets.{bucket_roomy, stored_further
 use Rattle.sat_checker.proofs.lemmas.announcements.Noting.{leads_hash, ends_hash}
 use Rattle.std.proofs.lemmas.Grind.{common_steps}
 use Rattle.sat_checker.proofs.rup.walk_hashes.Goals as goal
+use Rattle.sat_checker.proofs.rup.walk_hashes.Goals.{After-walk_bucket}
+
+-- the bucket of this iteration
+module _ (c : After-walk_bucket) where
+  abbrev hash : ℕ
+  hash = get_or c.args.hashes.now c.loop-hash.hash-index 0
+
+  looked : LooksUpTo (length c.args.hashes.now * live_length c.args.clauses.now) c.args.looks.now c.walk_bucket.new.looks
+  looked = record {
+    rise = omega (arith, c.loop-hash.invariant.rise, c.walk_bucket.ensures.looks.rise);
+    most = walked_within c.args.looks.now c.loop-hash.looks c.walk_bucket.new.looks c.loop-hash.hash-index (length c.args.hashes.now) hash c.args.clauses.now c.loop-hash.invariant.looks c.walk_bucket.ensures.looks.most c.loop-hash-test.true;
+  }
+
+  roomy : HasStoredRoom c.args.assigned.now.room (live c.args.clauses.now) → HasClausesRoom c.loop-hash.assigned.room (bucket_in hash c.args.clauses.now)
+  roomy h = bucket_roomy c.loop-hash.assigned.room hash c.args.clauses.now (stored_further c.args.assigned.now.room c.loop-hash.assigned.room (live c.args.clauses.now) c.loop-hash.invariant.extends.room h)
+
+  same : HasStoredRoom c.args.assigned.now.room (live c.args.clauses.now) → c.walk_bucket.new.assigned.room ≡ c.args.assigned.now.room
+  same h = c.walk_bucket.ensures.same (roomy h) ∙ c.loop-hash.invariant.same h
+
+  extends : AssumesMore c.args.assigned.now c.walk_bucket.new.assigned
+  extends = Extends-further c.args.assigned.now c.loop-hash.assigned c.walk_bucket.new.assigned c.loop-hash.invariant.extends c.walk_bucket.ensures.extends
 
 pub returns-in_err-walk_bucket-clause-looks : goal.returns-in_err-walk_bucket-clause-looks
-returns-in_err-walk_bucket-clause-looks c = record {
-  rise = grind (arith, common_steps);
-  most =
-      walked_within c.args.looks.now c.loop-hash.looks c.walk_bucket.new.looks c.loop-hash.hash-index (length c.args.hashes.now) (get_or c.args.hashes.now c.loop-hash.hash-index 0) c.args.clauses.now
-      c.loop-hash.invariant.looks c.walk_bucket.ensures.looks.most c.loop-hash-test.true;
-}
+returns-in_err-walk_bucket-clause-looks c = looked (goal.at.returns-in_err-walk_bucket-clause-looks c).After-walk_bucket
 
 pub returns-in_err-walk_bucket-clause-short : goal.returns-in_err-walk_bucket-clause-short
-returns-in_err-walk_bucket-clause-short c =
-    let failed = (err_from_is_err_and c.from_residual.result c.from_residual.ensures.1).1 in
-    rw failed (λ roomy. c.in_err-walk_bucket.ensures.short (bucket_roomy c.loop-hash.assigned.room (get_or c.args.hashes.now c.loop-hash.hash-index 0) c.args.clauses.now
-    (stored_further c.args.assigned.now.room c.loop-hash.assigned.room (live c.args.clauses.now) c.loop-hash.invariant.extends.room roomy)))
+returns-in_err-walk_bucket-clause-short c = rw ((err_from_is_err_and c.from_residual.result c.from_residual.ensures.1).1) (λ h. c.in_err-walk_bucket.ensures.short (roomy (goal.at.returns-in_err-walk_bucket-clause-short c).After-walk_bucket h))
 
 pub returns-in-Conflict-clause-looks : goal.returns-in-Conflict-clause-looks
-returns-in-Conflict-clause-looks c = record {
-  rise = grind (arith, common_steps);
-  most =
-      walked_within c.args.looks.now c.loop-hash.looks c.walk_bucket.new.looks c.loop-hash.hash-index (length c.args.hashes.now) (get_or c.args.hashes.now c.loop-hash.hash-index 0) c.args.clauses.now
-      c.loop-hash.invariant.looks c.walk_bucket.ensures.looks.most c.loop-hash-test.true;
-}
+returns-in-Conflict-clause-looks c = looked (goal.at.returns-in-Conflict-clause-looks c).After-walk_bucket
 
 pub returns-in-Conflict-clause-noted : goal.returns-in-Conflict-clause-noted
 returns-in-Conflict-clause-noted c = λ _.
@@ -39,13 +50,12 @@ returns-in-Conflict-clause-noted c = λ _.
 
 pub loop-hash-preserved : goal.loop-hash-preserved
 loop-hash-preserved c =
+    let x = (goal.at.loop-hash-preserved c).After-walk_bucket in
     let says = rw c.in-Open.is at c.in_ok-walk_bucket.ensures.says in
     record {
       walked = c.loop-hash.invariant.walked ∙ buckets-open (bucket_of c.args.clauses.now) c.args.hashes.now c.loop-hash.hash-index c.loop-hash-test.true c.loop-hash.assigned.literals c.walk_bucket.new.assigned.literals says.0 says.1;
-      extends = Extends-further c.args.assigned.now c.loop-hash.assigned c.walk_bucket.new.assigned c.loop-hash.invariant.extends c.walk_bucket.ensures.extends;
-      same = λ roomy.
-          c.walk_bucket.ensures.same (bucket_roomy c.loop-hash.assigned.room (get_or c.args.hashes.now c.loop-hash.hash-index 0) c.args.clauses.now
-          (stored_further c.args.assigned.now.room c.loop-hash.assigned.room (live c.args.clauses.now) c.loop-hash.invariant.extends.room roomy)) ∙ c.loop-hash.invariant.same roomy;
+      extends = extends x;
+      same = same x;
       looks = walked_more c.args.looks.now c.loop-hash.looks c.walk_bucket.new.looks c.loop-hash.hash-index (get_or c.args.hashes.now c.loop-hash.hash-index 0) c.args.clauses.now
           c.loop-hash.invariant.looks c.walk_bucket.ensures.looks.most;
       leads = leads_hash c.args.clauses.now c.args.passed.now c.loop-hash.passed c.walk_bucket.new.passed c.args.assigned.now.literals c.loop-hash.assigned.literals c.walk_bucket.new.assigned.literals c.args.hashes.now c.loop-hash.hash-index c.loop-hash-test.true
@@ -55,7 +65,7 @@ loop-hash-preserved c =
     }
 
 pub returns-in_err-walk_bucket-clause-extends : goal.returns-in_err-walk_bucket-clause-extends
-returns-in_err-walk_bucket-clause-extends c = Extends-further c.args.assigned.now c.loop-hash.assigned c.walk_bucket.new.assigned c.loop-hash.invariant.extends c.walk_bucket.ensures.extends
+returns-in_err-walk_bucket-clause-extends c = extends (goal.at.returns-in_err-walk_bucket-clause-extends c).After-walk_bucket
 
 pub returns-in-Empty-clause-found : goal.returns-in-Empty-clause-found
 returns-in-Empty-clause-found c =
@@ -63,15 +73,10 @@ returns-in-Empty-clause-found c =
     sym (c.loop-hash.invariant.walked ∙ buckets-empty (bucket_of c.args.clauses.now) c.args.hashes.now c.loop-hash.hash-index c.loop-hash-test.true c.loop-hash.assigned.literals c.loop-hash.assigned.literals says.0)
 
 pub returns-in-Empty-clause-extends : goal.returns-in-Empty-clause-extends
-returns-in-Empty-clause-extends c = Extends-further c.args.assigned.now c.loop-hash.assigned c.walk_bucket.new.assigned c.loop-hash.invariant.extends c.walk_bucket.ensures.extends
+returns-in-Empty-clause-extends c = extends (goal.at.returns-in-Empty-clause-extends c).After-walk_bucket
 
 pub returns-in-Empty-clause-looks : goal.returns-in-Empty-clause-looks
-returns-in-Empty-clause-looks c = record {
-  rise = grind (arith, common_steps);
-  most =
-      walked_within c.args.looks.now c.loop-hash.looks c.walk_bucket.new.looks c.loop-hash.hash-index (length c.args.hashes.now) (get_or c.args.hashes.now c.loop-hash.hash-index 0) c.args.clauses.now
-      c.loop-hash.invariant.looks c.walk_bucket.ensures.looks.most c.loop-hash-test.true;
-}
+returns-in-Empty-clause-looks c = looked (goal.at.returns-in-Empty-clause-looks c).After-walk_bucket
 
 pub returns-in-Conflict-clause-found : goal.returns-in-Conflict-clause-found
 returns-in-Conflict-clause-found c =
@@ -79,7 +84,7 @@ returns-in-Conflict-clause-found c =
     sym (c.loop-hash.invariant.walked ∙ buckets-conflict (bucket_of c.args.clauses.now) c.args.hashes.now c.loop-hash.hash-index c.loop-hash-test.true c.loop-hash.assigned.literals c.loop-hash.assigned.literals says.1)
 
 pub returns-in-Conflict-clause-extends : goal.returns-in-Conflict-clause-extends
-returns-in-Conflict-clause-extends c = Extends-further c.args.assigned.now c.loop-hash.assigned c.walk_bucket.new.assigned c.loop-hash.invariant.extends c.walk_bucket.ensures.extends
+returns-in-Conflict-clause-extends c = extends (goal.at.returns-in-Conflict-clause-extends c).After-walk_bucket
 
 pub returns-clause-found : goal.returns-clause-found
 returns-clause-found c = sym (c.loop-hash.invariant.walked ∙ ap (λ hs. walk_buckets c.loop-hash.assigned.literals (map (bucket_of c.args.clauses.now) hs)) (drop_all c.loop-hash.hash-index c.args.hashes.now c.loop-hash-test.false))
@@ -91,19 +96,13 @@ returns-clause-looks c = record {
 }
 
 pub returns-in_err-walk_bucket-clause-same : goal.returns-in_err-walk_bucket-clause-same
-returns-in_err-walk_bucket-clause-same c = λ roomy.
-    c.walk_bucket.ensures.same (bucket_roomy c.loop-hash.assigned.room (get_or c.args.hashes.now c.loop-hash.hash-index 0) c.args.clauses.now
-    (stored_further c.args.assigned.now.room c.loop-hash.assigned.room (live c.args.clauses.now) c.loop-hash.invariant.extends.room roomy)) ∙ c.loop-hash.invariant.same roomy
+returns-in_err-walk_bucket-clause-same c = same (goal.at.returns-in_err-walk_bucket-clause-same c).After-walk_bucket
 
 pub returns-in-Empty-clause-same : goal.returns-in-Empty-clause-same
-returns-in-Empty-clause-same c = λ roomy.
-    c.walk_bucket.ensures.same (bucket_roomy c.loop-hash.assigned.room (get_or c.args.hashes.now c.loop-hash.hash-index 0) c.args.clauses.now
-    (stored_further c.args.assigned.now.room c.loop-hash.assigned.room (live c.args.clauses.now) c.loop-hash.invariant.extends.room roomy)) ∙ c.loop-hash.invariant.same roomy
+returns-in-Empty-clause-same c = same (goal.at.returns-in-Empty-clause-same c).After-walk_bucket
 
 pub returns-in-Conflict-clause-same : goal.returns-in-Conflict-clause-same
-returns-in-Conflict-clause-same c = λ roomy.
-    c.walk_bucket.ensures.same (bucket_roomy c.loop-hash.assigned.room (get_or c.args.hashes.now c.loop-hash.hash-index 0) c.args.clauses.now
-    (stored_further c.args.assigned.now.room c.loop-hash.assigned.room (live c.args.clauses.now) c.loop-hash.invariant.extends.room roomy)) ∙ c.loop-hash.invariant.same roomy
+returns-in-Conflict-clause-same c = same (goal.at.returns-in-Conflict-clause-same c).After-walk_bucket
 
 pub returns-clause-same : goal.returns-clause-same
 returns-clause-same c = c.loop-hash.invariant.same

@@ -2,7 +2,7 @@ use Rattle.std.proofs.Common.{◌∙◌, true, false, refl, sym, ap}
 use Rattle.sat_checker.specs.inner.FormulaView.{RestOfStored}
 use Rattle.sat_checker.proofs.lemmas.state.InRoom.{refiled_beside}
 use Rattle.sat_checker.proofs.lemmas.state.Models.{met_fits}
-use Rattle.sat_checker.proofs.formula.Formula.want_if_met.Goals as goal
+use Rattle.sat_checker.proofs.formula.Formula.fail_if_met.Goals as goal
 
 pub returns-then-are_met-clause-judged : goal.returns-then-are_met-clause-judged
 returns-then-are_met-clause-judged c = λ f k.

@@ -16,13 +16,13 @@ returns-then-apart-clause-looks c = record { rise = c.are_met.ensures.looks.rise
 
 pub returns-in-Err-clause-exact : goal.returns-in-Err-clause-exact
 returns-in-Err-clause-exact c =
-    exact_over c.want_if_met.result (refiled_in c.args.self.now) (refiled_in (record c.args.self.now { marks = c.assume_apart.new.assigned })) c.args.literals.now
-    (λ f. marks_kept c.args.self.now c.assume_apart.new.assigned f (stays_through c.args.self.now.marks c.allow.new.self c.undo_to.new.self c.assume_apart.new.assigned.room c.allow.ensures (ap (λ (t : LiteralsAndRoom). t.room) c.undo_to.ensures) c.in-Err.ensures.stays)) c.want_if_met.ensures.exact
+    exact_over c.fail_if_met.result (refiled_in c.args.self.now) (refiled_in (record c.args.self.now { marks = c.assume_apart.new.assigned })) c.args.literals.now
+    (λ f. marks_kept c.args.self.now c.assume_apart.new.assigned f (stays_through c.args.self.now.marks c.allow.new.self c.undo_to.new.self c.assume_apart.new.assigned.room c.allow.ensures (ap (λ (t : LiteralsAndRoom). t.room) c.undo_to.ensures) c.in-Err.ensures.stays)) c.fail_if_met.ensures.exact
 
 pub returns-in-Err-clause-judged : goal.returns-in-Err-clause-judged
 returns-in-Err-clause-judged c =
-    judged_over c.want_if_met.result (refiled_in c.args.self.now) (refiled_in (record c.args.self.now { marks = c.assume_apart.new.assigned })) c.args.literals.now
-    (λ f. marks_kept c.args.self.now c.assume_apart.new.assigned f (stays_through c.args.self.now.marks c.allow.new.self c.undo_to.new.self c.assume_apart.new.assigned.room c.allow.ensures (ap (λ (t : LiteralsAndRoom). t.room) c.undo_to.ensures) c.in-Err.ensures.stays)) c.want_if_met.ensures.judged
+    judged_over c.fail_if_met.result (refiled_in c.args.self.now) (refiled_in (record c.args.self.now { marks = c.assume_apart.new.assigned })) c.args.literals.now
+    (λ f. marks_kept c.args.self.now c.assume_apart.new.assigned f (stays_through c.args.self.now.marks c.allow.new.self c.undo_to.new.self c.assume_apart.new.assigned.room c.allow.ensures (ap (λ (t : LiteralsAndRoom). t.room) c.undo_to.ensures) c.in-Err.ensures.stays)) c.fail_if_met.ensures.judged
 
 pub returns-in-Err-clause-looks : goal.returns-in-Err-clause-looks
-returns-in-Err-clause-looks c = record { rise = c.want_if_met.ensures.looks.rise; most = λ f k. c.want_if_met.ensures.looks.most f (marks_kept c.args.self.now c.assume_apart.new.assigned f (stays_through c.args.self.now.marks c.allow.new.self c.undo_to.new.self c.assume_apart.new.assigned.room c.allow.ensures (ap (λ (t : LiteralsAndRoom). t.room) c.undo_to.ensures) c.in-Err.ensures.stays) k) }
+returns-in-Err-clause-looks c = record { rise = c.fail_if_met.ensures.looks.rise; most = λ f k. c.fail_if_met.ensures.looks.most f (marks_kept c.args.self.now c.assume_apart.new.assigned f (stays_through c.args.self.now.marks c.allow.new.self c.undo_to.new.self c.assume_apart.new.assigned.room c.allow.ensures (ap (λ (t : LiteralsAndRoom). t.room) c.undo_to.ensures) c.in-Err.ensures.stays) k) }

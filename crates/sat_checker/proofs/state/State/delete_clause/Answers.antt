@@ -4,11 +4,21 @@ use Rattle.std.proofs.lemmas.Result.{err_from_is_err_and, IfOk-from_err}
 use Rattle.sat_base.specs.steps.Steps.{DeleteClause}
 use Rattle.sat_base.specs.steps.StepViews.{deletion_of}
 use Rattle.sat_checker.specs.Accepts.{effect}
+use Rattle.sat_checker.specs.inner.StateView.{LooksWithin}
 use Rattle.sat_checker.proofs.lemmas.state.Keeping.{deleted_kept}
 use Rattle.sat_checker.proofs.lemmas.listeners.Noting.{deletion_noted}
 use Rattle.sat_checker.proofs.lemmas.variables.Keeping.{match_true, match_false}
-use Rattle.std.proofs.lemmas.Grind.{common_steps}
 use Rattle.sat_checker.proofs.state.State.delete_clause.Goals as goal
+use Rattle.sat_checker.proofs.state.State.delete_clause.Goals.{After-delete}
+
+module _ (c : After-delete) where
+  looked : LooksWithin c.args.self.now (DeleteClause c.args.clause.now (deletion_of c.args.proof)) c.args.looks.now c.delete.new.looks
+  looked = record {
+    rise = omega (arith, c.file.ensures.looks.rise, c.deletion-deletion.ensures.looks.rise, c.delete.ensures.looks.rise);
+    most = λ f k.
+        let kept = c.file.ensures.kept f k.formula in
+        omega (arith, c.file.ensures.looks.most f k.formula, c.deletion-deletion.ensures.looks.most f kept, c.delete.ensures.looks.most f kept);
+  }
 
 pub delete-requires : goal.delete-requires
 delete-requires c = c.in-Ok.ensures.set
@@ -39,44 +49,16 @@ pub returns-then-not-delete-clause-noted : goal.returns-then-not-delete-clause-n
 returns-then-not-delete-clause-noted c = λ t. absurd (true≢false (sym t))
 
 pub returns-then-not-delete-clause-looks : goal.returns-then-not-delete-clause-looks
-returns-then-not-delete-clause-looks c = record {
-  rise = grind (arith, common_steps);
-  most = λ f k.
-      let filed = c.file.ensures.looks.most f k.formula in
-      let most = c.deletion-deletion.ensures.looks.most f (c.file.ensures.kept f k.formula) in
-      let gone = c.delete.ensures.looks.most f (c.file.ensures.kept f k.formula) in
-      omega arith;
-}
+returns-then-not-delete-clause-looks c = looked (goal.at.returns-then-not-delete-clause-looks c).After-delete
 
 pub returns-in_err-deleted-clause-looks : goal.returns-in_err-deleted-clause-looks
-returns-in_err-deleted-clause-looks c = record {
-  rise = grind (arith, common_steps);
-  most = λ f k.
-      let filed = c.file.ensures.looks.most f k.formula in
-      let most = c.deletion-deletion.ensures.looks.most f (c.file.ensures.kept f k.formula) in
-      let gone = c.delete.ensures.looks.most f (c.file.ensures.kept f k.formula) in
-      omega arith;
-}
+returns-in_err-deleted-clause-looks c = looked (goal.at.returns-in_err-deleted-clause-looks c).After-delete
 
 pub returns-in_err-compact-clause-looks : goal.returns-in_err-compact-clause-looks
-returns-in_err-compact-clause-looks c = record {
-  rise = grind (arith, common_steps);
-  most = λ f k.
-      let filed = c.file.ensures.looks.most f k.formula in
-      let most = c.deletion-deletion.ensures.looks.most f (c.file.ensures.kept f k.formula) in
-      let gone = c.delete.ensures.looks.most f (c.file.ensures.kept f k.formula) in
-      omega arith;
-}
+returns-in_err-compact-clause-looks c = looked (goal.at.returns-in_err-compact-clause-looks c).After-delete
 
 pub returns-clause-looks : goal.returns-clause-looks
-returns-clause-looks c = record {
-  rise = grind (arith, common_steps);
-  most = λ f k.
-      let filed = c.file.ensures.looks.most f k.formula in
-      let most = c.deletion-deletion.ensures.looks.most f (c.file.ensures.kept f k.formula) in
-      let gone = c.delete.ensures.looks.most f (c.file.ensures.kept f k.formula) in
-      omega arith;
-}
+returns-clause-looks c = looked (goal.at.returns-clause-looks c).After-delete
 
 pub returns-clause-noted : goal.returns-clause-noted
 returns-clause-noted c = λ t f k long.

@@ -1,10 +1,19 @@
+use Rattle.sat_base.specs.steps.Steps.{UnitClauses}
+use Rattle.sat_checker.specs.inner.StateView.{LooksWithin}
 use Rattle.sat_checker.proofs.lemmas.state.Units.{units_stored}
 use Rattle.sat_checker.proofs.lemmas.variables.Keeping.{match_true}
 use Rattle.std.proofs.lemmas.Result.{err_from_is_err_and, IfOk-from_err}
 use Rattle.std.proofs.lemmas.Bool.{true≢false}
 use Rattle.std.proofs.Common.{sym, arith}
-use Rattle.std.proofs.lemmas.Grind.{common_steps}
 use Rattle.sat_checker.proofs.state.State.unit_clauses.Goals as goal
+use Rattle.sat_checker.proofs.state.State.unit_clauses.Goals.{After-store_units}
+
+module _ (c : After-store_units) where
+  looked : LooksWithin c.args.self.now (UnitClauses c.args.units.now) c.args.looks.now c.store_units.new.looks
+  looked = record {
+    rise = omega (arith, c.file.ensures.looks.rise, c.store_units.ensures.looks.rise);
+    most = λ f k. omega (arith, c.file.ensures.looks.most f k.formula, c.store_units.ensures.looks.most f (c.file.ensures.kept f k.formula));
+  }
 
 pub returns-clause-decides : goal.returns-clause-decides
 returns-clause-decides c = λ f k.
@@ -29,37 +38,13 @@ pub returns-clause-noted : goal.returns-clause-noted
 returns-clause-noted c = λ _ f k long. c.in_ok-store_units.ensures.noted c.if-not-branch.false f (c.file.ensures.kept f k.formula) long
 
 pub returns-in_err-store_units-clause-looks : goal.returns-in_err-store_units-clause-looks
-returns-in_err-store_units-clause-looks c = record {
-  rise = grind (arith, common_steps);
-  most = λ f k.
-      let filed = c.file.ensures.looks.most f k.formula in
-      let h = c.store_units.ensures.looks.most f (c.file.ensures.kept f k.formula) in
-      omega arith;
-}
+returns-in_err-store_units-clause-looks c = looked (goal.at.returns-in_err-store_units-clause-looks c).After-store_units
 
 pub returns-then-not-branch-clause-looks : goal.returns-then-not-branch-clause-looks
-returns-then-not-branch-clause-looks c = record {
-  rise = grind (arith, common_steps);
-  most = λ f k.
-      let filed = c.file.ensures.looks.most f k.formula in
-      let h = c.store_units.ensures.looks.most f (c.file.ensures.kept f k.formula) in
-      omega arith;
-}
+returns-then-not-branch-clause-looks c = looked (goal.at.returns-then-not-branch-clause-looks c).After-store_units
 
 pub returns-in_err-learn_units-clause-looks : goal.returns-in_err-learn_units-clause-looks
-returns-in_err-learn_units-clause-looks c = record {
-  rise = grind (arith, common_steps);
-  most = λ f k.
-      let filed = c.file.ensures.looks.most f k.formula in
-      let h = c.store_units.ensures.looks.most f (c.file.ensures.kept f k.formula) in
-      omega arith;
-}
+returns-in_err-learn_units-clause-looks c = looked (goal.at.returns-in_err-learn_units-clause-looks c).After-store_units
 
 pub returns-clause-looks : goal.returns-clause-looks
-returns-clause-looks c = record {
-  rise = grind (arith, common_steps);
-  most = λ f k.
-      let filed = c.file.ensures.looks.most f k.formula in
-      let h = c.store_units.ensures.looks.most f (c.file.ensures.kept f k.formula) in
-      omega arith;
-}
+returns-clause-looks c = looked (goal.at.returns-clause-looks c).After-store_units

@@ -1,13 +1,38 @@
-use Rattle.std.proofs.Common.{ℕ, ◌+◌, ◌-◌, ◌<◌, ◌≡◌, take, drop, length, refl, sym, ap, subst, ◌∙◌, arith}
+use Rattle.std.proofs.Common.{ℕ, List, false, ◌+◌, ◌-◌, ◌<◌, ◌≡◌, take, drop, length, refl, sym, ap, subst, ◌∙◌, arith}
 use Rattle.std.specs.List.{AllByRecursion}
 use Rattle.std.proofs.lemmas.List.{drop_all}
 use Rattle.sat_checker.specs.inner.IndexView.{pairs_from}
 use Rattle.sat_checker.specs.inner.PairView.{Indexed, inserted, inserted_all, mixed}
-use Rattle.sat_checker.specs.inner.SlotView.{slot_at, slots_present}
+use Rattle.sat_checker.specs.inner.SlotView.{Slot, is_gone, slot_at, slots_present}
 use Rattle.sat_checker.proofs.lemmas.pairs.Order.{length_inserted}
 use Rattle.sat_checker.proofs.lemmas.store.Filing.{filed_above}
 use Rattle.sat_checker.proofs.lemmas.store.Dropping.{filed_kept, hash_filed, kept_next, kept_skip, take_whole}
 use Rattle.sat_checker.proofs.store.clauses.file_standing.Goals as goal
+use Rattle.sat_checker.proofs.store.clauses.file_standing.Goals.{After-is_gone}
+
+-- the place of this iteration
+module _ (c : After-is_gone) where
+  abbrev ss : List Slot
+  ss = c.args.slots.now
+
+  abbrev i : ℕ
+  i = c.len-count.result - 1 - c.loop-done.done
+
+  inside : i < length ss
+  inside = omega (arith, c.loop-done-test.true, c.len-count.ensures.count)
+
+  from : i + 1 ≡ c.len-count.result - c.loop-done.done
+  from = omega (arith, c.loop-done-test.true)
+
+  to : c.len-count.result - (c.loop-done.done + 1) ≡ i
+  to = omega (arith, c.loop-done-test.true)
+
+  have : c.loop-done.to ≡ length (slots_present (take (i + 1) ss))
+  have = c.loop-done.invariant.to ∙ ap (λ k. length (slots_present (take k ss))) (sym from)
+
+  -- one place less is left if a clause is there
+  fewer : is_gone (slot_at ss i) ≡ false → c.loop-done.to ≡ length (slots_present (take i ss)) + 1
+  fewer there = have ∙ (kept_next ss i inside there).0
 
 pub loop-done-init : goal.loop-done-init
 loop-done-init c =
@@ -25,87 +50,50 @@ is_gone-requires c = omega (arith, c.loop-done-test.true, c.len-count.ensures.co
 
 pub loop-done-preserved-then-is_gone : goal.loop-done-preserved-then-is_gone
 loop-done-preserved-then-is_gone c =
-    let ss = c.args.slots.now in
-    let i : ℕ = c.len-count.result - 1 - c.loop-done.done in
-    let inside : i < length ss = omega (arith, c.loop-done-test.true, c.len-count.ensures.count) in
-    let from : i + 1 ≡ c.len-count.result - c.loop-done.done = omega (arith, c.loop-done-test.true) in
-    let to : c.len-count.result - (c.loop-done.done + 1) ≡ i = omega (arith, c.loop-done-test.true) in
-    let skip = kept_skip ss i inside (sym c.is_gone.ensures ∙ c.if-is_gone.true) in
+    let x = (goal.at.loop-done-preserved-then-is_gone c).After-is_gone in
+    let skip = kept_skip (ss x) (i x) (inside x) (sym c.is_gone.ensures ∙ c.if-is_gone.true) in
     record {
-      to = c.loop-done.invariant.to ∙ ap (λ k. length (slots_present (take k ss))) (sym from) ∙ ap length skip.0 ∙ ap (λ k. length (slots_present (take k ss))) (sym to);
-      filed = c.loop-done.invariant.filed ∙ ap (λ k. inserted_all (pairs_from c.loop-done.to (slots_present (drop k ss)))) (sym from)
-          ∙ ap (λ xs. inserted_all (pairs_from c.loop-done.to xs)) (sym skip.1) ∙ ap (λ k. inserted_all (pairs_from c.loop-done.to (slots_present (drop k ss)))) (sym to);
+      to = have x ∙ ap length skip.0 ∙ ap (λ k. length (slots_present (take k (ss x)))) (sym (to x));
+      filed = c.loop-done.invariant.filed ∙ ap (λ k. inserted_all (pairs_from c.loop-done.to (slots_present (drop k (ss x))))) (sym (from x))
+          ∙ ap (λ xs. inserted_all (pairs_from c.loop-done.to xs)) (sym skip.1) ∙ ap (λ k. inserted_all (pairs_from c.loop-done.to (slots_present (drop k (ss x))))) (sym (to x));
       places = c.loop-done.invariant.places;
       room = c.loop-done.invariant.room;
     }
 
 pub overflow_sub-to : goal.overflow_sub-to
-overflow_sub-to c =
-    let ss = c.args.slots.now in
-    let i : ℕ = c.len-count.result - 1 - c.loop-done.done in
-    let inside : i < length ss = omega (arith, c.loop-done-test.true, c.len-count.ensures.count) in
-    let from : i + 1 ≡ c.len-count.result - c.loop-done.done = omega (arith, c.loop-done-test.true) in
-    let to : c.len-count.result - (c.loop-done.done + 1) ≡ i = omega (arith, c.loop-done-test.true) in
-    let next = kept_next ss i inside (sym c.is_gone.ensures ∙ c.if-is_gone.false) in
-    let have = c.loop-done.invariant.to ∙ ap (λ k. length (slots_present (take k ss))) (sym from) in
-    omega (arith, have, next.0)
+overflow_sub-to c = omega (arith, fewer (goal.at.overflow_sub-to c).After-is_gone (sym c.is_gone.ensures ∙ c.if-is_gone.false))
 
 pub hash-requires : goal.hash-requires
 hash-requires c = omega (arith, c.loop-done-test.true, c.len-count.ensures.count, c.requires.filed.places)
 
 pub file_before-requires-clause-inside : goal.file_before-requires-clause-inside
 file_before-requires-clause-inside c =
-    let ss = c.args.slots.now in
-    let i : ℕ = c.len-count.result - 1 - c.loop-done.done in
-    let inside : i < length ss = omega (arith, c.loop-done-test.true, c.len-count.ensures.count) in
-    let from : i + 1 ≡ c.len-count.result - c.loop-done.done = omega (arith, c.loop-done-test.true) in
-    let to : c.len-count.result - (c.loop-done.done + 1) ≡ i = omega (arith, c.loop-done-test.true) in
-    let next = kept_next ss i inside (sym c.is_gone.ensures ∙ c.if-is_gone.false) in
-    let have = c.loop-done.invariant.to ∙ ap (λ k. length (slots_present (take k ss))) (sym from) in
-    omega (arith, have, next.0, c.loop-done.invariant.room)
+    omega (arith, fewer (goal.at.file_before-requires-clause-inside c).After-is_gone (sym c.is_gone.ensures ∙ c.if-is_gone.false), c.loop-done.invariant.room)
 
 pub file_before-requires-clause-above : goal.file_before-requires-clause-above
 file_before-requires-clause-above c =
-    let ss = c.args.slots.now in
-    let i : ℕ = c.len-count.result - 1 - c.loop-done.done in
-    let inside : i < length ss = omega (arith, c.loop-done-test.true, c.len-count.ensures.count) in
-    let from : i + 1 ≡ c.len-count.result - c.loop-done.done = omega (arith, c.loop-done-test.true) in
-    let to : c.len-count.result - (c.loop-done.done + 1) ≡ i = omega (arith, c.loop-done-test.true) in
-    let next = kept_next ss i inside (sym c.is_gone.ensures ∙ c.if-is_gone.false) in
-    let have = c.loop-done.invariant.to ∙ ap (λ k. length (slots_present (take k ss))) (sym from) in
-    subst (AllByRecursion (λ q. c.loop-done.to - 1 < q.place)) (sym c.loop-done.invariant.filed) (filed_above (c.loop-done.to - 1) c.loop-done.to (slots_present (drop (c.len-count.result - c.loop-done.done) ss)) (omega (arith, have, next.0)))
+    let less = fewer (goal.at.file_before-requires-clause-above c).After-is_gone (sym c.is_gone.ensures ∙ c.if-is_gone.false) in
+    subst (AllByRecursion (λ q. c.loop-done.to - 1 < q.place)) (sym c.loop-done.invariant.filed) (filed_above (c.loop-done.to - 1) c.loop-done.to (slots_present (drop (c.len-count.result - c.loop-done.done) c.args.slots.now)) (omega (arith, less)))
 
 pub file_before-requires-clause-room : goal.file_before-requires-clause-room
 file_before-requires-clause-room c =
-    let ss = c.args.slots.now in
-    let i : ℕ = c.len-count.result - 1 - c.loop-done.done in
-    let inside : i < length ss = omega (arith, c.loop-done-test.true, c.len-count.ensures.count) in
-    let from : i + 1 ≡ c.len-count.result - c.loop-done.done = omega (arith, c.loop-done-test.true) in
-    let to : c.len-count.result - (c.loop-done.done + 1) ≡ i = omega (arith, c.loop-done-test.true) in
-    let next = kept_next ss i inside (sym c.is_gone.ensures ∙ c.if-is_gone.false) in
-    let have = c.loop-done.invariant.to ∙ ap (λ k. length (slots_present (take k ss))) (sym from) in
-    omega (arith, have, next.0, c.loop-done.invariant.room)
+    omega (arith, fewer (goal.at.file_before-requires-clause-room c).After-is_gone (sym c.is_gone.ensures ∙ c.if-is_gone.false), c.loop-done.invariant.room)
 
 pub loop-done-preserved : goal.loop-done-preserved
 loop-done-preserved c =
-    let ss = c.args.slots.now in
-    let i : ℕ = c.len-count.result - 1 - c.loop-done.done in
-    let inside : i < length ss = omega (arith, c.loop-done-test.true, c.len-count.ensures.count) in
-    let from : i + 1 ≡ c.len-count.result - c.loop-done.done = omega (arith, c.loop-done-test.true) in
-    let to : c.len-count.result - (c.loop-done.done + 1) ≡ i = omega (arith, c.loop-done-test.true) in
+    let x = (goal.at.loop-done-preserved c).After-is_gone in
     let there = sym c.is_gone.ensures ∙ c.if-is_gone.false in
-    let next = kept_next ss i inside there in
-    let have = c.loop-done.invariant.to ∙ ap (λ k. length (slots_present (take k ss))) (sym from) in
-    let hash = c.hash.ensures (mixed (slot_at ss i).hash) (hash_filed ss c.args.index.now i c.requires.filed inside there) in
-    let fewer : c.loop-done.to - 1 ≡ length (slots_present (take i ss)) = omega (arith, have, next.0) in
-    let down : (c.loop-done.to - 1) + 1 ≡ c.loop-done.to = omega (arith, have, next.0) in
+    let less = fewer x there in
+    let hash = c.hash.ensures (mixed (slot_at (ss x) (i x)).hash) (hash_filed (ss x) c.args.index.now (i x) c.requires.filed (inside x) there) in
+    let left : c.loop-done.to - 1 ≡ length (slots_present (take (i x) (ss x))) = omega (arith, less) in
+    let down : (c.loop-done.to - 1) + 1 ≡ c.loop-done.to = omega (arith, less) in
     let pairs = ap (λ (x : Indexed). x.pairs) c.file_before.ensures in
     record {
-      to = fewer ∙ ap (λ k. length (slots_present (take k ss))) (sym to);
-      filed = pairs ∙ ap (inserted (record { hash = c.hash.result; place = c.loop-done.to - 1 })) (c.loop-done.invariant.filed ∙ ap (λ k. inserted_all (pairs_from c.loop-done.to (slots_present (drop k ss)))) (sym from))
-          ∙ filed_kept ss i c.loop-done.to (c.loop-done.to - 1) c.hash.result inside there hash down ∙ ap (λ k. inserted_all (pairs_from (c.loop-done.to - 1) (slots_present (drop k ss)))) (sym to);
+      to = left ∙ ap (λ k. length (slots_present (take k (ss x)))) (sym (to x));
+      filed = pairs ∙ ap (inserted (record { hash = c.hash.result; place = c.loop-done.to - 1 })) (c.loop-done.invariant.filed ∙ ap (λ k. inserted_all (pairs_from c.loop-done.to (slots_present (drop k (ss x))))) (sym (from x)))
+          ∙ filed_kept (ss x) (i x) c.loop-done.to (c.loop-done.to - 1) c.hash.result (inside x) there hash down ∙ ap (λ k. inserted_all (pairs_from (c.loop-done.to - 1) (slots_present (drop k (ss x))))) (sym (to x));
       places = ap (λ (x : Indexed). x.places) c.file_before.ensures ∙ c.loop-done.invariant.places;
-      room = omega (arith, have, next.0, c.loop-done.invariant.room, ap length pairs, length_inserted (record { hash = c.hash.result; place = c.loop-done.to - 1 }) c.loop-done.next.pairs, ap (λ (x : Indexed). x.places) c.file_before.ensures);
+      room = omega (arith, less, c.loop-done.invariant.room, ap length pairs, length_inserted (record { hash = c.hash.result; place = c.loop-done.to - 1 }) c.loop-done.next.pairs, ap (λ (x : Indexed). x.places) c.file_before.ensures);
     }
 
 pub returns : goal.returns
