@@ -1,4 +1,4 @@
-//! What is announced of accepted steps, and what transcripts say of it.
+//! Tests of what is announced of accepted steps, and of its transcripts.
 
 use crate::calls::{Answer, Call, error_of};
 use crate::hearing::{
@@ -13,7 +13,7 @@ use std::alloc::Global;
 /// Steps in bytes, what is announced of them, and its transcript.
 type Row = (&'static [u8], &'static [Notice], &'static [Said]);
 
-/// Whether a processor and a transcript that were added are told this, the steps being fed one by one.
+/// Whether a processor and a transcript that were added are notified of exactly this, if the steps are fed one by one.
 fn is_reported_to_added(alloc: Global, row: &Row) -> bool {
     let mut checker = Heard::notifying(alloc);
     let taken = add_listener(&mut checker, row.1)
@@ -23,7 +23,7 @@ fn is_reported_to_added(alloc: Global, row: &Row) -> bool {
     taken && told
 }
 
-/// The error of a proof that a processor of the caller's own hears.
+/// Returns the error of a proof whose announcements a processor of the caller's own hears.
 pub(crate) fn check_with<O: ProofProcessor>(
     alloc: Global,
     checker: &mut Heard,
@@ -36,7 +36,8 @@ pub(crate) fn check_with<O: ProofProcessor>(
     )
 }
 
-/// Whether a processor of the caller's own is told this, the steps being a proof's, with its end or cut off before it.
+/// Whether a processor of the caller's own is notified of exactly this, if the steps are read as a proof, with or
+/// without its end.
 fn is_reported_to_own(alloc: Global, row: &Row) -> bool {
     let mut checker = Heard::notifying(alloc);
     let mut own = Listener::new(row.1);
@@ -50,7 +51,7 @@ fn is_announced(alloc: Global, row: &Row) -> bool {
     is_reported_to_added(alloc, row) && is_reported_to_own(alloc, row)
 }
 
-/// The first steps of some rows of which something else is announced.
+/// Returns the first steps of some rows of which something else is announced.
 fn first_unannounced(alloc: Global, rows: &[Row]) -> Option<&'static [u8]> {
     for row in rows {
         if !is_announced(alloc, row) {
@@ -60,7 +61,7 @@ fn first_unannounced(alloc: Global, rows: &[Row]) -> Option<&'static [u8]> {
     None
 }
 
-/// The four clauses over two variables, two clauses that follow from them, and what is told of that.
+/// What is announced of the four clauses over two variables, and of two clauses that follow from them.
 pub(crate) const REFUTED: &[Notice] = &[
     Notice::AddClause(0, [1, 2, 0]),
     Notice::AddClause(1, [1, -2, 0]),
@@ -78,7 +79,7 @@ pub(crate) const REFUTED_SAID: &[Said] = &[
     Said::Unsat,
 ];
 
-/// The four clauses, and [1] and [] by the whole hashes of two of them each.
+/// The four clauses, and [1] and [] by the complete hashes of two of them each.
 pub(crate) const REFUTATION: &[u8] = &[
     5, 2, 0, 2, 5, 2, 0, 3, 5, 2, 1, 2, 5, 2, 1, 3, //
     6, 0, 1, 0, 2, 0xaa, 0x90, 0xd4, 0x94, 0xd0, 0x92, 0xc5, 0xc8, 0x44, 0xc1, 0x98, 0x8e, 0x93,
@@ -276,7 +277,7 @@ static INPUTS: [Row; 11] = [
             Said::AddClause([1, 0, 0]),
         ],
     ),
-    // one that is gone is new again
+    // one that was removed is new again
     (
         &[5, 2, 0, 2, 5, 1, 0, 8, 2, 0, 2, 2, 5, 2, 0, 2],
         &[
@@ -291,7 +292,7 @@ static INPUTS: [Row; 11] = [
             Said::AddClause([1, 2, 0]),
         ],
     ),
-    // both signs of a variable, which takes an id and isn't stored
+    // both signs of a variable: it gets an id and is not stored
     (
         &[5, 3, 2, 1, 0, 5, 3, 0, 1, 2, 5, 1, 2],
         &[
@@ -305,7 +306,7 @@ static INPUTS: [Row; 11] = [
             Said::AddClause([2, 0, 0]),
         ],
     ),
-    // an empty one, behind which no clause has an effect
+    // an empty one, after which no clause has an effect
     (
         &[5, 0, 5, 0, 5, 1, 0, 5, 2, 0, 1],
         &[Notice::AddClause(0, [0, 0, 0])],
@@ -421,7 +422,7 @@ static DERIVED: [Row; 11] = [
             Said::AddClause([1, -2, 0]),
         ],
     ),
-    // units come first, by their ids, where the falsified clause needs the later one
+    // units come first, by their ids, even if the falsified clause needs the later one
     (
         &[
             9, 0, 5, 1, 0, 5, 1, 2, 5, 2, 1, 4, 5, 2, 3, 5, 6, 0, 1, 6, 1, 0,
@@ -485,7 +486,7 @@ static DERIVED: [Row; 11] = [
 
 /// Clauses that are deleted.
 static DELETED: [Row; 12] = [
-    // redundant: gone; there once more; irredundant as well
+    // redundant: removed; stored once more; irredundant as well
     (
         &[9, 0, 5, 2, 0, 2, 6, 1, 3, 0, 2, 4, 1, 0, 8, 3, 4, 2, 0, 0],
         &[
@@ -513,7 +514,7 @@ static DELETED: [Row; 12] = [
         &[Notice::AddClause(0, [1, 2, 0])],
         &[Said::AddClause([1, 2, 0])],
     ),
-    // satisfied: gone; there once more; kept as redundant, and gone then
+    // satisfied: removed; stored once more; remains as redundant, and is removed then
     (
         &[5, 2, 0, 2, 5, 1, 0, 8, 2, 2, 0, 2],
         &[
@@ -553,7 +554,7 @@ static DELETED: [Row; 12] = [
         ],
         &[Said::AddClause([1, 2, 0]), Said::AddClause([1, 0, 0])],
     ),
-    // simplified: gone; there once more; kept as redundant
+    // simplified: removed; stored once more; remains as redundant
     (
         &[5, 3, 0, 2, 4, 5, 2, 4, 0, 8, 3, 0, 2, 4, 1],
         &[
@@ -796,7 +797,7 @@ static ANSWERS: [Row; 13] = [
 /// A name, and units that contradict each other.
 pub(crate) const UNITS: &[u8] = &[2, 0, 1, 5, 1, 0, 5, 1, 1];
 
-/// What is told of them till what is delayed is settled.
+/// What is announced of them until what is delayed is settled.
 pub(crate) const CONFLICT_BEFORE: &[Notice] = &[
     Notice::UserVar(1, 1, SAMPLE, NEW),
     Notice::AddClause(0, [1, 0, 0]),
@@ -821,7 +822,7 @@ const CONFLICT_SAID: &[Said] = &[
     Said::Unsat,
 ];
 
-/// The empty clause of a unit conflict, told by the next step.
+/// The empty clause of a unit conflict, which the next step announces.
 static CONFLICTS: [Row; 5] = [
     (&[2, 0, 1, 5, 1, 0, 5, 1, 1, 13], CONFLICT, CONFLICT_SAID),
     (
@@ -970,7 +971,7 @@ fn calls_are_announced(rt: HostRuntime) {
     assert!(rt; wrong == None, "{wrong:?}");
 }
 
-/// A processor that looks up the name of the first variable, and waits for these, where 0 is no name.
+/// A processor that looks up the name of the first variable, and expects these names. 0 is no name.
 #[derive(Drop)]
 struct Names {
     awaited: &'static [i64],
@@ -978,7 +979,7 @@ struct Names {
 }
 
 impl Names {
-    /// Takes a name, and notes whether it is another one than is awaited.
+    /// Compares a name with the next one that is expected.
     fn take(&mut self, name: i64) {
         match self.awaited.split_first() {
             Some((first, rest)) => {
@@ -1009,13 +1010,13 @@ impl ProofProcessor for Names {
 }
 
 /// A variable that is known, gets a name, becomes a witness, is hidden, is sampled again and becomes a witness without
-/// a name; behind each step assumptions are announced.
+/// a name. Assumptions are announced after every step.
 const LOOKED_UP: &[u8] = &[
     1, 0, 1, 11, 0, 2, 0, 5, 11, 0, 4, 0, 0, 11, 0, 2, 0, 0, 11, 0, 4, 0, 1, 11, 0, 4, 0, 0, 11, 0,
     13,
 ];
 
-/// Its name from before each step that is announced: a sampling one without a name is its own, no other is.
+/// Its name before every step that is announced. A sampling variable without a name has its own number.
 const FOUND: &[i64] = &[1, 1, 5, 5, 5, 5, 0, 1, 0];
 
 fn are_looked_up(alloc: Global, own: &mut Names) -> bool {

@@ -1,4 +1,4 @@
-//! Listeners of several types, in boxes.
+//! Tests of listeners of several types, in boxes.
 use crate::listeners::FailsAt;
 use sat_base::Lit;
 use sat_checker::{
@@ -8,7 +8,7 @@ use std::alloc::Global;
 
 type BoxChecker = Checker<Box<dyn ProofProcessor>, Box<dyn ProofTranscriptProcessor>>;
 
-/// Takes everything.
+/// A processor that accepts everything.
 #[derive(Drop)]
 struct Quiet {}
 
@@ -26,7 +26,7 @@ impl ProofProcessor for Quiet {
     }
 }
 
-/// Adds two boxes of different types, of which the second answers a fault at this call.
+/// Adds two boxes of different types. The second returns a fault at this call.
 fn add_boxes(checker: &mut BoxChecker, alloc: Global, at: u64) -> bool {
     let Ok(quiet) = Box::new(alloc, Quiet {}) else {
         return false;
@@ -39,7 +39,7 @@ fn add_boxes(checker: &mut BoxChecker, alloc: Global, at: u64) -> bool {
     first.is_ok() && second.is_ok()
 }
 
-/// Whether a clause is added, by the error.
+/// Whether a clause is added, or a listener returns a fault. Any other error is `None`.
 fn is_added(checker: &mut BoxChecker, lit: Lit) -> Option<bool> {
     match checker.add_clause(&[lit]) {
         Ok(()) => Some(true),
@@ -48,7 +48,7 @@ fn is_added(checker: &mut BoxChecker, lit: Lit) -> Option<bool> {
     }
 }
 
-/// What comes of two clauses where the second box answers a fault at this call, and how many boxes come back.
+/// Adds two clauses, while the second box returns a fault at this call. Also returns the number of boxes at the end.
 fn reported_boxes(alloc: Global, at: u64) -> (bool, Option<bool>, Option<bool>, usize) {
     let mut checker: BoxChecker = Checker::notifying(alloc);
     let added = add_boxes(&mut checker, alloc, at);

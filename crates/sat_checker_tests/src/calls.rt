@@ -1,6 +1,6 @@
-//! Calls of a checker, one behind another, and what it answers to each.
+//! Calls of a checker, one after another, and their results.
 //!
-//! Tests are lists of calls, and one function makes them: that is cheap to prove.
+//! Tests are lists of calls, and one function makes the calls, so the tests are cheap to prove.
 
 use crate::devices::by_one;
 use crate::kinds::{Kind, dimacs_failure, failure};
@@ -12,7 +12,7 @@ use std::alloc::Global;
 /// Clauses, by the numbers of their literals.
 pub(crate) type Clauses = &'static [&'static [i64]];
 
-/// A call of a checker. Of a text that is given byte by byte one read fails, counted from 1, or none where that is 0.
+/// A call of a checker. In a text that is read byte by byte, the read with this number fails, or none if it is 0.
 #[derive(Clone, Copy)]
 pub(crate) enum Call {
     Clause(&'static [i64]),
@@ -26,23 +26,23 @@ pub(crate) enum Call {
     /// Steps that are fed as a proof.
     Proof(&'static [u8]),
     ProofByOne(&'static [u8], u64),
-    /// What is delayed is settled.
+    /// `self_check_delayed_steps`.
     Settle,
 }
 
-/// What is answered to a call: the error, and whether unsat is recorded and the checker has ended then.
+/// The result of a call: its error, and whether unsat is recorded and `End` accepted afterwards.
 pub(crate) type Answer = (Option<Kind>, bool, bool);
 
-/// A call, and what is answered to it.
+/// A call, and its result.
 pub(crate) type Answered = (Call, Answer);
 
-/// What some calls of a new checker are about, and the calls.
+/// What some calls of a new checker show, and the calls.
 pub(crate) type Calls = (&'static str, &'static [Answered]);
 
 /// The end of a proof.
 pub(crate) const END: &[u8] = &[13];
 
-/// Adds the literals of these numbers. The answer is whether there was memory for them.
+/// Adds the literals of these numbers. Returns whether there was memory for them.
 fn push_lits(lits: &mut Vec<Lit>, numbers: &[i64]) -> bool {
     for number in numbers {
         let pushed = match Lit::from_dimacs(*number) {
@@ -56,7 +56,7 @@ fn push_lits(lits: &mut Vec<Lit>, numbers: &[i64]) -> bool {
     true
 }
 
-/// A clause, if there is memory.
+/// Makes a clause, if there is memory.
 fn clause_of(alloc: Global, numbers: &[i64]) -> Option<Vec<Lit>> {
     let mut lits = Vec::new(alloc);
     if push_lits(&mut lits, numbers) {
@@ -77,7 +77,7 @@ fn add_clause<P: ProofProcessor, T: ProofTranscriptProcessor>(
     }
 }
 
-/// Adds clauses to a formula. The answer is whether there was memory for them.
+/// Adds clauses to a formula. Returns whether there was memory for them.
 fn fill(alloc: Global, formula: &mut CnfFormula, clauses: Clauses) -> bool {
     for numbers in clauses {
         let added = match clause_of(alloc, *numbers) {
@@ -153,7 +153,7 @@ fn check_by_one<P: ProofProcessor, T: ProofTranscriptProcessor>(
     failure(alloc, &checker.check_proof(&mut by_one(text, failing)))
 }
 
-/// The error that is answered to a call.
+/// Makes a call, and returns its error.
 pub(crate) fn error_of<P: ProofProcessor, T: ProofTranscriptProcessor>(
     alloc: Global,
     checker: &mut Checker<P, T>,
@@ -172,7 +172,7 @@ pub(crate) fn error_of<P: ProofProcessor, T: ProofTranscriptProcessor>(
     }
 }
 
-/// Whether a checker answers so to calls, one behind another.
+/// Whether calls of a checker, one after another, have these results.
 pub(crate) fn answers<P: ProofProcessor, T: ProofTranscriptProcessor>(
     alloc: Global,
     checker: &mut Checker<P, T>,
@@ -187,7 +187,7 @@ pub(crate) fn answers<P: ProofProcessor, T: ProofTranscriptProcessor>(
     true
 }
 
-/// Whether a new checker answers so to calls, one behind another.
+/// Whether calls of a new checker, one after another, have these results.
 pub(crate) fn are_answered(alloc: Global, calls: &[Answered]) -> bool {
     let mut checker = Checker::new(alloc);
     let right = answers(alloc, &mut checker, calls);
@@ -195,7 +195,7 @@ pub(crate) fn are_answered(alloc: Global, calls: &[Answered]) -> bool {
     right
 }
 
-/// What the first calls are about that are answered otherwise.
+/// Returns what the first calls show that have another result.
 pub(crate) fn first_wrong(alloc: Global, rows: &[Calls]) -> Option<&'static str> {
     for row in rows {
         if !are_answered(alloc, row.1) {

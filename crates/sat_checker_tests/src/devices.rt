@@ -1,10 +1,10 @@
-//! A reader that gives one byte at a time.
+//! A reader that returns one byte at a time.
 
 use sat_base::Counted;
 use std::io;
 use std::io::{ErrorKind, Read};
 
-/// A text that is given byte by byte; one read fails, counted from 1, or none where that is 0.
+/// A text that is read byte by byte. The read with this number fails, counted from 1; at 0 none does.
 #[derive(Drop)]
 pub(crate) struct ByOne<'a> {
     text: &'a [u8],

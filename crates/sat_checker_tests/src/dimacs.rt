@@ -1,4 +1,4 @@
-//! Formulas' texts.
+//! Tests of formulas in DIMACS CNF.
 
 use crate::calls::{Answer, Call, Calls, are_answered, first_wrong};
 use crate::kinds::Kind;
@@ -10,8 +10,8 @@ const TAKEN: Answer = (None, false, false);
 
 const REFUTED: Answer = (None, true, false);
 
-/// At fault in the first line, in the second, and by a number past the limit in the third; whether unsat is recorded
-/// then.
+/// A fault in the first line, in the second, and by a number past the limit in the third, with or without unsat
+/// recorded.
 const FIRST_LINE: Answer = (
     Some(Kind::Dimacs(DimacsError::Malformed { line: 1 })),
     false,
@@ -38,12 +38,12 @@ const PAST_LIMIT_REFUTED: Answer = (
 
 const UNREAD: Answer = (Some(Kind::Dimacs(DimacsError::Read)), false, false);
 
-/// The clauses over two variables, with each pair of signs.
+/// All four clauses over two variables.
 pub(crate) const PAIRS: &[u8] = b"c four clauses\np cnf 2 4\n1 2 0\n1 -2 0\n-1 2 0\n-1 -2 0\n";
 
 type Row = (&'static [u8], Answer);
 
-/// Texts, and among them some at fault behind clauses that contradict each other or don't.
+/// Texts. Some have a fault after clauses that contradict each other, or after others.
 static TEXTS: [Row; 11] = [
     (b"", TAKEN),
     (PAIRS, TAKEN),
@@ -62,13 +62,13 @@ fn texts() -> &'static [Row] {
     &TEXTS
 }
 
-/// Whether a text is answered so, read whole and in pieces of one byte.
+/// Whether a text has this result, read in one chunk and in chunks of one byte.
 fn is_answered(alloc: Global, row: &Row) -> bool {
     are_answered(alloc, &[(Call::Dimacs(row.0), row.1)])
         && are_answered(alloc, &[(Call::DimacsByOne(row.0, 0), row.1)])
 }
 
-/// The first text that is answered otherwise.
+/// Returns the first text that has another result.
 fn first_unanswered(alloc: Global) -> Option<&'static [u8]> {
     for row in texts() {
         if !is_answered(alloc, row) {
@@ -86,7 +86,7 @@ fn texts_are_answered(rt: HostRuntime) {
 
 const UNITS: &[u8] = b"1 2 0\n-1 0\n";
 
-/// The first read whose fault isn't answered, or behind which the checker doesn't go on.
+/// Returns the first read whose fault is not returned, or after which the checker does not continue.
 fn first_unanswered_read(alloc: Global) -> Option<u64> {
     for failing in 1..13 {
         let calls = [

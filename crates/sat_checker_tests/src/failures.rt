@@ -1,4 +1,4 @@
-//! Processors and transcripts that answer a fault at each of their calls in turn.
+//! Tests of processors and transcripts that return a fault, at every one of their calls in turn.
 
 use crate::announcements::{
     CONFLICT, CONFLICT_BEFORE, CONFLICT_SAID_BEFORE, REFUTATION, REFUTED, REFUTED_SAID, UNITS,
@@ -14,11 +14,11 @@ use crate::kinds::Kind;
 use crate::proofs;
 use std::alloc::Global;
 
-/// How many steps a transcript has of so many announcements of the refutation: the fifth has none.
+/// The number of steps in the transcript of the first announcements of the refutation. The fifth has none.
 const STEPS: [usize; 7] = [0, 1, 2, 3, 4, 4, 5];
 
-/// How often the one at this place is called without a fault, where the one at the failing place answers a fault to
-/// this announcement. Those behind it aren't told of it.
+/// Returns how often the listener at a place is called without a fault, if the one at the failing place returns a fault
+/// for this announcement. Those after it are not notified of it.
 fn calls(place: usize, failing: usize, at: usize) -> usize {
     if place < failing {
         at
@@ -27,12 +27,12 @@ fn calls(place: usize, failing: usize, at: usize) -> usize {
     }
 }
 
-/// The announcements that are taken by the one at this place.
+/// Returns the announcements that the listener at a place accepts.
 fn told(place: usize, failing: usize, at: usize) -> &'static [Notice] {
     &REFUTED[..calls(place, failing, at).min(REFUTED.len())]
 }
 
-/// The transcript's steps that are taken by the one at this place.
+/// Returns the steps that the transcript at a place accepts.
 fn said(place: usize, failing: usize, at: usize) -> &'static [Said] {
     &REFUTED_SAID[..STEPS[calls(place, failing, at).min(6)].min(REFUTED_SAID.len())]
 }
@@ -45,18 +45,18 @@ fn add_four(checker: &mut Heard, failing: usize, at: usize) -> bool {
         && add_reader(checker, said(4, failing, at))
 }
 
-/// Whether a checker answers to this call by the fault of somebody who waits for no more.
+/// Whether a call of a checker returns the fault of a listener that expects no more.
 fn is_ended(alloc: Global, checker: &mut Heard, call: Call) -> bool {
     error_of(alloc, checker, call) == Some(Kind::NoMore)
 }
 
-/// Whether a proof is ended by such a fault, a processor of the caller's own being the first, at place 0.
+/// Whether a proof ends by such a fault, with a processor of the caller's own at place 0.
 fn is_ended_with_own(alloc: Global, checker: &mut Heard, awaited: &'static [Notice]) -> bool {
     let mut own = Listener::new(awaited);
     check_with(alloc, checker, REFUTATION, &mut own) == Some(Kind::NoMore) && own.is_done()
 }
 
-/// Whether a checker answers that it has failed, and nothing else.
+/// Whether all calls of a checker return `HasFailed`.
 fn has_failed(alloc: Global, checker: &mut Heard) -> bool {
     for call in [Call::Proof(END), Call::Clause(&[]), Call::Settle] {
         if error_of(alloc, checker, call) != Some(Kind::HasFailed) {
@@ -67,7 +67,7 @@ fn has_failed(alloc: Global, checker: &mut Heard) -> bool {
 }
 
 /// Whether a fault at this place ends the steps at this announcement: those of a proof with a processor of the caller's
-/// own, or else those that are fed one by one.
+/// own, or those that are fed one by one.
 fn ends(alloc: Global, failing: usize, at: usize, with_own: bool) -> bool {
     let mut checker = Heard::notifying(alloc);
     let ended = add_four(&mut checker, failing, at)
@@ -81,7 +81,7 @@ fn ends(alloc: Global, failing: usize, at: usize, with_own: bool) -> bool {
     ended && left
 }
 
-/// The places, and each announcement at which the one there is called.
+/// The places, and the announcements at which the listener there is called.
 static FAULTS: [(usize, &[usize]); 5] = [
     (0, &[1, 2, 3, 4, 5, 6]),
     (1, &[1, 2, 3, 4, 5, 6]),
@@ -94,7 +94,7 @@ fn faults() -> &'static [(usize, &'static [usize])] {
     &FAULTS
 }
 
-/// The first announcement at which a fault doesn't end the steps as it should.
+/// Returns the first announcement at which a fault does not end the steps as it should.
 fn first_unended(alloc: Global, failing: usize, announcements: &[usize]) -> Option<usize> {
     for at in announcements {
         if !ends(alloc, failing, *at, true) || failing > 0 && !ends(alloc, failing, *at, false) {
@@ -118,12 +118,12 @@ const FAULT: Answer = (Some(Kind::NoMore), false, false);
 
 const HAS_FAILED: Answer = (Some(Kind::HasFailed), false, false);
 
-/// A formula of four clauses is taken, and the checker goes on.
+/// A formula of four clauses is added, and the checker continues.
 fn taken(call: Call) -> [Answered; 2] {
     [(call, TAKEN), (Call::Proof(END), (None, false, true))]
 }
 
-/// A formula is ended by a fault, and the checker has failed.
+/// A fault ends the formula, and the checker has failed.
 fn ended(call: Call) -> [Answered; 4] {
     [
         (call, FAULT),
@@ -133,7 +133,7 @@ fn ended(call: Call) -> [Answered; 4] {
     ]
 }
 
-/// Whether a formula's clauses are told up to the first that isn't awaited, where so many are.
+/// Whether a formula's clauses are announced up to the first that is not expected, if this many are.
 fn is_reported_up_to(alloc: Global, call: Call, count: usize) -> bool {
     let (told, said) = (told(0, 1, count), said(0, 1, count));
     if count == 4 {
@@ -143,7 +143,7 @@ fn is_reported_up_to(alloc: Global, call: Call, count: usize) -> bool {
     }
 }
 
-/// The first number of clauses behind which a fault doesn't end a formula, as such or as its text.
+/// Returns the first number of clauses after which a fault does not end a formula, as such or as its text.
 fn first_unreported(alloc: Global) -> Option<usize> {
     for count in 0..5 {
         if !is_reported_up_to(alloc, Call::Formula(proofs::PAIRS), count)
@@ -167,7 +167,7 @@ const UNSAT_FAULT: Answer = (Some(Kind::NoMore), true, false);
 
 const UNSAT_HAS_FAILED: Answer = (Some(Kind::HasFailed), true, false);
 
-/// A fault at the empty clause of a unit conflict ends what is delayed.
+/// A fault at the empty clause of a unit conflict ends `self_check_delayed_steps`.
 const SETTLED: &[Answered] = &[
     (Call::Steps(UNITS), UNSAT),
     (Call::Settle, UNSAT_FAULT),
@@ -176,7 +176,7 @@ const SETTLED: &[Answered] = &[
     (Call::Settle, UNSAT_HAS_FAILED),
 ];
 
-/// The same by the end of a proof.
+/// A fault there ends a proof, too.
 const ENDED: &[Answered] = &[
     (Call::Steps(UNITS), UNSAT),
     (Call::Proof(END), UNSAT_FAULT),

@@ -1,4 +1,4 @@
-//! Who waits for a list of announcements, or of steps of a transcript, and answers a fault to any other.
+//! Listeners that expect a list of announcements, or of steps of a transcript, and return a fault for any other.
 
 use crate::calls::{Answered, answers};
 use crate::kinds::NO_MORE;
@@ -11,10 +11,10 @@ use sat_checker::{
 };
 use std::alloc::Global;
 
-/// The numbers of at most three literals, and zeros behind them.
+/// The numbers of at most three literals, padded with zeros.
 type Numbers = [i64; 3];
 
-/// At most four ids, and `NO` behind them.
+/// At most four ids, padded with `NO`.
 type Ids = [u64; 4];
 
 /// No id.
@@ -25,18 +25,18 @@ pub(crate) const NO: u64 = u64::MAX;
 pub(crate) enum Notice {
     /// A variable, its name, whether it is a sampling one, and whether it was unknown.
     UserVar(i64, i64, bool, bool),
-    /// A variable, which has no name any longer.
+    /// A variable, which has no name any more.
     NoName(i64),
     DeleteVar(i64),
     AddClause(u64, Numbers),
-    /// An id, and that of the same clause.
+    /// An id, and the earlier id of the same clause.
     DuplicatedClause(u64, u64, Numbers),
     TautologicalClause(u64, Numbers),
     /// An id, whether it is redundant, the clause, and its propagations.
     AtClause(u64, bool, Numbers, Ids),
     MakeIrredundant(u64, Numbers),
     DeleteClause(u64, Numbers),
-    /// An id, whether it is kept as redundant, the clause, and its propagations.
+    /// An id, whether the clause remains as redundant, the clause, and its propagations.
     DeleteAtClause(u64, bool, Numbers, Ids),
     Model(Numbers),
     Assumptions(Numbers),
@@ -73,7 +73,7 @@ pub(crate) enum Said {
     FailedAssumptions(Numbers),
 }
 
-/// The number of the literal at this place, if there is one, and zero.
+/// Returns the number of the literal at this place, or zero.
 fn number_at(lits: &[Lit], place: usize) -> i64 {
     match lits.get(place) {
         Some(lit) => lit.to_dimacs(),
@@ -86,7 +86,7 @@ fn are_numbers(lits: &[Lit], numbers: Numbers) -> bool {
     lits.len() <= 3 && found == numbers
 }
 
-/// The id at this place, if there is one.
+/// Returns the id at this place, or `NO`.
 fn id_at(ids: &[u64], place: usize) -> u64 {
     match ids.get(place) {
         Some(id) => *id,
@@ -132,7 +132,7 @@ fn is_user_var(told: Notice, var: Var, user_var: Option<CheckedUserVar>) -> bool
     }
 }
 
-/// What an announcement is.
+/// Kinds of announcements.
 const NAMED: u8 = 0;
 
 const ADDED: u8 = 1;
@@ -157,15 +157,15 @@ const FAILED: u8 = 10;
 
 const FORGOTTEN: u8 = 12;
 
-/// None of these: a variable's name, which `is_user_var` compares, or what no test awaits.
+/// None of these: a variable's name, which `is_user_var` compares, or what no test expects.
 const OTHER: u8 = 11;
 
 const NONE: Ids = [NO; 4];
 
-/// What an announcement is, its id, another id, a flag, its literals and its propagations.
+/// The kind of an announcement, its id, another id, a flag, its literals and its propagations.
 type Found<'a> = (u8, u64, u64, bool, &'a [Lit], &'a [u64]);
 
-/// The same of one that is awaited.
+/// The same parts of an announcement that is expected.
 type Awaited = (u8, u64, u64, bool, Numbers, Ids);
 
 fn parts_of<'a>(step: &CheckedProofStep<'a>) -> Found<'a> {
@@ -240,7 +240,7 @@ fn are_same(found: Found<'_>, awaited: Awaited) -> bool {
         && are_ids(ids, wanted_ids)
 }
 
-/// Whether this is announced.
+/// Whether the announcement is this one.
 fn is_reported(step: &CheckedProofStep<'_>, told: Notice) -> bool {
     match *step {
         CheckedProofStep::UserVar { var, user_var } => is_user_var(told, var, user_var),
@@ -248,7 +248,7 @@ fn is_reported(step: &CheckedProofStep<'_>, told: Notice) -> bool {
     }
 }
 
-/// What a transcript says, by the place of its kind in the list below, of which variable, and its literals.
+/// Returns the kind of a transcript's step, by its place in the list below, its variable and its literals.
 fn said_parts<'a>(step: &ProofTranscriptStep<'a>) -> (u8, i64, &'a [Lit]) {
     match *step {
         ProofTranscriptStep::WitnessVar { var } => (0, var.to_dimacs(), &[]),
@@ -263,7 +263,7 @@ fn said_parts<'a>(step: &ProofTranscriptStep<'a>) -> (u8, i64, &'a [Lit]) {
     }
 }
 
-/// The same of what is awaited.
+/// Returns the same parts of a step that is expected.
 fn awaited_said(said: Said) -> (u8, i64, Numbers) {
     match said {
         Said::WitnessVar(number) => (0, number, [0; 3]),
@@ -278,7 +278,7 @@ fn awaited_said(said: Said) -> (u8, i64, Numbers) {
     }
 }
 
-/// Whether a transcript says this.
+/// Whether the step is this one.
 fn is_said(step: &ProofTranscriptStep<'_>, said: Said) -> bool {
     let (what, number, lits) = said_parts(step);
     let (wanted, wanted_number, numbers) = awaited_said(said);
@@ -287,7 +287,7 @@ fn is_said(step: &ProofTranscriptStep<'_>, said: Said) -> bool {
 
 const ANOTHER: &str = "another one is awaited";
 
-/// A processor that waits for these announcements.
+/// A processor that expects these announcements.
 #[derive(Drop)]
 pub(crate) struct Listener {
     awaited: &'static [Notice],
@@ -302,7 +302,7 @@ impl Listener {
         self.awaited.is_empty()
     }
 
-    /// Takes an announcement, unless it is another one than is awaited.
+    /// Accepts an announcement. Returns a fault if it is not the next one that is expected.
     fn fault(&mut self, step: &CheckedProofStep<'_>) -> Option<&'static str> {
         let Some((first, rest)) = self.awaited.split_first() else {
             return Some(NO_MORE);
@@ -332,7 +332,7 @@ impl ProofProcessor for Listener {
     }
 }
 
-/// A transcript that waits for these steps.
+/// A transcript that expects these steps.
 #[derive(Drop)]
 pub(crate) struct Reader {
     awaited: &'static [Said],
@@ -347,7 +347,7 @@ impl Reader {
         self.awaited.is_empty()
     }
 
-    /// Takes a step, unless it is another one than is awaited.
+    /// Accepts a step. Returns a fault if it is not the next one that is expected.
     fn fault(&mut self, step: &ProofTranscriptStep<'_>) -> Option<&'static str> {
         let Some((first, rest)) = self.awaited.split_first() else {
             return Some(NO_MORE);
@@ -373,15 +373,15 @@ impl ProofTranscriptProcessor for Reader {
     }
 }
 
-/// A checker that such processors and transcripts listen to.
+/// A checker with such processors and transcripts.
 pub(crate) type Heard = Checker<Listener, Reader>;
 
-/// Adds a processor that waits for these announcements. The answer is whether there was memory.
+/// Adds a processor that expects these announcements. Returns whether there was memory.
 pub(crate) fn add_listener(checker: &mut Heard, awaited: &'static [Notice]) -> bool {
     checker.add_processor(Listener::new(awaited)).is_ok()
 }
 
-/// Adds a transcript that waits for these steps.
+/// Adds a transcript that expects these steps.
 pub(crate) fn add_reader(checker: &mut Heard, awaited: &'static [Said]) -> bool {
     checker.add_transcript(Reader::new(awaited)).is_ok()
 }
@@ -404,7 +404,7 @@ fn transcripts_are_done(transcripts: &[Reader]) -> bool {
     true
 }
 
-/// Whether so many of each kind have got all that they wait for.
+/// Whether there are this many processors and transcripts, and all of them received all that they expect.
 pub(crate) fn are_done(given_back: Processors<Listener, Reader>, count: usize) -> bool {
     given_back.processors.len() == count
         && given_back.transcripts.len() == count
@@ -412,8 +412,7 @@ pub(crate) fn are_done(given_back: Processors<Listener, Reader>, count: usize) -
         && transcripts_are_done(&given_back.transcripts)
 }
 
-/// Whether a processor and a transcript that listen to a new checker are told this, and no more, of calls that are
-/// answered so.
+/// Whether calls of a new checker have these results, and a processor and a transcript are notified of exactly this.
 pub(crate) fn are_heard(
     alloc: Global,
     told: &'static [Notice],
@@ -428,7 +427,7 @@ pub(crate) fn are_heard(
     right && left
 }
 
-/// What some calls are about, what is told and said of them, and the calls.
+/// What some calls show, their announcements and transcript, and the calls.
 pub(crate) type HeardCalls = (
     &'static str,
     &'static [Notice],
@@ -436,7 +435,7 @@ pub(crate) type HeardCalls = (
     &'static [Answered],
 );
 
-/// What the first calls are about of which something else is told or said, or that are answered otherwise.
+/// Returns what the first calls show that have another result, or of which something else is announced.
 pub(crate) fn first_unheard(alloc: Global, rows: &[HeardCalls]) -> Option<&'static str> {
     for row in rows {
         if !are_heard(alloc, row.1, row.2, row.3) {

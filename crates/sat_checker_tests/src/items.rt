@@ -1,4 +1,4 @@
-//! Hashes, sets of literals, and what is known of variables.
+//! Tests of hashes, of sets of literals, and of what is known of variables.
 
 use crate::calls::{Call, error_of};
 use sat_base::{ClauseHash, HashBits, Lit, Var};
@@ -20,7 +20,7 @@ fn named_hash(hasher: &mut ClauseHasher, bits: HashBits) -> Option<ClauseHash> {
     Some(hasher.clause_hash(&[first.positive(), second.positive()]))
 }
 
-/// The hash of a clause of two variables, which are variables 1 and 2 by their solver names.
+/// Returns the hash of a clause of two variables, whose solver names are 1 and 2.
 fn hash_by_names(alloc: Global, width: u32) -> Option<ClauseHash> {
     let (whole, bits) = (HashBits::new(64)?, HashBits::new(width)?);
     let mut hasher = ClauseHasher::new(alloc, whole);
@@ -73,7 +73,7 @@ fn sets() -> &'static [([i64; 3], &'static [i64], bool)] {
     &SETS
 }
 
-/// Whether the sorted set of literals is this one, and the answer of `copy_canonical` this.
+/// Whether `copy_canonical` makes this sorted set, and returns this.
 fn is_set_of(alloc: Global, numbers: [i64; 3], wanted: &[i64], both: bool) -> bool {
     let Some(lits) = lits(numbers) else {
         return false;
@@ -89,7 +89,7 @@ fn sets_are_sorted(rt: HostRuntime) {
     }
 }
 
-/// Two sets, whether the first is a part of the second, and whether a strict one.
+/// Two sets, whether the first is a part of the second, and whether it is a strict one.
 static PARTS: [([i64; 3], [i64; 3], bool, bool); 4] = [
     ([1, 2, 2], [2, 1, 3], true, true),
     ([1, 2, 3], [3, 2, 1], true, false),
@@ -101,7 +101,7 @@ fn parts() -> &'static [([i64; 3], [i64; 3], bool, bool)] {
     &PARTS
 }
 
-/// Whether the sorted set of literals is a part of that of others.
+/// Whether the sorted set of literals is a part of another one.
 #[tactic(auto, using(sat_checker::proofs::lemmas::sets::Canonical::canonical_increasing))]
 fn are_part(alloc: Global, first: &[Lit], second: &[Lit], strict: bool) -> Option<bool> {
     let mut part = Vec::new(alloc);
@@ -123,10 +123,10 @@ fn parts_are_reported(rt: HostRuntime) {
     }
 }
 
-/// What a checker tells of the first variable: its name, whether it is known, and whether one was deleted.
+/// What a checker reports of the first variable: its name, whether it is known, and whether a variable was deleted.
 type Notice = (Option<usize>, bool, bool);
 
-/// Steps, and what is told then.
+/// Steps, and what is reported after them.
 static TOLD: [(&[u8], Notice); 8] = [
     (&[], (None, false, false)),
     (&[2, 0, 5], (Some(4), true, false)),
@@ -159,7 +159,7 @@ fn variables_are_reported(rt: HostRuntime) {
     }
 }
 
-/// Whether a variable holds a name up to its removal, and is known behind it.
+/// Whether a variable has a name until it is removed, and is still known after that.
 fn is_held(variables: &mut Variables) -> bool {
     let (var, name) = (Var::from_index(0), Var::from_index(4));
     variables.ensure_var(var) == Ok(())

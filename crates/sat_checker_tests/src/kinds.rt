@@ -4,10 +4,10 @@ use sat_base::DimacsError;
 use sat_checker::{CheckerDimacsError, CheckerError};
 use std::alloc::Global;
 
-/// What somebody who listens answers where nothing more is awaited.
+/// The fault of a listener that expects no more.
 pub(crate) const NO_MORE: &str = "no more is awaited";
 
-/// What a `CheckerError` or a `CheckerDimacsError` is, whatever its cause.
+/// The kind of a `CheckerError` or a `CheckerDimacsError`, without the underlying error.
 #[derive(Clone, Copy, PartialEq)]
 pub(crate) enum Kind {
     ProofIncomplete,
@@ -15,7 +15,7 @@ pub(crate) enum Kind {
     ParseError,
     CheckFailed,
     ProofProcessorError,
-    /// The same, caused by the fault that nothing more is awaited.
+    /// The same, with the fault of a listener that expects no more.
     NoMore,
     OutOfMemory,
     CounterEnd,
@@ -49,7 +49,7 @@ fn kind_of(alloc: Global, error: &CheckerError) -> Kind {
     }
 }
 
-/// The kind of an answer's error, if it is one.
+/// Returns the kind of a result's error, if it is one.
 pub(crate) fn failure(alloc: Global, answer: &Result<(), CheckerError>) -> Option<Kind> {
     match answer {
         Ok(()) => None,
@@ -57,7 +57,7 @@ pub(crate) fn failure(alloc: Global, answer: &Result<(), CheckerError>) -> Optio
     }
 }
 
-/// The kind of an answer's error, if it is one.
+/// Returns the kind of a result's error, if it is one.
 pub(crate) fn dimacs_failure(
     alloc: Global,
     answer: &Result<(), CheckerDimacsError>,

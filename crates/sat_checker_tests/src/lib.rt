@@ -1,7 +1,7 @@
 //! Tests of `sat_checker` by its public calls, in a crate of their own so that the library is proved once.
 //!
-//! A table of rows is named by a function of its own, and by no other: each body that names a table is proved over all
-//! of its rows, which is dear.
+//! A table of rows is named only by a function of its own: every body that names a table is proved over all of its
+//! rows, which is slow.
 #![tactic(auto)]
 
 #[cfg(test)]

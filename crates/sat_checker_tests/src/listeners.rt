@@ -1,4 +1,4 @@
-//! Processors and transcripts that are told announcements.
+//! Tests of the order in which processors and transcripts are notified.
 use anyhow::anyhow;
 use sat_base::{Lit, Var};
 use sat_checker::processing::process_step;
@@ -9,7 +9,7 @@ use sat_checker::{
 };
 use std::alloc::Global;
 
-/// Answers a fault at one of its calls, counted from 1.
+/// A listener that returns a fault at one of its calls, counted from 1.
 #[derive(Drop)]
 pub(crate) struct FailsAt {
     calls: u64,
@@ -54,14 +54,14 @@ impl ProofTranscriptProcessor for FailsAt {
     }
 }
 
-/// Adds a processor and a transcript that take everything. The answer is whether there was memory.
+/// Adds a processor and a transcript that accept everything. Returns whether there was memory.
 pub(crate) fn add_quiet(checker: &mut Checker<FailsAt, FailsAt>) -> bool {
     let processor = checker.add_processor(FailsAt::new(0));
     let transcript = checker.add_transcript(FailsAt::new(0));
     processor.is_ok() && transcript.is_ok()
 }
 
-/// How often the announcement is told before the first fault, of four times.
+/// Notifies the listeners up to four times. Returns how often there was no fault before the first one.
 fn told(
     processing: &mut Processing<FailsAt, FailsAt>,
     variables: &Variables,
@@ -82,7 +82,7 @@ fn add_three(processing: &mut Processing<FailsAt, FailsAt>, at: u64) -> bool {
         && processing.add_transcript(FailsAt::new(at)).is_ok()
 }
 
-/// Whether two processors that fail at this call, and a transcript, are handed back as the first fault left them: the
+/// Whether two processors that fail at this call, and a transcript, are returned as the first fault left them: the
 /// second processor and the transcript were called once less.
 fn are_handed_back(alloc: Global, at: u64) -> bool {
     let variables = Variables::new(alloc);
@@ -94,7 +94,7 @@ fn are_handed_back(alloc: Global, at: u64) -> bool {
     added && count.saturating_add(1) == at && left
 }
 
-/// Whether the first processor was called so often, and the second and the transcript once less.
+/// Whether the first processor was called this often, and the second one and the transcript once less.
 fn were_left(given_back: &Processors<FailsAt, FailsAt>, at: u64) -> bool {
     given_back.processors.len() == 2
         && given_back.transcripts.len() == 1
@@ -110,8 +110,7 @@ fn failed_processors_are_handed_back(rt: HostRuntime) {
     }
 }
 
-/// Whether a processor of the caller's own that answers a fault ends the step before the others, and one that doesn't
-/// lets them be told.
+/// Whether the others are not notified if a processor of the caller's own returns a fault, and are notified otherwise.
 fn is_reported_before(
     processing: &mut Processing<FailsAt, FailsAt>,
     names: CheckerData<'_>,
@@ -125,7 +124,7 @@ fn is_reported_before(
         && own.calls == 2
 }
 
-/// Whether somebody listens once a processor was added, and the caller's own is told before it.
+/// Whether there is a listener once a processor was added, and the caller's own is notified before it.
 fn is_reported_first(alloc: Global) -> bool {
     let variables = Variables::new(alloc);
     let mut processing: Processing<FailsAt, FailsAt> = Processing::new(alloc);
@@ -140,7 +139,7 @@ fn own_processor_is_reported_first(rt: HostRuntime) {
     assert!(rt; is_reported_first(rt.alloc()));
 }
 
-/// How many literals a clause of a transcript has, and the first.
+/// Returns the number of literals of a clause in a transcript, and the first of them.
 fn length_and_first(step: &ProofTranscriptStep<'_>) -> Option<(usize, i64)> {
     match *step {
         ProofTranscriptStep::AddClause { clause } => {
@@ -160,7 +159,7 @@ fn name_first(variables: &mut Variables) -> bool {
         && variables.set_mode(second, false).is_ok()
 }
 
-/// A clause's literals in a transcript.
+/// Returns the same for the transcript of a clause.
 fn transcribed(alloc: Global, variables: &Variables, clause: &[Lit]) -> Option<(usize, i64)> {
     let mut transcript = Transcript::new(alloc);
     let step = CheckedProofStep::AddClause { id: 0, clause };

@@ -1,4 +1,4 @@
-//! Whole proofs, and what comes before them and behind.
+//! Tests of complete proofs, and of calls before and after them.
 
 use crate::calls::{
     Answer, Answered, Call, Calls, Clauses, END, answers, are_answered, first_wrong,
@@ -7,7 +7,8 @@ use crate::kinds::Kind;
 use sat_checker::{Checker, Looks};
 use std::alloc::Global;
 
-/// Whether a text is answered so as a proof, and so an end behind it, read whole and in pieces of one byte.
+/// Whether a text has the first result as a proof, and an end after it the second, read in one chunk and in chunks of
+/// one byte.
 pub(crate) fn is_answered(
     alloc: Global,
     text: &'static [u8],
@@ -25,7 +26,7 @@ const UNREAD: Answer = (Some(Kind::ParseError), false, false);
 
 const ENDED: Answer = (None, false, true);
 
-/// Texts that are no proofs, and what stands behind an end.
+/// Texts that are no proofs, and texts that continue after an end.
 static TEXTS: [(&[u8], Answer); 10] = [
     (&[], INCOMPLETE),
     (&[5, 1, 0], INCOMPLETE),
@@ -43,7 +44,7 @@ fn texts() -> &'static [(&'static [u8], Answer)] {
     &TEXTS
 }
 
-/// The first text that is answered otherwise, or behind which an end isn't taken.
+/// Returns the first text that has another result, or after which an end is not accepted.
 fn first_unanswered(alloc: Global) -> Option<&'static [u8]> {
     for row in texts() {
         if !is_answered(alloc, row.0, row.1, ENDED) {
@@ -59,14 +60,14 @@ fn texts_are_answered(rt: HostRuntime) {
     assert!(rt; wrong == None, "{wrong:?}");
 }
 
-/// A name is put again on a hidden variable, and unsat is recorded.
+/// A hidden variable gets a name again, and unsat is recorded.
 const NAMED_AGAIN: &[u8] = &[
     0x02, 0x00, 0x01, 0x05, 0x01, 0x00, 0x02, 0x00, 0x00, 0x04, 0x00, 0x01, 0x02, 0x00, 0x01, 0x05,
     0x01, 0x01, 0x0d,
 ];
 
-/// The first read whose fault isn't answered, or behind which the checker doesn't go on. Before the last one unsat is
-/// recorded.
+/// Returns the first read whose fault is not returned, or after which the checker does not continue. Unsat is recorded
+/// before the last one.
 fn first_unanswered_read(alloc: Global) -> Option<u64> {
     for failing in 1..20 {
         let unsat = failing == 19;
@@ -90,7 +91,7 @@ fn failed_reads_are_answered(rt: HostRuntime) {
     assert!(rt; wrong == None, "{wrong:?}");
 }
 
-/// The clauses over two variables, with each pair of signs.
+/// All four clauses over two variables.
 pub(crate) const PAIRS: Clauses = &[&[1, 2], &[1, -2], &[-1, 2], &[-1, -2]];
 
 const TAKEN: Answer = (None, false, false);
@@ -103,7 +104,7 @@ const REFUSED: Answer = (Some(Kind::CheckFailed), false, false);
 
 const HAS_FAILED: Answer = (Some(Kind::HasFailed), false, false);
 
-/// A clause that doesn't follow.
+/// A clause that does not follow.
 const UNFOUNDED: &[u8] = &[6, 0, 1, 4, 0, 13];
 
 static CALLS: [Calls; 6] = [
@@ -172,7 +173,7 @@ fn calls_around_proofs_are_answered(rt: HostRuntime) {
     assert!(rt; wrong == None, "{wrong:?}");
 }
 
-/// Whether the looks of two checkers are one count, which isn't 0.
+/// Whether two checkers have the same count of looks, which is not 0.
 fn add_up(checker: &Checker) -> bool {
     let mut looks = Looks::new();
     looks.add(checker);

@@ -1,11 +1,11 @@
-//! Steps in bytes, and what a checker answers to them, by the kind of the last step.
+//! Tests of steps in bytes, by the kind of the last step.
 
 use crate::calls::Answer;
 use crate::kinds::Kind;
 use crate::{proofs, steps};
 use std::alloc::Global;
 
-/// Steps, and what is answered to them: the first error, and whether unsat is recorded and the checker has ended.
+/// Steps, and their result: the first error, and whether unsat is recorded and `End` accepted.
 pub(crate) type Row = (&'static [u8], Answer);
 
 const ENDED: Answer = (None, false, true);
@@ -18,10 +18,10 @@ const REFUSED: Answer = (Some(Kind::CheckFailed), false, false);
 
 const UNSAT: Answer = (None, true, false);
 
-/// Refused where unsat is recorded.
+/// Refused, with unsat recorded.
 const UNSAT_REFUSED: Answer = (Some(Kind::CheckFailed), true, false);
 
-/// What steps are answered by as a proof: where they are accepted and none is the end, it is incomplete.
+/// Returns the result of steps as a proof, which is incomplete if they are accepted and none is the end.
 fn proof_answer((error, unsat, ended): Answer) -> Answer {
     if error.is_none() && !ended {
         (Some(Kind::ProofIncomplete), unsat, ended)
@@ -30,7 +30,7 @@ fn proof_answer((error, unsat, ended): Answer) -> Answer {
     }
 }
 
-/// What is answered then to an empty clause, and to an end: a refused step is the last.
+/// Returns the result of an empty clause after them, and of an end: no step is accepted after a refused one.
 fn behind((error, unsat, ended): Answer) -> (Answer, Answer) {
     if error.is_some() {
         let failed = (Some(Kind::HasFailed), unsat, ended);
@@ -40,14 +40,14 @@ fn behind((error, unsat, ended): Answer) -> (Answer, Answer) {
     }
 }
 
-/// Whether steps are answered so, one by one and as a proof, and so what comes behind them.
+/// Whether steps have this result, one by one and as a proof, and what follows them has its own.
 fn is_answered(alloc: Global, row: &Row) -> bool {
     let (clause, end) = behind(row.1);
     steps::is_answered(alloc, row.0, row.1, clause)
         && proofs::is_answered(alloc, row.0, proof_answer(row.1), end)
 }
 
-/// The first steps of some rows that are answered otherwise.
+/// Returns the first steps of some rows that have another result.
 fn first_unanswered(alloc: Global, rows: &[Row]) -> Option<&'static [u8]> {
     for row in rows {
         if !is_answered(alloc, row) {
@@ -57,10 +57,10 @@ fn first_unanswered(alloc: Global, rows: &[Row]) -> Option<&'static [u8]> {
     None
 }
 
-/// Whole proofs.
+/// Complete proofs.
 static PROOFS: [Row; 8] = [
     (&[0x0d], ENDED),
-    // a name is put again on a hidden variable: the checker alone accepts it
+    // a hidden variable gets a name again, which the checker accepts
     (
         &[
             0x02, 0x00, 0x01, 0x05, 0x01, 0x00, 0x02, 0x00, 0x00, 0x04, 0x00, 0x01, 0x02, 0x00,
@@ -78,14 +78,14 @@ static PROOFS: [Row; 8] = [
         ],
         REFUTED,
     ),
-    // the same at width 0, and each derived clause names hash 0 once
+    // the same at width 0, and every derived clause names hash 0 once
     (
         &[
             5, 2, 0, 2, 5, 2, 0, 3, 5, 2, 1, 2, 5, 2, 1, 3, 9, 0, 6, 0, 1, 0, 1, 0, 6, 0, 0, 1, 0,
         ],
         UNSAT,
     ),
-    // at width 0 one walk over the clauses doesn't do, two do
+    // at width 0, one walk over the clauses is not enough, but two are
     (
         &[
             5, 3, 3, 4, 6, 5, 2, 0, 2, 5, 2, 3, 7, 9, 0, 6, 0, 2, 0, 4, 1, 0,
@@ -98,21 +98,21 @@ static PROOFS: [Row; 8] = [
         ],
         GOES_ON,
     ),
-    // an end behind an end, and where unsat is recorded
+    // an end after an end, and after unsat was recorded
     (&[13, 13], ENDED),
     (&[5, 0, 13], REFUTED),
 ];
 
 /// Solver names, and the user's names.
 static NAMES: [Row; 25] = [
-    // with a solver name a variable is known, without one it stays unknown
+    // with a solver name a variable is known; without one it remains unknown
     (&[1, 0, 1, 4, 0, 1], GOES_ON),
     (&[1, 0, 0], GOES_ON),
     (&[1, 0, 0, 4, 0, 1], REFUSED),
     // set, replaced and removed; two variables may have the same one
     (&[1, 0, 1, 1, 0, 2, 1, 0, 0], GOES_ON),
     (&[1, 0, 1, 1, 1, 1], GOES_ON),
-    // clauses are named by it, also those stored before, and no longer once it is removed
+    // clauses are named by it, also those stored before, until it is removed
     (
         &[
             9, 8, 1, 3, 1, 1, 6, 2, 5, 2, 6, 12, 5, 2, 6, 13, 6, 0, 1, 6, 2, 0x44, 0xe6, 1,
@@ -135,7 +135,7 @@ static NAMES: [Row; 25] = [
         ],
         REFUSED,
     ),
-    // a deleted variable keeps it
+    // a deleted variable still has it
     (
         &[
             9, 8, 1, 3, 1, 1, 6, 2, 3, 3, 3, 6, 5, 2, 6, 12, 5, 2, 6, 13, 6, 0, 1, 6, 2, 0x44,
@@ -147,16 +147,16 @@ static NAMES: [Row; 25] = [
     (&[2, 0, 1, 4, 0, 1], GOES_ON),
     (&[5, 1, 0, 2, 0, 1], GOES_ON),
     (&[5, 1, 0, 4, 0, 0, 2, 0, 1], GOES_ON),
-    // a name that is taken, a variable that has one, and a hidden one
+    // a name of another variable, a variable that has one, and a hidden one
     (&[2, 0, 1, 2, 1, 1], REFUSED),
     (&[2, 0, 1, 2, 0, 2], REFUSED),
     (&[2, 0, 1, 2, 0, 1], REFUSED),
     (&[2, 0, 1, 2, 0, 0, 2, 0, 1], REFUSED),
-    // one that is hidden no longer, and a name that is free again
+    // one that is no longer hidden, and a name that is free again
     (&[2, 0, 1, 2, 0, 0, 4, 0, 1, 2, 0, 2], GOES_ON),
     (&[2, 0, 1, 2, 0, 0, 2, 1, 1], GOES_ON),
     (&[2, 0, 1, 2, 0, 0, 3, 0, 2, 1, 1], GOES_ON),
-    // a name is removed: there is one, none, none for a known variable, and none any longer
+    // a name is removed: there is one, none, none for a known variable, and none any more
     (&[2, 0, 1, 2, 0, 0], GOES_ON),
     (&[2, 0, 0], REFUSED),
     (&[5, 1, 0, 2, 0, 0], REFUSED),
@@ -174,7 +174,7 @@ static VARIABLES: [Row; 24] = [
     (&[9, 0, 5, 2, 0, 2, 6, 1, 3, 0, 2, 4, 1, 0, 3, 2], REFUSED),
     (&[11, 1, 0, 3, 0], REFUSED),
     (&[11, 2, 2, 1, 3, 0], REFUSED),
-    // known; assumed no longer; in no clause any longer; without its name; with a unit, which is forgotten
+    // known; no longer assumed; no longer in a clause; without its name; with a unit, which is removed
     (&[10, 1, 0, 3, 0], GOES_ON),
     (&[11, 1, 0, 11, 0, 3, 0], GOES_ON),
     (
@@ -187,7 +187,7 @@ static VARIABLES: [Row; 24] = [
     (&[2, 0, 1, 2, 0, 0, 3, 0], GOES_ON),
     (&[5, 1, 0, 3, 0, 5, 1, 1], GOES_ON),
     (&[5, 1, 0, 5, 1, 1, 3, 0, 5, 1, 0], UNSAT),
-    // unknown again, and a sampling one where it comes back
+    // unknown again, and a sampling one when it is used again
     (&[11, 1, 0, 11, 0, 3, 0, 3, 0], REFUSED),
     (&[11, 1, 0, 11, 0, 3, 0, 4, 0, 1], REFUSED),
     (&[2, 0, 1, 2, 0, 0, 3, 0, 5, 1, 0], GOES_ON),
@@ -208,7 +208,7 @@ static CLAUSES: [Row; 42] = [
     (&[5, 1, 0, 4, 0, 0, 5, 1, 0], REFUSED),
     (&[5, 1, 0, 4, 0, 0, 5, 2, 2, 0], REFUSED),
     (&[2, 0, 1, 2, 0, 0, 5, 1, 0], REFUSED),
-    // behind recorded unsat each is accepted, and has no effect
+    // after unsat was recorded every one is accepted, and has no effect
     (&[5, 1, 0, 4, 0, 0, 5, 0, 5, 1, 0], UNSAT),
     (&[5, 0, 5, 1, 0, 4, 0, 1], UNSAT_REFUSED),
     (&[5, 0, 5, 1, 0, 6, 0, 1, 0, 0], UNSAT_REFUSED),
@@ -216,18 +216,18 @@ static CLAUSES: [Row; 42] = [
     (&[5, 0], UNSAT),
     (&[5, 2, 0, 1], GOES_ON),
     (&[5, 1, 0, 5, 1, 1], UNSAT),
-    // a clause that was stored twice is there; another doesn't follow
+    // a clause that was stored twice is stored; another does not follow
     (&[5, 2, 0, 2, 5, 3, 2, 0, 0, 6, 0, 1, 4, 0], REFUSED),
-    // a tautology follows, and isn't stored
+    // a tautology follows, and is not stored
     (&[6, 0, 2, 0, 1, 0], GOES_ON),
     (&[6, 0, 2, 0, 1, 0, 4, 0, 1], GOES_ON),
     (&[6, 1, 2, 0, 1, 0, 8, 2, 0, 1, 0], REFUSED),
     (&[9, 0, 6, 0, 2, 0, 1, 1, 0], GOES_ON),
-    // so does a clause in which a unit is true, also behind an empty bucket; one in which it is false doesn't
+    // so does a clause that a unit satisfies, also after an empty bucket; one in which the unit is false does not
     (&[5, 1, 0, 6, 0, 2, 0, 2, 0], GOES_ON),
     (&[9, 0, 5, 1, 0, 6, 0, 2, 2, 0, 1, 0], GOES_ON),
     (&[5, 1, 0, 6, 0, 2, 1, 2, 0], REFUSED),
-    // the clauses of the buckets lead to a conflict, or they don't
+    // the clauses of the buckets lead to a conflict, or do not
     (
         &[9, 8, 5, 2, 0, 2, 5, 2, 0, 3, 6, 0, 1, 0, 2, 0x44, 0xe6, 1],
         GOES_ON,
@@ -241,7 +241,7 @@ static CLAUSES: [Row; 42] = [
         REFUSED,
     ),
     (&[9, 8, 5, 2, 0, 2, 5, 2, 0, 3, 6, 0, 1, 0, 0], REFUSED),
-    // an empty bucket before the conflict, and behind it
+    // an empty bucket before the conflict, and after it
     (
         &[
             9, 8, 5, 2, 0, 2, 5, 2, 0, 3, 6, 0, 1, 0, 3, 0, 0x44, 0xe6, 1,
@@ -260,13 +260,13 @@ static CLAUSES: [Row; 42] = [
         ],
         GOES_ON,
     ),
-    // a bucket of two: the second alone is falsified; what a unit satisfies rests
+    // a bucket of two: only the second is falsified; a unit satisfies the other
     (
         &[9, 0, 5, 2, 4, 6, 5, 2, 0, 2, 6, 0, 2, 0, 2, 1, 0],
         GOES_ON,
     ),
     (&[9, 0, 5, 1, 4, 5, 2, 4, 0, 6, 0, 1, 0, 1, 0], REFUSED),
-    // a clause that was derived twice stands twice
+    // a clause that was derived twice is stored twice
     (
         &[
             9, 0, 5, 2, 0, 2, 6, 1, 3, 0, 2, 4, 1, 0, 6, 1, 3, 4, 2, 0, 1, 0, 8, 3, 0, 2, 4, 0, 8,
@@ -274,7 +274,7 @@ static CLAUSES: [Row; 42] = [
         ],
         GOES_ON,
     ),
-    // behind a check that passes the units are those of before
+    // a check that passes does not change the units
     (&[9, 0, 5, 2, 0, 2, 6, 0, 2, 0, 2, 1, 0, 10, 1, 2], GOES_ON),
     (
         &[9, 0, 5, 2, 0, 2, 6, 0, 2, 0, 2, 1, 0, 6, 0, 1, 1, 0],
@@ -323,7 +323,7 @@ static CLAUSES: [Row; 42] = [
 
 /// Clauses that are deleted.
 static DELETIONS: [Row; 32] = [
-    // redundant: stored as that, in any order, once; as irredundant alone; not stored
+    // redundant: stored as that, in any order, once; only as irredundant; not stored
     (
         &[9, 0, 5, 2, 0, 2, 6, 1, 3, 0, 2, 4, 1, 0, 8, 3, 0, 2, 4, 0],
         GOES_ON,
@@ -346,7 +346,7 @@ static DELETIONS: [Row; 32] = [
         &[9, 0, 5, 2, 0, 2, 6, 1, 2, 0, 2, 1, 0, 8, 2, 0, 3, 0],
         REFUSED,
     ),
-    // a unit and an empty clause can't be deleted
+    // a unit and an empty clause cannot be deleted
     (&[5, 1, 0, 8, 1, 0, 0], REFUSED),
     (&[5, 1, 0, 8, 1, 0, 2], REFUSED),
     (&[5, 0, 8, 0, 0], UNSAT_REFUSED),
@@ -354,7 +354,7 @@ static DELETIONS: [Row; 32] = [
     (&[5, 2, 0, 2, 5, 1, 0, 8, 2, 0, 2, 2, 3, 1], GOES_ON),
     (&[5, 2, 0, 2, 8, 2, 0, 2, 2], REFUSED),
     (&[5, 2, 0, 2, 5, 1, 1, 8, 2, 0, 2, 2], REFUSED),
-    // not stored; as redundant alone; as often as it stands
+    // not stored; only as redundant; as often as it is stored
     (&[5, 1, 0, 8, 2, 0, 2, 2], REFUSED),
     (
         &[
@@ -372,14 +372,14 @@ static DELETIONS: [Row; 32] = [
         &[5, 2, 0, 2, 5, 1, 0, 8, 2, 0, 2, 2, 8, 2, 0, 2, 2],
         REFUSED,
     ),
-    // with its irredundant count gone it stays as redundant
+    // without its irredundant count it remains as redundant
     (
         &[
             9, 0, 5, 2, 0, 2, 6, 1, 2, 0, 2, 1, 0, 5, 1, 0, 8, 2, 0, 2, 2, 3, 1,
         ],
         REFUSED,
     ),
-    // simplified: the last irredundant clause is a part; the empty one is a part of each
+    // simplified: the last irredundant clause is a part; the empty one is a part of every clause
     (&[5, 2, 0, 2, 5, 1, 0, 8, 2, 0, 2, 1, 3, 1], GOES_ON),
     (
         &[5, 3, 0, 2, 4, 5, 2, 4, 0, 8, 3, 0, 2, 4, 1, 3, 1],
@@ -390,13 +390,13 @@ static DELETIONS: [Row; 32] = [
         REFUSED,
     ),
     (&[5, 2, 0, 2, 5, 0, 8, 2, 0, 2, 1], UNSAT),
-    // with a change of width between
+    // with a change of width in between
     (&[5, 2, 0, 2, 5, 1, 0, 9, 8, 8, 2, 0, 2, 1], GOES_ON),
     // the clause itself, one that is no part, and none
     (&[5, 2, 0, 2, 8, 2, 0, 2, 1], REFUSED),
     (&[5, 2, 0, 2, 5, 1, 4, 8, 2, 0, 2, 1], REFUSED),
     (&[8, 2, 0, 2, 1], REFUSED),
-    // one that is gone; a redundant one isn't the last; an irredundant derived one is
+    // one that was removed; a redundant one is not the last; an irredundant derived one is
     (
         &[
             5, 1, 0, 5, 3, 0, 2, 4, 5, 2, 0, 2, 8, 2, 0, 2, 2, 8, 3, 0, 2, 4, 1,
@@ -415,7 +415,7 @@ static DELETIONS: [Row; 32] = [
         ],
         GOES_ON,
     ),
-    // as redundant alone, and no longer stored
+    // only as redundant, and no longer stored
     (
         &[
             9, 0, 5, 2, 0, 2, 6, 1, 3, 0, 2, 4, 1, 0, 5, 1, 0, 8, 3, 0, 2, 4, 1,
@@ -426,7 +426,7 @@ static DELETIONS: [Row; 32] = [
         &[5, 2, 0, 2, 5, 1, 0, 8, 2, 0, 2, 1, 8, 2, 0, 2, 1],
         REFUSED,
     ),
-    // three, four and five literals, found under three widths, and not once they are gone
+    // three, four and five literals, found under three widths until they are removed
     (
         &[
             5, 1, 0, 6, 1, 3, 0, 2, 4, 0, 6, 1, 4, 0, 2, 4, 6, 0, 6, 1, 5, 0, 2, 4, 6, 8, 0, 8, 3,
@@ -447,7 +447,7 @@ static DELETIONS: [Row; 32] = [
 static ANSWERS: [Row; 32] = [
     (&[9, 0], GOES_ON),
     (&[9, 64], GOES_ON),
-    // a width counts for clauses of before, and a later one for all
+    // a width applies to earlier clauses, too, and a later one to all
     (
         &[5, 2, 0, 2, 5, 2, 0, 3, 9, 8, 6, 0, 1, 0, 2, 0x44, 0xe6, 1],
         GOES_ON,
@@ -463,14 +463,14 @@ static ANSWERS: [Row; 32] = [
     (&[5, 1, 0, 10, 1, 2], GOES_ON),
     (&[10, 0], GOES_ON),
     (&[10, 1, 0, 4, 0, 1], GOES_ON),
-    // a variable twice, by its two signs too
+    // a variable twice, also with both signs
     (&[10, 2, 0, 0], REFUSED),
     (&[10, 2, 0, 1], REFUSED),
     (&[10, 3, 0, 2, 0], REFUSED),
     // a unit contradicted
     (&[5, 1, 0, 10, 1, 1], REFUSED),
     (&[5, 1, 0, 5, 1, 2, 10, 2, 0, 3], REFUSED),
-    // an irredundant clause not met, though a unit is true in it; a redundant one needn't be
+    // an irredundant clause without a literal of the model, though a unit satisfies it; a redundant one needs none
     (&[5, 2, 0, 2, 10, 2, 1, 3], REFUSED),
     (&[5, 2, 0, 2, 10, 0], REFUSED),
     (&[5, 3, 0, 2, 4, 5, 1, 0, 10, 2, 3, 5], REFUSED),
@@ -487,19 +487,19 @@ static ANSWERS: [Row; 32] = [
     (&[11, 2, 0, 1], GOES_ON),
     (&[5, 1, 0, 11, 2, 1, 1], GOES_ON),
     (&[11, 1, 0, 4, 0, 1], GOES_ON),
-    // cores: not assumed, assumed no longer, assumed in part
+    // cores: not assumed, no longer assumed, assumed in part
     (&[12, 1, 0, 0], REFUSED),
     (&[5, 1, 0, 11, 1, 1, 11, 0, 12, 1, 1, 0], REFUSED),
     (&[5, 1, 0, 11, 1, 2, 12, 2, 1, 2, 0], REFUSED),
-    // both signs, where they are assumed
+    // both signs, if they are assumed
     (&[11, 2, 0, 1, 12, 2, 0, 1, 0], GOES_ON),
     (&[11, 1, 0, 12, 2, 0, 1, 0], REFUSED),
-    // by a unit, by a clause, and where nothing shows that it fails
+    // by a unit, by a clause, and if nothing shows that it fails
     (&[5, 1, 0, 11, 3, 1, 2, 1, 12, 1, 1, 0], GOES_ON),
     (&[9, 0, 5, 2, 0, 2, 11, 2, 1, 3, 12, 2, 3, 1, 1, 0], GOES_ON),
     (&[5, 2, 0, 2, 11, 2, 1, 3, 12, 2, 1, 3, 0], REFUSED),
     (&[12, 0, 0], REFUSED),
-    // the empty core fails by a conflict, and not by recorded unsat alone
+    // the empty core fails by a conflict, and not only because unsat is recorded
     (&[5, 0, 12, 0, 0], UNSAT_REFUSED),
 ];
 

@@ -1,4 +1,4 @@
-//! Steps that are accepted and refused, read from their bytes and fed one by one.
+//! Tests of steps that are accepted and refused, read from their bytes and fed one by one.
 
 use crate::calls::{Answer, Answered, Call, Calls, answers, are_answered, first_wrong};
 use crate::kinds::Kind;
@@ -30,7 +30,7 @@ pub(crate) fn read_by<C: SelfChecker, R: CountedRead>(
     fed(checker, &mut StepReader::new(alloc, reader))
 }
 
-/// Whether steps are answered so where a processor and a transcript take everything that is announced.
+/// Whether steps have these results while a processor and a transcript accept everything that is announced.
 fn is_answered_to_listeners(alloc: Global, calls: &[Answered]) -> bool {
     let mut checker: Checker<FailsAt, FailsAt> = Checker::notifying(alloc);
     let right = add_quiet(&mut checker) && answers(alloc, &mut checker, calls);
@@ -38,8 +38,8 @@ fn is_answered_to_listeners(alloc: Global, calls: &[Answered]) -> bool {
     right
 }
 
-/// Whether steps are answered so, and so an empty clause behind them, read whole and in pieces of one byte, and whether
-/// or not somebody listens.
+/// Whether steps have the first result, and an empty clause after them the second, read in one chunk and in chunks of
+/// one byte, with and without a listener.
 pub(crate) fn is_answered(
     alloc: Global,
     text: &'static [u8],

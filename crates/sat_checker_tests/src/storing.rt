@@ -1,5 +1,5 @@
-//! A store alone: clauses of three, four and five literals come and go, the width changes, and those that are left are
-//! found.
+//! Tests of a store: clauses of three, four and five literals are added and removed, the width changes, and those that
+//! are left are found.
 use sat_base::{HashBits, Lit};
 use sat_checker::Looks;
 use sat_checker::sorted_lits::copy_canonical;
@@ -7,15 +7,15 @@ use sat_checker::store::Store;
 use sat_checker::store::links::Pair;
 use std::alloc::{AllocError, Global};
 
-/// How many clauses are stored.
+/// The number of clauses that are stored.
 const COUNT: u8 = 30;
 
-/// Which of them are left.
+/// Whether this one of them is left.
 fn is_left(number: u8) -> bool {
     number / 3 % 3 == 0
 }
 
-/// Makes this the literals of a clause: three, four or five.
+/// Fills a clause with the literals of this number: three, four or five.
 fn fill(clause: &mut Vec<Lit>, number: u8) -> Result<(), AllocError> {
     clause.clear();
     let first = number as i64 * 2 + 1;
@@ -57,7 +57,7 @@ fn put_all(
     Ok(true)
 }
 
-/// Deletes those that aren't left. More than half of all are gone then.
+/// Deletes those that are not left, which are more than half of all.
 fn take_most(
     store: &mut Store,
     clause: &mut Vec<Lit>,
@@ -75,7 +75,7 @@ fn take_most(
     Ok(true)
 }
 
-/// The id of the clause with these literals.
+/// Returns the id of the clause with these literals.
 fn id_of(store: &Store, clause: &[Lit], looks: &mut Looks) -> Option<u64> {
     match store.stored(clause, looks) {
         Some(found) => Some(found.id),
@@ -83,7 +83,7 @@ fn id_of(store: &Store, clause: &[Lit], looks: &mut Looks) -> Option<u64> {
     }
 }
 
-/// Whether just those that are left are found, each with its id.
+/// Whether exactly those that are left are found, all with their ids.
 fn finds_left(store: &Store, clause: &mut Vec<Lit>, looks: &mut Looks) -> Result<bool, AllocError> {
     for number in 0..COUNT {
         fill(clause, number)?;
@@ -99,7 +99,7 @@ fn finds_left(store: &Store, clause: &mut Vec<Lit>, looks: &mut Looks) -> Result
     Ok(true)
 }
 
-/// Whether there are so many pairs, in order, at places below half of those that were given.
+/// Whether there are this many pairs, in order, at places below half of those that were given.
 fn are_sorted(pairs: &[Pair], count: usize) -> bool {
     for place in 0..pairs.len() {
         if pairs[place].place >= 15 {
@@ -112,7 +112,7 @@ fn are_sorted(pairs: &[Pair], count: usize) -> bool {
     pairs.len() == count
 }
 
-/// Sets the width. Whether what is left is found then.
+/// Sets the width. Returns whether exactly those that are left are found.
 fn finds_at(
     store: &mut Store,
     width: u32,
