@@ -1,11 +1,11 @@
--- Which errors a solver goes on after.
+-- The errors after which a solver can still be used.
 use Rattle.std.specs.Prelude.{Bool, true, false}
 use Rattle.sat_store.specs.declared.clause.alloc.StoreError.{StoreError}
 use Rattle.sat_store.specs.declared.clause.alloc.StoreError.TheVariants as stores
 use Rattle.sat_solver.specs.declared.error.SolverError.{SolverError}
 use Rattle.sat_solver.specs.declared.error.SolverError.TheVariants as errors
 
--- whether a solver goes on behind this error, whichever call told it
+-- whether a solver can still be used after this error, whichever call reported it
 abbrev pub is_recoverable : SolverError → Bool
 is_recoverable errors.Interrupted = true
 is_recoverable (errors.ProofProcessorError cause) = false
@@ -23,7 +23,7 @@ is_recoverable errors.Read = true
 is_recoverable errors.Malformed = true
 is_recoverable errors.OutOfRange = true
 
--- what a refusal of the clause buffer is to a solver
+-- the solver's error for a refusal of the clause buffer
 abbrev pub buffer_failure : StoreError → SolverError
 buffer_failure stores.StoreFull = errors.StoreFull
 buffer_failure stores.OutOfMemory = errors.OutOfMemory

@@ -1,4 +1,4 @@
--- What is learned was not there: from the negations of the learned clause's other literals, no clauses that are unit in turn assign its first.
+-- A learned clause is new: under the negations of its other literals, no clauses that are unit in turn assign its first literal.
 use Rattle.std.specs.Prelude.{ℕ, ◌≡◌, ◌≢◌, false, List, [], ◌∷◌, ◌++◌, map, drop, slice_index_or as get_or}
 use Rattle.std.specs.List.{Contains, AllByRecursion}
 use Rattle.sat_base.specs.values.Literals.{negated}
@@ -13,28 +13,28 @@ use Rattle.sat_solver.specs.analyze_conflict.Work.{Work}
 use Rattle.sat_solver.specs.analyze_conflict.Derivation.{AreLevelZeroLits, Learns}
 use Rattle.sat_solver.specs.analyze_conflict.Marks.{AsksBelow}
 
--- a clause of two different literals, each implied by the other's negation
+-- a clause of two different literals, each implied by the negation of the other
 abbrev pub IsPair : List (List ℕ) → ℕ → ℕ → Type 0
 IsPair implied a b = (a ≢ b) × Contains (implied_by implied (negated b)) a × Contains (implied_by implied (negated a)) b
 
--- a live long clause, or one of two literals
+-- the clause is a live long clause or has two literals
 pub data IsStored (words live : List ℕ) (implied : List (List ℕ)) (c : List ℕ) : Type 0 where
   stored_long : (o : ℕ) → Contains live o → c ≡ lits_at words o → IsStored words live implied c
   stored_pair : (a b : ℕ) → IsPair implied a b → c ≡ a ∷ b ∷ [] → IsStored words live implied c
 
--- clauses that are unit in turn, with the literals that are assumed after them
+-- the clauses are unit in turn, and these literals are assumed after them
 abbrev pub LeadTo : (assumed : List ℕ) (picked : List (List ℕ)) (reached : List ℕ) → Type 0
 LeadTo assumed [] reached = reached ≡ assumed
 LeadTo assumed (c ∷ cs) reached = (o : ℕ) × IsUnit assumed c o × LeadTo (o ∷ assumed) cs reached
 
--- the first literal of what is learned is neither assigned nor contradicted, and no stored clause falsified
+-- the first literal of the learned clause is neither assigned nor contradicted, and no stored clause is falsified
 pub record StaysOpen (words live : List ℕ) (implied : List (List ℕ)) (l : ℕ) (reached : List ℕ) : Type 0 where
   pub not_true : is_among reached l ≡ false
   pub not_false : is_among reached (negated l) ≡ false
   pub no_conflict : (c : List ℕ) → IsStored words live implied c → IsFalsified reached c → ⊥
 
--- under the units and the negations of its other literals what is learned leaves its first literal open, and no stored clause is
--- falsified, whatever stored clauses are unit in turn
+-- whichever stored clauses are unit in turn under the units and the negations of its other literals: the first literal of a learned clause
+-- stays open, and no stored clause is falsified
 abbrev pub LearnedAdvances : Type 0
 LearnedAdvances =
     (words refs : List ℕ) (watching : Watching) (implied : List (List ℕ)) (s : State) (conflict : List ℕ) (w : Work) (back : ℕ) (units : List ℕ) (picked : List (List ℕ)) (reached : List ℕ) →

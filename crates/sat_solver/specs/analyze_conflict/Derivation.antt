@@ -1,4 +1,4 @@
--- The derivation of a learned clause, in the checker's words.
+-- The derivation of a learned clause, in terms of the checker.
 use Rattle.std.specs.Prelude.{ℕ, ◌≡◌, ◌<◌, ◌≤◌, ◌⊎◌, true, false, List, [], ◌∷◌, ◌++◌, length, map, Bool, slice_index_or as get_or}
 use Rattle.std.specs.List.{Contains}
 use Rattle.sat_base.specs.values.Literals.{variable, negated}
@@ -15,27 +15,27 @@ use Rattle.sat_solver.specs.analyze_conflict.Marks.{causes_at, IsReasoned, depth
 use Rattle.sat_parts.specs.declared.prop.graph.Conflict.{Conflict}
 use Rattle.sat_parts.specs.prop.Causes.{falsified}
 
--- the clause by which a literal is true
+-- the clause that implies a true literal
 abbrev pub clause_of : List ℕ → State → ℕ → List ℕ
 clause_of words s l = l ∷ causes_at words s l
 
--- these are exactly the true literals of level 0
+-- the list has exactly the true literals of level 0
 pub record AreLevelZeroLits (s : State) (units : List ℕ) : Type 0 where
   pub all : (l : ℕ) → IsTrueLit s.values l → level s l ≡ 0 → is_among units l ≡ true
   pub only : (l : ℕ) → is_among units l ≡ true → IsTrueLit s.values l × (level s l ≡ 0)
 
--- a false literal is of level 0, in the clause, or false by one of the used clauses
+-- how a false literal is explained: it is of level 0, in the clause, or falsified by one of the used clauses
 pub data HasKnownCause (s : State) (learned used : List ℕ) (r : ℕ) : Type 0 where
   grounded_unit : level s r ≡ 0 → HasKnownCause s learned used r
   grounded_clause : Contains learned r → HasKnownCause s learned used r
   grounded_reason : Contains used (negated r) → HasKnownCause s learned used r
 
--- each of these false literals is accounted for so
+-- all these false literals are explained this way
 abbrev pub HaveKnownCauses : State → (learned used rs : List ℕ) → Type 0
 HaveKnownCauses s learned used rs = (k : ℕ) → k < length rs → HasKnownCause s learned used (get_or rs k 0)
 
--- the parts of a derivation, in any order: the clauses of some literals whose causes are accounted for, as are the literals of the
--- clause that was found false
+-- the parts of a derivation in any order: every used literal has a clause as its reason whose other literals are explained, and so are the
+-- literals of the falsified clause
 pub record IsUnorderedDerivation (words : List ℕ) (s : State) (conflict learned used : List ℕ) : Type 0 where
   pub reasons : (l : ℕ) → Contains used l → IsReasoned s 0 l
   pub causes : (l : ℕ) → Contains used l → HaveKnownCauses s learned used (causes_at words s l)
@@ -43,21 +43,22 @@ pub record IsUnorderedDerivation (words : List ℕ) (s : State) (conflict learne
   pub apart : (l : ℕ) → Contains used l → Contains learned (negated l) → ⊥
   pub distinct : AreDistinct used
 
--- the same of the clause that was learned from a conflict
+-- the clause learned from a conflict has such a derivation
 abbrev pub HasUnorderedDerivation : (words : List ℕ) (s : State) (e : Conflict) (w : Work) → Type 0
 HasUnorderedDerivation words s e w = IsUnorderedDerivation words s (falsified words e) w.clause w.used
 
--- parts of a derivation in the order of the trail
+-- the parts of a derivation in trail order
 pub record IsDerivation (words : List ℕ) (s : State) (conflict learned used : List ℕ) : Type 0 where
   pub grounds : IsUnorderedDerivation words s conflict learned used
   pub rising : (j k : ℕ) → j < k → k < length used → depth s (get_or used j 0) < depth s (get_or used k 0)
 
--- the checker accepts: under the negated clause and the units the used clauses are unit in turn, and the one that was found false is falsified
+-- the checker accepts it: under the negated clause and the units, the used clauses are unit in turn, and the conflict clause is falsified
 abbrev pub IsAcceptable : (words : List ℕ) (s : State) (conflict learned used : List ℕ) → Type 0
 IsAcceptable words s conflict learned used =
     (units : List ℕ) → AreLevelZeroLits s units → UnitInTurn (map negated learned ++ units) (map (clause_of words s) used ++ conflict ∷ [])
 
--- what is learned: the first literal alone is of the current level, the others are of lower ones above 0, all are false, none twice
+-- the shape of a learned clause: only its first literal is of the current level, the others are of lower levels above 0; all are false,
+-- none occurs twice
 pub record IsAsserting (s : State) (learned : List ℕ) : Type 0 where
   pub some : 0 < length learned
   pub fails : (k : ℕ) → k < length learned → IsFalseLit s.values (get_or learned k 0)
@@ -65,15 +66,15 @@ pub record IsAsserting (s : State) (learned : List ℕ) : Type 0 where
   pub lower : (k : ℕ) → 0 < k → k < length learned → (0 < level s (get_or learned k 0)) × (level s (get_or learned k 0) < current_level s)
   pub distinct : AreDistinct learned
 
--- the flags are those of the clause's literals
+-- exactly the variables of the clause are flagged
 abbrev pub OnlyFlags : List Bool → List ℕ → Type 0
 OnlyFlags flags ls = (v : ℕ) → get_or flags v false ≡ true → HasVariable ls v
 
--- the flags are those of literals of the clause, or used ones
+-- only variables of the clause or of used literals are flagged
 abbrev pub FlagsAmong : Work → Type 0
 FlagsAmong w = (v : ℕ) → get_or w.flags v false ≡ true → HasVariable w.clause v ⊎ HasVariable w.used v
 
--- after resolution: what was learned, with its first literal last on the trail, and its parts of a derivation, the deepest first
+-- the result of resolution: the learned clause, whose first literal is last on the trail, and the parts of its derivation, deepest first
 pub record ResolutionResult (words : List ℕ) (s : State) (conflict : List ℕ) (w : Work) : Type 0 where
   pub size : length w.flags ≡ length s.values
   pub asserting : IsAsserting s w.clause
@@ -83,11 +84,11 @@ pub record ResolutionResult (words : List ℕ) (s : State) (conflict : List ℕ)
   pub only : OnlyFlags w.flags w.clause
   pub flagged : (k : ℕ) → 0 < k → k < length w.clause → get_or w.flags (variable (get_or w.clause k 0)) false ≡ true
 
--- the same of a conflict: resolution has come to the first unique implication point
+-- resolution of a conflict has reached the first unique implication point
 abbrev pub IsUipClause : (words : List ℕ) (s : State) (e : Conflict) (w : Work) → Type 0
 IsUipClause words s e w = ResolutionResult words s (falsified words e) w
 
--- the clause with a literal of the highest level among the others second, and this level, or 0 where there is no other
+-- the clause with a literal of the highest level among the others in second position, and this level, or 0 if there is no other literal
 pub record PutsSecond (nodes : List ImplNode) (clause clause' : List ℕ) (level : ℕ) : Type 0 where
   pub lits : IsReordering clause clause'
   pub first : get_or clause' 0 0 ≡ get_or clause 0 0
@@ -95,9 +96,8 @@ pub record PutsSecond (nodes : List ImplNode) (clause clause' : List ℕ) (level
   pub second : 2 ≤ length clause → level ≡ (node_of nodes (variable (get_or clause' 1 0))).level
   pub highest : (k : ℕ) → 0 < k → k < length clause → (node_of nodes (variable (get_or clause' k 0))).level ≤ level
 
--- what analysis gives: a clause that asserts its first literal once the levels above the one given are undone, and the literals whose
--- clauses, in the order of the trail, and then the one that was found false, lead the checker to a conflict. Each of these has a clause as
--- its reason
+-- The result of analysis: a clause that asserts its first literal once the levels above `back` are undone, and used literals. The reasons
+-- of these, in trail order, and then the falsified clause lead the checker to a conflict. Every used literal has a clause as its reason.
 pub record Learns (words : List ℕ) (s : State) (conflict : List ℕ) (w : Work) (back : ℕ) : Type 0 where
   pub asserting : IsAsserting s w.clause
   pub reasons : (k : ℕ) → k < length w.used → IsReasoned s 0 (get_or w.used k 0)
@@ -109,6 +109,6 @@ pub record Learns (words : List ℕ) (s : State) (conflict : List ℕ) (w : Work
   pub below : back < current_level s
   pub clear : AreClear w.flags
 
--- the same of a conflict
+-- the result of the analysis of a conflict
 abbrev pub LearnsFrom : (words : List ℕ) (s : State) (e : Conflict) (w : Work) (back : ℕ) → Type 0
 LearnsFrom words s e w back = Learns words s (falsified words e) w back

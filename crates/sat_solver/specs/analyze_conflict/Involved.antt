@@ -1,4 +1,4 @@
--- What resolution met on its way, for those who count how often variables and clauses are met.
+-- What resolution has met, for the activities of variables and clauses.
 use Rattle.std.specs.Prelude.{ℕ, ◌≡◌, ◌<◌, ◌≤◌, ◌⊎◌, Bool, true, false, List, [], ◌∷◌, ◌++◌, take, length, slice_index_or as get_or}
 use Rattle.std.specs.List.{Contains}
 use Rattle.sat_base.specs.values.Literals.{variable}
@@ -9,39 +9,39 @@ use Rattle.sat_parts.specs.prop.State.{State, node, level, current_level, lit_at
 use Rattle.sat_solver.specs.analyze_conflict.Work.{Work, long_of, long_falsified}
 use Rattle.sat_solver.specs.analyze_conflict.Marks.{causes_at, depth}
 
--- the variable is that of one of these literals, of a level above 0
+-- one of these literals has the variable, and is of a level above 0
 abbrev pub HasAbove : State → List ℕ → ℕ → Type 0
 HasAbove s ls v = (k : ℕ) × ((k < length ls) × (0 < level s (get_or ls k 0)) × (variable (get_or ls k 0) ≡ v))
 
--- a variable that resolution meets: above level 0, of the clause that was found false, or of a cause of a literal that is resolved
+-- a variable that resolution meets: it is above level 0, and in the falsified clause or in the reason of a resolved literal
 pub data IsMetVariable (words : List ℕ) (s : State) (conflict resolved : List ℕ) (v : ℕ) : Type 0 where
   met_first : HasAbove s conflict v → IsMetVariable words s conflict resolved v
   met_cause : (l : ℕ) → Contains resolved l → HasAbove s (causes_at words s l) v → IsMetVariable words s conflict resolved v
 
--- the long clauses that are the reasons of these literals
+-- the long clauses that are reasons of these literals
 abbrev pub longs_of : State → List ℕ → List ℕ
 longs_of s [] = []
 longs_of s (l ∷ ls) = long_of (node s l).reason ++ longs_of s ls
 
--- what is listed is what was met while the used literals were resolved
+-- the list has what was met while the used literals were resolved
 pub record AreMet (words : List ℕ) (s : State) (conflict used met : List ℕ) : Type 0 where
   pub only : (v : ℕ) → Contains met v → IsMetVariable words s conflict used v
   pub all : (v : ℕ) → IsMetVariable words s conflict used v → Contains met v
 
--- another literal of the current level was met by then, which stands before this one on the trail: it has to be resolved, since the
--- conflict doesn't follow from it and literals of lower levels alone
+-- Another literal of the current level was met so far that is earlier on the trail than this one. So this one must be resolved: the
+-- conflict does not follow from it and literals of lower levels only.
 pub record HasOther (words : List ℕ) (s : State) (conflict resolved : List ℕ) (l : ℕ) : Type 0 where
   pub other : ℕ
   pub met : IsMetVariable words s conflict resolved (variable other)
   pub top : level s other ≡ current_level s
   pub before : depth s other < depth s l
 
--- no literal is resolved but where two of the current level are left: up to the first unique implication point, and no further
+-- a literal is resolved only while two of the current level are left: resolution stops at the first unique implication point
 abbrev pub AreNeeded : (words : List ℕ) (s : State) (conflict resolved : List ℕ) → Type 0
 AreNeeded words s conflict resolved = (k : ℕ) → k < length resolved → HasOther words s conflict (take k resolved) (get_or resolved k 0)
 
--- the literals that were resolved are the used ones of the current level, from the end of the trail on; each variable that was met is
--- listed once; and long clauses that took part are listed, the one that was found false first
+-- The resolved literals are the used ones of the current level, from the end of the trail on. Every variable that was met is listed once.
+-- Long clauses that took part are listed, the falsified one first.
 pub record IsResolution (words : List ℕ) (s : State) (e : Conflict) (w : Work) : Type 0 where
   pub resolved : List ℕ
   pub falling : (j k : ℕ) → j < k → k < length resolved → depth s (get_or resolved k 0) < depth s (get_or resolved j 0)
@@ -53,21 +53,21 @@ pub record IsResolution (words : List ℕ) (s : State) (e : Conflict) (w : Work)
   pub met : AreMet words s (falsified words e) resolved w.met
   pub involved : w.involved ≡ long_falsified e ++ longs_of s resolved
 
--- a literal of this variable stands on the trail from this place on
+-- a literal of this variable is on the trail at this position or later
 pub record IsPassed (s : State) (at v : ℕ) : Type 0 where
   pub place : ℕ
   pub behind : at ≤ place
   pub within : place < length s.trail.lits
   pub there : variable (lit_at s place) ≡ v
 
--- each variable that was met is listed once: it is flagged, or was passed by
+-- every variable that was met is listed once: it is flagged or was passed
 pub record AreListed (s : State) (met : List ℕ) (flags : List Bool) (at : ℕ) : Type 0 where
   pub distinct : AreDistinct met
   pub within : (v : ℕ) → Contains met v → v < length s.values
   pub flagged : (v : ℕ) → get_or flags v false ≡ true → Contains met v
   pub passed : (v : ℕ) → Contains met v → (get_or flags v false ≡ true) ⊎ IsPassed s at v
 
--- while literals are resolved
+-- the invariant while literals are resolved
 pub record CollectionInvariant (words : List ℕ) (s : State) (e : Conflict) (w : Work) (at : ℕ) : Type 0 where
   pub listed : AreListed s w.met w.flags at
   pub met : AreMet words s (falsified words e) w.used w.met
@@ -78,7 +78,7 @@ pub record CollectionInvariant (words : List ℕ) (s : State) (e : Conflict) (w 
 abbrev pub BeginsCollecting : (words : List ℕ) (s : State) (e : Conflict) (w : Work) → Type 0
 BeginsCollecting words s e w = CollectionInvariant words s e w (length s.trail.lits)
 
--- when that is done
+-- the state after the last resolution
 pub record CollectionResult (words : List ℕ) (s : State) (e : Conflict) (w : Work) : Type 0 where
   pub distinct : AreDistinct w.met
   pub within : (v : ℕ) → Contains w.met v → v < length s.values
@@ -86,14 +86,14 @@ pub record CollectionResult (words : List ℕ) (s : State) (e : Conflict) (w : W
   pub needed : AreNeeded words s (falsified words e) w.used
   pub involved : w.involved ≡ long_falsified e ++ longs_of s w.used
 
--- what was resolved stays
+-- the lists only grow: what was resolved stays a prefix
 pub record KeepsFront (w w' : Work) : Type 0 where
   pub met : w'.met ≡ w.met
   pub involved : w'.involved ≡ w.involved
   pub longer : length w.used ≤ length w'.used
   pub front : take (length w.used) w'.used ≡ w.used
 
--- and the literals that are used behind it are of lower levels
+-- the literals that are used after it are of lower levels
 pub record KeepsResolved (s : State) (w w' : Work) : Type 0 where
   pub front : KeepsFront w w'
   pub rest : (k : ℕ) → length w.used ≤ k → k < length w'.used → level s (get_or w'.used k 0) < current_level s

@@ -1,4 +1,4 @@
--- What holds while literals that follow from the others of the clause are looked for.
+-- The invariant of minimization, which removes literals that follow from the others of the clause.
 use Rattle.std.specs.Prelude.{ℕ, ◌≡◌, ◌+◌, ◌*◌, ◌%◌, ◌^◌, ◌<◌, ◌≤◌, ◌⊎◌, ◌==◌, ◌||◌, ◌&&◌, not, if◌then◌else◌, Bool, true, false, MatchBool, List, [], ◌∷◌, ◌++◌, length, take, slice_index_or as get_or, slice_set as set}
 use Rattle.std.specs.List.{Contains}
 use Rattle.sat_base.specs.values.Literals.{variable, negated}
@@ -12,23 +12,23 @@ use Rattle.sat_solver.specs.analyze_conflict.Marks.{causes_at, IsReasoned, IsLow
 use Rattle.sat_parts.specs.declared.prop.graph.Conflict.{Conflict}
 use Rattle.sat_parts.specs.prop.Causes.{falsified}
 
--- a false literal is accounted for: it is of level 0, the first of the clause, of a flagged variable, or false by a used clause
+-- how a false literal is explained: it is of level 0, the first of the clause, of a flagged variable, or falsified by a used clause
 pub data IsMarked (s : State) (first : ℕ) (w : Work) (r : ℕ) : Type 0 where
   marked_unit : level s r ≡ 0 → IsMarked s first w r
   marked_first : first ≡ r → IsMarked s first w r
   marked_flag : get_or w.flags (variable r) false ≡ true → IsMarked s first w r
   marked_reason : Contains w.used (negated r) → IsMarked s first w r
 
--- each of these false literals is accounted for so
+-- all these false literals are explained this way
 abbrev pub AreMarked : State → ℕ → Work → List ℕ → Type 0
 AreMarked s first w rs = (k : ℕ) → k < length rs → IsMarked s first w (get_or rs k 0)
 
--- a literal of the current level whose reason was resolved with, or a flagged one of a lower level
+-- a used literal: one of the current level whose reason was resolved, or a flagged one of a lower level
 pub data IsUse (s : State) (low : ℕ) (flags : List Bool) (k l : ℕ) : Type 0 where
   use_top : k < low → level s l ≡ current_level s → IsUse s low flags k l
   use_low : low ≤ k → level s l < current_level s → get_or flags (variable l) false ≡ true → IsUse s low flags k l
 
--- the used literals: those before place at have causes that are accounted for
+-- the reasons of the used literals before position `at` are explained
 pub record MinimizationInvariant (words : List ℕ) (s : State) (conflict : List ℕ) (first low : ℕ) (w : Work) (at : ℕ) : Type 0 where
   pub size : length w.flags ≡ length s.values
   pub within : at ≤ length w.used
@@ -39,14 +39,14 @@ pub record MinimizationInvariant (words : List ℕ) (s : State) (conflict : List
   pub causes : (k : ℕ) → k < at → AreMarked s first w (causes_at words s (get_or w.used k 0))
   pub start : AreMarked s first w conflict
 
--- a literal of this variable is among the used ones from a place on
+-- a used literal from this position on has this variable
 pub record IsNewUse (used : List ℕ) (from v : ℕ) : Type 0 where
   pub place : ℕ
   pub behind : from ≤ place
   pub within : place < length used
   pub there : variable (get_or used place 0) ≡ v
 
--- more literals were marked: they are used, and weren't flagged
+-- more literals were marked: they are used and were not flagged before
 pub record MarksMore (w w' : Work) : Type 0 where
   pub clause : w'.clause ≡ w.clause
   pub met : w'.met ≡ w.met
@@ -60,37 +60,39 @@ pub record MarksMore (w w' : Work) : Type 0 where
   pub fresh : (k : ℕ) → length w.used ≤ k → k < length w'.used → get_or w.flags (variable (get_or w'.used k 0)) false ≡ false
   pub raised : (v : ℕ) → get_or w'.flags v false ≡ true → (get_or w.flags v false ≡ true) ⊎ IsNewUse w'.used (length w.used) v
 
--- a false literal is marked: its negation is used
+-- marks a false literal: its negation is used
 abbrev pub marked : ℕ → Work → Work
 marked r w = record w { flags = set w.flags (variable r) true; used = w.used ++ negated r ∷ [] }
 
--- a true literal is put behind the used ones; no flag is set
+-- a true literal is appended to the used ones; no flag is set
 abbrev pub used_up : ℕ → Work → Work
 used_up l w = record w { used = w.used ++ l ∷ [] }
 
--- the literals of a reason are marked one after the other, up to one that can't follow from the clause: a decision, or one of a level
--- that the filter holds back
+-- how far the literals of a reason were marked: up to one that cannot follow from the clause, which is a decision or of a level that the
+-- filter excludes
 pub record Followed : Type 0 where
   pub work : Work
   pub whole : Bool
 
--- may a false literal follow: is its reason a clause, and does the filter let its level pass?
+-- whether a false literal may follow: its reason is a clause and the filter admits its level
 abbrev pub can_follow : (nodes : List ImplNode) (filter r : ℕ) → Bool
 can_follow nodes filter r = not (is_unit_reason (node_of nodes (variable r)).reason) && level_passes filter (node_of nodes (variable r)).level
 
--- is a false literal accounted for already: of level 0, or flagged?
+-- whether a false literal needs no explanation: it is of level 0 or flagged
 abbrev pub is_settled : (nodes : List ImplNode) (r : ℕ) → Work → Bool
 is_settled nodes r w = (node_of nodes (variable r)).level == 0 || get_or w.flags (variable r) false
 
--- these literals, one after the other: one that isn't settled is marked if it can follow, and else ends it; `whole` says that none did
+-- marks these literals one after another, and stops at the first that is neither settled nor able to follow; `whole` says that there was
+-- none
 abbrev pub followed : (nodes : List ImplNode) (filter : ℕ) → List ℕ → Work → Followed
 followed nodes filter [] w = record { work = w; whole = true }
 followed nodes filter (r ∷ rs) w =
     if is_settled nodes r w then followed nodes filter rs w
     else (if can_follow nodes filter r then followed nodes filter rs (marked r w) else record { work = w; whole = false })
 
--- the clause while its literals are gone through: the first is of the current level, each other one is false, of a level between 0
--- and that, and flagged; what is flagged is of the clause or used; and nothing that is used is the negation of one of the clause
+-- The invariant while the clause is minimized: its first literal is of the current level, every other literal is false, flagged, and of a
+-- level between 0 and that one. Flagged variables are in the clause or used, and no used literal is the negation of a literal of the
+-- clause.
 pub record Minimal (words : List ℕ) (s : State) (conflict : List ℕ) (first low : ℕ) (rest : List ℕ) (w : Work) : Type 0 where
   pub searching : MinimizationInvariant words s conflict first low w (length w.used)
   pub distinct : AreDistinct rest
@@ -100,7 +102,7 @@ pub record Minimal (words : List ℕ) (s : State) (conflict : List ℕ) (first l
   pub only : (v : ℕ) → get_or w.flags v false ≡ true → HasVariable rest v ⊎ IsNewUse w.used low v
   pub apart : (l : ℕ) → Contains w.used l → Contains rest (negated l) → ⊥
 
--- the marks of a search are taken back: the literals used from a place on are used no more, and those behind the first of them unflagged
+-- takes back the marks of a search: literals used from position `top` on are removed, and all but the first of them are unflagged
 pub record Undoes (top : ℕ) (w w' : Work) : Type 0 where
   pub clause : w'.clause ≡ w.clause
   pub met : w'.met ≡ w.met
@@ -112,7 +114,7 @@ pub record Undoes (top : ℕ) (w w' : Work) : Type 0 where
   pub cleared : (k : ℕ) → top < k → k < length w.used → get_or w'.flags (variable (get_or w.used k 0)) false ≡ false
   pub others : (v : ℕ) → (IsNewUse w.used (top + 1) v → ⊥) → get_or w'.flags v false ≡ get_or w.flags v false
 
--- the same work, but for how its flags are written
+-- the same work, but possibly with flags in another representation
 pub record SameWork (w w' : Work) : Type 0 where
   pub clause : w'.clause ≡ w.clause
   pub met : w'.met ≡ w.met
@@ -122,41 +124,41 @@ pub record SameWork (w w' : Work) : Type 0 where
   pub used : w'.used ≡ w.used
   pub flags : w'.flags ≡ w.flags
 
--- a search begins with the negation of a flagged literal
+-- a search may begin at the negation of a flagged literal
 pub record MayStart (s : State) (w : Work) (c : ℕ) : Type 0 where
   pub flagged : get_or w.flags (variable c) false ≡ true
   pub reasoned : IsReasoned s 0 (negated c)
   pub below : level s (negated c) < current_level s
   pub new : Contains w.used (negated c) → ⊥
 
--- how many flags aren't set
+-- the number of flags that are not set
 abbrev pub unset : List Bool → ℕ
 unset [] = 0
 unset (b ∷ bs) = (if b then 0 else 1) + unset bs
 
--- the depth of a literal's variable
+-- the depth of the literal's variable
 abbrev pub depth_in : List ImplNode → ℕ → ℕ
 depth_in nodes l = (node_of nodes (variable l)).depth
 
--- a number by which literals are sorted by depth: the literal's code is below 2^29
+-- the sort key of a literal: first its depth, then its code, which is below 2^29
 abbrev pub depth_key : List ImplNode → ℕ → ℕ
 depth_key nodes l = depth_in nodes l * 2 ^ 29 + l
 
--- the literal of such a number
+-- the literal of a sort key
 abbrev pub keyed_lit : ℕ → ℕ
 keyed_lit key = key % 2 ^ 29
 
--- the first literals of the list are of falling depth, and those behind them of no greater depth than any of these
+-- the first literals of the list are sorted by falling depth, and no later one is deeper than any of these
 pub record FallsBefore (nodes : List ImplNode) (ls : List ℕ) (resolved : ℕ) : Type 0 where
   pub within : resolved ≤ length ls
   pub falling : (j k : ℕ) → j ≤ k → k < resolved → depth_in nodes (get_or ls k 0) ≤ depth_in nodes (get_or ls j 0)
   pub lower : (j k : ℕ) → j < resolved → resolved ≤ k → k < length ls → depth_in nodes (get_or ls k 0) ≤ depth_in nodes (get_or ls j 0)
 
--- the causes of all used literals are accounted for, in the search for literals that follow from the others of the clause
+-- the reasons of all used literals are explained in the search for literals that follow from the others of the clause
 abbrev pub MinimizationIsDone : (words : List ℕ) (s : State) (e : Conflict) (low : ℕ) (w : Work) → Type 0
 MinimizationIsDone words s e low w = MinimizationInvariant words s (falsified words e) (get_or w.clause 0 0) low w (length w.used)
 
--- whether a literal follows from the others: its negation is used then, with all by which it does, and else nothing has changed
+-- whether a literal follows from the others: then its negation is used, with everything that it follows from; otherwise nothing has changed
 abbrev pub MinimizationResult : (words : List ℕ) (s : State) (e : Conflict) (low r : ℕ) (w w' : Work) → Bool → Type 0
 MinimizationResult words s e low r w w' b = MatchBool b
     (MarksMore (used_up (negated r) w) w' × MinimizationInvariant words s (falsified words e) (get_or w.clause 0 0) low w' (length w'.used))

@@ -1,4 +1,4 @@
--- What conflict analysis works on, and its small steps as functions.
+-- The working state of conflict analysis, and its small steps as functions.
 use Rattle.std.specs.Prelude.{ℕ, ◌+◌, ◌-◌, ◌^◌, ◌==◌, nat_lt, min, length, Bool, true, false, List, [], ◌∷◌, ◌++◌, slice_index_or as get_or, slice_set as set, if◌then◌else◌}
 use Rattle.std.specs.List.{swap}
 use Rattle.sat_base.specs.values.Literals.{variable}
@@ -9,9 +9,9 @@ use Rattle.sat_parts.specs.declared.prop.graph.Conflict.{Conflict}
 use Rattle.sat_parts.specs.declared.prop.graph.Conflict.TheVariants as conflicts
 use Rattle.sat_parts.specs.prop.Graphs.{node_of}
 
--- the false literals of lower levels that were met, the true literals whose reasons were resolved with, the variables that were met, the
--- long clauses that were resolved, the assumptions of a core, a flag for each variable, and how many flagged literals of the levels from
--- which literals are resolved are still to be
+-- the state of an analysis: the false literals of lower levels (clause), the true literals whose reasons were used (used), the variables
+-- that were met (met), the long clauses that took part (involved), the assumptions of a core (core), a flag for each variable, and the
+-- number of flagged literals that are still to be resolved (pending)
 pub record Work : Type 0 where
   pub clause : List ℕ
   pub used : List ℕ
@@ -21,12 +21,12 @@ pub record Work : Type 0 where
   pub flags : List Bool
   pub pending : ℕ
 
--- what contracts see of an analysis, by its lists
+-- the state of an analysis, by its lists
 abbrev pub worked : (clause used met involved core : List ℕ) (flags : List Bool) (pending : ℕ) → Work
 worked clause used met involved core flags pending = record { clause = clause; used = used; met = met; involved = involved; core = core; flags = flags; pending = pending }
 
--- a false literal is met: one of level 0, or of a flagged variable, changes nothing; one of a level not below the one from which literals
--- are resolved is counted, one of a lower level becomes a literal of the clause
+-- meets a false literal: nothing changes at level 0 or if it is flagged already; otherwise it is counted at level `top` or above, and added
+-- to the clause below it
 abbrev pub with_met_literal : (nodes : List ImplNode) (top r : ℕ) → Work → Work
 with_met_literal nodes top r w =
     if (node_of nodes (variable r)).level == 0 then w
@@ -35,35 +35,35 @@ with_met_literal nodes top r w =
     then record w { flags = set w.flags (variable r) true; met = w.met ++ variable r ∷ []; clause = w.clause ++ r ∷ [] }
     else record w { flags = set w.flags (variable r) true; met = w.met ++ variable r ∷ []; pending = min (w.pending + 1) (2 ^ 64 - 1) }))
 
--- one after the other
+-- meets these literals one after another
 abbrev pub with_met_literals : (nodes : List ImplNode) (top : ℕ) → List ℕ → Work → Work
 with_met_literals nodes top [] w = w
 with_met_literals nodes top (r ∷ rs) w = with_met_literals nodes top rs (with_met_literal nodes top r w)
 
--- a true literal isn't to be resolved any more
+-- a true literal no longer has to be resolved
 abbrev pub passed_by : ℕ → Work → Work
 passed_by l w = record w { flags = set w.flags (variable l) false; pending = w.pending - 1 }
 
--- the long clause of a reason or a conflict
+-- the long clause of a reason
 abbrev pub long_of : Reason → List ℕ
 long_of NoCause = []
 long_of (Binary ls) = []
 long_of (Long o) = o ∷ []
 
--- the same of the clause that was found false
+-- the long clause that was falsified
 abbrev pub long_falsified : Conflict → List ℕ
 long_falsified (conflicts.Binary ls) = []
 long_falsified (conflicts.Long o) = o ∷ []
 
--- the literal's reason is resolved with
+-- uses the reason of a literal
 abbrev pub taken_up : (r : Reason) (l : ℕ) → Work → Work
 taken_up r l w = record (passed_by l w) { used = w.used ++ l ∷ []; involved = w.involved ++ long_of r }
 
--- the literal is one of the core
+-- adds a literal to the core
 abbrev pub with_chosen : ℕ → Work → Work
 with_chosen l w = record (passed_by l w) { core = w.core ++ l ∷ [] }
 
--- nothing is met yet, and the flags are as they were
+-- nothing was met yet; flags are unchanged
 abbrev pub begun : Conflict → Work → Work
 begun e w = record w { clause = []; used = []; met = []; involved = long_falsified e; core = []; pending = 0 }
 
@@ -71,6 +71,6 @@ begun e w = record w { clause = []; used = []; met = []; involved = long_falsifi
 abbrev pub begun_core : ℕ → Work → Work
 begun_core l w = record w { clause = []; used = []; met = []; involved = []; core = l ∷ []; pending = 0 }
 
--- the literal is added to the clause, and changes places with the first one
+-- adds a literal to the clause, as its first
 abbrev pub with_first : ℕ → Work → Work
 with_first r w = record w { clause = swap (w.clause ++ r ∷ []) 0 (length w.clause) }

@@ -1,4 +1,4 @@
--- Which assumptions can't be true together, as a step tells it.
+-- The step for a failed core: assumptions that contradict the clauses.
 use Rattle.std.specs.Prelude.{ℕ, ◌≡◌, ◌<◌, Bool, true, false, List, [], ◌∷◌, map, length, MatchResult, IfErr, Result, slice_index_or as get_or}
 use Rattle.std.specs.List.{AllByRecursion, Contains}
 use Rattle.sat_base.specs.device.Device.{Writer}
@@ -20,26 +20,26 @@ use Rattle.sat_solver.specs.cdcl.Joint.{global_in, IsSearch, SameVarsAndAssumpti
 use Rattle.sat_solver.specs.analyze_conflict.Work.{Work}
 use Rattle.sat_solver.specs.assumptions.Failing.{IsFailedAssumption}
 
--- why the assumption fails, by the clauses of the parts
+-- why the assumption fails, by the clauses of the search
 abbrev pub FailsBy : Parts → (failed : ℕ) → Work → Type 0
 FailsBy p failed w = IsFailedAssumption p.clauses (state p) failed w.core w.used
 
--- the hashes of the clauses by which these literals are true
+-- the hashes of the reasons of these literals
 abbrev pub causes_hashes : Parts → List ℕ → List ℕ
 causes_hashes p used = map (λ l. hash_of (clause_of p.clauses (state p) l)) used
 
--- does the step tell a core?
+-- whether the step is a failed core
 abbrev pub is_core : Step → Bool
 is_core (FailedAssumptions core hashes) = true
 is_core step = false
 
--- the assumption that failed comes first, and all are assumptions
+-- the core begins with the assumption that failed, and has only assumptions
 pub record AreFailed (assumed : List ℕ) (failed : ℕ) (core : List ℕ) : Type 0 where
   pub some : 0 < length core
   pub first : get_or core 0 0 ≡ failed
   pub among : (k : ℕ) → k < length core → Contains assumed (get_or core k 0)
 
--- a core was told by one step
+-- one step wrote a core
 pub record CoreWasWritten (steps : List Step) (s : Session) (c c' : Search) : Type 0 where
   pub is : steps ≡ FailedAssumptions (map (with_var (global_in c)) c'.analysis.core) (causes_hashes c.parts c'.analysis.used) ∷ []
   pub failed : AreFailed c.assumptions.lits.items c.failed c'.analysis.core
@@ -47,7 +47,7 @@ pub record CoreWasWritten (steps : List Step) (s : Session) (c c' : Search) : Ty
   pub moved : SameVarsAndAssumptions c c'
   pub same : c'.parts ≡ c.parts
 
--- It made the step of a core, or failed.
+-- the step of a core was made, or the call failed
 pub record WritesCoreStep {W L : Type 0} {G : Ghosts L} (seen : W → Writer) (result : Result (Unit {0}) SolverError) (old new : Proof W L G) (c c' : Search) : Type 0 where
   pub steps : List Step
   pub went : EmitsUpToFault seen result steps old new

@@ -1,4 +1,4 @@
--- Why an assumption fails: the assumptions that it can't be true with, and the clauses by which it is false.
+-- Why an assumption fails: the assumptions that it contradicts, and the clauses that falsify it.
 use Rattle.std.specs.Prelude.{ℕ, ◌≡◌, ◌-◌, ◌<◌, ◌≤◌, true, List, [], ◌∷◌, ◌++◌, length, map, slice_index_or as get_or}
 use Rattle.sat_base.specs.values.Literals.{negated}
 use Rattle.sat_checker.specs.Propagation.{UnitInTurn}
@@ -10,7 +10,7 @@ use Rattle.sat_solver.specs.analyze_conflict.Work.{Work}
 use Rattle.sat_solver.specs.analyze_conflict.Marks.{depth, MarksWork, AreUsed}
 use Rattle.sat_solver.specs.analyze_conflict.Derivation.{clause_of, AreLevelZeroLits, IsUnorderedDerivation, IsDerivation}
 
--- a true literal of the trail, above level 0 and from a place on, that has no clause as its reason: a decision or an assumption
+-- a true literal of the trail, above level 0, at this position or later, that has no clause as its reason: a decision or an assumption
 pub record IsChosen (s : State) (at l : ℕ) : Type 0 where
   pub place : ℕ
   pub from : at ≤ place
@@ -19,20 +19,20 @@ pub record IsChosen (s : State) (at l : ℕ) : Type 0 where
   pub above : 0 < level s l
   pub free : is_unit_reason (node s l).reason ≡ true
 
--- the assumption that failed, and then literals that were chosen, from a place of the trail on, the last ones first
+-- the assumption that failed, and then chosen literals from this position of the trail on, the last first
 pub record IsCoreFrom (s : State) (failed : ℕ) (core : List ℕ) (at : ℕ) : Type 0 where
   pub some : 0 < length core
   pub first : get_or core 0 0 ≡ failed
   pub chosen : (k : ℕ) → 0 < k → k < length core → IsChosen s at (get_or core k 0)
   pub falling : (j k : ℕ) → 0 < j → j < k → k < length core → depth s (get_or core k 0) < depth s (get_or core j 0)
 
--- the same from its begin on, none twice
+-- the same for the complete trail, with no literal twice
 pub record IsDistinctCore (s : State) (failed : ℕ) (core : List ℕ) : Type 0 where
   pub lits : IsCoreFrom s failed core 0
   pub distinct : AreDistinct core
 
--- the clauses of the used literals, in the order of the trail, derive the clause of the core's negations: the last one is the clause by
--- which the assumption is false. The checker accepts: under the core and the units they are unit in turn, and the last one is falsified
+-- The reasons of the used literals, in trail order, derive the clause of the negated core; the last of them falsifies the assumption. The
+-- checker accepts this: under the core and the units, they are unit in turn, and the last one is falsified.
 pub record IsRefutation (words : List ℕ) (s : State) (failed : ℕ) (core used : List ℕ) : Type 0 where
   pub lits : IsDistinctCore s failed core
   pub derivation : IsDerivation words s (clause_of words s (negated failed)) (map negated core) used
@@ -40,13 +40,13 @@ pub record IsRefutation (words : List ℕ) (s : State) (failed : ℕ) (core used
   pub last : get_or used (length used - 1) 0 ≡ negated failed
   pub acceptable : (units : List ℕ) → AreLevelZeroLits s units → UnitInTurn (core ++ units) (map (clause_of words s) used)
 
--- a false assumption fails: it is false at level 0, or its negation was chosen before it, or it is refuted by clauses
+-- how a false assumption fails: it is false at level 0, its negation was chosen before it, or clauses refute it
 pub data IsFailedAssumption (words : List ℕ) (s : State) (failed : ℕ) (core used : List ℕ) : Type 0 where
   fails_bottom : level s failed ≡ 0 → core ≡ failed ∷ [] → used ≡ [] → IsFailedAssumption words s failed core used
   fails_signs : IsChosen s 0 (negated failed) → core ≡ failed ∷ negated failed ∷ [] → used ≡ [] → IsFailedAssumption words s failed core used
   fails_clauses : IsRefutation words s failed core used → IsFailedAssumption words s failed core used
 
--- while the reasons are gone back over: flagged literals of all levels above 0 are still to be looked at, those before the place
+-- the invariant while reasons are traced back: flagged literals above level 0 that are before this position are still to be resolved
 pub record TraceInvariant (words : List ℕ) (s : State) (failed : ℕ) (w : Work) (at : ℕ) : Type 0 where
   pub marks : MarksWork s 1 w at
   pub uses : AreUsed words s 1 w at
@@ -54,7 +54,7 @@ pub record TraceInvariant (words : List ℕ) (s : State) (failed : ℕ) (w : Wor
   pub some : 0 < length w.used
   pub head : get_or w.used 0 0 ≡ negated failed
 
--- once none is flagged any more
+-- the state when no literal is flagged any more
 pub record TraceResult (words : List ℕ) (s : State) (failed : ℕ) (w : Work) : Type 0 where
   pub size : length w.flags ≡ length s.values
   pub clear : AreClear w.flags

@@ -6,8 +6,7 @@ use Rattle.sat_solver.specs.session.LiveClauses.{with_var, AreMapped}
 use Rattle.sat_solver.specs.cdcl.Joint.{global_in, IsSearch}
 use Rattle.sat_solver.specs.declared.context.Search.{Search}
 
--- these literals, whose variables have solver names, are assumed in place of the ones before, as the step says that assumes them,
--- and nothing else changed
+-- these literals replace the assumptions, as the `Assumptions` step says; their variables have indices, and nothing else changed
 pub record ReplacesAssumed (ls : List ℕ) (c c' : Search) : Type 0 where
   pub lits : c'.assumptions.lits.items ≡ ls
   pub same : c' ≡ record c { assumptions = c'.assumptions }

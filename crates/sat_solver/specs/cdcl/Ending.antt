@@ -1,4 +1,4 @@
--- How a round ends that may begin with a simplification.
+-- The end of a round, which may begin with a simplification.
 use Rattle.std.specs.Prelude.{List, MatchResult, Result}
 use Rattle.sat_base.specs.device.Device.{Writer}
 use Rattle.sat_base.specs.steps.Steps.{Step}
@@ -17,14 +17,14 @@ use Rattle.sat_solver.specs.unit_simplify.Freed.{KeepsAsked}
 use Rattle.sat_parts.specs.parts.Full.{IsFull}
 use Rattle.sat_solver.specs.unit_simplify.Passes.{PassFailsOr}
 
--- names and search share their indices, unless no valuation is left
+-- names and search share their indices, unless unsat is recorded
 abbrev pub RoundShares : Outcome → Variables → Search → Type 0
 RoundShares outcomes.Learned n c = SharesIndices n c
 RoundShares outcomes.Model n c = SharesIndices n c
 RoundShares outcomes.Unsat n c = Unit {0}
 RoundShares outcomes.Failed n c = SharesIndices n c
 
--- how it ended, and what it leaves of names and proof: the judge sees nothing of it
+-- the outcome of a round, and what it leaves of names and proof; the judge's state is unchanged
 pub record RoundEnds {W L : Type 0} {G : Ghosts L} (seen : W → Writer) (outcome : Outcome) (n n' : Variables) (p p' : Proof W L G) (c c' : Search) : Type 0 where
   pub steps : List Step
   pub adds : EmitsChecked seen steps p p'
@@ -34,6 +34,6 @@ pub record RoundEnds {W L : Type 0} {G : Ghosts L} (seen : W → Writer) (outcom
   pub says : RoundSays outcome (steps_of p) steps (session_of p') c c'
   pub shares : RoundShares outcome n' c'
 
--- what came of a round, or what it failed of: a full clause buffer only where it is full
+-- the result of a round: an outcome or an error; `FormulaTooLarge` only if the clause buffer is full
 abbrev pub EndsRound : {W L : Type 0} {G : Ghosts L} → (W → Writer) → Result Outcome SolverError → Variables → Variables → Proof W L G → Proof W L G → Search → Search → Type 0
 EndsRound seen r n n' p p' c c' = MatchResult r (λ o. RoundEnds seen o n n' p p' c c') (λ e. PassFailsOr (IsFull c'.parts) seen e p p')

@@ -1,4 +1,4 @@
--- Why a call failed, as a solver tells it, and where its cause is kept until then.
+-- Why a call failed, as the solver reports it, and where the underlying error is stored until then.
 use Rattle.std.specs.Prelude.{◌≡◌, ◌⊎◌, Some}
 use Rattle.sat_checker.specs.declared.processing.ProofProcessor.{Ghosts}
 use Rattle.sat_solver.specs.proof.ProofView.{Complains, is_lost}
@@ -9,7 +9,7 @@ use Rattle.sat_solver.specs.declared.cdcl.fault.Kind.TheVariants as kinds
 use Rattle.sat_solver.specs.declared.error.SolverError.{SolverError}
 use Rattle.sat_solver.specs.declared.error.SolverError.TheVariants as errors
 
--- the error that is told for a fault of this kind
+-- the error that is reported for a fault of this kind
 abbrev pub reported_error : Kind → SolverError
 reported_error (kinds.Write cause) = errors.ProofIoError cause
 reported_error (kinds.Processor cause) = errors.ProofProcessorError cause
@@ -18,14 +18,14 @@ reported_error kinds.StoreFull = errors.StoreFull
 reported_error kinds.VariableLimit = errors.VariableLimit
 reported_error kinds.CounterEnd = errors.CounterEnd
 
--- the proof keeps the cause of this error, where it has one
+-- the proof stores the underlying error, if this error has one
 abbrev pub IsKept : {W L : Type 0} {G : Ghosts L} → SolverError → Proof W L G → Type 0
 IsKept (errors.ProofIoError cause) p = p.cause ≡ Some cause
 IsKept (errors.ProofProcessorError cause) p = p.made.complaint ≡ Some cause
 IsKept e p = Unit {0}
 
--- The checker lacks a step that was made only where the target failed at it, or where the checker itself failed: this error says so. For want of
--- memory it lacks none, unless the memory was wanting in the checker.
+-- If the checker has missed a step that was made, then because the target or the checker failed at it, and this error says so. On an
+-- allocation failure it has missed none, unless the checker itself ran out of memory.
 abbrev pub NamesLoss : {W L : Type 0} {G : Ghosts L} → SolverError → Proof W L G → Proof W L G → Type 0
 NamesLoss (errors.ProofIoError cause) old new = Unit {0}
 NamesLoss (errors.ProofProcessorError cause) old new = Unit {0}

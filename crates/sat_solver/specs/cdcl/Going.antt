@@ -1,4 +1,4 @@
--- What a call that makes steps of a search leaves of the proof. Lists of steps have the newest first.
+-- How calls that make steps of the search change the proof. Lists of steps have the newest first.
 use Rattle.std.specs.Prelude.{ℕ, ◌≡◌, Bool, true, false, Option, Some, List, map, MatchResult, IfErr, Result, Ok, Err}
 use Rattle.std.specs.List.{AllByRecursion}
 use Rattle.sat_base.specs.device.Device.{Writer}
@@ -16,41 +16,41 @@ use Rattle.sat_solver.specs.declared.proof.ProofError.TheVariants.{Write, OutOfM
 use Rattle.sat_solver.specs.declared.error.SolverError.{SolverError}
 use Rattle.sat_solver.specs.declared.error.SolverError.TheVariants as errors
 
--- the kinds of step that a search makes by itself
+-- whether the search makes steps of this kind by itself
 abbrev pub is_searched : Step → Bool
 is_searched (AtClause redundant clause hashes) = true
 is_searched (UnitClauses units) = true
 is_searched (DeleteClause clause proof) = true
 is_searched step = false
 
--- each literal is over a variable that has a solver name
+-- every literal is over a variable that has an index
 abbrev pub HaveSolverNames : (ℕ → Option ℕ) → List ℕ → Type 0
 HaveSolverNames names = AllByRecursion (λ l. (x : ℕ) × (names (variable l) ≡ Some x))
 
--- a step that a search makes by itself, over variables that have solver names
+-- a step that the search makes by itself, over variables that have indices
 abbrev pub IsSearched : (ℕ → Option ℕ) → Step → Type 0
 IsSearched names (AtClause redundant clause hashes) = HaveSolverNames names clause
 IsSearched names (UnitClauses units) = HaveSolverNames names (map (λ u. u.0) units)
 IsSearched names (DeleteClause clause proof) = Unit {0}
 IsSearched names step = ⊥
 
--- each of these is such a step
+-- all these steps are of that kind
 abbrev pub AreSearched : (ℕ → Option ℕ) → List Step → Type 0
 AreSearched names = AllByRecursion (IsSearched names)
 
--- why a solver's own checker failed, as the solver tells it
+-- the solver's error for a failure of its own checker
 abbrev pub check_fault_of : CheckFault → SolverError
 check_fault_of checks.OutOfMemory = errors.OutOfMemory
 check_fault_of checks.CounterEnd = errors.CounterEnd
 check_fault_of (checks.Processor cause) = errors.ProofProcessorError cause
 
--- why a step wasn't made, or not checked, as a solver tells it
+-- the solver's error for a step that was not written, or not checked
 abbrev pub proof_fault : ProofError → SolverError
 proof_fault (Write cause) = errors.ProofIoError cause
 proof_fault OutOfMemory = errors.OutOfMemory
 proof_fault (Check fault) = check_fault_of fault
 
--- what a search may fail of: that the clause buffer is full comes only where this holds
+-- the errors of a search; `FormulaTooLarge` only if this holds
 abbrev pub IsFaultOr : (full : Type 0) → SolverError → Type 0
 IsFaultOr full errors.OutOfMemory = Unit {0}
 IsFaultOr full errors.StoreFull = full
@@ -59,11 +59,12 @@ IsFaultOr full (errors.ProofProcessorError cause) = Unit {0}
 IsFaultOr full errors.CounterEnd = Unit {0}
 IsFaultOr full e = ⊥
 
--- the same where no clause is stored
+-- the errors of a search that stores no clause
 abbrev pub IsFault : SolverError → Type 0
 IsFault = IsFaultOr ⊥
 
--- These steps were made; where a call of the target failed, that was at their text. A count is at its end, or a processor answers a fault, only in the solver's own checker.
+-- these steps were made; if a call of the target failed, it failed at their text. `CounterEnd` and a listener's fault come only from the
+-- solver's own checker
 abbrev pub EmitsUpToFault : {A W L : Type 0} {G : Ghosts L} → (W → Writer) → Result A SolverError → List Step → Proof W L G → Proof W L G → Type 0
 EmitsUpToFault seen (Ok x) steps old new = EmitsChecked seen steps old new
 EmitsUpToFault seen (Err (errors.ProofIoError cause)) steps old new = FailsToEmit seen steps old new
@@ -71,12 +72,12 @@ EmitsUpToFault seen (Err (errors.ProofProcessorError cause)) steps old new = Fai
 EmitsUpToFault seen (Err errors.CounterEnd) steps old new = FailsCheck seen checks.CounterEnd steps old new
 EmitsUpToFault seen (Err e) steps old new = EmitsExactly seen steps old new
 
--- nothing was learned, unless something may be
+-- nothing was learned, unless `learns`
 abbrev pub AreQuietUnless : Bool → List Step → Type 0
 AreQuietUnless true steps = Unit {0}
 AreQuietUnless false steps = AreQuiet steps
 
--- It made steps of a search, and came to an answer of which this holds, or failed, for a full clause buffer only where it is full.
+-- the steps of a search were made, and its answer satisfies the relation, or it failed; `FormulaTooLarge` only if `full` holds
 pub record EmitsStepsWith {A W L : Type 0} {G : Ghosts L} (full : Type 0) (learns : Bool) (seen : W → Writer) (result : Result A SolverError) (old new : Proof W L G) (Answers : A → List Step → Type 0) : Type 0 where
   pub steps : List Step
   pub went : EmitsUpToFault seen result steps old new
@@ -87,10 +88,10 @@ pub record EmitsStepsWith {A W L : Type 0} {G : Ghosts L} (full : Type 0) (learn
   pub loss : IfErr result (λ e. NamesLoss e old new)
   pub ends : MatchResult result (λ x. Answers x steps) (IsFaultOr full)
 
--- something may be learned
+-- the same, and clauses may be learned
 abbrev pub EmitsStepsOr : {A W L : Type 0} {G : Ghosts L} → (full : Type 0) → (W → Writer) → Result A SolverError → Proof W L G → Proof W L G → (A → List Step → Type 0) → Type 0
 EmitsStepsOr full seen result old new Answers = EmitsStepsWith full true seen result old new Answers
 
--- nothing is, and no clause is stored
+-- the same, and no clause is learned or stored
 abbrev pub EmitsSteps : {A W L : Type 0} {G : Ghosts L} → (W → Writer) → Result A SolverError → Proof W L G → Proof W L G → (A → List Step → Type 0) → Type 0
 EmitsSteps seen result old new Answers = EmitsStepsWith ⊥ false seen result old new Answers

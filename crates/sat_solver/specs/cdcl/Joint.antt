@@ -1,4 +1,4 @@
--- What holds of a search and the session behind its proof.
+-- How a search agrees with the session of its steps.
 use Rattle.std.specs.Prelude.{ℕ, ◌≡◌, ◌≤◌, ◌<◌, ◌*◌, ◌⊎◌, Some, List, map, length}
 use Rattle.sat_parts.specs.clause.Glue.{AreClear}
 use Rattle.sat_parts.specs.parts.Assumed.{HaveVariablesIn, ArePlaced, variables_of_lits}
@@ -11,15 +11,15 @@ use Rattle.sat_solver.specs.session.Fits.{PartsSessionInvariant}
 use Rattle.sat_solver.specs.unit_simplify.Left.{SameSize}
 use Rattle.sat_solver.specs.declared.context.Search.{Search}
 
--- the proof variable of a variable of the search
+-- the proof variable of an index
 abbrev pub global_in : Search → ℕ → ℕ
 global_in c = global_of_index c.globals.items
 
--- the variables that are assumed
+-- the indices that are assumed
 abbrev pub assumed_in : Search → List ℕ
 assumed_in c = variables_of_lits c.assumptions.lits.items
 
--- Each variable has a proof variable, and analysis may begin.
+-- every index has a proof variable, and analysis may begin
 pub record IsFree (c : Search) : Type 0 where
   pub names : length c.parts.assignment.current ≤ length c.globals.items
   pub size : length c.analysis.flags ≡ length c.parts.assignment.current
@@ -27,20 +27,20 @@ pub record IsFree (c : Search) : Type 0 where
   pub flags_size : 2 * length c.parts.assignment.current ≤ length c.flags.flags.items
   pub flags_clear : AreClear c.flags.flags.items
 
--- what the session has of the assumptions
+-- the assumptions of the session are those of the search
 abbrev pub AreAsked : Session → Search → Type 0
 AreAsked s c = s.assumed ≡ map (with_var (global_in c)) c.assumptions.lits.items
 
--- what is assumed, and the solver names, are as they were
+-- the same assumptions and indices
 pub record SameAssumedAndNames (s t : Session) : Type 0 where
   pub assumed : t.assumed ≡ s.assumed
   pub names : (v : ℕ) → t.solver_names v ≡ s.solver_names v
 
--- each variable has its solver name, or is idle
+-- every index is that of its proof variable, or is idle
 abbrev pub AreNamedOrIdle : Session → Search → Type 0
 AreNamedOrIdle s c = (v : ℕ) → v < length c.parts.assignment.current → (s.solver_names (global_in c v) ≡ Some v) ⊎ IsIdle (assumed_in c) (state c.parts) c.parts.vsids v
 
--- all but parts and clauses
+-- the invariant of everything but parts and clauses
 pub record IsReadySearch (s : Session) (c : Search) : Type 0 where
   pub free : IsFree c
   pub placed : ArePlaced c.assumptions (state c.parts)
@@ -48,12 +48,12 @@ pub record IsReadySearch (s : Session) (c : Search) : Type 0 where
   pub asked : AreAsked s c
   pub used : AreNamedOrIdle s c
 
--- what holds between the turns of a search
+-- the invariant of a search between turns
 pub record IsSearch (s : Session) (c : Search) : Type 0 where
   pub stands : PartsSessionInvariant c.parts s (global_in c)
   pub ready : IsReadySearch s c
 
--- variables and assumptions are the same
+-- the same variables and assumptions
 pub record SameVarsAndAssumptions (c c' : Search) : Type 0 where
   pub globals : c'.globals ≡ c.globals
   pub lits : c'.assumptions.lits ≡ c.assumptions.lits

@@ -1,4 +1,4 @@
--- What learning a clause leaves.
+-- How learning a clause changes proof and search.
 use Rattle.std.specs.Prelude.{ℕ, ◌≡◌, Bool, List, ◌∷◌, ◌++◌, length, Result}
 use Rattle.sat_base.specs.device.Device.{Writer}
 use Rattle.sat_base.specs.steps.Steps.{Step, AtClause}
@@ -29,7 +29,7 @@ use Rattle.sat_solver.specs.clause.Assessed.{graded, levels_in, BumpsClauses}
 use Rattle.sat_solver.specs.cdcl.Joint.{IsSearch, SameVarsAndAssumptions}
 use Rattle.sat_solver.specs.unit_simplify.Left.{SameSize}
 
--- the newest of these steps is a derived clause that advances behind the others, by which nothing is learned, and the earlier ones
+-- the newest of these steps derives a clause that advances after the others; by the others nothing is learned
 pub record LastAdvances (earlier steps : List Step) : Type 0 where
   pub redundant : Bool
   pub clause : List ℕ
@@ -39,22 +39,22 @@ pub record LastAdvances (earlier steps : List Step) : Type 0 where
   pub advances : Advances (session_after (rest ++ earlier)) clause
   pub quiet : AreQuiet rest
 
--- a clause was learned and came in, and the word of the trail rose
+-- a clause was learned and stored, and the word of the trail rose
 pub record LearnsAndRises (earlier steps : List Step) (s : Session) (c c' : Search) : Type 0 where
   pub search : IsSearch s c'
   pub moved : SameVarsAndAssumptions c c'
   pub rises : TrailWordRises c.parts c'.parts
   pub last : LastAdvances earlier steps
 
--- it made these steps, or failed, for a full clause buffer only where it is full
+-- a clause was learned by these steps, or the call failed; `FormulaTooLarge` only if the buffer is full
 abbrev pub LearnsClause : {W L : Type 0} {G : Ghosts L} → (W → Writer) → Result (Unit {0}) SolverError → Proof W L G → Proof W L G → Search → Search → Type 0
 LearnsClause seen r p p' c c' = EmitsStepsOr (IsFull c'.parts) seen r p p' (λ _ steps. LearnsAndRises (steps_of p) steps (session_of p') c c')
 
--- the hashes of the clauses from which it follows, the one that was found false last
+-- the hashes of the clauses from which it follows, the falsified one last
 abbrev pub learned_hashes : Parts → Work → Conflict → List ℕ
 learned_hashes p w e = named_hashes p.clauses (state p) w.used e
 
--- the levels above this one were undone, and what was learned came in
+-- the levels above `level` were undone, and the learned clause was stored
 pub record UndoesAndLearns (p p' : Parts) (header : Header) (ls : List ℕ) (level : ℕ) : Type 0 where
   pub holds : PartsInvariant p'
   pub fits : FitsAfterLearning p p' header ls
@@ -63,19 +63,19 @@ pub record UndoesAndLearns (p p' : Parts) (header : Header) (ls : List ℕ) (lev
   pub keeps : KeepsTo level (state p) (state p')
   pub starts : length p'.trail.starts ≡ level
 
--- The long clauses that took part, the one that was found false first, were raised and improved by the levels that were, and
--- activities decayed. Then a clause of this header came in, of activity 0.
+-- The activity of every long clause that took part was bumped, the falsified one first, with its glue improved by the levels before
+-- backtracking; then activities decayed. Then a clause with this header was stored, at activity 0.
 pub record BumpsInvolved (p : Parts) (s : Scale) (w : Work) (header : Header) (p' : Parts) (s' : Scale) : Type 0 where
   pub between : Parts
   pub take : BumpsClauses (levels_in p) p.db.refs w.involved p.clauses s between.clauses s'
   pub refs : between.db.refs ≡ p.db.refs
   pub learnt : AddsLearnedClause between p' header w.clause
 
--- the same of a search: a learned clause has the glue of its levels
+-- the same for a search: the glue of the learned clause counts its levels
 abbrev pub SearchBumpsInvolved : Search → Search → Type 0
 SearchBumpsInvolved c c' = BumpsInvolved c.parts c.activity c'.analysis (graded (different (levels_of c.parts.graph c'.analysis.clause))) c'.parts c'.activity
 
--- and then the variables that were met were raised, each once, and their activities decayed; clauses stayed as they were
+-- afterwards every variable that was met was bumped once, and activities decayed; clauses are unchanged
 pub record BumpsMetVars (c c' : Search) : Type 0 where
   pub behind : Search
   pub rated : SearchBumpsInvolved c behind

@@ -1,4 +1,4 @@
--- How a round ends.
+-- The end of a round.
 use Rattle.std.specs.Prelude.{◌≡◌, true, false, List, ◌∷◌, ◌++◌, Result}
 use Rattle.sat_base.specs.device.Device.{Writer}
 use Rattle.sat_base.specs.steps.Steps.{Step}
@@ -18,7 +18,7 @@ use Rattle.sat_solver.specs.cdcl.Joint.{assumed_in, IsSearch, SameVarsAndAssumpt
 use Rattle.sat_solver.specs.cdcl.Learning.{LastAdvances}
 use Rattle.sat_solver.specs.cdcl.Turns.{IsComplete, IsFailing}
 
--- a clause was learned, by a step that advances, and the word of the trail rose
+-- a clause was learned by a step that advances, and the word of the trail rose
 pub record RoundLearns (earlier steps : List Step) (s : Session) (c c' : Search) : Type 0 where
   pub search : IsSearch s c'
   pub moved : SameVarsAndAssumptions c c'
@@ -37,7 +37,7 @@ pub record RoundShows (s : Session) (c c' : Search) : Type 0 where
   pub moved : SameVarsAndAssumptions c c'
   pub complete : IsComplete c'.assumptions.lits.items c'.parts
 
--- the newest of these steps recorded unsat, which wasn't recorded before it, and nothing was learned
+-- the newest of these steps recorded unsat, which was not recorded before; nothing was learned
 pub record LastRefutes (earlier steps : List Step) (s : Session) : Type 0 where
   pub last : Step
   pub rest : List Step
@@ -46,13 +46,13 @@ pub record LastRefutes (earlier steps : List Step) (s : Session) : Type 0 where
   pub now : s.unsat ≡ true
   pub quiet : AreQuiet steps
 
--- what holds behind a round, by its outcome
+-- what holds after a round, by its outcome
 abbrev pub RoundSays : Outcome → (earlier steps : List Step) → Session → Search → Search → Type 0
 RoundSays outcomes.Learned earlier steps s c c' = RoundLearns earlier steps s c c'
 RoundSays outcomes.Model earlier steps s c c' = RoundShows s c c' × AreQuiet steps
 RoundSays outcomes.Unsat earlier steps s c c' = LastRefutes earlier steps s
 RoundSays outcomes.Failed earlier steps s c c' = RoundFails s c c' × AreQuiet steps
 
--- a round made its steps, and came to this outcome, or failed
+-- a round made its steps and had this outcome, or failed
 abbrev pub RoundGoes : {W L : Type 0} {G : Ghosts L} → (W → Writer) → Result Outcome SolverError → Proof W L G → Proof W L G → Search → Search → Type 0
 RoundGoes seen r p p' c c' = EmitsStepsOr (IsFull c'.parts) seen r p p' (λ outcome steps. RoundSays outcome (steps_of p) steps (session_of p') c c')

@@ -1,13 +1,13 @@
--- The literals that a search has made true.
+-- The literals that are true in a search.
 use Rattle.std.specs.Prelude.{ℕ, ◌+◌, Bool, Option, None, Some, List, [], ◌∷◌, ◌++◌}
 use Rattle.sat_base.specs.values.Literals.{coded}
 
--- the literal of this variable that is true, if it has a value
+-- the true literal of this variable, if it has a value
 abbrev pub literal_of : ℕ → Option Bool → List ℕ
 literal_of v None = []
 literal_of v (Some b) = coded v b ∷ []
 
--- the true literals, where the first of these values is that of variable v
+-- the true literals; the first of these values is that of variable v
 abbrev pub true_lits : ℕ → List (Option Bool) → List ℕ
 true_lits v [] = []
 true_lits v (x ∷ values) = literal_of v x ++ true_lits (v + 1) values

@@ -27,13 +27,13 @@ pub record IsComplete (ls : List ℕ) (p : Parts) : Type 0 where
   pub all : AllAssigned p
   pub assumed : AllTrue ls p
 
--- one of the assumptions is false, and what was decided are assumptions
+-- an assumption is false, and only assumptions were decided
 pub record IsFailing (ls : List ℕ) (p : Parts) (l : ℕ) : Type 0 where
   pub among : Contains ls l
   pub fails : IsFalseLit p.assignment.current l
   pub decided : AreDecided ls (state p)
 
--- how it stands where nothing was propagated any more
+-- what is left after propagation without a conflict: a new level, or the search stops
 abbrev pub OpensLevelOrStops : Option FoundConflict → List ℕ → Parts → Parts → Type 0
 OpensLevelOrStops None ls p p' = length p'.trail.starts ≡ length p.trail.starts + 1
 OpensLevelOrStops (Some (Falsified e)) ls p p' = ⊥
@@ -50,7 +50,7 @@ pub record GoesDeeper (found : Option FoundConflict) (a a' : Assumptions) (p p' 
   pub carries : AddsNoUnit (state p) (state p')
   pub stops : OpensLevelOrStops found a.lits.items p p'
 
--- all was propagated, and no clause is false
+-- everything is propagated, and no clause is falsified
 pub record IsPropagated (s : Session) (c : Search) : Type 0 where
   pub holds : HoldsBelow (length c.parts.trail.starts + 1) c.parts
   pub done : IsFullyPropagated c.parts
@@ -58,30 +58,30 @@ pub record IsPropagated (s : Session) (c : Search) : Type 0 where
   pub fits : SessionMatchesParts c.parts s (global_in c)
   pub ready : IsReadySearch s c
 
--- a clause is false
+-- a clause is falsified
 pub record IsStopped (s : Session) (c : Search) (e : Conflict) : Type 0 where
   pub refuted : IsRefuted c.parts e
   pub fits : SessionMatchesParts c.parts s (global_in c)
   pub ready : IsReadySearch s c
 
--- how it stands where a search stopped: a false clause, a complete assignment, or a failed assumption
+-- what holds when a search stops: a falsified clause, a complete assignment, or a failed assumption
 abbrev pub StopSays : FoundConflict → Session → Search → Type 0
 StopSays (Falsified e) s c = IsStopped s c e
 StopSays Complete s c = IsSearch s c × IsComplete c.assumptions.lits.items c.parts
 StopSays (Failed l) s c = IsSearch s c × IsFailing c.assumptions.lits.items c.parts l
 
--- how it stands behind a turn: a level deeper, or stopped
+-- what holds after a turn: one level more, or the search stopped
 abbrev pub TurnSays : Option FoundConflict → Session → Search → Search → Type 0
 TurnSays None s c c' = IsSearch s c' × (length c'.parts.trail.starts ≡ length c.parts.trail.starts + 1)
 TurnSays (Some stop) s c c' = StopSays stop s c'
 
--- what a turn leaves
+-- how a turn changes a search
 pub record TakesTurn (found : Option FoundConflict) (s : Session) (c c' : Search) : Type 0 where
   pub says : TurnSays found s c c'
   pub moved : SameVarsAndAssumptions c c'
   pub word : TrailWordExtendsFor (assumed_in c) c.parts c'.parts
 
--- where a search stopped
+-- the search stopped
 pub record StopsSearch (stop : FoundConflict) (s : Session) (c c' : Search) : Type 0 where
   pub says : StopSays stop s c'
   pub moved : SameVarsAndAssumptions c c'

@@ -1,4 +1,4 @@
--- What raised activities leave.
+-- How bumping activities changes a search.
 use Rattle.std.specs.Prelude.{ℕ, ◌<◌, ◌≤◌, List, [], ◌∷◌}
 use Rattle.std.specs.List.{Contains}
 use Rattle.sat_store.specs.heap.Vsids.{Queue, bumped}
@@ -8,20 +8,20 @@ use Rattle.sat_solver.specs.session.Session.{Session}
 use Rattle.sat_solver.specs.declared.context.Search.{Search}
 use Rattle.sat_solver.specs.cdcl.Joint.{IsSearch, SameVarsAndAssumptions}
 
--- these are variables below a number
+-- all these variables are below a number
 abbrev pub AreBelow : List ℕ → ℕ → Type 0
 AreBelow vars n = (v : ℕ) → Contains vars v → v < n
 
--- decays of 500 to 999 thousandths
+-- the decays are 500 to 999 thousandths
 abbrev pub AreDecays : SolverConfig → Type 0
 AreDecays c = (500 ≤ c.vsids_decay) × (c.vsids_decay ≤ 999) × (500 ≤ c.clause_activity_decay) × (c.clause_activity_decay ≤ 999)
 
--- each of these variables' activities was raised in turn
+-- the variables were bumped one after another
 abbrev pub all_bumped : List ℕ → Queue → Queue
 all_bumped [] q = q
 all_bumped (v ∷ vs) q = all_bumped vs (bumped v q)
 
--- what is searched is the same, and the trail's words go on
+-- everything but activities is the same, and the word of the trail is unchanged or extended
 pub record BumpEffect (s : Session) (c c' : Search) : Type 0 where
   pub search : IsSearch s c'
   pub moved : SameVarsAndAssumptions c c'

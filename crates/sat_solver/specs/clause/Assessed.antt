@@ -1,4 +1,4 @@
--- How learned clauses are graded by the levels of their literals, and what an analysis makes of the clauses that it took.
+-- How learned clauses are graded by the number of their levels, and how analysis updates the clauses that took part.
 use Rattle.std.specs.Prelude.{ℕ, ◌≡◌, ◌-◌, ◌^◌, ◌<◌, ◌≤◌, ◌&&◌, nat_le, nat_lt, min, Bool, true, List, [], ◌∷◌, if◌then◌else◌}
 use Rattle.std.specs.List.{Contains}
 use Rattle.sat_store.specs.clause.Buffer.{header_at, lits_at}
@@ -13,28 +13,28 @@ use Rattle.sat_parts.specs.parts.Frame.{ChangesHeaders}
 use Rattle.sat_parts.specs.parts.Whole.{PartsInvariant}
 use Rattle.sat_parts.specs.parts.Words.{TrailWordExtends}
 
--- the tier of a learned clause of this glue
+-- the tier of a learned clause with this glue
 abbrev pub tier_for : ℕ → Tier
 tier_for glue = if nat_le glue 2 then Core else (if nat_le glue 6 then Mid else Local)
 
--- with this glue, of which 63 is the most that is kept, and the tier for it
+-- the header with this glue, at most 63, and the tier for it
 abbrev pub with_glue : ℕ → Header → Header
 with_glue glue h = record h { glue = min glue 63; tier = tier_for glue }
 
--- the header of a learned clause whose literals are of this many levels: its glue is their number, less one
+-- the header of a learned clause whose literals have this many levels: its glue is one less
 abbrev pub graded : ℕ → Header
 graded levels = with_glue (levels - 1) no_header
 
--- A clause that took part is active. A learned one whose literals are of fewer levels than its glue says takes their number as its
--- glue, with the tier for it.
+-- the header of a clause that took part: it is active, and a learned one whose literals have fewer levels than its glue says gets the
+-- smaller glue and the tier for it
 abbrev pub improved : ℕ → Header → Header
 improved levels h = if is_learned h.tier && nat_lt levels h.glue then with_glue levels (record h { active = true }) else record h { active = true }
 
--- of how many levels the literals of the clause at o are
+-- the number of levels of the literals of the clause at o
 abbrev pub levels_in : Parts → ℕ → ℕ
 levels_in p o = different (levels_of p.graph (lits_at p.clauses o))
 
--- the activity of the clause at o was raised, and then its header improved
+-- the activity of the clause at o was bumped, and then its header improved
 pub record BumpsClause (levels : ℕ) (words words' refs : List ℕ) (o : ℕ) (s s' : Scale) : Type 0 where
   pub raised : List ℕ
   pub one : BumpsBelow words raised refs o s s'
@@ -46,19 +46,19 @@ pub record DecaysActivities (words words' refs : List ℕ) (s s' : Scale) : Type
   pub later : later_bump s < 2 ^ 30 → (s' ≡ later_scale s) × (words' ≡ words)
   pub rescaled : 2 ^ 30 ≤ later_bump s → DecaysAll words words' refs s s'
 
--- each of these clauses in turn took part, and then activities decayed
+-- all these clauses took part, one after another, and then activities decayed
 abbrev pub BumpsClauses : (levels : ℕ → ℕ) (refs os words : List ℕ) (s : Scale) (words' : List ℕ) (s' : Scale) → Type 0
 BumpsClauses levels refs [] words s words' s' = DecaysActivities words words' refs s s'
 BumpsClauses levels refs (o ∷ os) words s words' s' = (mid : List ℕ) × (t : Scale) × BumpsClause (levels o) words mid refs o s t × BumpsClauses levels refs os mid t words' s'
 
--- headers of long clauses changed, and nothing else did
+-- only headers of long clauses changed
 pub record ChangesOnlyHeaders (p p' : Parts) : Type 0 where
   pub holds : PartsInvariant p'
   pub headed : ChangesHeaders p p'
   pub refs : p'.db.refs ≡ p.db.refs
   pub word : TrailWordExtends p p'
 
--- the clauses are live ones, and there is a flag for the level of each of their literals
+-- the clauses are live, and there is a flag for the level of each of their literals
 pub record AreInvolved (p : Parts) (flags : List Bool) (os : List ℕ) : Type 0 where
   pub live : (o : ℕ) → Contains os o → Contains (live_refs p.clauses p.db.refs) o
   pub levels : (o : ℕ) → Contains os o → HaveFlags p.graph flags (lits_at p.clauses o)

@@ -1,4 +1,4 @@
--- What a reduction leaves.
+-- How a reduction changes a search.
 use Rattle.std.specs.Prelude.{ℕ, zero, suc, ◌≡◌, ◌≢◌, ◌==◌, ◌/◌, ◌%◌, ◌<◌, ◌≤◌, ◌⊎◌, Bool, true, false, List, [], ◌∷◌, length, Result}
 use Rattle.std.specs.List.{Contains, filter}
 use Rattle.std.specs.List.Sorted.{IsPermutation, IsNonDecreasingBy}
@@ -23,7 +23,7 @@ use Rattle.sat_solver.specs.declared.context.Search.{Search}
 use Rattle.sat_solver.specs.cdcl.Going.{EmitsSteps}
 use Rattle.sat_solver.specs.cdcl.Joint.{assumed_in, IsSearch, SameVarsAndAssumptions}
 
--- a live long clause that was learned
+-- a live long learned clause
 pub record IsLearnedLong (p : Parts) (o : ℕ) : Type 0 where
   pub live : Contains (live_refs p.clauses p.db.refs) o
   pub learned : is_redundant p.clauses o ≡ true
@@ -32,12 +32,12 @@ pub record IsLearnedLong (p : Parts) (o : ℕ) : Type 0 where
 abbrev pub IsReason : Parts → ℕ → Type 0
 IsReason p o = IsLockedClause p.clauses p.assignment.current p.graph o
 
--- the clause at o was deleted where it is no reason, and else nothing changed
+-- the clause at o was deleted, unless it is a reason; then nothing changed
 abbrev pub DeletesUnlessReason : (deleted : Bool) (o : ℕ) → Parts → Parts → Type 0
 DeletesUnlessReason true o p p' = (IsReason p o → ⊥) × DropsLongClause p p' o
 DeletesUnlessReason false o p p' = IsReason p o × (p' ≡ p)
 
--- the clause at o was deleted, or it stands
+-- the clause at o was deleted, or nothing changed
 pub record DeletesIf (deleted : Bool) (o : ℕ) (s : Session) (c c' : Search) : Type 0 where
   pub search : IsSearch s c'
   pub moved : SameVarsAndAssumptions c c'
@@ -45,33 +45,33 @@ pub record DeletesIf (deleted : Bool) (o : ℕ) (s : Session) (c c' : Search) : 
   pub others : (p : ℕ) → p ≢ o → IsLearnedLong c.parts p → IsLearnedLong c'.parts p
   pub tried : DeletesUnlessReason deleted o c.parts c'.parts
 
--- what is searched is the same, and the trail's words go on
+-- the search is the same but for its clauses, and the word of the trail is unchanged or extended
 pub record ReductionEffect (s : Session) (c c' : Search) : Type 0 where
   pub search : IsSearch s c'
   pub moved : SameVarsAndAssumptions c c'
   pub word : TrailWordExtendsFor (assumed_in c) c.parts c'.parts
 
--- the same by steps, where the parts changed in this way
+-- the same by proof steps, for this kind of change
 abbrev pub ReductionBySteps : {W L : Type 0} {G : Ghosts L} → (Changes : Parts → Parts → Type 0) → (W → Writer) → Result (Unit {0}) SolverError → Proof W L G → Proof W L G → Search → Search → Type 0
 ReductionBySteps Changes seen r p p' c c' = EmitsSteps seen r p p' (λ _ _. ReductionEffect (session_of p') c c' × Changes c.parts c'.parts)
 
 -- TIER LOCAL
 
--- of a list of clauses these are, in order, the first n that are no reason: all such where there are fewer
+-- the first n clauses of the list, in order, that are no reason; all of these if there are fewer
 abbrev pub AreFirstFree : Parts → (list : List ℕ) (n : ℕ) (free : List ℕ) → Type 0
 AreFirstFree p [] n free = free ≡ []
 AreFirstFree p (o ∷ os) zero free = free ≡ []
 AreFirstFree p (o ∷ os) (suc n) free =
     (IsReason p o × AreFirstFree p os (suc n) free) ⊎ ((IsReason p o → ⊥) × (rest : List ℕ) × (free ≡ o ∷ rest) × AreFirstFree p os n rest)
 
--- these live clauses were deleted, and the others are live and as they were
+-- exactly these live clauses were deleted; the others are unchanged
 pub record DeletesJustThese (p p' : Parts) (gone : List ℕ) : Type 0 where
   pub deleted : (o : ℕ) → Contains gone o → Contains (live_refs p.clauses p.db.refs) o × (Contains (live_refs p'.clauses p'.db.refs) o → ⊥)
   pub others : (o : ℕ) → Contains (live_refs p.clauses p.db.refs) o → Contains gone o ⊎ Contains (live_refs p'.clauses p'.db.refs) o
   pub stay : (o : ℕ) → Contains (live_refs p'.clauses p'.db.refs) o → Contains (live_refs p.clauses p.db.refs) o × SameClauseAt p.clauses p'.clauses o
   pub same : SameSearch p p'
 
--- half of the live clauses of tier Local, rounded down, were deleted: those of lowest activity, of equals the one that came first, but
+-- half of the live clauses of tier Local, rounded down, were deleted: those of lowest activity, the earlier one first among equals, but
 -- none that is a reason
 pub record HalvesLocals (p p' : Parts) : Type 0 where
   pub locals : List ℕ
@@ -81,33 +81,33 @@ pub record HalvesLocals (p p' : Parts) : Type 0 where
   pub first : AreFirstFree p locals (length locals / 2) gone
   pub deletes : DeletesJustThese p p' gone
 
--- where that is due
+-- the same if a reduction of this tier is due
 abbrev pub ReducesLocals : Bool → Parts → Parts → Type 0
 ReducesLocals true p p' = HalvesLocals p p'
 ReducesLocals false p p' = p' ≡ p
 
 -- TIER MID
 
--- clauses of tier Mid that weren't active came to be of tier Local, the others aren't active any more, and nothing else changed
+-- inactive clauses of tier Mid moved to tier Local, the others were made inactive, and nothing else changed
 pub record MovesMids (p p' : Parts) : Type 0 where
   pub headers : PutsHeaders p.clauses p'.clauses p.db.refs (λ o. reduced (header_at p.clauses o))
   pub headed : ChangesHeaders p p'
 
--- where that is due
+-- the same if a reduction of this tier is due
 abbrev pub ReducesMids : Bool → Parts → Parts → Type 0
 ReducesMids true p p' = MovesMids p p'
 ReducesMids false p p' = p' ≡ p
 
 -- COLLECTION
 
--- where deleted clauses take more than half of the buffer, the live ones came to other places, in order, and no room is lost any more
+-- if deleted clauses take more than half of the buffer, the live ones were moved together, in order, and no room is lost any more
 pub record CollectsWhereDue (p p' : Parts) : Type 0 where
   pub due : length p.clauses / 2 < p.db.garbage → MovesLongClauses p p' × (p'.db.garbage ≡ 0)
   pub not_due : p.db.garbage ≤ length p.clauses / 2 → p' ≡ p
 
 -- ALL OF THESE
 
--- before the round of this number
+-- the reductions before the round with this number
 pub record Reduces (config : SolverConfig) (round : ℕ) (p p' : Parts) : Type 0 where
   pub behind_locals : Parts
   pub behind_mids : Parts

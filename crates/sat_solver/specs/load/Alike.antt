@@ -1,9 +1,9 @@
--- Sessions that a search can't tell apart.
+-- Sessions that are the same to a search.
 use Rattle.std.specs.Prelude.{ℕ, ◌≡◌, Bool, Some, List}
 use Rattle.sat_base.specs.values.Literals.{coded}
 use Rattle.sat_solver.specs.session.Session.{Session}
 
--- all that a search sees is the same: clauses, units of variables that have indices, assumptions and solver names
+-- everything that a search sees is the same: clauses, units of variables that have indices, assumptions, and indices
 pub record LooksAlike (s t : Session) : Type 0 where
   pub live : (r : Bool) (set : List ℕ) → t.live r set ≡ s.live r set
   pub units : (v x : ℕ) (b : Bool) → s.solver_names v ≡ Some x → t.units (coded v b) ≡ s.units (coded v b)

@@ -18,12 +18,12 @@ use Rattle.sat_solver.specs.variables.Coming.{MayTake}
 use Rattle.sat_solver.specs.declared.variables.Variables.{Variables}
 use Rattle.sat_solver.specs.declared.load.literals.Taken.{Taken}
 
--- marked as assumed, or not, where asked
+-- marked as assumed, or not, if `asked`
 abbrev pub marked_if : Bool → Bool → VarData → VarData
 marked_if true assumed d = record d { assumed = assumed }
 marked_if false assumed d = d
 
--- the variables of these literals are marked so
+-- the variables of these literals are marked as assumed, or not; the others are unchanged
 pub record MarksAssumed (old new : ℕ → VarData) (ls : List ℕ) (assumed : Bool) : Type 0 where
   pub each : (v : ℕ) → new v ≡ marked_if (mentions ls v) assumed (old v)
 
@@ -40,14 +40,15 @@ pub record PutsMarks (old new : Variables) (ls : List ℕ) : Type 0 where
   pub free_globals : new.free_globals ≡ old.free_globals
   pub free_solvers : new.free_solvers ≡ old.free_solvers
 
--- The names of the literals came in, their variables have indices, and they are the assumptions from here on, whatever will be answered.
+-- the names of the literals were introduced, their variables have indices, and they are the assumptions from now on, whatever the ask
+-- answers
 pub record BringsAssumptions (old new : Variables) (from to : List Step) (user : List ℕ) (t : Taken) : Type 0 where
   pub does : (o : Outcome) → NamesEffect old new from to (bring_all (names_in user)) (λ j. bringing (names_in user) j ++ (Opens (map user_literal user) o ∷ []))
   pub extends : ExtendsNames old new
   pub images : Images new user t.order.items
   pub globals : t.globals.items ≡ map (with_var (global_with_index new)) t.order.items
   pub gives : GivesIndices old new (session_after from) t.given.items
-  -- the steps before theirs, which the search doesn't see
+  -- the earlier steps of the call, which the search does not see
   pub between : List Step
   pub written : to ≡ Assumptions t.globals.items ∷ between
   pub search : KeepsSearch (session_after from) (session_after between)

@@ -8,7 +8,7 @@ use Rattle.sat_solver.specs.session.Session.{Session}
 use Rattle.sat_solver.specs.cdcl.Joint.{IsFree, IsSearch, SameVarsAndAssumptions}
 use Rattle.sat_solver.specs.declared.context.Search.{Search}
 
--- all levels were undone: clauses, units, variables and assumptions are as they were, and what held of the search holds
+-- all levels were undone: clauses, units, variables and assumptions are unchanged, and the invariant of the search is preserved
 pub record AtBottom (c c' : Search) : Type 0 where
   pub bottom : c'.parts.trail.starts ≡ []
   pub holds : PartsInvariant c'.parts

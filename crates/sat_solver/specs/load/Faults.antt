@@ -1,11 +1,11 @@
--- Why a call over names failed, as a solver tells it.
+-- Why a call over names failed, as the solver reports it.
 use Rattle.sat_solver.specs.declared.variables.error.NameError.{NameError}
 use Rattle.sat_solver.specs.declared.variables.error.NameError.TheVariants as names
 use Rattle.sat_solver.specs.declared.error.SolverError.{SolverError}
 use Rattle.sat_solver.specs.declared.error.SolverError.TheVariants as errors
 use Rattle.sat_solver.specs.cdcl.Going.{check_fault_of}
 
--- the solver's error for a fault of its names
+-- the solver's error for an error of its names
 abbrev pub reported_as : NameError → SolverError
 reported_as names.VariableLimit = errors.VariableLimit
 reported_as names.OutOfMemory = errors.OutOfMemory

@@ -1,4 +1,4 @@
--- Literals over names, and those of the search and of the proof that stand for them.
+-- Literals over names, and the literals of the search and of the proof that represent them.
 use Rattle.std.specs.Prelude.{ℕ, ◌+◌, ◌<◌, ◌≡◌, Some, List, map, length, get_or}
 use Rattle.std.specs.List.{AllByRecursion}
 use Rattle.sat_base.specs.values.Literals.{variable, is_positive, coded}
@@ -20,11 +20,11 @@ use Rattle.sat_solver.specs.variables.Coming.{MayTake}
 use Rattle.sat_solver.specs.declared.variables.Variables.{Variables}
 use Rattle.sat_solver.specs.declared.load.literals.Taken.{Taken}
 
--- a literal of the user's
+-- a literal over names
 abbrev pub user_literal : ℕ → Literal
 user_literal l = record { name = variable l + 1; positive = is_positive l }
 
--- the literal of the proof that stands for one of the user's, over a sampling variable that has an index
+-- the proof literal that represents a literal over names; its variable is of mode sample and has an index
 pub record StandsFor (n : Variables) (l code : ℕ) : Type 0 where
   pub variable_is : ℕ
   pub index_is : ℕ
@@ -33,12 +33,12 @@ pub record StandsFor (n : Variables) (l code : ℕ) : Type 0 where
   pub sampled : (data_at n variable_is).sampling_mode ≡ kept.Sample
   pub is : code ≡ coded variable_is (is_positive l)
 
--- the same set of literals, in whatever order, and however often
+-- the same set of literals, in any order and with any repetitions
 pub record SameLiterals (n : Variables) (user clause : List ℕ) : Type 0 where
   pub there : AllByRecursion (λ l. (code : ℕ) × StandsFor n l code × Among code clause) user
   pub only : AllByRecursion (λ code. (l : ℕ) × StandsFor n l code × Among l user) clause
 
--- the literal of the search for one of the user's
+-- the search literal that represents a literal over names
 pub record Image (n : Variables) (l code : ℕ) : Type 0 where
   pub variable_is : ℕ
   pub index_is : ℕ
@@ -46,29 +46,29 @@ pub record Image (n : Variables) (l code : ℕ) : Type 0 where
   pub indexed : solver_of n variable_is ≡ Some index_is
   pub is : code ≡ coded index_is (is_positive l)
 
--- one for each, in order
+-- one search literal for each literal over names, in order
 pub record Images (n : Variables) (user lits : List ℕ) : Type 0 where
   pub count : length lits ≡ length user
   pub each : (k : ℕ) → k < length user → Image n (get_or user k 0) (get_or lits k 0)
 
--- the literals of the proof for those of the user's, one for each, in order
+-- one proof literal for each literal over names, in order
 pub record GlobalImages (n : Variables) (user codes : List ℕ) : Type 0 where
   pub count : length codes ≡ length user
   pub each : (k : ℕ) → k < length user → (v : ℕ) × (global_of n (variable (get_or user k 0)) ≡ Some v) × (get_or codes k 0 ≡ coded v (is_positive (get_or user k 0)))
 
--- where the name is in use, it is of mode sample
+-- the name is of mode sample, if it is in use
 abbrev pub IsSampled : Variables → ℕ → Type 0
 IsSampled n user = (v : ℕ) → global_of n user ≡ Some v → (data_at n v).sampling_mode ≡ kept.Sample
 
--- each literal's name is of mode sample, or not in use yet
+-- every literal's name is of mode sample or not in use
 abbrev pub NoWitness : Variables → List ℕ → Type 0
 NoWitness n = AllByRecursion (λ l. IsSampled n (variable l))
 
--- the variable that an index has
+-- the proof variable of an index
 abbrev pub global_with_index : Variables → ℕ → ℕ
 global_with_index n x = get_or n.globals.items x 0
 
--- The names of the literals came in, and their variables have indices.
+-- the names of the literals were introduced, and their variables have indices
 pub record BringsLiterals (old new : Variables) (from to : List Step) (user : List ℕ) (t : Taken) : Type 0 where
   pub does : NamesEffect old new from to (bring_all (names_in user)) (bringing (names_in user))
   pub extends : ExtendsNames old new
@@ -77,7 +77,7 @@ pub record BringsLiterals (old new : Variables) (from to : List Step) (user : Li
   pub search : KeepsSearch (session_after from) (session_after to)
   pub comes : OnlyAllowedSteps (MayTake (names_in user)) from to
 
--- The clause over the proof's variables is the set of the literals, in order of the search's codes.
+-- the clause over proof variables has the same set of literals, in the order of the search's codes
 pub record MapsClause (new : Variables) (t : Taken) : Type 0 where
   pub lits : t.lits.items ≡ canonical t.order.items
   pub globals : t.globals.items ≡ map (with_var (global_with_index new)) t.lits.items

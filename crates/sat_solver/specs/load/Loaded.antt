@@ -1,4 +1,4 @@
--- A clause that is loaded into a search.
+-- How loading a clause changes a search.
 use Rattle.std.specs.Prelude.{ℕ, ◌≡◌, ◌<◌, ◌*◌, Bool, true, false, List, [], ◌∷◌, map, length, Result, slice_index_or as get_or}
 use Rattle.sat_base.specs.device.Device.{Writer}
 use Rattle.sat_base.specs.steps.Steps.{Step, AddClause, DeleteClause, Satisfied}
@@ -15,43 +15,43 @@ use Rattle.sat_solver.specs.cdcl.Going.{EmitsSteps, EmitsStepsOr}
 use Rattle.sat_solver.specs.cdcl.Joint.{global_in, IsSearch, SameVarsAndAssumptions}
 use Rattle.sat_solver.specs.declared.context.Search.{Search}
 
--- literals of a clause that may be loaded at level 0: different ones of variables that are there
+-- a clause that may be loaded at level 0: different literals of existing variables
 pub record MayLoad (c : Search) (ls : List ℕ) : Type 0 where
   pub bottom : c.parts.trail.starts ≡ []
   pub differ : AreDistinct ls
   pub plain : is_tautology ls ≡ false
   pub below : (k : ℕ) → k < length ls → get_or ls k 0 < 2 * length c.parts.assignment.current
 
--- the last step added the clause, whose variables have solver names, and before it the search fitted the session
+-- the last step added the clause, its variables have indices, and the search matched the session before that step
 pub record IsAdded (steps : List Step) (c : Search) (ls : List ℕ) : Type 0 where
   pub earlier : List Step
   pub added : steps ≡ AddClause (map (with_var (global_in c)) ls) ∷ earlier
   pub search : IsSearch (session_after earlier) c
   pub named : AreMapped (global_in c) (session_after earlier).solver_names ls
 
--- the search goes on, or unsat is recorded
+-- the invariant of the search, or unsat is recorded
 abbrev pub SearchGoesOn : Bool → Session → Search → Type 0
 SearchGoesOn true s c = IsSearch s c
 SearchGoesOn false s c = s.unsat ≡ true
 
--- a clause was loaded: variables and assumptions are as they were
+-- a clause was loaded; variables and assumptions are unchanged
 pub record IsLoaded (left : Bool) (s : Session) (c c' : Search) : Type 0 where
   pub goes_on : SearchGoesOn left s c'
   pub moved : SameVarsAndAssumptions c c'
   pub bottom : c'.parts.trail.starts ≡ []
 
--- the step of a clause that goes since one of its literals is true
+-- the step that deletes a clause because one of its literals is true
 abbrev pub satisfied_step : (global : ℕ → ℕ) → List ℕ → Step
 satisfied_step global ls = DeleteClause (map (with_var global) ls) Satisfied
 
--- it was made
+-- this step was made
 abbrev pub DeletesSatisfied : {W L : Type 0} {G : Ghosts L} → (W → Writer) → Result (Unit {0}) SolverError → Proof W L G → Proof W L G → (global : ℕ → ℕ) → List ℕ → Type 0
 DeletesSatisfied seen r p p' global ls = EmitsSteps seen r p p' (λ _ _. steps_of p' ≡ satisfied_step global ls ∷ steps_of p)
 
--- and a valuation may be left
+-- this step was made, and the formula may still be satisfiable
 abbrev pub DeletesTrue : {W L : Type 0} {G : Ghosts L} → (W → Writer) → Result Bool SolverError → Proof W L G → Proof W L G → (global : ℕ → ℕ) → List ℕ → Type 0
 DeletesTrue seen r p p' global ls = EmitsSteps seen r p p' (λ left _. (left ≡ true) × (steps_of p' ≡ satisfied_step global ls ∷ steps_of p))
 
--- a clause was loaded, and it's answered whether a valuation may be left
+-- a clause was loaded; the result says whether the formula may still be satisfiable
 abbrev pub LoadsClause : {W L : Type 0} {G : Ghosts L} → (W → Writer) → Result Bool SolverError → Proof W L G → Proof W L G → Search → Search → Type 0
 LoadsClause seen r p p' c c' = EmitsStepsOr (IsFull c'.parts) seen r p p' (λ left _. IsLoaded left (session_of p') c c')

@@ -1,4 +1,4 @@
--- A solver's own checker: it takes the steps that a file in bytes would have, but for the ends of proofs. Lists of steps have the newest first.
+-- A solver's own checker. It receives the steps of a proof in bytes, except for the ends of proofs. Lists of steps have the newest first.
 use Rattle.std.specs.Prelude.{ℕ, ◌≡◌, ◌⊎◌, Bool, true, false, not, ◌||◌, Option, None, Some, List, [], ◌∷◌, ◌++◌, Result, Ok, Err}
 use Rattle.anyhow.specs.declared.error.Error.{Error}
 use Rattle.sat_base.specs.steps.Steps.{Step, End}
@@ -20,7 +20,7 @@ use Rattle.sat_solver.specs.declared.proof.checker.Checked.{Checked}
 use Rattle.sat_solver.specs.declared.proof.made.CheckFault.{CheckFault}
 use Rattle.sat_solver.specs.declared.proof.made.CheckFault.TheVariants as checks
 
--- does it end a proof? The checker isn't given such a step
+-- whether the step ends a proof; the checker does not receive such steps
 abbrev pub is_end : Step → Bool
 is_end End = true
 is_end step = false
@@ -30,31 +30,31 @@ abbrev pub unended : List Step → List Step
 unended [] = []
 unended (step ∷ earlier) = kept_if (not (is_end step)) step (unended earlier)
 
--- are there any?
+-- whether a step was made that is not the end of a proof
 abbrev pub has_begun : List Step → Bool
 has_begun [] = false
 has_begun (step ∷ earlier) = not (is_end step) || has_begun earlier
 
--- What the checker receives for these steps, and the width of the last of them. Each step has a width of its own, which is set before it if the
--- step before had another one. Of the end of a proof it receives only the width.
+-- What the checker receives for these steps, and the width of the last of them. Every step is written at a width of its own, which is set
+-- before the step if it has changed. For the end of a proof the checker receives only the width.
 pub data AreGiven : List Step → List Step → ℕ → Type 0 where
   none_given : AreGiven [] [] 64
   one_given : {steps given : List Step} {before : ℕ} (step : Step) (now : ℕ) → is_end step ≡ false → KeepsWidth step → AreGiven steps given before → AreGiven (step ∷ steps) (written_for before now step ++ given) now
   end_given : {steps given : List Step} {before : ℕ} (step : Step) (now : ℕ) → is_end step ≡ true → AreGiven steps given before → AreGiven (step ∷ steps) (width_change before now ++ given) now
 
--- the same, and then the width of the step that comes next
+-- the same, and then the width of the next step
 pub record AreGivenAndWidth (steps given : List Step) (now : ℕ) : Type 0 where
   pub before : ℕ
   pub earlier : List Step
   pub cut : AreGiven steps earlier before
   pub told : given ≡ width_change before now ++ earlier
 
--- who listens to it
+-- the checker's listeners
 abbrev pub who_listens : {L : Type 0} → Checked L → Processing L Nobody
 who_listens own = (seen_of own.checker).listeners
 
--- Of these steps it has taken all but some of the newest, as they are written at the widths that it was told, and of what those tell, since these
--- processors were added, this was heard.
+-- of these steps the checker has received all but some of the newest, at the widths that were set, and this was heard since these
+-- processors were added
 pub record Listened {L : Type 0} (added : List L) (steps : List Step) (Heard : Processing L Nobody → List Step → Type 0) : Type 0 where
   pub later : List Step
   pub taken : List Step
@@ -66,7 +66,7 @@ pub record Listened {L : Type 0} (added : List L) (steps : List Step) (Heard : P
   pub were : AreJustListeners added begun
   pub heard : Heard begun written
 
--- why it may fail of a step that it doesn't refuse
+-- why the checker may fail at a step that it does not reject
 abbrev pub IsCause : CheckerError → Type 0
 IsCause errors.OutOfMemory = Unit {0}
 IsCause errors.CounterEnd = Unit {0}
@@ -77,19 +77,19 @@ IsCause errors.ProofIncomplete = ⊥
 IsCause errors.IoError = ⊥
 IsCause errors.ParseError = ⊥
 
--- as a solver tells it; no other comes
+-- the same as the solver reports it; no other error occurs
 abbrev pub cause_in : CheckerError → CheckFault
 cause_in errors.CounterEnd = checks.CounterEnd
 cause_in (errors.ProofProcessorError cause) = checks.Processor cause
 cause_in e = checks.OutOfMemory
 
--- what an answer of the checker says: `Ok` that the first holds, an error that it is such a cause, of which the second holds
+-- what an answer of the checker says: on `Ok` the first holds; an error is such a fault, and the second holds of it
 abbrev pub OkOrCause : Result (Unit {0}) CheckerError → Type 0 → (CheckFault → Type 0) → Type 0
 OkOrCause (Ok x) Fed FailsWhileHeard = Fed
 OkOrCause (Err e) Fed FailsWhileHeard = IsCause e × FailsWhileHeard (cause_in e)
 
 module _ {L : Type 0} (takes : L → Notice → Result Unit Error → L → Type 0) where
-  -- it has accepted what it received, goes on, and has told these listeners of it since they were added
+  -- the checker has accepted what it received, has not failed, and has notified its listeners of it since they were added
   pub record IsFedBy (Given : List Step → ℕ → Type 0) (own : Checked L) (added : List L) : Type 0 where
     pub written : List Step
     pub cut : Given written own.bits
@@ -98,28 +98,28 @@ module _ {L : Type 0} (takes : L → Notice → Result Unit Error → L → Type
     pub stands : HasAccepted (Hears takes) [] begun (seen_of own.checker) written
     pub going : kernel_has_failed (kernel_of own.checker) ≡ false
 
-  -- it received these steps, each at its width
+  -- the checker received these steps, each at its width
   abbrev pub IsFed : Checked L → List L → List Step → Type 0
   IsFed own added steps = IsFedBy (AreGiven steps) own added
 
-  -- those who were added have heard what it told, and are these now
+  -- the processors that were added have heard what the checker announced, and are in this state
   abbrev pub Heard : (added : List L) (now : Listeners L Nobody) → List Step → Type 0
   Heard added now steps = Listened added steps (λ begun written. (end : Processing L Nobody) × (listeners_of end ≡ now) × HasHeard takes begun end written)
 
-  -- those who were added have heard all that it told of all steps, and are these now
+  -- the processors that were added have heard everything that the checker announced of all steps, and are in this state
   abbrev pub HeardWhole : (added : List L) (now : Listeners L Nobody) → List Step → Type 0
   HeardWhole added now steps = (h : Listened added steps (λ begun written. (end : Processing L Nobody) × (listeners_of end ≡ now) × HeardAll takes begun end written)) × (h.later ≡ [])
 
-  -- it failed so
+  -- the checker failed with this fault
   abbrev pub FailsWhileHeard : (added : List L) (now : Listeners L Nobody) → List Step → CheckFault → Type 0
   FailsWhileHeard added now steps fault = Listened added steps (λ begun written. (end : Processing L Nobody) × (listeners_of end ≡ now) × FailedOf takes begun end written fault)
 
-  -- a step that may be made is taken, or something failed that isn't the step
+  -- a step that may be made is accepted; an error is never about the step
   abbrev pub TakesStep : Result (Unit {0}) CheckerError → Checked L → Step → Checked L → Type 0
   TakesStep result old step new = (added : List L) (steps : List Step) → MayAll (step ∷ steps) → IsFed old added steps
       → OkOrCause result (IsFed new added (step ∷ steps)) (FailsWhileHeard added (listeners_of (who_listens new)) (step ∷ steps))
 
-  -- it is told the width of the step that comes next
+  -- the checker is notified of the width of the next step
   abbrev pub TakesWidth : Result (Unit {0}) CheckerError → Checked L → Checked L → Type 0
   TakesWidth result old new = (added : List L) (steps : List Step) → MayAll steps → IsFed old added steps → OkOrCause result (IsFedBy (AreGivenAndWidth steps) new added) (FailsWhileHeard added (listeners_of (who_listens new)) steps)
 
@@ -128,27 +128,27 @@ module _ {L : Type 0} (takes : L → Notice → Result Unit Error → L → Type
   TakesDelayed result old new = (added : List L) (steps : List Step) → IsFed old added steps
       → OkOrCause result (IsFed new added steps × KernelIsSettled (kernel_of new.checker)) (FailsWhileHeard added (listeners_of (who_listens new)) steps)
 
-  -- what may be written is never refused
+  -- a step that may be written is never rejected
   abbrev pub FeedsOwnChecker : Result (Unit {0}) CheckerError → CheckerView (Processing L Nobody) → Step → CheckerView (Processing L Nobody) → Type 0
   FeedsOwnChecker result old step new =
       (begun : Processing L Nobody) (written : List Step) → HasAccepted (Hears takes) [] begun old written → kernel_has_failed old.kernel ≡ false → MayAll (step ∷ written)
       → OkOrCause result (HasAccepted (Hears takes) [] begun new (step ∷ written) × (kernel_has_failed new.kernel ≡ false)) (λ fault. FailedOf takes begun new.listeners written fault ⊎ FailedOf takes begun new.listeners (step ∷ written) fault)
 
-  -- unless a step that was made wasn't taken
+  -- unless a step was lost, the checker received all steps
   abbrev pub FedUnless : Bool → Option (Checked L) → (added : List L) → List Step → Type 0
   FedUnless lost None added steps = added ≡ []
   FedUnless lost (Some own) added steps = (lost ≡ false → IsFed own added steps) × Heard added (listeners_of (who_listens own)) steps
 
-  -- where nobody was added no processor answers a fault
+  -- without listeners, no processor returns a fault
   abbrev pub NobodyComplains : Type 0
   NobodyComplains = (now : Listeners L Nobody) (steps : List Step) (cause : Error) → FailsWhileHeard [] now steps (checks.Processor cause) → ⊥
 
-  -- another one listens too, or no memory was left for it
+  -- a processor is added, or memory ran out
   abbrev pub AddsOwnListener : Result (Unit {0}) CheckerError → Checked L → L → Checked L → Type 0
   AddsOwnListener result old processor new = (added : List L) (steps : List Step) → has_begun steps ≡ false → IsFed old added steps
       → OkOrCause result (IsFed new (added ++ processor ∷ []) steps) (λ fault. (fault ≡ checks.OutOfMemory) × Heard added (listeners_of (who_listens new)) steps)
 
-  -- it begins anew, and those who listened to it are those who were added to it
+  -- the checker is restarted; its listeners are the processors that were added
   pub record BeginsAnew (old new : Checked L) (added : List L) : Type 0 where
     pub listed : added ≡ (listeners_of (who_listens old)).processors
     pub fed : IsFed new added []

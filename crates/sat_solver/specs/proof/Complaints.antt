@@ -1,10 +1,10 @@
--- Causes that are kept until they are told.
+-- Underlying errors that are stored until they are reported.
 use Rattle.std.specs.Prelude.{◌≡◌, Option, Some}
 use Rattle.anyhow.specs.declared.error.Error.{Error}
 use Rattle.sat_solver.specs.declared.proof.made.CheckFault.{CheckFault}
 use Rattle.sat_solver.specs.declared.proof.made.CheckFault.TheVariants as checks
 
--- a processor's fault is what is kept
+-- a processor's error is the one that is stored
 abbrev pub IsComplaint : CheckFault → Option Error → Type 0
 IsComplaint checks.OutOfMemory complaint = Unit {0}
 IsComplaint checks.CounterEnd complaint = Unit {0}

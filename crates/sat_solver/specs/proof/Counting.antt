@@ -1,14 +1,14 @@
--- How many bits of hashes are written: their number follows the count of clauses of two literals or more, so that few of them share a hash.
+-- The number of hash bits that are written. It follows the number of clauses with two or more literals, so that few of them share a hash.
 use Rattle.std.specs.Prelude.{ℕ, zero, suc, ◌+◌, ◌-◌, ◌*◌, ◌/◌, ◌^◌, ◌&&◌, Bool, true, false, List, [], ◌∷◌, ◌++◌, min, nat_lt, nat_eq, if◌then◌else◌}
 use Rattle.sat_base.specs.steps.Steps.{Step, AddClause, AtClause, DeleteClause, ChangeHashBits}
 use Rattle.sat_solver.specs.proof.Widths.{narrowed, KeepsWidth}
 use Rattle.sat_solver.specs.declared.proof.hash_bits.Counting.{Counting}
 
--- no clause was counted, hashes are whole, and no ask has begun
+-- no clause was counted, hashes are complete, and no ask has begun
 abbrev pub nothing_counted : Counting
 nothing_counted = record { clauses = 0; bits = 64; solving = false }
 
--- one more for a clause of two literals or more; the count is held at its largest value
+-- one more for a clause with two or more literals; the count saturates
 abbrev pub one_more_if : List ℕ → ℕ → ℕ
 one_more_if [] n = n
 one_more_if (l ∷ []) n = n
@@ -20,49 +20,49 @@ one_less_if [] n = n
 one_less_if (l ∷ []) n = n
 one_less_if (l ∷ m ∷ ls) n = n - 1
 
--- the count behind a step
+-- the count after a step
 abbrev pub count_after : Step → ℕ → ℕ
 count_after (AddClause clause) n = one_more_if clause n
 count_after (AtClause redundant clause hashes) n = one_more_if clause n
 count_after (DeleteClause clause proof) n = one_less_if clause n
 count_after step n = n
 
--- so many clauses are more than the square root of the number of hashes
+-- whether this many clauses are more than the square root of the number of hashes
 abbrev pub too_short : ℕ → ℕ → Bool
 too_short n bits = nat_lt bits 64 && nat_lt (2 ^ (bits / 2)) n
 
--- four times as many are fewer than that
+-- whether four times as many clauses are fewer than that
 abbrev pub too_long : ℕ → ℕ → Bool
 too_long n bits = nat_lt 6 bits && nat_lt (4 * n) (2 ^ (bits / 2))
 
--- While the width is too short, two bits are added. No width is more than 32 times that away from another.
+-- the width plus 2, repeated while it is too short. 32 times are enough for any two widths
 unfoldable pub widened_bits : ℕ → ℕ → ℕ → ℕ
 widened_bits zero n bits = bits
 widened_bits (suc k) n bits = if too_short n bits then widened_bits k n (min (bits + 2) 64) else bits
 
--- While it's too long, two are taken away.
+-- the width minus 2, repeated while it is too long
 unfoldable pub shortened : ℕ → ℕ → ℕ → ℕ
 shortened zero n bits = bits
 shortened (suc k) n bits = if too_long n bits then shortened k n (bits - 2) else bits
 
--- the width for so many clauses, from the one before; it's shortened once the first ask has begun
+-- the width for this many clauses, from the width before; it only becomes shorter after the first ask has begun
 abbrev pub fitting : Bool → ℕ → ℕ → ℕ
 fitting false n bits = widened_bits 32 n bits
 fitting true n bits = shortened 32 n (widened_bits 32 n bits)
 
--- with the step that comes next: it's counted first, and written at the width that fits then
+-- the count and the width after a step, which is counted before it is written
 abbrev pub counted : Step → Counting → Counting
 counted step c = let n : ℕ = count_after step c.clauses in record c { clauses = n; bits = fitting c.solving n c.bits }
 
--- a width that changes is told
+-- the step that changes the width, if it has changed
 abbrev pub width_change : ℕ → ℕ → List Step
 width_change before now = if nat_eq before now then [] else ChangeHashBits now ∷ []
 
--- what is written for a step, where the width was this one and is that one now
+-- what is written for a step when the width changes from `before` to `now`
 abbrev pub written_for : ℕ → ℕ → Step → List Step
 written_for before now step = narrowed now step ∷ width_change before now
 
--- From there to here: steps that were made, and those that were written for them. Lists have the newest step first.
+-- Steps that were made, what was written for them, and how the count changed. Lists have the newest step first.
 pub data TruncatesHashes : Counting → List Step → List Step → Counting → Type 0 where
   none_made : {c : Counting} → TruncatesHashes c [] [] c
   ask_begun : {c d : Counting} {made written : List Step} → TruncatesHashes c made written d → TruncatesHashes c made written (record d { solving = true })

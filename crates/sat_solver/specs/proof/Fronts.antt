@@ -1,4 +1,4 @@
--- What the target of a proof took, whatever call failed since it was opened. Lists of steps have the newest first.
+-- What the target of a proof has received since it was opened, whichever call failed. Lists of steps have the newest first.
 use Rattle.std.specs.Prelude.{◌≡◌, ◌⊎◌, ℕ, false, Some, List, ◌++◌}
 use Rattle.std.specs.Io.KnownBytes.{Appends}
 use Rattle.sat_base.specs.device.Device.{Writer}
@@ -15,7 +15,7 @@ use Rattle.sat_solver.specs.declared.proof.hash_bits.Counting.{Counting}
 use Rattle.sat_solver.specs.declared.proof.format.ProofFormat.{ProofFormat}
 use Rattle.sat_solver.specs.declared.proof.Proof.{Proof}
 
--- It took a front of the text of what was written for these steps, each of which may be made in its turn, so that a checker accepts them.
+-- it received a prefix of the text that was written for these steps, all of which are allowed, so that a checker accepts them
 pub record FrontText (f : ProofFormat) (from given : Writer) (steps : List Step) : Type 0 where
   pub written : List Step
   pub counting : Counting
@@ -28,25 +28,25 @@ pub record FrontText (f : ProofFormat) (from given : Writer) (steps : List Step)
   pub taken : given.taken ≡ from.taken ++ front
   pub told : Appends from.contents given.contents front
 
--- Since an opening, behind these steps, the target took a front of the text of those made then, but for some made after a call of it failed.
+-- since it was opened after the steps `before`, the target received a prefix of the text of the steps made since, apart from those made
+-- after one of its calls failed
 pub record FrontSince (f : ProofFormat) (from given : Writer) (before now : List Step) : Type 0 where
   pub later : List Step
   pub steps : List Step
   pub behind : now ≡ later ++ (steps ++ before)
   pub front : FrontText f from given steps
 
--- These steps were made, and the target was given their text; or a call of it failed at the text of the first of them.
+-- these steps were made, and the target received their text, or a call of it failed at the text of the first of them
 abbrev pub TargetTakesFront : Target → List Step → Target → Type 0
 TargetTakesFront old steps new = TargetTakes old steps new ⊎ ((later : List Step) × (first : List Step) × (steps ≡ later ++ first) × TargetFails old first new)
 
--- it came from there by steps, whether or not a call failed
+-- steps were made, and a call may have failed
 pub record GoesOnFrom {W L : Type 0} {G : Ghosts L} (seen : W → Writer) (old new : Proof W L G) : Type 0 where
   pub steps : List Step
   pub history : steps_of new ≡ steps ++ steps_of old
   pub target : TargetTakesFront (target_of seen old) steps (target_of seen new)
 
--- Where a target was opened before anything else, its writer being this one then, and these steps were made since, it is handed back
--- having taken a front of the text of accepted steps.
+-- if a target was opened before anything else and is returned after these steps, it has received a prefix of the text of accepted steps
 abbrev pub FrontsAreAccepted : Type 0
 FrontsAreAccepted = (f : ProofFormat) (from given : Writer) (before steps : List Step) (now : Target) → has_begun before ≡ false → MayAll (steps ++ before)
     → TargetTakesFront (Open f nothing_counted (empty_sink from)) steps now → GivesWriter now (Some given) → FrontSince f from given before (steps ++ before)

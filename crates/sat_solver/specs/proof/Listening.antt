@@ -1,4 +1,4 @@
--- What the processors of a solver's own checker hear. Lists of steps have the newest first.
+-- What the listeners of a solver's own checker hear. Lists of steps have the newest first.
 use Rattle.std.specs.Prelude.{◌≡◌, ◌⊎◌, List, [], Result, Ok}
 use Rattle.anyhow.specs.declared.error.Error.{Error}
 use Rattle.sat_base.specs.steps.Steps.{Step}
@@ -19,30 +19,30 @@ use Rattle.sat_solver.specs.declared.proof.made.CheckFault.TheVariants as checks
 abbrev pub reads_nothing : Nobody → Transcribed → Result Unit Error → Nobody → Type 0
 reads_nothing old said result new = (result ≡ Ok tt) × (new ≡ old)
 
--- these listen, and nobody else
+-- these are the listeners, and there are no others
 abbrev pub AreJustListeners : {L : Type 0} → List L → Processing L Nobody → Type 0
 AreJustListeners listed who = listeners_of who ≡ record { processors = listed; transcripts = [] }
 
 module _ {L : Type 0} (takes : L → Notice → Result Unit Error → L → Type 0) where
-  -- each processor hears what is told, as its relation has it
+  -- every listener hears every announcement, as its relation says
   abbrev pub Hears : Processing L Nobody → Notice → Result Unit ProcessingError → Processing L Nobody → Type 0
   Hears = HearsEach takes reads_nothing
 
   module _ (begun now : Processing L Nobody) (written : List Step) where
-    -- Each announcement of these steps was heard once, in order; the empty clause of a unit conflict that they leave may still wait.
+    -- every announcement of these steps was heard once, in order; the empty clause of a unit conflict may still wait
     abbrev pub HeardAll : Type 0
     HeardAll = HearsSince Hears [] (notices_after written) begun now ⊎ HearsSince Hears [] (all_notices_after written) begun now
 
-    -- so it was up to this fault, which a processor answered
+    -- the same up to this fault, which a listener returned
     abbrev pub HeardUpTo : ProcessingError → Type 0
     HeardUpTo e = HearsSinceUpTo Hears e [] (notices_after written) begun now ⊎ HearsSinceUpTo Hears e [] (all_notices_after written) begun now
 
-    -- all was heard, or all up to some fault
+    -- all announcements were heard, or all up to some fault
     abbrev pub HasHeard : Type 0
     HasHeard = HeardAll ⊎ ((e : ProcessingError) × HeardUpTo e)
 
-    -- Why the checker failed behind these steps: no memory, id or count was left for what came next, or a processor answered the fault. For want
-    -- of memory no processor did, unless that was the answer.
+    -- Why the checker failed after these steps: memory, ids or a counter ran out, or a listener returned the fault. On an allocation
+    -- failure no listener did, unless this was its answer.
     abbrev pub FailedOf : CheckFault → Type 0
     FailedOf checks.OutOfMemory = HeardAll ⊎ HeardUpTo faults.OutOfMemory
     FailedOf checks.CounterEnd = (((step : Step) × SpentBy step (stored_after written)) ⊎ IsSpent (ready_after written)) × HeardAll

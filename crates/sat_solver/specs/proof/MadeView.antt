@@ -1,4 +1,4 @@
--- All steps that a solver made, and its own checker.
+-- All steps that a solver has made, and its own checker.
 use Rattle.std.specs.Prelude.{ℕ, ◌≡◌, ◌⊎◌, true, false, Bool, is_some, Option, None, Some, List, [], ◌∷◌, ◌++◌, Result, Ok, Err}
 use Rattle.anyhow.specs.declared.error.Error.{Error}
 use Rattle.sat_base.specs.steps.Steps.{Step}
@@ -16,93 +16,93 @@ use Rattle.sat_solver.specs.declared.proof.made.Made.{Made}
 use Rattle.sat_solver.specs.declared.proof.made.CheckFault.{CheckFault}
 use Rattle.sat_solver.specs.declared.proof.made.CheckFault.TheVariants as checks
 
--- those who were added, where there is a checker to which they listen
+-- the processors that were added, if there is a checker
 abbrev pub listed_in : {L : Type 0} → Option (Checked L) → List L → Option (List L)
 listed_in None added = None
 listed_in (Some own) added = Some added
 
--- where there is a checker: those who listen to it, each as it was when it was added, in order
+-- the checker's listeners, each as it was added, in order; or `None`
 abbrev pub made_audience : {L : Type 0} {G : Ghosts L} → Made L G → Option (List L)
 made_audience m = listed_in m.own m.roll.items
 
--- does it have a checker?
+-- whether there is a checker
 abbrev pub made_is_checked : {L : Type 0} {G : Ghosts L} → Made L G → Bool
 made_is_checked m = is_some (made_audience m)
 
--- has a step been made that the checker wasn't given?
+-- whether a step was made that the checker has not received
 abbrev pub made_is_lost : {L : Type 0} {G : Ghosts L} → Made L G → Bool
 made_is_lost m = m.lost
 
--- a checker, where there is one, lacks no step, and no unit conflict waits in it
+-- the checker, if there is one, has missed no step, and no unit conflict waits in it
 abbrev pub IsUpToDate : {L : Type 0} → Bool → Option (Checked L) → Type 0
 IsUpToDate lost None = Unit {0}
 IsUpToDate lost (Some own) = (lost ≡ false) × KernelIsSettled (kernel_of own.checker)
 
--- where there is a checker, it was given each step that was made, and nothing waits in it
+-- the checker, if there is one, has received every step, and nothing waits in it
 abbrev pub MadeIsReported : {L : Type 0} {G : Ghosts L} → Made L G → Type 0
 MadeIsReported m = IsUpToDate m.lost m.own
 
--- a checker, where there is one, was told this width last
+-- the checker, if there is one, was set to this width last
 abbrev pub LastWidthIsIn : {L : Type 0} → ℕ → Option (Checked L) → Type 0
 LastWidthIsIn bits None = Unit {0}
 LastWidthIsIn bits (Some own) = own.bits ≡ bits
 
--- where there is a checker that was given each step, it was told this width last
+-- the checker, if there is one that has received every step, was set to this width last
 abbrev pub LastWidthIs : {L : Type 0} {G : Ghosts L} → ℕ → Made L G → Type 0
 LastWidthIs bits m = m.lost ≡ false → LastWidthIsIn bits m.own
 
--- a processor's fault comes only where somebody listens
+-- a listener's fault occurs only if there is a listener
 abbrev pub HasListeners : {L : Type 0} → CheckFault → Option (List L) → Type 0
 HasListeners checks.OutOfMemory listening = Unit {0}
 HasListeners checks.CounterEnd listening = Unit {0}
 HasListeners (checks.Processor cause) listening = listening ≡ Some [] → ⊥
 
 module _ {L : Type 0} (takes : L → Notice → Result Unit Error → L → Type 0) where
-  -- there is a checker, which failed so by these steps; for a processor's fault somebody listens
+  -- there is a checker, and it failed with this fault at these steps; a listener's fault only if there is a listener
   abbrev pub ComplainsIn : CheckFault → Option (Checked L) → (added : List L) → List Step → Type 0
   ComplainsIn fault None added steps = ⊥
   ComplainsIn fault (Some own) added steps = ∥ FailsWhileHeard takes added (listeners_of (who_listens own)) steps fault ∥₁ × HasListeners fault (Some added)
 
-  -- These were handed back: those who were added, behind what they have heard. Who has no checker has nobody to hand back.
+  -- these processors were returned: those that were added, after what they have heard; none without a checker
   pub record IsHanded (added given : List L) (steps : List Step) : Type 0 where
     pub now : Listeners L Nobody
     pub are : now.processors ≡ given
     pub heard : Heard takes added now steps
 
-  -- the same, behind all that is told of all steps
+  -- the same, after everything that was announced of all steps
   pub record IsHandedWhole (added given : List L) (steps : List Step) : Type 0 where
     pub now : Listeners L Nobody
     pub are : now.processors ≡ given
     pub heard : HeardWhole takes added now steps
 
-  -- these are handed back, behind all that is told; where there is no checker, nobody
+  -- these processors are returned after everything that was announced; none without a checker
   abbrev pub HandedWholeIn : Option (List L) → (given : List L) → List Step → Type 0
   HandedWholeIn None given steps = given ≡ []
   HandedWholeIn (Some added) given steps = ∥ IsHandedWhole added given steps ∥₁
 
-  -- these are handed back, behind what they have heard; where there is no checker, nobody
+  -- these processors are returned after what they have heard; none without a checker
   abbrev pub HandedIn : Option (List L) → (given : List L) → List Step → Type 0
   HandedIn None given steps = given ≡ []
   HandedIn (Some added) given steps = ∥ IsHanded added given steps ∥₁
 
--- its checker failed for this reason: of a processor's fault, one of those who listen answered it, so that there are some
+-- its checker failed with this fault; a listener's fault was returned by one of the listeners
 abbrev pub MadeComplains : {L : Type 0} {G : Ghosts L} → CheckFault → Made L G → Type 0
 MadeComplains {G = G} fault m = ComplainsIn G.takes fault m.own m.roll.items m.history.steps
 
--- those who listen are handed back
+-- the listeners are returned
 abbrev pub MadeHandsBack : {L : Type 0} {G : Ghosts L} → Made L G → (given : List L) → Type 0
 MadeHandsBack {G = G} m given = HandedIn G.takes (made_audience m) given m.history.steps
 
--- where it took each step they have heard all of it
+-- the listeners are returned; if the checker received every step, they have heard everything
 abbrev pub MadeHandsBackWhole : {L : Type 0} {G : Ghosts L} → Made L G → (given : List L) → Type 0
 MadeHandsBackWhole {G = G} m given = m.lost ≡ false → HandedWholeIn G.takes (made_audience m) given m.history.steps
 
--- what an answer of the checker says: the cause of a fault is kept
+-- what an answer of the checker says: the error is stored
 abbrev pub OkOrComplains : {L : Type 0} {G : Ghosts L} → Result (Unit {0}) CheckFault → Made L G → Type 0
 OkOrComplains (Ok x) m = Unit {0}
 OkOrComplains (Err fault) m = MadeComplains fault m × IsComplaint fault m.complaint
 
--- the same, or it had failed before
+-- the same, or the checker had failed before
 abbrev pub ComplainsOr : {L : Type 0} {G : Ghosts L} → (lost : Bool) → CheckFault → Made L G → Type 0
 ComplainsOr lost fault m = (MadeComplains fault m × IsComplaint fault m.complaint) ⊎ ((lost ≡ true) × (fault ≡ checks.OutOfMemory))
 
@@ -111,7 +111,7 @@ abbrev pub OkOrComplainsUnless : {L : Type 0} {G : Ghosts L} → (lost : Bool) �
 OkOrComplainsUnless lost (Ok x) m = Unit {0}
 OkOrComplainsUnless lost (Err fault) m = ComplainsOr lost fault m
 
--- its processor's complaint was told
+-- the listener's error was reported, and is no longer stored
 abbrev pub cleared_complaint : {L : Type 0} {G : Ghosts L} → Made L G → Made L G
 cleared_complaint m = record m { complaint = None }
 
@@ -120,13 +120,13 @@ pub record MadeEffect {L : Type 0} {G : Ghosts L} (step : Step) (old new : Made 
   pub steps : new.history.steps ≡ step ∷ old.history.steps
   pub listening : made_audience new ≡ made_audience old
 
--- Who listens as checking begins: those who listened before, each as it was when it was added; or, where a step was lost, as it was handed back.
+-- the listeners when checking begins: the earlier ones, each as it was added; or as it was returned, if a step was lost
 abbrev pub MadeListedAnew : {L : Type 0} {G : Ghosts L} → Bool → Made L G → Option (List L) → List L → Type 0
 MadeListedAnew lost m None begun = begun ≡ []
 MadeListedAnew false m (Some added) begun = begun ≡ added
 MadeListedAnew true m (Some added) begun = MadeHandsBack m begun
 
--- there is a checker, which lacks no step
+-- there is a checker, and it has missed no step
 pub record MadeHasChecker {L : Type 0} {G : Ghosts L} (old new : Made L G) : Type 0 where
   pub steps : new.history.steps ≡ old.history.steps
   pub begun : List L
@@ -134,14 +134,14 @@ pub record MadeHasChecker {L : Type 0} {G : Ghosts L} (old new : Made L G) : Typ
   pub listed : MadeListedAnew old.lost old (made_audience old) begun
   pub taking : made_is_lost new ≡ false
 
--- another processor listens too
+-- one more listener
 pub record MadeListensToo {L : Type 0} {G : Ghosts L} (processor : L) (old new : Made L G) : Type 0 where
   pub before : List L
   pub listened : made_audience old ≡ Some before
   pub listening : made_audience new ≡ Some (before ++ processor ∷ [])
   pub taking : made_is_lost new ≡ false
 
--- what came of adding it
+-- the result of adding a listener
 abbrev pub MadeTakesListener : {L : Type 0} {G : Ghosts L} → Result (Unit {0}) CheckFault → L → Made L G → Made L G → Type 0
 MadeTakesListener (Ok x) processor old new = MadeListensToo processor old new
 MadeTakesListener (Err checks.OutOfMemory) processor old new = made_audience new ≡ made_audience old

@@ -1,4 +1,4 @@
--- Where a proof's text goes, and what it is in each format. Lists of steps have the newest first.
+-- Where the text of a proof is written, and what it is in each format. Lists of steps have the newest first.
 use Rattle.std.specs.Prelude.{◌≡◌, ℕ, Bool, true, false, List, [], ◌∷◌, ◌++◌, Result, Ok, Err}
 use Rattle.std.specs.List.{AllByRecursion}
 use Rattle.sat_base.specs.device.Device.{Writer, WriterTakes, WriterBreaks}
@@ -23,7 +23,7 @@ step_text Varisat step = step_bytes step
 step_text Drat step = drat_text false step
 step_text BinaryDrat step = drat_text true step
 
--- in bytes it spells the step
+-- in bytes, the text is the step's spelling
 abbrev pub SpellsIn : ProofFormat → Step → Type 0
 SpellsIn Varisat step = SpellsStep step (step_bytes step)
 SpellsIn Drat step = Unit {0}
@@ -34,22 +34,22 @@ abbrev pub text_in : ProofFormat → List Step → List ℕ
 text_in f [] = []
 text_in f (step ∷ earlier) = text_in f earlier ++ step_text f step
 
--- in bytes the text spells each of these steps
+-- in bytes, the text spells all these steps
 abbrev pub AreSpeltInFormat : ProofFormat → List Step → Type 0
 AreSpeltInFormat f = AllByRecursion (SpellsIn f)
 
--- these steps' text was written to a sink, or waits in it
+-- the text of these steps was written to a sink, or is pending in it
 pub record SendsSteps (f : ProofFormat) (steps : List Step) (old new : Sink) : Type 0 where
   pub spelt : AreSpeltInFormat f steps
   pub sent : AddsToSink old new (text_in f steps)
 
--- what came of writing steps
+-- the result of writing steps
 abbrev pub PutsSteps : ProofFormat → Result (Unit {0}) OutputError → List Step → Sink → Sink → Type 0
 PutsSteps f (Ok x) steps old new = SendsSteps f steps old new
 PutsSteps f (Err (Write e)) steps old new = WriterBreaks old.writer new.writer (old.waiting ++ text_in f steps)
 PutsSteps f (Err OutOfMemory) steps old new = new ≡ old
 
--- what came of writing the lines of a step
+-- the result of writing the lines of a step
 abbrev pub PutsLines : Bool → Result (Unit {0}) OutputError → Step → Writer → Writer → Type 0
 PutsLines binary (Ok x) step old new = WriterTakes old new (drat_text binary step)
 PutsLines binary (Err (Write e)) step old new = WriterBreaks old new (drat_text binary step)
@@ -57,23 +57,23 @@ PutsLines binary (Err OutOfMemory) step old new = new ≡ old
 
 -- OUTPUTS
 
--- do steps become lines of DRAT in it?
+-- whether steps are written as DRAT lines
 abbrev pub is_lines : ProofFormat → Bool
 is_lines Varisat = false
 is_lines Drat = true
 is_lines BinaryDrat = true
 
--- DRAT in words, or in bytes
+-- DRAT, in binary or in decimal
 abbrev pub lines_format : Bool → ProofFormat
 lines_format false = Drat
 lines_format true = BinaryDrat
 
--- what an output writes: steps in bytes, or lines of DRAT
+-- the format of an output: steps in bytes, or DRAT lines
 abbrev pub output_format : {W : Type 0} → Output W → ProofFormat
 output_format (Steps w) = Varisat
 output_format (Lines w) = lines_format w.binary
 
--- nothing waits for a writer of lines
+-- the sink of an output; a writer of lines has nothing pending
 abbrev pub output_sink : {W : Type 0} → (W → Writer) → Output W → Sink
 output_sink seen (Steps w) = steps_sink seen w
 output_sink seen (Lines w) = empty_sink (seen w.writer)

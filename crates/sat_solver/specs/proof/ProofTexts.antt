@@ -1,4 +1,4 @@
--- What the target of a proof took from its opening to its end.
+-- What the target of a proof has received from its opening to its end.
 use Rattle.std.specs.Prelude.{◌≡◌, true, reverse, Some, List, [], ◌∷◌, ◌++◌}
 use Rattle.sat_base.specs.device.Device.{Writer, WriterTakes, WriterBreaks}
 use Rattle.sat_base.specs.device.Sink.{empty_sink}
@@ -16,7 +16,7 @@ use Rattle.sat_solver.specs.declared.proof.format.ProofFormat.{ProofFormat}
 use Rattle.sat_solver.specs.declared.proof.format.ProofFormat.TheVariants.{Varisat}
 use Rattle.sat_solver.specs.declared.proof.Proof.{Proof}
 
--- It took the text of what was written for the steps, and was flushed. In bytes that spells them, the oldest first.
+-- It received the text that was written for the steps, and was flushed. In bytes, the text spells them, the oldest first.
 pub record TookText (f : ProofFormat) (from given : Writer) (steps : List Step) : Type 0 where
   pub written : List Step
   pub counting : Counting
@@ -25,38 +25,40 @@ pub record TookText (f : ProofFormat) (from given : Writer) (steps : List Step) 
   pub takes : WriterTakes from given (text_in f written)
   pub flushed : given.flushed ≡ true
 
--- it took a front of that text, and its last call failed
+-- it received a prefix of that text, and its last call failed
 pub record BrokeText (f : ProofFormat) (from given : Writer) (steps : List Step) : Type 0 where
   pub written : List Step
   pub counting : Counting
   pub cuts : TruncatesHashes nothing_counted steps written counting
   pub breaks : WriterBreaks from given (text_in f written)
 
--- Where a target was opened when its writer was this one, then these steps were made, and the last one as it was closed.
+-- a target that was opened, received steps, and was closed with the last one, has received their text
 abbrev pub ClosedIsText : Type 0
 ClosedIsText = (f : ProofFormat) (from given : Writer) (steps : List Step) (last : Step) (t : Target) → TargetTakes (Open f nothing_counted (empty_sink from)) steps t → TakesAll t (last ∷ []) given → TookText f from given (last ∷ steps)
 
--- Where a call of it failed at the text of these steps, and it was handed back, it took a front of their text, and that call was the last.
+-- a target that is returned after one of its calls failed at the text of these steps has received a prefix of it, and that call was the
+-- last
 abbrev pub BrokenIsFront : Type 0
 BrokenIsFront = (f : ProofFormat) (from given : Writer) (steps : List Step) (t : Target) → TargetFails (Open f nothing_counted (empty_sink from)) steps t → GivesWriter t (Some given) → BrokeText f from given steps
 
--- what is written for steps that may be made may be made, whatever widths it has
+-- what is written for allowed steps is allowed, at any widths
 abbrev pub CutsAreFree : Type 0
 CutsAreFree = (made written : List Step) (c : Counting) → TruncatesHashes nothing_counted made written c → MayAll made → MayAt made written c.bits
 
--- Since a target was opened when its writer was this one and these steps were made, what it took and what waits for it is the text of the steps that were made from there on.
+-- since the target was opened with this writer and these steps were made, what it received and what is pending is the text of the steps
+-- made since
 pub record WroteSince {W L : Type 0} {G : Ghosts L} (seen : W → Writer) (f : ProofFormat) (from : Writer) (before : List Step) (p : Proof W L G) : Type 0 where
   pub steps : List Step
   pub behind : steps_of p ≡ steps ++ before
   pub target : TargetTakes (Open f nothing_counted (empty_sink from)) steps (target_of seen p)
 
--- all steps since an opening, of which a target that is handed back took the text
+-- a target that is returned has received the text of all steps since it was opened
 pub record TookSince (f : ProofFormat) (from given : Writer) (before now : List Step) : Type 0 where
   pub steps : List Step
   pub behind : now ≡ steps ++ before
   pub took : TookText f from given steps
 
--- the same, and a checker accepts what was written for them, each step in its turn
+-- the same, and a checker accepts what was written for them, step by step
 pub record TookAcceptedSteps (f : ProofFormat) (from given : Writer) (before now : List Step) : Type 0 where
   pub since : TookSince f from given before now
   pub accepted : AcceptsAll since.took.written

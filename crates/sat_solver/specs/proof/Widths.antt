@@ -1,4 +1,4 @@
--- Steps with hashes of 64 bits, and what is written of them at other widths.
+-- Steps with hashes of 64 bits, and what is written for them at other widths.
 use Rattle.std.specs.Prelude.{ℕ, ◌-◌, ◌/◌, ◌^◌, ◌≡◌, List, [], ◌∷◌, map}
 use Rattle.sat_base.specs.steps.Steps.{Step, AtClause, UnitClauses, ChangeHashBits, FailedAssumptions}
 use Rattle.sat_solver.specs.session.Session.{MayAll, session_after}
@@ -7,29 +7,30 @@ use Rattle.sat_solver.specs.session.Session.{MayAll, session_after}
 abbrev pub kept_bits : ℕ → ℕ → ℕ
 kept_bits width hash = hash / 2 ^ (64 - width)
 
--- a step with so many of the top bits of its hashes
+-- a step whose hashes have only this many top bits
 abbrev pub narrowed : ℕ → Step → Step
 narrowed width (AtClause redundant clause hashes) = AtClause redundant clause (map (kept_bits width) hashes)
 narrowed width (UnitClauses us) = UnitClauses (map (λ u. (u.0, kept_bits width u.1)) us)
 narrowed width (FailedAssumptions core hashes) = FailedAssumptions core (map (kept_bits width) hashes)
 narrowed width step = step
 
--- no change of width
+-- no change of the width
 abbrev pub KeepsWidth : Step → Type 0
 KeepsWidth (ChangeHashBits bits) = ⊥
 KeepsWidth step = Unit {0}
 
--- steps with whole hashes, what is written for them, and the width at its end: the width may change before any step. Lists have the newest step first.
+-- Steps with complete hashes, what is written for them, and the last width: the width may change before any step. Lists have the newest
+-- step first.
 pub data IsNarrowedTo : List Step → List Step → ℕ → Type 0 where
   none_yet : IsNarrowedTo [] [] 64
   width_changes : {wide written : List Step} {width : ℕ} (bits : ℕ) → IsNarrowedTo wide written width → IsNarrowedTo wide (ChangeHashBits bits ∷ written) bits
   one_more : {wide written : List Step} {width : ℕ} (step : Step) → KeepsWidth step → IsNarrowedTo wide written width → IsNarrowedTo (step ∷ wide) (narrowed width step ∷ written) width
 
--- what is written may be written, and leaves the same session but for its width
+-- what is written is allowed, and leaves the same session except for its width
 pub record MayAt (wide written : List Step) (width : ℕ) : Type 0 where
   pub may : MayAll written
   pub session : session_after written ≡ record (session_after wide) { width = width }
 
--- whatever widths are chosen
+-- the same at any widths
 abbrev pub WidthsAreFree : Type 0
 WidthsAreFree = (wide written : List Step) (width : ℕ) → IsNarrowedTo wide written width → MayAll wide → MayAt wide written width

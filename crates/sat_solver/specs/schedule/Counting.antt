@@ -1,24 +1,24 @@
--- How many rounds are made.
+-- The number of rounds.
 use Rattle.std.specs.Prelude.{ℕ, ◌≡◌, ◌+◌, ◌-◌, ◌*◌, ◌<◌, ◌≤◌, ◌^◌, min, Option, None, Result, IfOk}
 
--- the rounds that a call may make: the smaller of its budget and of what is left of the count of all rounds, which goes to 2^64-1
+-- the rounds that a call may make: the smaller of its budget and what is left of the count of all rounds, which ends at 2^64-1
 abbrev pub round_allowance : (budget before : ℕ) → ℕ
 round_allowance budget before = min budget (2 ^ 64 - 1 - before)
 
--- rounds become more, but not by more than a call may make, and over n variables by fewer than 2^(2n+3)
+-- more rounds were made, but no more than the call may make, and fewer than 2^(2n+3) over n variables
 pub record CountsOn (n budget before now : ℕ) : Type 0 where
   pub more : before ≤ now
   pub within : now ≤ before + round_allowance budget before
   pub few : now < before + 2 ^ (2 * n + 3)
 
--- an answer takes a round at least
+-- an answer takes at least one round
 abbrev pub TakesRound : {T E : Type 0} → Result (Option T) E → (before now : ℕ) → Type 0
 TakesRound r before now = IfOk r (λ o. (o ≡ None → ⊥) → before < now)
 
--- where there is no answer, so many rounds were made
+-- without an answer, all these rounds were made
 abbrev pub SpendsRounds : {T E : Type 0} → Result (Option T) E → (rounds before now : ℕ) → Type 0
 SpendsRounds r rounds before now = IfOk r (λ o. o ≡ None → now ≡ before + rounds)
 
--- there is an answer where a call may make as many rounds as an ask over so many variables takes at most
+-- there is an answer if the call may make as many rounds as an ask over this many variables takes at most
 abbrev pub AnswersWithin : {T E : Type 0} → Result (Option T) E → (most rounds : ℕ) → Type 0
 AnswersWithin r most rounds = (n : ℕ) → most ≤ n → 2 ^ (2 * n + 3) ≤ rounds → IfOk r (λ o. o ≡ None → ⊥)

@@ -1,4 +1,4 @@
--- Rounds one after another, each behind a restart, where one is due, and a reduction.
+-- Rounds one after another. A restart, if one is due, and a reduction come before each.
 use Rattle.std.specs.Prelude.{ℕ, ◌+◌, ◌-◌, ◌^◌, ◌<◌, ◌≤◌, ◌≡◌, ◌⊎◌, min, Option, None, Some}
 use Rattle.sat_store.specs.schedule.Luby.{luby, wrapped_number}
 use Rattle.sat_solver.specs.schedule.Gaps.{gap_end}
@@ -6,18 +6,18 @@ use Rattle.sat_solver.specs.declared.schedule.restarts.Restarts.{Restarts}
 use Rattle.sat_solver.specs.declared.schedule.Outcome.{Outcome}
 use Rattle.sat_solver.specs.declared.schedule.Outcome.TheVariants as outcomes
 
--- a gap begins before this round, as long as the sequence's next term times the scale, and is counted
+-- a gap begins before this round, as long as the next term of the sequence times the scale, and is counted
 pub record BeginsGap (round : ℕ) (old new : Restarts) : Type 0 where
   pub given : new.sequence ≡ wrapped_number (old.sequence + 1)
   pub scale : new.scale ≡ old.scale
   pub next : new.next ≡ gap_end round (luby (old.sequence + 1)) old.scale
   pub count : new.count ≡ min (old.count + 1) (2 ^ 64 - 1)
 
--- where a gap ends before this round there was a restart, and else nothing changed
+-- if a gap ends before this round, there was a restart; otherwise nothing changed
 abbrev pub RestartsWhereDue : {A : Type 0} (restarted : A → A → Type 0) → (round : ℕ) → A → Restarts → A → Restarts → Type 0
 RestartsWhereDue restarted round a r b s = ((round < r.next) × (b ≡ a) × (s ≡ r)) ⊎ ((r.next ≤ round) × restarted a b × BeginsGap round r s)
 
--- the round of this number, which ended so
+-- the round with this number, and its outcome
 pub record IsRound {A N : Type 0} (restarted : A → A → Type 0) (reduced : A → ℕ → A → Type 0) (rounded : A → N → Outcome → A → N → Type 0) (round : ℕ) (outcome : Outcome) (a : A) (n : N) (r : Restarts) (b : A) (m : N) (s : Restarts) : Type 0 where
   pub behind_restart : A
   pub due : RestartsWhereDue restarted round a r behind_restart s
@@ -25,12 +25,12 @@ pub record IsRound {A N : Type 0} (restarted : A → A → Type 0) (reduced : A 
   pub reduction : reduced behind_restart round behind_reduction
   pub ends : rounded behind_reduction n outcome b m
 
--- from there to here by rounds that ended in a conflict
+-- rounds that ended in a conflict
 pub data AreRounds {A N : Type 0} (restarted : A → A → Type 0) (reduced : A → ℕ → A → Type 0) (rounded : A → N → Outcome → A → N → Type 0) : A → N → Restarts → ℕ → A → N → Restarts → ℕ → Type 0 where
   no_round : {a : A} {n : N} {r : Restarts} {k : ℕ} → AreRounds restarted reduced rounded a n r k a n r k
   one_more : {a b c : A} {n m l : N} {r s t : Restarts} {k j : ℕ} → AreRounds restarted reduced rounded a n r k b m s j → IsRound restarted reduced rounded j outcomes.Learned b m s c l t → AreRounds restarted reduced rounded a n r k c l t (j + 1)
 
--- the last of them ended in this answer, or there's none
+-- the last of these rounds had this outcome, or there is no answer
 abbrev pub LastRoundAnswers : {A N : Type 0} (restarted : A → A → Type 0) (reduced : A → ℕ → A → Type 0) (rounded : A → N → Outcome → A → N → Type 0) → Option Outcome → A → N → Restarts → ℕ → A → N → Restarts → ℕ → Type 0
 LastRoundAnswers restarted reduced rounded None a n r k b m s j = AreRounds restarted reduced rounded a n r k b m s j
 LastRoundAnswers {A} {N} restarted reduced rounded (Some o) a n r k b m s j =

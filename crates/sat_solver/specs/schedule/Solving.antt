@@ -1,4 +1,4 @@
--- What rounds come to, one after another.
+-- The result of one round after another.
 use Rattle.std.specs.Prelude.{ℕ, ◌≡◌, ◌+◌, ◌-◌, ◌<◌, ◌⊎◌, true, Option, MatchOption, List, [], ◌∷◌, ◌++◌, length}
 use Rattle.sat_base.specs.device.Device.{Writer}
 use Rattle.sat_base.specs.steps.Steps.{Step, AtClause}
@@ -27,29 +27,29 @@ use Rattle.sat_solver.specs.unit_simplify.Freed.{KeepsAsked}
 use Rattle.sat_parts.specs.parts.Full.{IsFull}
 use Rattle.sat_solver.specs.unit_simplify.Passes.{PassFailsOr}
 
--- the step is a derived clause that advances
+-- the step derives a clause that advances
 abbrev pub IsAdvancing : Session → Step → Type 0
 IsAdvancing s (AtClause redundant clause hashes) = Advances s clause
 IsAdvancing s step = ⊥
 
--- the step isn't one, by its form, whichever of its literals is taken
+-- the step derives no clause that advances, whichever of its literals is taken; its form shows this
 pub record StandsStill (s : Session) (step : Step) : Type 0 where
   pub quiet : is_quiet step ≡ true
   pub never : NeverAdvances s step
 
--- Exactly so many of these steps are derived clauses that advance, each behind the steps before it.
+-- exactly this many of the steps derive a clause that advances, each after the steps before it
 abbrev pub AdvanceTimes : (earlier steps : List Step) → ℕ → Type 0
 AdvanceTimes earlier [] k = k ≡ 0
 AdvanceTimes earlier (step ∷ steps) k = (AdvanceTimes earlier steps k × StandsStill (session_after (steps ++ earlier)) step)
     ⊎ ((j : ℕ) × (k ≡ j + 1) × IsAdvancing (session_after (steps ++ earlier)) step × AdvanceTimes earlier steps j)
 
--- the same of all steps from these on
+-- the same for all steps since these
 pub record AdvancesIn (from to : List Step) (k : ℕ) : Type 0 where
   pub steps : List Step
   pub behind : to ≡ steps ++ from
   pub times : AdvanceTimes from steps k
 
--- what holds between rounds
+-- the invariant between rounds
 pub record CoreInvariant {W L : Type 0} {G : Ghosts L} (c : Core W L G) : Type 0 where
   pub keeps : HasAllowedSteps c.proof
   pub search : IsSearch (session_of c.proof) c.search
@@ -64,8 +64,7 @@ words_in c w = Words (assumed_in c.search) c.search.parts w
 abbrev pub values_in : {W L : Type 0} {G : Ghosts L} → Core W L G → ℕ
 values_in c = length c.search.parts.assignment.current
 
--- It came there by so many rounds that ended in a conflict: from each of them comes a step that advances, and no other does. The judge
--- sees nothing of it.
+-- This many rounds ended in a conflict: each of them made one step that advances, and there are no others. The judge's state is unchanged.
 pub record ComesByRounds {W L : Type 0} {G : Ghosts L} (seen : W → Writer) (a : Core W L G) (n : Variables) (k : ℕ) (b : Core W L G) (m : Variables) : Type 0 where
   pub steps : List Step
   pub adds : EmitsChecked seen steps a.proof b.proof
@@ -75,17 +74,18 @@ pub record ComesByRounds {W L : Type 0} {G : Ghosts L} (seen : W → Writer) (a 
   pub config : b.config ≡ a.config
   pub times : AdvanceTimes (steps_of a.proof) steps k
 
--- what had come there by so many rounds has come here by as many, with the same names
+-- whatever was reached by this many rounds is still reached by as many, with the same names
 abbrev pub TakesNoRounds : {W L : Type 0} {G : Ghosts L} → (W → Writer) → Core W L G → Core W L G → Type 0
 TakesNoRounds {W} {L} {G} seen b c = (a : Core W L G) (n m : Variables) (k : ℕ) → ComesByRounds seen a n k b m → ComesByRounds seen a n k c m
 
+-- what holds of the names and the search after an outcome
 abbrev pub EndSays : Outcome → Session → Variables → Search → Search → Type 0
 EndSays outcomes.Learned s m c c' = ⊥
 EndSays outcomes.Model s m c c' = RoundShows s c c' × SharesIndices m c'
 EndSays outcomes.Unsat s m c c' = s.unsat ≡ true
 EndSays outcomes.Failed s m c c' = RoundFails s c c' × SharesIndices m c'
 
--- it came to this answer, behind so many rounds that ended in a conflict
+-- this answer was found after this many rounds that ended in a conflict
 pub record Ended {W L : Type 0} {G : Ghosts L} (seen : W → Writer) (a : Core W L G) (n : Variables) (k : ℕ) (outcome : Outcome) (b : Core W L G) (m : Variables) : Type 0 where
   pub steps : List Step
   pub adds : EmitsChecked seen steps a.proof b.proof
@@ -97,11 +97,11 @@ pub record Ended {W L : Type 0} {G : Ghosts L} (seen : W → Writer) (a : Core W
   pub says : EndSays outcome (session_of b.proof) m a.search b.search
   pub times : AdvanceTimes (steps_of a.proof) steps k
 
--- where there is an answer, the last of so many rounds gave it
+-- if there is an answer, the last of these rounds gave it
 abbrev pub EndedBy : {W L : Type 0} {G : Ghosts L} → (W → Writer) → (rounds : ℕ) → Option Outcome → Core W L G → Variables → Core W L G → Variables → Type 0
 EndedBy seen rounds answer a n b m = MatchOption answer (Unit {0}) (λ o. Ended seen a n (rounds - 1) o b m)
 
--- it came to this fault
+-- the search failed with this error
 abbrev pub BreaksRounds : {W L : Type 0} {G : Ghosts L} → (W → Writer) → Core W L G → SolverError → Core W L G → Type 0
 BreaksRounds seen a e b = PassFailsOr (IsFull b.search.parts) seen e a.proof b.proof
 
@@ -111,7 +111,7 @@ pub record Restarted {W L : Type 0} {G : Ghosts L} (a b : Core W L G) : Type 0 w
   pub clauses : SameClauses a.search.parts b.search.parts
   pub same : b ≡ record a { search = record a.search { parts = b.search.parts } }
 
--- a reduction before the round of this number, with its steps; variables, assumptions and parameters are as they were
+-- a reduction before the round with this number, with its steps; variables, assumptions and parameters are unchanged
 pub record ReducedAt {W L : Type 0} {G : Ghosts L} (seen : W → Writer) (a : Core W L G) (round : ℕ) (b : Core W L G) : Type 0 where
   pub steps : List Step
   pub adds : EmitsChecked seen steps a.proof b.proof
@@ -119,7 +119,7 @@ pub record ReducedAt {W L : Type 0} {G : Ghosts L} (seen : W → Writer) (a : Co
   pub moved : SameVarsAndAssumptions a.search b.search
   pub config : b.config ≡ a.config
 
--- a round, which ended so
+-- a round, and its outcome
 pub record RoundOf {W L : Type 0} {G : Ghosts L} (seen : W → Writer) (a : Core W L G) (n : Variables) (outcome : Outcome) (b : Core W L G) (m : Variables) : Type 0 where
   pub ends : RoundEnds seen outcome n m a.proof b.proof a.search b.search
   pub config : b.config ≡ a.config

@@ -1,4 +1,4 @@
--- A derived clause that advances: its first literal was not there, whatever live clauses of the session are used.
+-- A derived clause that advances: its first literal is new, whichever live clauses of the session are used.
 use Rattle.std.specs.Prelude.{ℕ, ◌≡◌, ◌<◌, ◌⊎◌, ◌==◌, ◌||◌, Bool, true, false, List, [], ◌∷◌, map, drop, length, slice_index_or as get_or}
 use Rattle.std.specs.List.{AllByRecursion}
 use Rattle.sat_base.specs.values.Literals.{negated}
@@ -13,29 +13,29 @@ use Rattle.sat_parts.specs.declared.parts.Parts.{Parts}
 use Rattle.sat_parts.specs.parts.Whole.{state, IsRefuted}
 use Rattle.sat_solver.specs.session.Fits.{SessionMatchesParts, TrueLitsHaveNames}
 
--- live clauses, each of which has no literal but one that isn't false by then, and what holds behind them
+-- live clauses, each of which has at most one literal that is not false so far, and the literals that hold after them
 abbrev pub LeadsOn : Session → (ℕ → Bool) → List (List ℕ) → (ℕ → Bool) → Type 0
 LeadsOn s holds [] reached = (l : ℕ) → reached l ≡ true → holds l ≡ true
 LeadsOn s holds (c ∷ cs) reached = IsLive s c × ((o : ℕ) × AllByRecursion (λ l. (l ≡ o) ⊎ (holds (negated l) ≡ true)) c × (is_among c o ≡ true) × LeadsOn s (λ l. (o == l) || holds l) cs reached)
 
--- what was reached neither assigns the literal nor denies it, and falsifies no live clause
+-- the reached literals neither satisfy nor falsify the literal, and falsify no live clause
 pub record StaysNew (s : Session) (l : ℕ) (reached : ℕ → Bool) : Type 0 where
   pub not_true : reached l ≡ false
   pub not_false : reached (negated l) ≡ false
   pub no_conflict : (c : List ℕ) → IsLive s c → AllByRecursion (λ m. reached (negated m) ≡ true) c → ⊥
 
--- no literal of these has its negation among them
+-- no two of these literals are negations of each other
 abbrev pub AreConsistent : (ℕ → Bool) → Type 0
 AreConsistent holds = (l : ℕ) → holds l ≡ true → holds (negated l) ≡ false
 
--- the units and the negations of a clause's other literals agree and leave its first one open, and no live clauses that are unit in turn
--- under them assign it or are falsified
+-- The units and the negations of a clause's other literals are consistent and leave its first literal open. No live clauses that are unit
+-- in turn under them assign it, and none is falsified.
 pub record Advances (s : Session) (clause : List ℕ) : Type 0 where
   pub some : 0 < length clause
   pub agree : AreConsistent (denied_in s (drop 1 clause))
   pub stays : (picked : List (List ℕ)) (reached : ℕ → Bool) → LeadsOn s (denied_in s (drop 1 clause)) picked reached → StaysNew s (get_or clause 0 0) reached
 
--- what is learned advances in the session
+-- a learned clause advances in the session
 abbrev pub LearnedAdvancesIn : Type 0
 LearnedAdvancesIn =
     (p : Parts) (e : Conflict) (w : Work) (back : ℕ) (s : Session) (global : ℕ → ℕ) (picked : List (List ℕ)) (reached : ℕ → Bool) → IsRefuted p e → SessionMatchesParts p s global → TrueLitsHaveNames p.assignment.current s global → Learns p.clauses (state p) (falsified p.clauses e) w back →

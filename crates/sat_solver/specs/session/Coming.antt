@@ -4,34 +4,34 @@ use Rattle.sat_base.specs.steps.Steps.{Satisfied, Step, AddClause, DeleteClause,
 use Rattle.sat_checker.specs.LiteralSets.{canonical}
 use Rattle.sat_solver.specs.session.Session.{session_after}
 
--- each of these steps may come behind those before it
+-- each of these steps is allowed after those before it
 abbrev pub EachIsAllowed : (List Step → Step → Type 0) → (earlier steps : List Step) → Type 0
 EachIsAllowed May earlier [] = Unit {0}
 EachIsAllowed May earlier (step ∷ steps) = EachIsAllowed May earlier steps × May (steps ++ earlier) step
 
--- the same of all steps from these on
+-- the same for all steps since these
 pub record OnlyAllowedSteps (May : List Step → Step → Type 0) (from to : List Step) : Type 0 where
   pub steps : List Step
   pub behind : to ≡ steps ++ from
   pub each : EachIsAllowed May from steps
 
--- is it a change of the hashes' width?
+-- whether the step changes the width of hashes
 abbrev pub sets_width : Step → Bool
 sets_width (ChangeHashBits bits) = true
 sets_width step = false
 
--- nothing but widths behind recorded unsat
+-- only changes of the width after recorded unsat
 abbrev pub EndsAtUnsat : List Step → Step → Type 0
 EndsAtUnsat earlier step = (session_after earlier).unsat ≡ true → sets_width step ≡ true
 
--- the last step added this clause, its literals in some order
+-- the last step added this clause, with its literals in some order
 pub record IsLastAdded (earlier : List Step) (clause : List ℕ) : Type 0 where
   pub added : List ℕ
   pub before : List Step
   pub last : earlier ≡ AddClause added ∷ before
   pub same : canonical clause ≡ canonical added
 
--- the clause that the last step added is deleted, as a literal of it is true already, and not behind recorded unsat
+-- the clause that the last step added is deleted, because one of its literals is already true; not after recorded unsat
 abbrev pub DeletesAdded : List Step → Step → Type 0
 DeletesAdded earlier (DeleteClause clause Satisfied) = IsLastAdded earlier clause × ((session_after earlier).unsat ≡ false)
 DeletesAdded earlier step = ⊥

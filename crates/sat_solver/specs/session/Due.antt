@@ -1,15 +1,15 @@
--- Ordered steps at whatever widths they are written. Lists of steps have the newest first.
+-- Ordered steps, whatever the widths at which they are written. Lists of steps have the newest first.
 use Rattle.std.specs.Prelude.{◌≡◌, Bool, true, false, List, [], ◌∷◌, map, ℕ}
 use Rattle.sat_base.specs.steps.Steps.{Step, FailedAssumptions}
 use Rattle.sat_checker.specs.matching.Checking.{is_ordered}
 use Rattle.sat_solver.specs.proof.Widths.{IsNarrowedTo}
 
--- the steps with one more, where the test says so
+-- the steps, and this one if the test says so
 abbrev pub kept_if : Bool → Step → List Step → List Step
 kept_if true step steps = step ∷ steps
 kept_if false step steps = steps
 
--- the ordered ones
+-- the ordered steps among these
 abbrev pub ordered_of : List Step → List Step
 ordered_of [] = []
 ordered_of (step ∷ earlier) = kept_if (is_ordered step) step (ordered_of earlier)
@@ -19,6 +19,6 @@ abbrev pub without_hashes : Step → Step
 without_hashes (FailedAssumptions core hashes) = FailedAssumptions core []
 without_hashes step = step
 
--- whatever widths are chosen, what is written for steps has the same ordered ones, but for the hashes of cores
+-- whatever widths are chosen, what is written for steps has the same ordered steps, except for the hashes of cores
 abbrev pub WidthsKeepOrder : Type 0
 WidthsKeepOrder = (wide written : List Step) (width : ℕ) → IsNarrowedTo wide written width → map without_hashes (ordered_of written) ≡ map without_hashes (ordered_of wide)

@@ -1,4 +1,4 @@
--- What holds of searches and sessions.
+-- Laws about searches and sessions.
 use Rattle.std.specs.Prelude.{ℕ, ◌≡◌, List, [], ◌∷◌, ◌++◌, map, length}
 use Rattle.sat_base.specs.values.Hashes.{hash_of}
 use Rattle.sat_parts.specs.declared.prop.graph.Conflict.{Conflict}
@@ -25,15 +25,15 @@ use Rattle.sat_parts.specs.parts.Whole.{state, PartsInvariant, AllAssigned, IsMo
 use Rattle.sat_solver.specs.session.Units.{AreTrueLits}
 use Rattle.sat_solver.specs.session.Fits.{SessionMatches, SessionMatchesParts, TrueLitsHaveNames}
 
--- the clauses that an analysis names: those that were used, in order, and the one that was found false
+-- the clauses that an analysis names: those that were used, in order, and the falsified one
 abbrev pub named_clauses : List ℕ → State → List ℕ → Conflict → List (List ℕ)
 named_clauses words st used e = map (clause_of words st) used ++ falsified words e ∷ []
 
--- their hashes, over solver variables and not cut
+-- their hashes, over search variables and complete
 abbrev pub named_hashes : List ℕ → State → List ℕ → Conflict → List ℕ
 named_hashes words st used e = map (λ l. hash_of (clause_of words st l)) used ++ hash_of (falsified words e) ∷ []
 
--- what is learned may be written
+-- a learned clause may be written
 abbrev pub LearnedMay : Type 0
 LearnedMay =
     (words live : List ℕ) (implied : List (List ℕ)) (st : State) (s : Session) (global : ℕ → ℕ) (e : Conflict) (w : Work) (back : ℕ) →
@@ -41,19 +41,19 @@ LearnedMay =
     IsConflict words live implied st.values e → Learns words st (falsified words e) w back →
     MayDerive s (map (with_var global) w.clause) (named_hashes words st w.used e)
 
--- all of its clauses are in the session, and all is assigned: its true literals may be shown as a model, in whatever order
+-- if all clauses are in the session and all variables are assigned, the true literals may be written as a model, in any order
 abbrev pub ModelMay : Type 0
 ModelMay =
     (p : Parts) (s : Session) (global : ℕ → ℕ) (ls : List ℕ) → SessionMatchesParts p s global → TrueLitsHaveNames p.assignment.current s global → PartsInvariant p → AreTrueLits p.assignment.current ls → AllAssigned p → IsModelled p → May s (Model (map (with_var global) ls))
 
--- after a conflict above level 0 no stored clauses that are unit in turn, under the units and the negations of the learned clause's other
--- literals, assign its first literal, and none of them is falsified
+-- after a conflict above level 0: under the units and the negations of the learned clause's other literals, no stored clauses that are unit
+-- in turn assign its first literal, and none is falsified
 abbrev pub LearnedIsNew : Type 0
 LearnedIsNew =
     (p : Parts) (e : Conflict) (w : Work) (back : ℕ) (units : List ℕ) (picked : List (List ℕ)) (reached : List ℕ) → IsRefuted p e → Learns p.clauses (state p) (falsified p.clauses e) w back → AreLevelZeroLits (state p) units →
     AllByRecursion (IsStored p.clauses (live_refs p.clauses p.db.refs) p.binary.implied) picked → LeadTo (map negated (drop 1 w.clause) ++ units) picked reached →
     StaysOpen p.clauses (live_refs p.clauses p.db.refs) p.binary.implied (get_or w.clause 0 0) reached
 
--- at first nothing is there
+-- empty parts match the empty session
 abbrev pub NothingFits : Type 0
 NothingFits = (words : List ℕ) (st : State) (global : ℕ → ℕ) → st.values ≡ [] → st.trail.lits ≡ [] → SessionMatches words [] [] st nothing global

@@ -1,4 +1,4 @@
--- What the parts of a search and the session behind its steps have to do with each other.
+-- How the parts of a search match the session of its steps.
 use Rattle.std.specs.Prelude.{ℕ, ◌≡◌, ◌≢◌, ◌≤◌, Bool, true, false, Option, Some, List, length}
 use Rattle.std.specs.List.{Contains}
 use Rattle.sat_base.specs.values.Literals.{variable, negated}
@@ -15,17 +15,17 @@ use Rattle.sat_parts.specs.declared.parts.Parts.{Parts}
 use Rattle.sat_parts.specs.parts.Whole.{state, PartsInvariant}
 use Rattle.sat_parts.specs.parts.Frame.{IsUnitLit}
 
--- each clause of two literals stands in both of its lists, and its literals are different
+-- every binary clause is in both of its lists, and its literals are different
 pub record ArePaired (implied : List (List ℕ)) : Type 0 where
   pub back : (a b : ℕ) → Contains (implied_by implied (negated a)) b → Contains (implied_by implied (negated b)) a
   pub apart : (a b : ℕ) → Contains (implied_by implied (negated a)) b → a ≢ b
 
--- whether the clause at o is a learned one
+-- whether the clause at o is learned
 abbrev pub is_redundant : List ℕ → ℕ → Bool
 is_redundant words o = is_learned (header_at words o).tier
 
--- the live clauses of the search are those of the session, and its units the literals of level 0 that no clause of the trail
--- makes true. These hold at each time: literals of level 0 that propagation made true are not yet units of the session
+-- The live clauses of the search are those of the session, and its units are the literals of level 0 that no clause implies. This holds at
+-- all times: literals of level 0 that propagation implied are not yet units of the session.
 pub record SessionMatches (words live : List ℕ) (implied : List (List ℕ)) (st : State) (s : Session) (global : ℕ → ℕ) : Type 0 where
   pub clauses : AreOf s global (solver_clauses (is_redundant words) words live implied)
   pub paired : ArePaired implied
@@ -34,20 +34,20 @@ pub record SessionMatches (words live : List ℕ) (implied : List (List ℕ)) (s
   pub consistent : s.unsat ≡ false
   pub width : s.width ≡ 64
 
--- each literal that is true is of a variable that has its solver name
+-- the variable of every true literal has its index
 abbrev pub TrueLitsHaveNames : List (Option Bool) → Session → (ℕ → ℕ) → Type 0
 TrueLitsHaveNames values s global = (l : ℕ) → IsTrueLit values l → s.solver_names (global (variable l)) ≡ Some (variable l)
 
--- the same of the struct of parts
+-- the same for the struct of parts
 abbrev pub SessionMatchesParts : Parts → Session → (ℕ → ℕ) → Type 0
 SessionMatchesParts p s global = SessionMatches p.clauses (live_refs p.clauses p.db.refs) p.binary.implied (state p) s global
 
--- what holds between rounds
+-- the invariant between rounds
 pub record PartsSessionInvariant (p : Parts) (s : Session) (global : ℕ → ℕ) : Type 0 where
   pub holds : PartsInvariant p
   pub fits : SessionMatchesParts p s global
 
--- whether a step says that the clause is redundant: a long one as its header does, one of two literals never
+-- whether a step calls the clause redundant: for a long clause as its header says, for a binary one never
 pub record FlagFits (flag : Bool) (header : Header) (ls : List ℕ) : Type 0 where
   pub long : 3 ≤ length ls → flag ≡ is_learned header.tier
   pub binary : length ls ≡ 2 → flag ≡ false

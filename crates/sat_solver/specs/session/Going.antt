@@ -1,4 +1,4 @@
--- What the naming of units asks of the parts.
+-- What naming units requires of the parts.
 use Rattle.std.specs.Prelude.{length}
 use Rattle.sat_parts.specs.clause.Db.{live_refs}
 use Rattle.sat_parts.specs.clause.Stored.{AreClauses}
@@ -7,7 +7,7 @@ use Rattle.sat_parts.specs.prop.Reasons.{AreInTurn}
 use Rattle.sat_parts.specs.declared.parts.Parts.{Parts}
 use Rattle.sat_parts.specs.parts.Whole.{state}
 
--- what the writing of units asks of the parts
+-- what writing units requires of the parts
 pub record IsOrderly (p : Parts) : Type 0 where
   pub agrees : StateIsConsistent (state p)
   pub clauses : AreClauses p.clauses (live_refs p.clauses p.db.refs) (length p.assignment.current)

@@ -1,4 +1,4 @@
--- What learning a clause does to the session that fits.
+-- How learning a clause preserves the match of parts and session.
 use Rattle.std.specs.Prelude.{ℕ, Bool, List, map}
 use Rattle.sat_base.specs.steps.Steps.{AtClause}
 use Rattle.sat_store.specs.clause.Header.{Header}
@@ -7,7 +7,7 @@ use Rattle.sat_solver.specs.session.LiveClauses.{with_var, AreMapped}
 use Rattle.sat_parts.specs.declared.parts.Parts.{Parts}
 use Rattle.sat_solver.specs.session.Fits.{SessionMatchesParts, FlagFits}
 
--- whatever session fitted the parts, behind the step of the clause it fits what they became
+-- any session that matched the parts matches the changed parts after the step of the clause
 abbrev pub FitsAfterLearning : Parts → Parts → Header → List ℕ → Type 0
 FitsAfterLearning p p' header ls =
     (s : Session) (global : ℕ → ℕ) (hashes : List ℕ) (flag : Bool) → FlagFits flag header ls → AreMapped global s.solver_names ls → SessionMatchesParts p s global → SessionMatchesParts p' (after (AtClause flag (map (with_var global) ls) hashes) s) global

@@ -1,4 +1,4 @@
--- What holds of a session and a list of live clauses, while steps are written of which the parts don't know yet.
+-- A session and a list of live clauses, while steps are written that the parts do not reflect yet.
 use Rattle.std.specs.Prelude.{ℕ, ◌≡◌, ◌<◌, Bool, true, false, Some, List, ◌++◌}
 use Rattle.sat_base.specs.values.Literals.{variable}
 use Rattle.sat_base.specs.steps.Steps.{Step, UserVarName, ChangeSamplingMode, Model, Assumptions, FailedAssumptions, End}
@@ -14,8 +14,7 @@ use Rattle.sat_parts.specs.parts.Whole.{state}
 use Rattle.sat_parts.specs.parts.Frame.{IsUnitLit}
 use Rattle.sat_solver.specs.session.Fits.{is_redundant}
 
--- the live clauses of the session are these, and its units are literals of level 0, among them those that no clause of the trail
--- makes true
+-- the live clauses of the session are these, and its units are literals of level 0, among them those that no clause of the trail implies
 pub record FitsList (cs : List LiveClause) (st : State) (s : Session) (global : ℕ → ℕ) : Type 0 where
   pub clauses : AreOf s global cs
   pub known : (l : ℕ) → IsUnitLit st l → s.units (with_var global l) ≡ true
@@ -23,7 +22,7 @@ pub record FitsList (cs : List LiveClause) (st : State) (s : Session) (global : 
   pub consistent : s.unsat ≡ false
   pub width : s.width ≡ 64
 
--- two sessions have the same units, solver names and width
+-- the two sessions have the same units, indices and width
 pub record SameFacts (s t : Session) : Type 0 where
   pub names : (v : ℕ) → t.solver_names v ≡ s.solver_names v
   pub units : (l : ℕ) → t.units l ≡ s.units l
@@ -34,7 +33,7 @@ pub record SameFacts (s t : Session) : Type 0 where
 abbrev pub ArePlain : Session → Type 0
 ArePlain s = (r : Bool) (set : List ℕ) → 0 < s.live r set → is_tautology set ≡ false
 
--- a step that leaves clauses, units, solver names and width as they are: names of users, modes, assumptions and answers
+-- a step that leaves clauses, units, indices and width unchanged: names, modes, assumptions and answers
 abbrev pub ChangesNoClause : Step → Type 0
 ChangesNoClause (UserVarName v name) = Unit {0}
 ChangesNoClause (ChangeSamplingMode v sample) = Unit {0}
@@ -44,7 +43,7 @@ ChangesNoClause (FailedAssumptions core hashes) = Unit {0}
 ChangesNoClause End = Unit {0}
 ChangesNoClause step = ⊥
 
--- the struct of parts fits, but for clauses of two literals with a variable that has a value: these are gone from the session, as
--- far as the first k literals of the list l and all lists before it were looked at
+-- the parts match, except for binary clauses with an assigned variable: these are removed from the session as far as the first k literals
+-- of list l, and all lists before it, were visited
 abbrev pub LeftParts : Parts → Session → (ℕ → ℕ) → (l k : ℕ) → Type 0
 LeftParts p s global l k = FitsList (binaries_left p.assignment.current p.binary.implied l k ++ longs (is_redundant p.clauses) p.clauses (live_refs p.clauses p.db.refs)) (state p) s global

@@ -1,4 +1,4 @@
--- A solver's live clauses as a list, in whatever order, each with its literals in whatever order, and over solver variables.
+-- The live clauses of a solver as a list, in any order, each with its literals in any order, over search variables.
 use Rattle.std.specs.Prelude.{ℕ, ◌+◌, ◌*◌, ◌/◌, ◌%◌, ◌≡◌, ◌⊎◌, ◌&&◌, Bool, Option, Some, List, [], ◌∷◌, map}
 use Rattle.std.specs.List.{AllByRecursion}
 use Rattle.sat_base.specs.values.Literals.{variable}
@@ -7,7 +7,7 @@ use Rattle.sat_checker.specs.SortedSets.{NoRepeats}
 use Rattle.sat_checker.specs.Contents.{same_side, more_if}
 use Rattle.sat_solver.specs.session.Session.{Session}
 
--- a live clause: whether it is redundant, and its literals over solver variables
+-- a live clause: whether it is redundant, and its literals over search variables
 pub record LiveClause : Type 0 where
   pub redundant : Bool
   pub literals : List ℕ
@@ -22,19 +22,20 @@ abbrev pub IsIn : LiveClause → List LiveClause → Type 0
 IsIn c [] = ⊥
 IsIn c (d ∷ ds) = (c ≡ d) ⊎ IsIn c ds
 
--- a literal over solver variables as one over proof variables
+-- a literal over search variables as one over proof variables
 abbrev pub with_var : (ℕ → ℕ) → ℕ → ℕ
 with_var global l = 2 * global (l / 2) + l % 2
 
--- a clause over solver variables as one over proof variables
+-- a clause over search variables as one over proof variables
 abbrev pub mapped : (ℕ → ℕ) → LiveClause → LiveClause
 mapped global c = record c { literals = map (with_var global) c.literals }
 
--- each variable is the solver name of the proof variable that it is mapped to
+-- every variable is the index of the proof variable that it is mapped to
 abbrev pub AreMapped : (ℕ → ℕ) → (ℕ → Option ℕ) → List ℕ → Type 0
 AreMapped global names = AllByRecursion (λ l. names (global (variable l)) ≡ Some (variable l))
 
--- The live clauses of a solver are those of the session: different literals over variables that have solver names, and the same counts of each set.
+-- the live clauses of a solver are those of the session: different literals over variables that have indices, and every set with the same
+-- multiplicity
 pub record AreOf (s : Session) (global : ℕ → ℕ) (cs : List LiveClause) : Type 0 where
   pub named : (c : LiveClause) → IsIn c cs → AreMapped global s.solver_names c.literals
   pub once : (c : LiveClause) → IsIn c cs → NoRepeats c.literals

@@ -1,4 +1,4 @@
--- What fits once a clause of the formula was loaded and its steps were written.
+-- The match of parts and session after a clause of the formula was loaded and its steps were written.
 use Rattle.std.specs.Prelude.{ℕ, ◌≡◌, ◌≤◌, true, List, map, length}
 use Rattle.sat_base.specs.steps.Steps.{AddClause, DeleteClause, Satisfied as True}
 use Rattle.sat_solver.specs.session.Session.{Session, after, May}
@@ -8,8 +8,8 @@ use Rattle.sat_parts.specs.declared.parts.load.Loaded.{Loaded}
 use Rattle.sat_parts.specs.declared.parts.load.Loaded.TheVariants.{Stored, Unit as One, Satisfied, Falsified}
 use Rattle.sat_solver.specs.session.Fits.{SessionMatchesParts}
 
--- the step adds the clause as it was given. A clause with a true literal goes at once, with its literals in the order ls, unless it
--- has one literal alone; behind a clause whose one literal is false, or that has none, unsat is recorded
+-- The step adds the clause as it was given. A clause with a true literal is deleted at once, with its literals in the order `ls`, unless it
+-- has only one literal; after a clause that is empty, or whose only literal is false, unsat is recorded.
 abbrev pub LoadFits : Loaded → Parts → Session → (ℕ → ℕ) → (given ls : List ℕ) → Type 0
 LoadFits Stored p s global given ls = SessionMatchesParts p (after (AddClause (map (with_var global) given)) s) global
 LoadFits One p s global given ls = SessionMatchesParts p (after (AddClause (map (with_var global) given)) s) global

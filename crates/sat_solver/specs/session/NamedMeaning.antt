@@ -1,4 +1,4 @@
--- What a session's answers mean for the names of a script. Lists of steps have the newest first.
+-- What the answers of a session mean for the names of a script. Lists of steps have the newest first.
 use Rattle.std.specs.Prelude.{ℕ, ◌<◌, ◌≡◌, ◌⊎◌, true, Option, Some, List, [], ◌∷◌, map}
 use Rattle.std.specs.List.{AllByRecursion}
 use Rattle.sat_base.specs.values.Literals.{coded, variable}
@@ -11,11 +11,11 @@ use Rattle.sat_solver.specs.session.Session.{MayAll, session_after}
 use Rattle.sat_solver.specs.session.LiveClauses.{with_var}
 use Rattle.sat_solver.specs.session.Promises.{added}
 
--- a valuation of proof variables and one of identities agree on the names in use, of which each has this variable
+-- a valuation of proof variables and one of identities agree on the names in use, each of which has this variable
 abbrev pub AgreeOn : ScriptState → (ℕ → Option ℕ) → Valuation → Valuation → Type 0
 AgreeOn j variable_of a b = (name i v : ℕ) → identity_of j name ≡ Some i → variable_of name ≡ Some v → a v ≡ b i
 
--- What the steps leave of the names in use is what the accepted clauses leave.
+-- for names in use, the steps admit the same valuations as the accepted clauses
 pub record MeansAcceptedClauses (j : ScriptState) (variable_of : ℕ → Option ℕ) (steps : List Step) : Type 0 where
   pub to : (a : Valuation) → Holds steps a → (b : Valuation) × AgreeOn j variable_of a b × EachHolds b j.clauses
   pub back : (b : Valuation) → EachHolds b j.clauses → (a : Valuation) × AgreeOn j variable_of a b × Holds steps a
@@ -28,17 +28,17 @@ pub record IsReadAs (j : ScriptState) (variable_of : ℕ → Option ℕ) (l : Li
   pub named : variable_of l.name ≡ Some var
   pub is : code ≡ coded var l.positive
 
--- each literal is one of those over proof variables
+-- every literal is represented by one of those over proof variables
 abbrev pub AllReadAmong : ScriptState → (ℕ → Option ℕ) → List Literal → List ℕ → Type 0
 AllReadAmong j variable_of ls codes = AllByRecursion (λ l. (code : ℕ) × IsReadAs j variable_of l code × Among code codes) ls
 
--- each of those over proof variables is one of the literals
+-- every literal over proof variables represents one of the literals
 abbrev pub AllFrom : ScriptState → (ℕ → Option ℕ) → List ℕ → List Literal → Type 0
 AllFrom j variable_of codes ls = AllByRecursion (λ code. (l : Literal) × IsReadAs j variable_of l code × Among l ls) codes
 
 -- RIGHT ANSWERS
 
--- a model that may be written gives a right line, one literal for each name in use
+-- a model that may be written gives a right line, with one literal for every name in use
 abbrev pub NamedModelsAreRight : Type 0
 NamedModelsAreRight = (j : ScriptState) (variable_of : ℕ → Option ℕ) (steps : List Step) (codes : List ℕ) (ask line : List Literal)
     → MeansAcceptedClauses j variable_of steps → MayAll (Model codes ∷ steps)
@@ -52,23 +52,24 @@ NamedCoresAreRight = (j : ScriptState) (variable_of : ℕ → Option ℕ) (steps
     → InOrder core → AllByRecursion (λ l. Among l ask) core → AllFrom j variable_of codes core
     → IsRightCore j ask core
 
--- once unsat is recorded the empty core is right, whatever is asked
+-- once unsat is recorded, the empty core is right for every ask
 abbrev pub NamedUnsatIsRight : Type 0
 NamedUnsatIsRight = (j : ScriptState) (variable_of : ℕ → Option ℕ) (steps : List Step) (ask : List Literal)
     → MeansAcceptedClauses j variable_of steps → MayAll steps → (session_after steps).unsat ≡ true → IsRightCore j ask []
 
 -- WHERE NO NAME WAS EVER HIDDEN
 
--- the same literals, in whatever order and however often
+-- the same literals, in any order and with any repetitions
 abbrev pub SameLits : List ℕ → List ℕ → Type 0
 SameLits c d = AllByRecursion (λ l. Among l d) c × AllByRecursion (λ l. Among l c) d
 
--- no variable is deleted by the step
+-- the step deletes no variable
 abbrev pub DeletesNoVar : Step → Type 0
 DeletesNoVar (DeleteVar v) = ⊥
 DeletesNoVar step = Unit {0}
 
--- Each identity has a proof variable of its own, none was deleted, and the added clauses are the accepted ones, over proof variables. Once unsat is recorded, accepted clauses may be left out.
+-- Every identity has a proof variable of its own, none was deleted, and the added clauses are the accepted ones, over proof variables. Once
+-- unsat is recorded, accepted clauses may be left out.
 pub record NoneHidden (j : ScriptState) (variable_of : ℕ → Option ℕ) (steps : List Step) : Type 0 where
   pub global : ℕ → ℕ  -- the proof variable of an identity
   pub identity : ℕ → ℕ  -- and back
@@ -80,6 +81,6 @@ pub record NoneHidden (j : ScriptState) (variable_of : ℕ → Option ℕ) (step
   pub added_from : AllByRecursion (λ c. (d : List ℕ) × Among d j.clauses × SameLits c (map (with_var global) d)) (added steps)
   pub all_added : ((session_after steps).unsat ≡ true) ⊎ AllByRecursion (λ d. (c : List ℕ) × Among c (added steps) × SameLits c (map (with_var global) d)) j.clauses
 
--- then steps that may be written leave of the names what the accepted clauses leave
+-- then the steps admit the same valuations of the names as the accepted clauses
 abbrev pub NoneHiddenMeans : Type 0
 NoneHiddenMeans = (j : ScriptState) (variable_of : ℕ → Option ℕ) (steps : List Step) → MayAll steps → NoneHidden j variable_of steps → MeansAcceptedClauses j variable_of steps

@@ -1,4 +1,4 @@
--- What holds of sessions.
+-- Laws of sessions.
 use Rattle.std.specs.Prelude.{ℕ, ◌≡◌, true, List, [], ◌∷◌}
 use Rattle.sat_base.specs.values.Clauses.{Valuation, literal_true, EachTrue, EachHolds}
 use Rattle.sat_base.specs.steps.Steps.{Step, AddClause, Model, FailedAssumptions}
@@ -8,11 +8,11 @@ use Rattle.sat_checker.specs.Accepts.{Accepts, AcceptsAll, ready_after}
 use Rattle.sat_solver.specs.session.Session.{Session, May, MayAll, session_after}
 use Rattle.sat_solver.specs.session.Agrees.{MatchesStored}
 
--- what a session may write, the checker accepts
+-- the checker accepts what a session may write
 abbrev pub MayIsAccepted : Type 0
 MayIsAccepted = (s : Session) (f : Stored) (step : Step) → MatchesStored s f → May s step → Accepts f step
 
--- steps that may be written in their turn are accepted in their turn, and session and checker agree behind them
+-- steps that are allowed one after another are accepted one after another, and session and checker agree after them
 abbrev pub SessionsAreAccepted : Type 0
 SessionsAreAccepted = (steps : List Step) → MayAll steps → AcceptsAll steps × MatchesStored (session_after steps) (ready_after steps)
 
@@ -26,10 +26,10 @@ added (step ∷ earlier) = added earlier
 abbrev pub CoresAreRight : Type 0
 CoresAreRight = (steps : List Step) (core hashes : List ℕ) (a : Valuation) → MayAll (FailedAssumptions core hashes ∷ steps) → EachHolds a (added steps) → EachTrue a core → ⊥
 
--- none satisfies them once unsat is recorded
+-- no valuation satisfies them once unsat is recorded
 abbrev pub UnsatIsRight : Type 0
 UnsatIsRight = (steps : List Step) (a : Valuation) → MayAll steps → (session_after steps).unsat ≡ true → EachHolds a (added steps) → ⊥
 
--- a model that may be written extends to a valuation that the steps leave, by every completion that has the units
+-- every completion of a model that may be written, with the values of the units, extends to a valuation that the steps admit
 abbrev pub ModelsAreRight : Type 0
 ModelsAreRight = (steps : List Step) (ls : List ℕ) (a : Valuation) → MayAll (Model ls ∷ steps) → EachTrue a ls → ((l : ℕ) → (session_after steps).units l ≡ true → literal_true a l ≡ true) → Holds steps a

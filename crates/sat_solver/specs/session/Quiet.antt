@@ -7,19 +7,19 @@ use Rattle.sat_solver.specs.session.Coming.{OnlyAllowedSteps}
 use Rattle.sat_solver.specs.session.Session.{Session, denied_in, May}
 use Rattle.sat_solver.specs.session.Advancing.{AreConsistent, LeadsOn, StaysNew}
 
--- the literals of a clause but this one
+-- the literals of a clause other than this one
 abbrev pub others_of : ℕ → List ℕ → List ℕ
 others_of l [] = []
 others_of l (m ∷ ms) = if m == l then others_of l ms else m ∷ others_of l ms
 
--- The units and the negations of a clause's other literals agree and leave this one open, and no live clauses that are unit in turn under
--- them assign it or are falsified.
+-- The units and the negations of a clause's other literals are consistent and leave this literal open. No live clauses that are unit in
+-- turn under them assign it, and none is falsified.
 pub record LeavesLiteralOpen (s : Session) (clause : List ℕ) (l : ℕ) : Type 0 where
   pub among : is_among clause l ≡ true
   pub agree : AreConsistent (denied_in s (others_of l clause))
   pub stays : (picked : List (List ℕ)) (reached : ℕ → Bool) → LeadsOn s (denied_in s (others_of l clause)) picked reached → StaysNew s l reached
 
--- the step isn't a derived clause that advances, by any of its literals
+-- the step derives no clause that advances, by any of its literals
 abbrev pub NeverAdvances : Session → Step → Type 0
 NeverAdvances s (AtClause redundant clause hashes) = (l : ℕ) → LeavesLiteralOpen s clause l → ⊥
 NeverAdvances s step = Unit {0}
@@ -30,20 +30,20 @@ are_few [] = true
 are_few (h ∷ []) = true
 are_few (h ∷ g ∷ hs) = false
 
--- by its form: it derives no clause, or the empty one, or one by a unit or a single clause
+-- by its form: the step derives no clause, or the empty one, or one that follows from a unit or a single clause
 abbrev pub is_quiet : Step → Bool
 is_quiet (AtClause redundant [] hashes) = true
 is_quiet (AtClause redundant (l ∷ ls) hashes) = are_few hashes
 is_quiet step = true
 
--- nothing is learned by any of these, which their forms show
+-- nothing is learned by any of these steps, as their forms show
 abbrev pub AreQuiet : List Step → Type 0
 AreQuiet = AllByRecursion (λ step. is_quiet step ≡ true)
 
--- the same of all steps from these on
+-- the same for all steps since these
 abbrev pub ComesQuietly : (from to : List Step) → Type 0
 ComesQuietly = OnlyAllowedSteps (λ earlier step. is_quiet step ≡ true)
 
--- what is quiet by its form, and may be written, never advances
+-- a step that is quiet by its form, and allowed, never advances
 abbrev pub QuietNeverAdvances : Type 0
 QuietNeverAdvances = (s : Session) (step : Step) → May s step → is_quiet step ≡ true → NeverAdvances s step

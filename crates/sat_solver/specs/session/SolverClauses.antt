@@ -1,4 +1,4 @@
--- The clauses of the parts as one list: those of two literals, each once, and the long ones.
+-- The clauses of the parts as one list: binary clauses, each once, and long ones.
 use Rattle.std.specs.Prelude.{ℕ, ◌+◌, ◌≡◌, Bool, false, Option, nat_lt, List, [], ◌∷◌, ◌++◌, take, drop, if◌then◌else◌}
 use Rattle.std.specs.List.{filter, list_all}
 use Rattle.sat_base.specs.values.Literals.{variable, negated}
@@ -7,34 +7,34 @@ use Rattle.sat_parts.specs.prop.Values.{is_unset}
 use Rattle.sat_parts.specs.prop.Binaries.{implied_by}
 use Rattle.sat_solver.specs.session.LiveClauses.{LiveClause}
 
--- The literals of a clause of two, the lower one first. All of them are irredundant.
+-- The literals of a binary clause, the lower one first. All of these are irredundant.
 abbrev pub pair : ℕ → ℕ → LiveClause
 pair a b = record { redundant = false; literals = a ∷ b ∷ [] }
 
--- those of a lower literal a, whose negation implies these
+-- the binary clauses whose lower literal is a, whose negation implies these
 abbrev pub binaries_of : ℕ → List ℕ → List LiveClause
 binaries_of a [] = []
 binaries_of a (m ∷ ms) = if nat_lt a m then pair a m ∷ binaries_of a ms else binaries_of a ms
 
--- those of the lists of what each literal implies, from this literal on
+-- the binary clauses of the lists of implied literals, from this literal on
 abbrev pub binaries_from : ℕ → List (List ℕ) → List LiveClause
 binaries_from l [] = []
 binaries_from l (ms ∷ rest) = binaries_of (negated l) ms ++ binaries_from (l + 1) rest
 
--- all clauses of two literals
+-- all binary clauses
 abbrev pub binaries : List (List ℕ) → List LiveClause
 binaries = binaries_from 0
 
--- the long ones, redundant or not as the test says
+-- the long clauses; the test says which of them are redundant
 abbrev pub longs : (ℕ → Bool) → List ℕ → List ℕ → List LiveClause
 longs redundant words [] = []
 longs redundant words (o ∷ os) = record { redundant = redundant o; literals = lits_at words o } ∷ longs redundant words os
 
--- all live clauses, by what the parts keep of them
+-- all live clauses, as the parts store them
 abbrev pub solver_clauses : (ℕ → Bool) → List ℕ → List ℕ → List (List ℕ) → List LiveClause
 solver_clauses redundant words live implied = binaries implied ++ longs redundant words live
 
--- one clause came to stand among the others
+-- one clause was inserted among the others
 pub record InsertsClause (old new : List LiveClause) (c : LiveClause) : Type 0 where
   pub before : List LiveClause
   pub behind : List LiveClause
@@ -45,8 +45,8 @@ pub record InsertsClause (old new : List LiveClause) (c : LiveClause) : Type 0 w
 abbrev pub is_open_clause : List (Option Bool) → LiveClause → Bool
 is_open_clause values c = list_all (λ l. is_unset values (variable l)) c.literals
 
--- The clauses of two literals while those with a variable that has a value go, one after the other in the order of the lists: the first
--- k ones of the list l and all of those before it were looked at.
+-- the binary clauses while those with an assigned variable are removed, in the order of the lists: the first k literals of list l, and all
+-- lists before it, were visited
 abbrev pub binaries_left : List (Option Bool) → List (List ℕ) → (l k : ℕ) → List LiveClause
 binaries_left values implied l k =
     let ms : List ℕ = implied_by implied l in

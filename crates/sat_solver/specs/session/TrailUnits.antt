@@ -12,23 +12,23 @@ use Rattle.sat_solver.specs.session.Session.{Session, IsLive, MayProve, hash_in}
 use Rattle.sat_solver.specs.session.LiveClauses.{with_var}
 use Rattle.sat_solver.specs.session.TrailEntries.{reason_clause}
 
--- those that have a clause as their reason, in proof variables, each with its hash at this width
+-- the literals that have a clause as their reason, over proof variables, each with its hash at this width
 abbrev pub written_units : List ℕ → State → ℕ → (ℕ → ℕ) → List ℕ → List (ℕ × ℕ)
 written_units words st width global [] = []
 written_units words st width global (l ∷ ls) =
     if is_unit_reason (node st l).reason then written_units words st width global ls
     else (with_var global l, hash_of (reason_clause words l (node st l).reason) / 2 ^ (64 - width)) ∷ written_units words st width global ls
 
--- a clause is live in the session, and has there the hash that is computed over the solver's variables
+-- a clause is live in the session, with the hash that is computed over the search's variables
 pub record IsUsable (s : Session) (global : ℕ → ℕ) (c : List ℕ) : Type 0 where
   pub live : IsLive s (map (with_var global) c)
   pub hash : hash_of c / 2 ^ (64 - s.width) ≡ hash_in s (map (with_var global) c)
 
--- the literal's variable is the solver name of the proof variable that it is mapped to
+-- the literal's variable is the index of the proof variable that it is mapped to
 abbrev pub HasOwnSolverName : Session → (ℕ → ℕ) → ℕ → Type 0
 HasOwnSolverName s global l = s.solver_names (global (variable l)) ≡ Some (variable l)
 
--- what a session and a trail of level 0 have to do with each other
+-- how a session matches a trail of level 0
 pub record UnitsFit (words : List ℕ) (st : State) (s : Session) (global : ℕ → ℕ) : Type 0 where
   pub named : (i : ℕ) → i < length st.trail.lits → HasOwnSolverName s global (lit_at st i)
   pub usable : (i : ℕ) → i < length st.trail.lits → is_unit_reason (node st (lit_at st i)).reason ≡ false → IsUsable s global (reason_clause words (lit_at st i) (node st (lit_at st i)).reason)
@@ -36,7 +36,7 @@ pub record UnitsFit (words : List ℕ) (st : State) (s : Session) (global : ℕ 
   pub removed : (l : ℕ) → IsRemoved st l → s.units (with_var global l) ≡ true
   pub sound : (l : ℕ) → HasOwnSolverName s global l → s.units (with_var global l) ≡ true → IsTrueLit st.values l
 
--- they may be written in the order of the trail
+-- the units may be written in trail order
 abbrev pub TrailUnitsMay : Type 0
 TrailUnitsMay =
     (words live : List ℕ) (implied : List (List ℕ)) (st : State) (s : Session) (global : ℕ → ℕ) → ((o : ℕ) → Contains live o → 0 < size_of words o) → StateIsConsistent st → AreInTurn words live implied st 0

@@ -9,7 +9,7 @@ use Rattle.sat_solver.specs.session.Session.{Session}
 use Rattle.sat_solver.specs.session.LiveClauses.{with_var}
 use Rattle.sat_solver.specs.session.Fits.{SessionMatches}
 
--- those of the literals that have a clause as their reason
+-- the literals that have a clause as their reason
 abbrev pub written_lits : State → List ℕ → List ℕ
 written_lits st [] = []
 written_lits st (l ∷ ls) = if is_unit_reason (node st l).reason then written_lits st ls else l ∷ written_lits st ls

@@ -1,4 +1,4 @@
--- Clauses and assumptions that come to a solver.
+-- Clauses and assumptions that are added to a solver.
 use Rattle.std.specs.Prelude.{ℕ, ◌≡◌, true, false, None, Some, List, [], ◌∷◌, ◌++◌, map, Result, Ok, Err}
 use Rattle.sat_base.specs.device.Device.{Writer}
 use Rattle.sat_base.specs.script.ScriptState.{ScriptState, WitnessName, bring_all, with_clause, refused_literal}
@@ -25,20 +25,20 @@ use Rattle.sat_solver.specs.solver.Taking.{BreaksNamesOff, BreaksNamesOr}
 use Rattle.sat_solver.specs.solver.Whole.{HasFullStore, SolverInvariant, steps_in}
 use Rattle.sat_solver.specs.solver.View.{IsInState, answer_in, assumed_in, assumptions_in, has_failed, inside, is_used, known_names, parameters_in, proof_in, schedule_in, target_in}
 
--- the literals come in, and then the clause
+-- introduces the names of the literals, and then adds the clause
 abbrev pub with_added : List ℕ → ScriptState → ScriptState
 with_added user j = with_clause (map user_literal user) (bring_all (names_in user) j)
 
--- what is due for a clause: once the clauses alone are known to be unsatisfiable, only its names
+-- the ordered steps of a clause; once the clauses are known to be unsatisfiable, only those of its names
 abbrev pub due_for_clause : State → List ℕ → ScriptState → List Expected
 due_for_clause states.Unsat user j = bringing (names_in user) j
 due_for_clause before user j = bringing (names_in user) j ++ (Adds (map user_literal user) ∷ [])
 
--- and for assumptions of an ask that will have this outcome
+-- the ordered steps of assumptions; the ask will have this outcome
 abbrev pub due_for_asked : Outcome → List ℕ → ScriptState → List Expected
 due_for_asked o user j = bringing (names_in user) j ++ (Opens (map user_literal user) o ∷ [])
 
--- nothing is known behind it, but that the clauses alone are unsatisfiable
+-- the answer is forgotten, unless the clauses alone are known to be unsatisfiable
 abbrev pub ForgetsAnswer : State → State → Type 0
 ForgetsAnswer states.Unsat now = now ≡ states.Unsat
 ForgetsAnswer before states.Unknown = Unit {0}
@@ -50,11 +50,11 @@ ForgetsAnswer before states.UnsatUnderAssumptions = ⊥
 abbrev pub HasWitness : {W L : Type 0} {G : Ghosts L} → Solver W L G → List ℕ → Type 0
 HasWitness s user = (j : ScriptState) (live : Live) → IsInState s j live → (name : ℕ) × (refused_literal j (names_in user) ≡ Some (WitnessName name))
 
--- there's none
+-- no name is of mode witness
 abbrev pub AreSampled : {W L : Type 0} {G : Ghosts L} → Solver W L G → List ℕ → Type 0
 AreSampled s user = (j : ScriptState) (live : Live) → IsInState s j live → refused_literal j (names_in user) ≡ None
 
--- a call over names failed, for a full clause buffer only where it is full, and so does each one behind it
+-- a call over names failed, and so does every later call; `FormulaTooLarge` only if `full` holds
 pub record EndsNamesOr {W L : Type 0} {G : Ghosts L} (full : Type 0) (seen : W → Writer) (e : SolverError) (old new : Solver W L G) : Type 0 where
   pub going : has_failed old ≡ false
   pub failed : has_failed new ≡ true
@@ -62,28 +62,28 @@ pub record EndsNamesOr {W L : Type 0} {G : Ghosts L} (full : Type 0) (seen : W �
   pub breaks : BreaksNamesOr full seen e (inside old) (inside new)
   pub clock : schedule_in new ≡ schedule_in old
 
--- the same where no clause is stored
+-- the same if no clause is stored
 abbrev pub EndsNames : {W L : Type 0} {G : Ghosts L} → (W → Writer) → SolverError → Solver W L G → Solver W L G → Type 0
 EndsNames seen e old new = EndsNamesOr ⊥ seen e old new
 
--- lines of DRAT are written: they have no assumptions
+-- DRAT lines are written; DRAT has no assumptions
 abbrev pub IsDrat : {W L : Type 0} {G : Ghosts L} → (W → Writer) → Solver W L G → Type 0
 IsDrat seen s = is_drat (target_in seen s) ≡ true
 
--- and no clause comes behind the first ask
+-- DRAT lines are written, and an ask has begun; then no clause may be added
 abbrev pub IsPastDrat : {W L : Type 0} {G : Ghosts L} → (W → Writer) → Solver W L G → Type 0
 IsPastDrat seen s = IsDrat seen s × (has_asked (proof_in s) ≡ true)
 
--- so that one may
+-- a clause may be added
 abbrev pub IsBeforeDrat : {W L : Type 0} {G : Ghosts L} → (W → Writer) → Solver W L G → Type 0
 IsBeforeDrat seen s = IsPastDrat seen s → ⊥
 
--- no name is of mode witness, but for one that comes in there's no variable left
+-- no name is of mode witness, but there is no variable left for a name that would be introduced
 abbrev pub LacksRoomForNames : {W L : Type 0} {G : Ghosts L} → Solver W L G → List ℕ → Type 0
 LacksRoomForNames s user = (has_failed s ≡ false) × AreSampled s user × (HasVariablesFor (known_names s) (users_in user) → ⊥)
 
--- Which steps a clause made: only such as may come with one, by increasing index. Once the clauses alone are known to be unsatisfiable they only
--- bring names in. No ask began.
+-- The steps of a clause: only such as may occur with one, by increasing index. Once the clauses are known to be unsatisfiable, they only
+-- introduce names. No ask began.
 pub record StepsOfClause {W L : Type 0} {G : Ghosts L} (old new : Solver W L G) (user : List ℕ) : Type 0 where
   pub comes : OnlyAllowedSteps (MayAdd (names_in user)) (steps_in old) (steps_in new)
   pub order : (answer_in old ≡ states.Unsat → ⊥) → AddsInOrder (steps_in old) (steps_in new)
@@ -101,7 +101,8 @@ pub record Added {W L : Type 0} {G : Ghosts L} (seen : W → Writer) (old new : 
   pub state : ForgetsAnswer (answer_in old) (answer_in new)
   pub steps : StepsOfClause old new user
 
--- Refusals come in this order: an earlier failure, lines of DRAT, a name of mode witness, no variable left.
+-- The result of adding a clause. Refusals are checked in this order: an earlier failure, DRAT lines, a name of mode witness, no variable
+-- left.
 abbrev pub AddsClause : {W L : Type 0} {G : Ghosts L} → (W → Writer) → Result (Unit {0}) SolverError → Solver W L G → Solver W L G → List ℕ → Type 0
 AddsClause seen (Ok x) old new user = Added seen old new user
 AddsClause seen (Err errors.WitnessVariable) old new user = Refuses old new (((has_failed old ≡ false) × IsBeforeDrat seen old) × HasWitness old user)
@@ -110,7 +111,7 @@ AddsClause seen (Err errors.VariableLimit) old new user = Refuses old new (IsBef
 AddsClause seen (Err errors.HasFailed) old new user = Refuses old new (has_failed old ≡ true)
 AddsClause seen (Err e) old new user = (IsBeforeDrat seen old × AreSampled old user) × HasVariablesFor (known_names old) (users_in user) × EndsNamesOr (HasFullStore new) seen e old new
 
--- other assumptions were taken, whatever will be answered
+-- other assumptions were accepted, whatever the ask answers
 pub record ReplacesAssumptions {W L : Type 0} {G : Ghosts L} (seen : W → Writer) (old new : Solver W L G) (user : List ℕ) : Type 0 where
   pub sampled : AreSampled old user
   pub room : HasVariablesFor (known_names old) (users_in user)
@@ -121,7 +122,7 @@ pub record ReplacesAssumptions {W L : Type 0} {G : Ghosts L} (seen : W → Write
   pub clock : schedule_in new ≡ schedule_in old
   pub state : ForgetsAnswer (answer_in old) (answer_in new)
 
--- what came of assumptions: these in place of others, or a refusal, or a fault
+-- the result of assumptions: they replace the earlier ones, or are refused, or the call fails
 abbrev pub AssumesOrRefuses : {W L : Type 0} {G : Ghosts L} → (W → Writer) → Result (Unit {0}) SolverError → Solver W L G → Solver W L G → List ℕ → Type 0
 AssumesOrRefuses seen (Ok x) old new user = ReplacesAssumptions seen old new user
 AssumesOrRefuses seen (Err errors.WitnessVariable) old new user = Refuses old new ((has_failed old ≡ false) × HasWitness old user)
@@ -132,7 +133,7 @@ AssumesOrRefuses seen (Err e) old new user = AreSampled old user × HasVariables
 
 -- INSIDE
 
--- the same without the flag of failure: what a clause leaves
+-- what a clause leaves, before the solver is marked as failed or not
 pub record AddClauseEffect {W L : Type 0} {G : Ghosts L} (seen : W → Writer) (old new : Solver W L G) (user : List ℕ) : Type 0 where
   pub whole : SolverInvariant new
   pub does : NamesEffect (known_names old) (known_names new) (steps_in old) (steps_in new) (with_added user) (due_for_clause (answer_in old) user)
@@ -147,7 +148,7 @@ pub record AddClauseEffect {W L : Type 0} {G : Ghosts L} (seen : W → Writer) (
   pub config : parameters_in new ≡ parameters_in old
   pub state : ForgetsAnswer (answer_in old) (answer_in new)
 
--- what came of a clause before that flag is set: it is in, or a call failed
+-- the result of a clause before the solver is marked: it was added, or the call failed
 abbrev pub TakesInOrBreaks : {W L : Type 0} {G : Ghosts L} → (W → Writer) → Result (Unit {0}) SolverError → Solver W L G → Solver W L G → List ℕ → Type 0
 TakesInOrBreaks seen (Ok x) old new user = AddClauseEffect seen old new user
 TakesInOrBreaks seen (Err e) old new user = BreaksNamesOff (HasFullStore new) seen e (inside old) (inside new)

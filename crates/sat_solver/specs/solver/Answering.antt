@@ -18,26 +18,27 @@ use Rattle.sat_solver.specs.declared.proof.made.CheckFault.TheVariants as checks
 use Rattle.sat_solver.specs.declared.proof.Proof.{Proof}
 use Rattle.sat_solver.specs.solver.Joined.{IsJoined, lit_over_names}
 
--- what the values of the search make of all variables of the proof
+-- the model over all variables of the proof, by the values of the search
 abbrev pub model_of : {W L : Type 0} {G : Ghosts L} → Variables → Core W L G → List ℕ
 model_of n c = model_to n c.search.parts.assignment.current (variables_used n)
 
--- and of all names
+-- the model over all names
 abbrev pub line_of_names : {W L : Type 0} {G : Ghosts L} → Variables → Core W L G → List ℕ
 line_of_names n c = named_to n c.search.parts.assignment.current (names_used n)
 
--- a call failed by what no input decides, for a full clause buffer only where it is full
+-- a call failed for a reason that the input does not determine; `FormulaTooLarge` only if the buffer is full
 pub record BreaksCall {W L : Type 0} {G : Ghosts L} (seen : W → Writer) (e : SolverError) (a b : Core W L G) : Type 0 where
   pub fault : IsFaultOr (IsFull b.search.parts) e
   pub steps : List Step
   pub went : EmitsUpToFault {A = Unit {0}} seen (Err e) steps a.proof b.proof
   pub loss : NamesLoss e a.proof b.proof
 
--- the same, and the proof keeps the cause until it is told
+-- the same, and the proof stores the underlying error until it is reported
 abbrev pub BreaksOff : {W L : Type 0} {G : Ghosts L} → (W → Writer) → SolverError → Core W L G → Core W L G → Type 0
 BreaksOff seen e a b = BreaksCall seen e a b × IsKept e b.proof
 
--- no step was made: a call of the target failed at what waited for it, or the solver's own checker at what waited for its id
+-- no step was made: a call of the target failed at pending bytes, or the solver's own checker failed at an announcement that waited for its
+-- id
 abbrev pub FlushFails : {W L : Type 0} {G : Ghosts L} → (W → Writer) → SolverError → Proof W L G → Proof W L G → Type 0
 FlushFails seen (errors.ProofIoError cause) old new = FailsToEmit seen [] old new
 FlushFails seen errors.OutOfMemory old new = FailsCheck seen checks.OutOfMemory [] old new
@@ -52,7 +53,7 @@ pub record Shown {W L : Type 0} {G : Ghosts L} (seen : W → Writer) (n : Variab
   pub search : b.search ≡ a.search
   pub config : b.config ≡ a.config
 
--- the model was written, or a call failed
+-- the model was written, or the call failed
 abbrev pub ShowsModel : {W L : Type 0} {G : Ghosts L} → (W → Writer) → Result (Unit {0}) SolverError → Variables → Core W L G → Core W L G → Type 0
 ShowsModel seen r n a b = MatchResult r (λ _. Shown seen n a b) (λ e. BreaksOff seen e a b)
 
@@ -65,6 +66,6 @@ pub record WritesFailedCore {W L : Type 0} {G : Ghosts L} (seen : W → Writer) 
   pub config : b.config ≡ a.config
   pub named : core ≡ map (lit_over_names n) b.search.analysis.core
 
--- a failed core was written, or a call failed
+-- a failed core was written, or the call failed
 abbrev pub FailsCore : {W L : Type 0} {G : Ghosts L} → (W → Writer) → Result (Unit {0}) SolverError → Variables → Core W L G → Core W L G → List ℕ → Type 0
 FailsCore seen r n a b core = MatchResult r (λ _. WritesFailedCore seen n a b core) (λ e. BreaksOff seen e a b)

@@ -1,4 +1,4 @@
--- What calls of a solver leave.
+-- What calls of a solver change.
 use Rattle.std.specs.Prelude.{ℕ, ◌+◌, ◌-◌, ◌*◌, ◌<◌, ◌≤◌, ◌≡◌, ◌^◌, Bool, true, false, List, [], ◌∷◌, map, Result, Ok, Err}
 use Rattle.sat_base.specs.device.Device.{Writer}
 use Rattle.sat_base.specs.script.Script.{names_of}
@@ -26,7 +26,7 @@ use Rattle.sat_solver.specs.solver.Found.{SearchedBy}
 use Rattle.sat_solver.specs.solver.Whole.{SolverInvariant, steps_in, line_in}
 use Rattle.sat_solver.specs.solver.View.{IsInState, OnlyProofDiffers, answer_in, assumed_in, assumptions_in, core_told, has_failed, inside, is_used, known_names, parameters_in, proof_in, rounds_in, schedule_in, target_in, used_now}
 
--- a call was carried out: what it does to the judge's state, and which steps it has made for it, whatever others come between
+-- the effect of a call: how it changes the judge's state, and which ordered steps it has made; other steps may be in between
 pub record CallEffect {W L : Type 0} {G : Ghosts L} (seen : W → Writer) (old new : Solver W L G) (judge : ScriptState → ScriptState) (due : ScriptState → List Expected) : Type 0 where
   pub whole : SolverInvariant new
   pub going : has_failed old ≡ false
@@ -35,26 +35,26 @@ pub record CallEffect {W L : Type 0} {G : Ghosts L} (seen : W → Writer) (old n
   pub config : parameters_in new ≡ parameters_in old
   pub does : NamesEffect (known_names old) (known_names new) (steps_in old) (steps_in new) judge due
   pub took : ComesBySteps seen (proof_in old) (proof_in new)
-  -- behind a step the solver's own checker, where there is one, is at the width of the target's text
+  -- after a step, the solver's own checker, if there is one, is at the width of the target's text
   pub width : (steps_in new ≡ steps_in old → ⊥) → IsAtWidth (proof_in new)
 
 -- the rounds that a call may make
 abbrev pub rounds_left : {W L : Type 0} {G : Ghosts L} → Solver W L G → ℕ
 rounds_left s = round_allowance (parameters_in s).max_steps (rounds_in s)
 
--- Rounds become more, but not by more than a call may make, and by fewer than 2^(2n+3), where the judge has given n identities out,
--- whatever its state is that names and steps agree with.
+-- more rounds were made, but no more than the call may make, and fewer than 2^(2n+3), where n is the number of identities of any judge's
+-- state that names and steps agree with
 pub record RoundsOn (n : Variables) (steps : List Step) (budget before now : ℕ) : Type 0 where
   pub more : before ≤ now
   pub within : now ≤ before + round_allowance budget before
   pub few : (j : ScriptState) (live : Live) → NamesAgree n steps j live → now < before + 2 ^ (2 * j.identity_count + 3)
 
--- the same of the rounds of a call
+-- the same for a call of a solver
 abbrev pub CountsRounds : {W L : Type 0} {G : Ghosts L} → Solver W L G → Solver W L G → Type 0
 CountsRounds old new = RoundsOn (known_names old) (steps_in old) (parameters_in old).max_steps (rounds_in old) (rounds_in new)
 
--- a call failed by what no input decides, and so does each one behind it; where an answer was known, only a flush or the solver's own
--- checker did
+-- a call failed for a reason that the input does not determine, and so does every later call; if the answer was known, only a flush or the
+-- solver's own checker failed
 pub record EndsInFailure {W L : Type 0} {G : Ghosts L} (seen : W → Writer) (e : SolverError) (old new : Solver W L G) : Type 0 where
   pub going : has_failed old ≡ false
   pub failed : has_failed new ≡ true
@@ -62,25 +62,25 @@ pub record EndsInFailure {W L : Type 0} {G : Ghosts L} (seen : W → Writer) (e 
   pub counts : CountsRounds old new
   pub known : (answer_in old ≡ states.Unknown → ⊥) → FlushFails seen e (proof_in old) (proof_in new)
 
--- a call was refused, for this reason, and changed nothing
+-- the call was refused for this reason, and changed nothing
 pub record Refuses {W L : Type 0} {G : Ghosts L} (old new : Solver W L G) (why : Type 0) : Type 0 where
   pub same : new ≡ old
   pub cause : why
 
 -- ANSWERS
 
--- what an answer has made due: one that was known makes no step
+-- the ordered steps of an answer; an answer that was known needs none
 abbrev pub due_between_states : (before now : State) → (line asked core : List ℕ) → List Expected
 due_between_states states.Unknown states.Sat line asked core = Shows (names_of (map user_literal line)) (map user_literal asked) (map user_literal line) ∷ []
 due_between_states states.Unknown states.UnsatUnderAssumptions line asked core = Fails (map user_literal asked) (map user_literal core) ∷ []
 due_between_states before now line asked core = []
 
--- the same by the solver that has answered now
+-- the same for the solver after its answer
 abbrev pub due_for_answer : {W L : Type 0} {G : Ghosts L} → State → Solver W L G → List Expected
 due_for_answer before s = due_between_states before (answer_in s) (line_in s) (assumptions_in s) (core_told s)
 
--- how many rounds were made: at least one for an answer that wasn't known, as many as there may be where there's no answer, and an
--- answer wherever 2^(2n+3) of them might be made
+-- the number of rounds made: at least one for a new answer, all that are allowed if there is no answer, and an answer whenever 2^(2n+3)
+-- rounds are allowed
 pub record Counts {W L : Type 0} {G : Ghosts L} (old new : Solver W L G) : Type 0 where
   pub on : CountsRounds old new
   pub round : answer_in old ≡ states.Unknown → (answer_in new ≡ states.Unknown → ⊥) → rounds_in old < rounds_in new
@@ -88,37 +88,37 @@ pub record Counts {W L : Type 0} {G : Ghosts L} (old new : Solver W L G) : Type 
   pub answered : (j : ScriptState) (live : Live) → IsInState old j live → 2 ^ (2 * j.identity_count + 3) ≤ rounds_left old →
       answer_in new ≡ states.Unknown → ⊥
 
--- of so many rounds of an ask those that learn a clause: all, but for the one that answers
+-- the rounds of an ask that learn a clause: all but the one that answers
 abbrev pub learned_of : State → (rounds : ℕ) → ℕ
 learned_of states.Unknown rounds = rounds
 learned_of states.Sat rounds = rounds - 1
 learned_of states.UnsatUnderAssumptions rounds = rounds - 1
 learned_of states.Unsat rounds = rounds - 1
 
--- nothing waits for an open target, whose last call was a flush
+-- nothing is pending for an open target, whose last call was a flush
 abbrev pub IsFlushed : Target → Type 0
 IsFlushed Closed = Unit {0}
 IsFlushed (Open f c s) = (s.waiting ≡ []) × (s.writer.flushed ≡ true)
 IsFlushed (Broken w) = Unit {0}
 
--- where steps are written, it's noted that an ask has begun
+-- if steps are written, it is recorded that an ask has begun
 abbrev pub NotesAsk : {W L : Type 0} {G : Ghosts L} → (W → Writer) → Proof W L G → Type 0
 NotesAsk seen p = is_open (target_of seen p) ≡ true → has_asked p ≡ true
 
--- the answer that was known is given again: nothing has changed but the target, to which what waited for it was written
+-- a known answer is given again: nothing has changed except that pending bytes were written to the target
 pub record AnswersAgain {W L : Type 0} {G : Ghosts L} (old new : Solver W L G) : Type 0 where
   pub steps : steps_in new ≡ steps_in old
   pub same : OnlyProofDiffers (used_now old) new
 
--- The rounds of an ask, by the schedule of restarts and reductions. From the first of its steps on, hashes are truncated as in an ask. Then the
--- target was flushed.
+-- The rounds of an ask, by the schedule of restarts and reductions. From its first step on, hashes may be shortened. Then the target was
+-- flushed.
 pub record MakesRounds {W L : Type 0} {G : Ghosts L} (seen : W → Writer) (old new : Solver W L G) : Type 0 where
   pub behind : Proof W L G
   pub searched : SearchedBy seen (answer_in new) (schedule_in old) (schedule_in new) (known_names old) (known_names new) (record (inside old) { proof = asking (proof_in old) }) (record (inside new) { proof = behind }) (core_told new)
   pub flushes : FlushesAndNotifies seen behind (proof_in new)
 
--- Which steps an ask made: only such as may come in one, and each round derived a clause that advances, but for the one that answered; nothing
--- else did. Names stand for the variables for which they stood.
+-- The steps of an ask: only such as may occur in one. Every round except the answering one derived a clause that advances; no other step
+-- did. Names keep their variables.
 pub record StepsOfAsk {W L : Type 0} {G : Ghosts L} (seen : W → Writer) (old new : Solver W L G) : Type 0 where
   pub comes : OnlyAllowedSteps EndsAtUnsat (steps_in old) (steps_in new)
   pub times : AdvancesIn (steps_in old) (steps_in new) (learned_of (answer_in new) (rounds_in new - rounds_in old))
@@ -126,7 +126,7 @@ pub record StepsOfAsk {W L : Type 0} {G : Ghosts L} (seen : W → Writer) (old n
   pub asked : NotesAsk seen (proof_in new)
   pub rounds : answer_in old ≡ states.Unknown → MakesRounds seen old new
 
--- An ask was looked at. Assumptions are as they were. The solver's own checker received all steps, and no announcement waits in it.
+-- An ask was made. Assumptions are unchanged. The solver's own checker received all steps, and no announcement waits in it.
 pub record Answered {W L : Type 0} {G : Ghosts L} (seen : W → Writer) (old new : Solver W L G) : Type 0 where
   pub did : CallEffect seen old new (λ j. j) (λ j. due_for_answer (answer_in old) new)
   pub assumed : assumed_in new ≡ assumed_in old
@@ -136,14 +136,14 @@ pub record Answered {W L : Type 0} {G : Ghosts L} (seen : W → Writer) (old new
   pub told : AllStepsReported (proof_in new)
   pub steps : StepsOfAsk seen old new
 
--- the answer of an ask by the state that it leaves; an unknown one is no answer
+-- the answer that a state stands for; `Unknown` stands for none
 abbrev pub is_answer : State → Bool → Type 0
 is_answer states.Unknown sat = ⊥
 is_answer states.Sat sat = sat ≡ true
 is_answer states.UnsatUnderAssumptions sat = sat ≡ false
 is_answer states.Unsat sat = sat ≡ false
 
--- what came of an ask: an answer, or rounds that are spent, or a refusal, or a fault
+-- the result of an ask: an answer, or the rounds are exhausted, or a refusal, or a failure
 abbrev pub Solves : {W L : Type 0} {G : Ghosts L} → (W → Writer) → Result Bool SolverError → Solver W L G → Solver W L G → Type 0
 Solves seen (Ok sat) old new = Answered seen old new × is_answer (answer_in new) sat
 Solves seen (Err errors.Interrupted) old new = Answered seen old new × (answer_in new ≡ states.Unknown)

@@ -27,12 +27,12 @@ pub record SetsDecays {W L : Type 0} {G : Ghosts L} (a b : Core W L G) : Type 0 
 abbrev pub at_scale : Option ℕ → Clock → Clock
 at_scale scale clock = record clock { restarts = record clock.restarts { scale = unwrap_or scale clock.restarts.scale } }
 
--- unless the search is over
+-- unless the search has ended
 abbrev pub PassesToSearch : {W L : Type 0} {G : Ghosts L} → State → Core W L G → Core W L G → Type 0
 PassesToSearch states.Unsat a b = b ≡ a
 PassesToSearch st a b = SetsDecays a b
 
--- names, steps, assumptions and what is known of an answer are as they were
+-- names, steps, assumptions and answer are unchanged
 pub record KeepsAllElse {W L : Type 0} {G : Ghosts L} (old new : Solver W L G) : Type 0 where
   pub proof : proof_in new ≡ proof_in old
   pub names : known_names new ≡ known_names old
@@ -41,18 +41,18 @@ pub record KeepsAllElse {W L : Type 0} {G : Ghosts L} (old new : Solver W L G) :
   pub told : told_in new ≡ told_in old
   pub used : is_used new ≡ is_used old
 
--- the parameters were changed, and nothing else that can be asked for
+-- the parameters were updated, and nothing else that callers can observe
 pub record Configured {W L : Type 0} {G : Ghosts L} (u : SolverConfigUpdate) (old new : Solver W L G) : Type 0 where
   pub going : has_failed old ≡ false
   pub range : in_range u ≡ true
   pub config : parameters_in new ≡ updated u (parameters_in old)
   pub same : KeepsAllElse old new
-  -- the schedule of restarts goes on, at the scale of the update
+  -- the schedule of restarts continues, at the scale of the update
   pub clock : schedule_in new ≡ at_scale u.luby_restart_interval_scale (schedule_in old)
   pub decays : PassesToSearch (answer_in old) (record (inside old) { config = updated u (parameters_in old) }) (inside new)
   pub failed : has_failed new ≡ false
 
--- what came of an update of parameters: one out of range changes none
+-- the result of an update; if a field is out of range, nothing changes
 abbrev pub Configures : {W L : Type 0} {G : Ghosts L} → Result (Unit {0}) SolverError → SolverConfigUpdate → Solver W L G → Solver W L G → Type 0
 Configures (Ok x) u old new = Configured u old new
 Configures (Err errors.HasFailed) u old new = Refuses old new (has_failed old ≡ true)

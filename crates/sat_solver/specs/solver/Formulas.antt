@@ -1,4 +1,4 @@
--- Formulas that come to a solver, clause by clause.
+-- Formulas that are added to a solver, clause by clause.
 use Rattle.std.specs.Prelude.{ℕ, ◌≡◌, ◌⊎◌, Bool, true, false, List, [], ◌∷◌, ◌++◌, Result, Ok, Err}
 use Rattle.sat_base.specs.device.Device.{Reader, Writer, GaveEnough}
 use Rattle.sat_base.specs.dimacs.Dimacs.{Clean, IsDimacs}
@@ -15,12 +15,12 @@ use Rattle.sat_solver.specs.solver.Adding.{Added, AddsClause}
 use Rattle.sat_solver.specs.solver.Calls.{Refuses}
 use Rattle.sat_solver.specs.solver.View.{has_failed}
 
--- clauses were added, each as by a call of its own
+-- clauses were added, as by one call each
 abbrev pub AddsAll : {W L : Type 0} {G : Ghosts L} → (W → Writer) → Solver W L G → List (List ℕ) → Solver W L G → Type 0
 AddsAll seen old [] new = new ≡ old
 AddsAll {W} {L} {G} seen old (c ∷ cs) new = (mid : Solver W L G) × Added seen old mid c × AddsAll seen mid cs new
 
--- the clauses before one were added, and this one was refused, or failed
+-- the clauses before one were added, and this one was refused, or the call failed
 pub record StopsAtClause {W L : Type 0} {G : Ghosts L} (seen : W → Writer) (e : SolverError) (old new : Solver W L G) (clauses : List (List ℕ)) : Type 0 where
   pub going : has_failed old ≡ false
   pub before : List (List ℕ)
@@ -31,7 +31,7 @@ pub record StopsAtClause {W L : Type 0} {G : Ghosts L} (seen : W → Writer) (e 
   pub added : AddsAll seen old before mid
   pub stops : AddsClause seen (Err e) mid new clause
 
--- what came of a formula: all of its clauses were added, or those before the one that stopped it
+-- the result of a formula: all its clauses were added, or those before the one that stopped it
 abbrev pub AddsFormula : {W L : Type 0} {G : Ghosts L} → (W → Writer) → Result (Unit {0}) SolverError → Solver W L G → Solver W L G → List (List ℕ) → Type 0
 AddsFormula seen (Ok x) old new clauses = (has_failed old ≡ false) × AddsAll seen old clauses new
 AddsFormula seen (Err errors.HasFailed) old new clauses = Refuses old new (has_failed old ≡ true)
@@ -39,7 +39,7 @@ AddsFormula seen (Err e) old new clauses = StopsAtClause seen e old new clauses
 
 -- TEXTS
 
--- the fault of a text, as a solver tells it
+-- the solver's error for an error of a text
 abbrev pub text_fault : DimacsError → SolverError
 text_fault (texts.Malformed line) = errors.Malformed
 text_fault (texts.Limit line) = errors.VariableLimit
@@ -47,7 +47,7 @@ text_fault texts.Read = errors.Read
 text_fault texts.OutOfMemory = errors.OutOfMemory
 text_fault texts.HasFailed = errors.HasFailed
 
--- for want of memory the solver has failed then
+-- whether this error is an allocation failure, after which the solver has failed
 abbrev pub is_solver_out_of_memory : DimacsError → Bool
 is_solver_out_of_memory (texts.Malformed line) = false
 is_solver_out_of_memory (texts.Limit line) = false
@@ -55,11 +55,11 @@ is_solver_out_of_memory texts.Read = false
 is_solver_out_of_memory texts.OutOfMemory = true
 is_solver_out_of_memory texts.HasFailed = false
 
--- a solver that has failed by now, or hasn't
+-- the solver, marked as failed or not
 abbrev pub with_failed : {W L : Type 0} {G : Ghosts L} → Bool → Solver W L G → Solver W L G
 with_failed b s = record s { failed = b }
 
--- the text is at fault, or a read of it failed: the clauses before were added
+-- the text is malformed, or a read failed: the clauses before were added
 pub record TextFails {W L : Type 0} {G : Ghosts L} (seen : W → Writer) (e : SolverError) (old new : Solver W L G) (from to : Reader) : Type 0 where
   pub going : has_failed old ≡ false
   pub fault : DimacsError
@@ -70,14 +70,14 @@ pub record TextFails {W L : Type 0} {G : Ghosts L} (seen : W → Writer) (e : So
   pub added : AddsAll seen old clauses mid
   pub new_is : new ≡ with_failed (is_solver_out_of_memory fault) mid
 
--- one of the clauses that were read by then was refused, or failed
+-- one of the clauses read so far was refused, or the call failed
 pub record ClauseFails {W L : Type 0} {G : Ghosts L} (seen : W → Writer) (e : SolverError) (old new : Solver W L G) (from to : Reader) : Type 0 where
   pub quiet : NoReadFailed from to
   pub clauses : List (List ℕ)
   pub read : GaveEnough from to (λ text. AreRead text clauses)
   pub stops : StopsAtClause seen e old new clauses
 
--- all clauses of a text without a fault were added
+-- all clauses of a well-formed text were added
 pub record TextAdded {W L : Type 0} {G : Ghosts L} (seen : W → Writer) (old new : Solver W L G) (from to : Reader) : Type 0 where
   pub going : has_failed old ≡ false
   pub quiet : NoReadFailed from to
@@ -85,7 +85,7 @@ pub record TextAdded {W L : Type 0} {G : Ghosts L} (seen : W → Writer) (old ne
   pub read : GaveEnough from to (λ text. IsDimacs text clauses Clean)
   pub added : AddsAll seen old clauses new
 
--- what came of a text: all of its clauses were added, or those before a fault of it or of one of them
+-- the result of a text: all its clauses were added, or those before an error of the text or of a clause
 abbrev pub AddsText : {W L : Type 0} {G : Ghosts L} → (W → Writer) → Result (Unit {0}) SolverError → Solver W L G → Solver W L G → Reader → Reader → Type 0
 AddsText seen (Ok x) old new from to = TextAdded seen old new from to
 AddsText seen (Err errors.HasFailed) old new from to = Refuses old new (has_failed old ≡ true) × (to ≡ from)
@@ -93,7 +93,7 @@ AddsText seen (Err e) old new from to = TextFails seen e old new from to ⊎ Cla
 
 -- INSIDE
 
--- the clauses that waited were added, and the parser's answer passed on
+-- the completed clauses were added, and the parser's answer is returned
 pub record ReadStops {W L : Type 0} {G : Ghosts L} (seen : W → Writer) (e : SolverError) (answer : Result (Unit {0}) DimacsError) (old new : Solver W L G) (clauses : List (List ℕ)) : Type 0 where
   pub fault : DimacsError
   pub answered : answer ≡ Err fault
@@ -102,11 +102,11 @@ pub record ReadStops {W L : Type 0} {G : Ghosts L} (seen : W → Writer) (e : So
   pub added : AddsAll seen old clauses mid
   pub new_is : new ≡ with_failed (is_solver_out_of_memory fault) mid
 
--- what came of clauses that waited: all were added and the parser told no fault, or something stopped it
+-- the result of adding completed clauses: all were added and the parser reported no error, or something stopped it
 abbrev pub AnswersFormulaRead : {W L : Type 0} {G : Ghosts L} → (W → Writer) → Result (Unit {0}) SolverError → Result (Unit {0}) DimacsError → Solver W L G → Solver W L G → List (List ℕ) → Type 0
 AnswersFormulaRead seen (Ok x) answer old new clauses = (answer ≡ Ok tt) × AddsAll seen old clauses new
 AnswersFormulaRead seen (Err e) answer old new clauses = ReadStops seen e answer old new clauses ⊎ StopsAtClause seen e old new clauses
 
--- the same of the clauses that the parser has read and not handed over
+-- the same for the clauses that the parser has read and not yet passed on
 abbrev pub AddsFormulaRead : {W L : Type 0} {G : Ghosts L} → (W → Writer) → Result (Unit {0}) SolverError → Result (Unit {0}) DimacsError → Progress → Solver W L G → Solver W L G → Type 0
 AddsFormulaRead seen result answer parser old new = (clauses : List (List ℕ)) × (clauses_read parser ≡ parser.taken ++ clauses) × AnswersFormulaRead seen result answer old new clauses

@@ -1,4 +1,4 @@
--- What the target of a solver took, whatever call of the solver failed since it was opened.
+-- What the target of a solver has received since it was opened, whichever call of the solver failed.
 use Rattle.std.specs.Prelude.{ℕ, ◌≡◌, Bool, false, Option, Some, None, List, Result, Ok, Err}
 use Rattle.sat_base.specs.device.Device.{Reader, Writer}
 use Rattle.sat_base.specs.device.Sink.{empty_sink}
@@ -22,11 +22,11 @@ use Rattle.sat_solver.specs.declared.error.SolverError.{SolverError}
 use Rattle.sat_solver.specs.declared.proof.format.ProofFormat.{ProofFormat}
 use Rattle.sat_solver.specs.declared.solver.Solver.{Solver}
 
--- the solver came from there by steps, whether or not a call failed
+-- the solver made steps, and a call may have failed
 abbrev pub ReachesBySteps : {W L : Type 0} {G : Ghosts L} → (W → Writer) → Solver W L G → Solver W L G → Type 0
 ReachesBySteps seen old new = GoesOnFrom seen (proof_in old) (proof_in new)
 
--- Each call goes on so, whatever it answers, but for one that opens a proof, or hands the target back.
+-- every call, whatever it answers, preserves this, except those that open a proof or return the target
 pub record CallsGoOn {W L : Type 0} {G : Ghosts L} (seen : W → Writer) (old new : Solver W L G) : Type 0 where
   pub adds : (r : Result (Unit {0}) SolverError) (user : List ℕ) → AddsClause seen r old new user → ReachesBySteps seen old new
   pub assumes : (r : Result (Unit {0}) SolverError) (user : List ℕ) → AssumesOrRefuses seen r old new user → ReachesBySteps seen old new
@@ -45,13 +45,13 @@ pub record CallsGoOn {W L : Type 0} {G : Ghosts L} (seen : W → Writer) (old ne
   pub closes_none : ClosesProof seen (Ok None) old new → ReachesBySteps seen old new
   pub closing_fails : (e : SolverError) → ClosesProof seen (Err e) old new → ReachesBySteps seen old new
 
--- What it hands back, where a proof was opened before any step but ends of proofs and it has come from there, also to a fault: it has taken a
--- front of the text of accepted steps.
+-- if a proof was opened before any step other than ends of proofs, and the solver has made steps since, possibly with a failure, the target
+-- that it returns has received a prefix of the text of accepted steps
 abbrev pub HandsFront : {W L : Type 0} {G : Ghosts L} → (W → Writer) → Option W → Solver W L G → Type 0
 HandsFront {W} {L} {G} seen handed s = (opened : Solver W L G) (f : ProofFormat) (from : Writer) (given : W) → handed ≡ Some given
     → target_in seen opened ≡ Open f nothing_counted (empty_sink from) → has_begun (steps_in opened) ≡ false → ReachesBySteps seen opened s
     → ∥ FrontSince f from (seen given) (steps_in opened) (steps_in s) ∥₁
 
--- Where no call of it failed, and the last was a flush, it has taken the whole text.
+-- a target whose calls all succeeded, and whose last call was a flush, has received the complete text
 abbrev pub FlushedIsText : Type 0
 FlushedIsText = (f : ProofFormat) (from given : Writer) (steps : List Step) (now : Target) → TargetTakes (Open f nothing_counted (empty_sink from)) steps now → IsFlushed now → GivesWriter now (Some given) → TookText f from given steps

@@ -1,4 +1,4 @@
--- Names, and a search that goes on.
+-- Names, and a search in progress.
 use Rattle.std.specs.Prelude.{ℕ, ◌≡◌, Option, None, Some, List}
 use Rattle.sat_base.specs.values.Literals.{variable, is_positive, coded}
 use Rattle.sat_checker.specs.declared.processing.ProofProcessor.{Ghosts}
@@ -12,13 +12,13 @@ use Rattle.sat_solver.specs.declared.variables.Variables.{Variables}
 use Rattle.sat_solver.specs.declared.load.literals.Taken.{Taken}
 use Rattle.sat_solver.specs.declared.context.Core.{Core}
 
--- names and search stand, over the same indices
+-- the invariants of names and search hold, over the same indices
 pub record IsJoined {W L : Type 0} {G : Ghosts L} (n : Variables) (c : Core W L G) : Type 0 where
   pub sound : CoreInvariant c
   pub stands : NamesInvariant n (steps_of c.proof)
   pub shares : SharesIndices n c.search
 
--- names that stand with the one stand with the other
+-- names that match the one match the other
 abbrev pub KeepsJoined : {W L : Type 0} {G : Ghosts L} → Core W L G → Core W L G → Type 0
 KeepsJoined b c = (n : Variables) → IsJoined n b → IsJoined n c
 
@@ -29,16 +29,16 @@ pub record AreNamedAssumptions {W L : Type 0} {G : Ghosts L} (n : Variables) (c 
   pub spelt : GlobalImages n user t.globals.items
   pub globals : t.globals.items ≡ (session_of c.proof).assumed
 
--- a literal over this name, with the sign of that one; without a name it stays as it is
+-- a literal over this name, with the sign of that literal; unchanged if there is no name
 abbrev pub named_by : Option ℕ → ℕ → ℕ
 named_by None l = l
 named_by (Some u) l = coded u (is_positive l)
 
--- the name of a variable, if there is one and it has a name
+-- the name of a variable, or `None`
 abbrev pub user_by : Variables → Option ℕ → Option ℕ
 user_by n None = None
 user_by n (Some v) = user_of n v
 
--- the literal over names for one of the search
+-- the literal over names for a literal of the search
 abbrev pub lit_over_names : Variables → ℕ → ℕ
 lit_over_names n l = named_by (user_by n (global_at n (variable l))) l

@@ -1,4 +1,4 @@
--- Names of a solver that come in, are hidden, or change their mode.
+-- Names of a solver that are introduced or hidden, or change their mode.
 use Rattle.std.specs.Prelude.{ℕ, ◌+◌, ◌≡◌, ◌==◌, ◌||◌, not, length, Bool, true, false, Option, None, Some, List, [], ◌∷◌, map, Result, Ok, Err}
 use Rattle.sat_base.specs.device.Device.{Writer}
 use Rattle.sat_base.specs.values.Literals.{variable}
@@ -25,28 +25,27 @@ use Rattle.sat_solver.specs.solver.Calls.{CallEffect, Refuses}
 use Rattle.sat_solver.specs.solver.Whole.{SolverInvariant, steps_in}
 use Rattle.sat_solver.specs.solver.View.{IsInState, answer_in, assumed_in, assumptions_in, has_failed, is_used, known_names, parameters_in, proof_in, schedule_in, told_in}
 
--- the name is one of those assumed
+-- an assumption has the name
 abbrev pub IsAsked : {W L : Type 0} {G : Ghosts L} → Solver W L G → ℕ → Type 0
 IsAsked s user = (l : ℕ) × Among l (assumptions_in s) × (variable l ≡ user)
 
--- the value of a variable of the proof by the values of the search, if there is one
+-- the value of a proof variable by the values of the search, or `None`
 abbrev pub variable_value : {W L : Type 0} {G : Ghosts L} → Solver W L G → Option ℕ → Option Bool
 variable_value s None = None
 variable_value s (Some v) = Some (value_in s.names s.core.search.parts.assignment.current v)
 
--- the value of a name by the values of the search, if it is in use
+-- the value of a name by the values of the search, or `None` if it is not in use
 abbrev pub name_value : {W L : Type 0} {G : Ghosts L} → Solver W L G → ℕ → Option Bool
 name_value s user = variable_value s (global_of s.names user)
 
--- what came in is false, and what was there has the value that it had
+-- a new name is false, and an earlier one keeps its value
 abbrev pub IsKeptOrFalse : Option Bool → Option Bool → Type 0
 IsKeptOrFalse None None = Unit {0}
 IsKeptOrFalse (Some a) None = Unit {0}
 IsKeptOrFalse None (Some b) = b ≡ false
 IsKeptOrFalse (Some a) (Some b) = b ≡ a
 
--- a call over names was carried out, by steps that may come in it, and what is known of an answer stands: in a model, names that came in
--- are false
+-- a call over names was carried out, by steps that may occur in it, and the answer is unchanged: in a model, new names are false
 pub record Renamed {W L : Type 0} {G : Ghosts L} (seen : W → Writer) (old new : Solver W L G) (judge : ScriptState → ScriptState) (due : ScriptState → List Expected) (May : List Step → Step → Type 0) : Type 0 where
   pub did : CallEffect seen old new judge due
   pub comes : OnlyAllowedSteps May (steps_in old) (steps_in new)
@@ -57,7 +56,7 @@ pub record Renamed {W L : Type 0} {G : Ghosts L} (seen : W → Writer) (old new 
   pub state : answer_in new ≡ answer_in old
   pub values : (user : ℕ) → IsKeptOrFalse (name_value old user) (name_value new user)
 
--- what came of a call that changes the mode of a name, or hides it; which steps it may make
+-- the result of a call that changes the mode of a name, or hides it, and the steps that it may make
 abbrev pub ChangesMode : {W L : Type 0} {G : Ghosts L} → (W → Writer) → Result (Unit {0}) SolverError → Solver W L G → Solver W L G → ℕ → (ScriptState → ScriptState) → (ScriptState → List Expected) → (List Step → Step → Type 0) → Type 0
 ChangesMode seen (Ok x) old new user judge due May = (IsAsked old user → ⊥) × Renamed seen old new judge due May × HasVariablesFor (known_names old) (user ∷ [])
 ChangesMode seen (Err errors.AssumedVariable) old new user judge due May = Refuses old new ((has_failed old ≡ false) × IsAsked old user)
@@ -65,40 +64,40 @@ ChangesMode seen (Err errors.VariableLimit) old new user judge due May = Refuses
 ChangesMode seen (Err errors.HasFailed) old new user judge due May = Refuses old new (has_failed old ≡ true)
 ChangesMode seen (Err e) old new user judge due May = (IsAsked old user → ⊥) × HasVariablesFor (known_names old) (user ∷ []) × EndsNames seen e old new
 
--- so of hiding a name, which the judge counts from 1
+-- the result of hiding a name; the judge counts names from 1
 abbrev pub Hides : {W L : Type 0} {G : Ghosts L} → (W → Writer) → Result (Unit {0}) SolverError → Solver W L G → Solver W L G → ℕ → Type 0
 Hides seen r old new user = ChangesMode seen r old new user (accepted (Hide ((user + 1) ∷ []))) (hiding ((user + 1) ∷ [])) MayHide
 
--- so of setting it to mode witness
+-- the result of setting a name to mode witness
 abbrev pub Witnesses : {W L : Type 0} {G : Ghosts L} → (W → Writer) → Result (Unit {0}) SolverError → Solver W L G → Solver W L G → ℕ → Type 0
 Witnesses seen r old new user = ChangesMode seen r old new user (accepted (Witness ((user + 1) ∷ []))) (setting Witnessed ((user + 1) ∷ [])) (MaySet (user + 1) false)
 
--- so of setting it to mode sample
+-- the result of setting a name to mode sample
 abbrev pub Samples : {W L : Type 0} {G : Ghosts L} → (W → Writer) → Result (Unit {0}) SolverError → Solver W L G → Solver W L G → ℕ → Type 0
 Samples seen r old new user = ChangesMode seen r old new user (accepted (Sample ((user + 1) ∷ []))) (setting Sampled ((user + 1) ∷ [])) (MaySet (user + 1) true)
 
--- the name comes next, whatever the judge's state is that names and steps agree with
+-- the name is next, for any judge's state that names and steps agree with
 abbrev pub IsNextName : {W L : Type 0} {G : Ghosts L} → Solver W L G → ℕ → Type 0
 IsNextName s name = (j : ScriptState) (live : Live) → IsInState s j live → IsLowestUnused j name
 
--- why a call for a new name failed: `VariableLimit` comes exactly where every variable of the proof is in use
+-- why a call for a new name failed: `VariableLimit` exactly if every variable of the proof is in use
 abbrev pub NewFails : {W L : Type 0} {G : Ghosts L} → (W → Writer) → SolverError → Solver W L G → Solver W L G → Type 0
 NewFails seen errors.HasFailed old new = Refuses old new (has_failed old ≡ true)
 NewFails seen errors.VariableLimit old new = Refuses old new ((has_failed old ≡ false) × NoneLeft (known_names old))
 NewFails seen e old new = (NoneLeft (known_names old) → ⊥) × EndsNames seen e old new
 
--- why names for hidden variables weren't given: none of them lacks a variable
+-- why hidden variables were not given names; it is never `VariableLimit`
 abbrev pub NamesFail : {W L : Type 0} {G : Ghosts L} → (W → Writer) → SolverError → Solver W L G → Solver W L G → Type 0
 NamesFail seen errors.HasFailed old new = Refuses old new (has_failed old ≡ true)
 NamesFail seen errors.VariableLimit old new = ⊥
 NamesFail seen e old new = EndsNames seen e old new
 
--- what came of a call for a new name
+-- the result of a call for a new name
 abbrev pub NamesNew : {W L : Type 0} {G : Ghosts L} → (W → Writer) → Result ℕ SolverError → Solver W L G → Solver W L G → Type 0
 NamesNew seen (Ok user) old new = IsNextName old (user + 1) × Renamed seen old new (bring_in (user + 1)) (λ j. map NewName (new_names (user + 1) j)) IsDue
 NamesNew seen (Err e) old new = NewFails seen e old new
 
--- what a call over names leaves as it was: parameters, assumptions, what is known of an answer, and the schedule; no ask began
+-- what a call over names leaves unchanged: parameters, assumptions, the answer, and the schedule; no ask began
 pub record KeepsRest {W L : Type 0} {G : Ghosts L} (old new : Solver W L G) : Type 0 where
   pub config : parameters_in new ≡ parameters_in old
   pub asked : has_asked (proof_in new) ≡ has_asked (proof_in old)
@@ -107,14 +106,14 @@ pub record KeepsRest {W L : Type 0} {G : Ghosts L} (old new : Solver W L G) : Ty
   pub clock : schedule_in new ≡ schedule_in old
   pub state : answer_in new ≡ answer_in old
 
--- which steps it made, and what holds after them
+-- the steps that it made, and what holds after them
 pub record StepsOfNames {W L : Type 0} {G : Ghosts L} (seen : W → Writer) (old new : Solver W L G) : Type 0 where
   pub whole : SolverInvariant new
   pub took : ComesBySteps seen (proof_in old) (proof_in new)
   pub width : (steps_in new ≡ steps_in old → ⊥) → IsAtWidth (proof_in new)
 
--- Each hidden variable that is kept got the next name and mode witness, by increasing variable, and what is known of an answer stands.
--- Where there is none, a proof may still be opened.
+-- Every hidden variable got the next name and mode witness, by increasing variable; the answer is unchanged. If there is none, a proof may
+-- still be opened.
 pub record Observed {W L : Type 0} {G : Ghosts L} (seen : W → Writer) (old new : Solver W L G) (users : List ℕ) : Type 0 where
   pub going : has_failed old ≡ false
   pub failed : has_failed new ≡ false

@@ -16,29 +16,29 @@ use Rattle.sat_solver.specs.variables.Variables.{global_at, indices_used}
 use Rattle.sat_solver.specs.solver.View.{answer_in, has_failed}
 use Rattle.sat_solver.specs.solver.Whole.{IsSolver}
 
--- a variable has this index, and no value
+-- whether a variable has this index, and no value
 abbrev pub is_open_at : Variables → List (Option Bool) → ℕ → Bool
 is_open_at n values x = is_some (global_at n x) && (nat_lt x (length values) && not (is_some (value_of values x)))
 
--- how many variables of the search have no value
+-- the number of search variables without a value
 abbrev pub open_vars : Variables → List (Option Bool) → ℕ
 open_vars n values = count_to (indices_used n) (is_open_at n values)
 
--- the same of a solver
+-- the same for a solver
 abbrev pub open_in : {W L : Type 0} {G : Ghosts L} → Solver W L G → ℕ
 open_in s = open_vars s.names s.core.search.parts.assignment.current
 
--- no call failed, and the clauses aren't known to be unsatisfiable
+-- no call failed, and the clauses are not known to be unsatisfiable
 pub record GoesOnIn {W L : Type 0} {G : Ghosts L} (s : Solver W L G) : Type 0 where
   pub solver : IsSolver s
   pub going : has_failed s ≡ false
   pub left : answer_in s ≡ states.Unsat → ⊥
 
--- how many long clauses of a tier weren't deleted
+-- the number of long clauses of a tier that were not deleted
 abbrev pub live_count_of_tier : Parts → Tier → ℕ
 live_count_of_tier p tier = count_by (is_live_of p.clauses tier) p.db.refs
 
--- clauses as the search has them: one of two literals is two implications
+-- the clauses of the search, counted; a binary clause is two implications
 pub record CountsClauses (r : Progress) (p : Parts) : Type 0 where
   pub binary : r.binary ≡ implications p.binary.implied / 2
   pub irred : r.irred ≡ live_count_of_tier p tiers.Irred
@@ -46,6 +46,6 @@ pub record CountsClauses (r : Progress) (p : Parts) : Type 0 where
   pub mid : r.mid ≡ live_count_of_tier p tiers.Mid
   pub local : r.local ≡ live_count_of_tier p tiers.Local
 
--- the same of a solver
+-- the same for a solver
 abbrev pub CountsClausesIn : {W L : Type 0} {G : Ghosts L} → Progress → Solver W L G → Type 0
 CountsClausesIn r s = CountsClauses r s.core.search.parts

@@ -1,4 +1,4 @@
--- The proof of a solver, opened and closed.
+-- Opening and closing the proof of a solver.
 use Rattle.std.specs.Prelude.{◌≡◌, ◌⊎◌, true, false, Option, None, Some, List, [], ◌∷◌, ◌++◌, Result, Ok, Err}
 use Rattle.sat_base.specs.device.Device.{Writer}
 use Rattle.sat_base.specs.device.Sink.{empty_sink}
@@ -24,7 +24,7 @@ use Rattle.sat_solver.specs.solver.Calls.{Refuses}
 use Rattle.sat_solver.specs.solver.Whole.{SolverInvariant, steps_in}
 use Rattle.sat_solver.specs.solver.View.{OnlyProofDiffers, answer_in, has_failed, is_used, known_names, proof_in, schedule_in, target_in}
 
--- the solver's own checker is as it was, if there is one
+-- the solver's own checker, if there is one, is unchanged
 pub record KeepsChecker {W L : Type 0} {G : Ghosts L} (old new : Solver W L G) : Type 0 where
   pub listening : audience (proof_in new) ≡ audience (proof_in old)
   pub taking : is_lost (proof_in new) ≡ is_lost (proof_in old)
@@ -40,14 +40,14 @@ pub record Opened {W L : Type 0} {G : Ghosts L} (seen : W → Writer) (format : 
   pub target_is : target_in seen new ≡ Open format nothing_counted (empty_sink (seen target))
   pub same : OnlyProofDiffers old new
 
--- what came of opening a proof: only a solver that wasn't used, with no proof open, takes a target
+-- the result of opening a proof: only an unused solver without an open proof accepts a target
 abbrev pub OpensProof : {W L : Type 0} {G : Ghosts L} → (W → Writer) → Result (Unit {0}) SolverError → ProofFormat → W → Solver W L G → Solver W L G → Type 0
 OpensProof seen (Ok x) format target old new = Opened seen format target old new
 OpensProof seen (Err errors.HasFailed) format target old new = Refuses old new (has_failed old ≡ true)
 OpensProof seen (Err errors.TooLate) format target old new = Refuses old new ((has_failed old ≡ false) × ((is_used old ≡ true) ⊎ (is_open (target_in seen old) ≡ true)))
 OpensProof seen (Err e) format target old new = ⊥
 
--- the solver has a checker of its own, before any step but ends of proofs
+-- the solver has a checker of its own, before any step other than ends of proofs
 pub record StartsChecking {W L : Type 0} {G : Ghosts L} (seen : W → Writer) (old new : Solver W L G) : Type 0 where
   pub going : has_failed old ≡ false
   pub first : is_used old ≡ false
@@ -57,20 +57,20 @@ pub record StartsChecking {W L : Type 0} {G : Ghosts L} (seen : W → Writer) (o
   pub asked : has_asked (proof_in new) ≡ has_asked (proof_in old)
   pub same : OnlyProofDiffers old new
 
--- what came of asking for a checker of the solver's own: it begins, or it's too late for one
+-- the result of asking for a checker: it starts, or it is too late for one
 abbrev pub Enables : {W L : Type 0} {G : Ghosts L} → (W → Writer) → Result (Unit {0}) SolverError → Solver W L G → Solver W L G → Type 0
 Enables seen (Ok x) old new = StartsChecking seen old new
 Enables seen (Err errors.HasFailed) old new = Refuses old new (has_failed old ≡ true)
 Enables seen (Err errors.TooLate) old new = Refuses old new ((has_failed old ≡ false) × ((is_used old ≡ true) ⊎ (has_begun (steps_in old) ≡ true)))
 Enables seen (Err e) old new = ⊥
 
--- these listen, after those who did; a checker that lacked a step is restarted
+-- these listeners are added after the earlier ones; a checker that missed a step is restarted
 pub record ListensBehind {W L : Type 0} {G : Ghosts L} (more : List L) (old new : Solver W L G) : Type 0 where
   pub before : List L
   pub listed : ListedAnew (proof_in old) before
   pub listening : audience (proof_in new) ≡ Some (before ++ more)
 
--- a processor listens to the solver's own checker, behind those who did, before any step but ends of proofs
+-- a listener is added to the solver's own checker, after the earlier ones, before any step other than ends of proofs
 pub record GainsListener {W L : Type 0} {G : Ghosts L} (seen : W → Writer) (processor : L) (old new : Solver W L G) : Type 0 where
   pub going : has_failed old ≡ false
   pub first : is_used old ≡ false
@@ -81,7 +81,7 @@ pub record GainsListener {W L : Type 0} {G : Ghosts L} (seen : W → Writer) (pr
   pub asked : has_asked (proof_in new) ≡ has_asked (proof_in old)
   pub same : OnlyProofDiffers old new
 
--- no memory was left for it
+-- memory ran out
 pub record Unheard {W L : Type 0} {G : Ghosts L} (seen : W → Writer) (old new : Solver W L G) : Type 0 where
   pub going : has_failed old ≡ false
   pub first : is_used old ≡ false
@@ -92,7 +92,7 @@ pub record Unheard {W L : Type 0} {G : Ghosts L} (seen : W → Writer) (old new 
   pub listens : ListensBehind [] old new
   pub clock : schedule_in new ≡ schedule_in old
 
--- what came of adding a processor: it listens, or came too late, or no memory was left for it
+-- the result of adding a listener: it was added, or it is too late, or memory ran out
 abbrev pub AddsProcessor : {W L : Type 0} {G : Ghosts L} → (W → Writer) → Result (Unit {0}) SolverError → L → Solver W L G → Solver W L G → Type 0
 AddsProcessor seen (Ok x) processor old new = GainsListener seen processor old new
 AddsProcessor seen (Err errors.HasFailed) processor old new = Refuses old new (has_failed old ≡ true)
@@ -100,20 +100,20 @@ AddsProcessor seen (Err errors.TooLate) processor old new = Refuses old new ((ha
 AddsProcessor seen (Err errors.OutOfMemory) processor old new = Unheard seen old new
 AddsProcessor seen (Err e) processor old new = ⊥
 
--- the target came back, with the last step; the solver's own checker was given all steps, and has told what waited
+-- the target is returned, with the last step; the solver's own checker has received all steps, and has announced what waited
 pub record ClosedOne {W L : Type 0} {G : Ghosts L} (seen : W → Writer) (given : W) (old new : Solver W L G) : Type 0 where
   pub going : has_failed old ≡ false
   pub whole : SolverInvariant new
   pub does : NamesEffect (known_names old) (known_names new) (steps_in old) (steps_in new) (λ j. j) (λ j. Finish ∷ [])
   pub closes : ClosesOne seen given (proof_in old) (proof_in new)
-  -- since it was opened, before any step but ends of proofs, it took the text of steps that a checker accepts
+  -- a target that was opened before any step other than ends of proofs has received the text of steps that a checker accepts
   pub certificate : (f : ProofFormat) (from : Writer) (before : List Step) → has_begun before ≡ false → WroteSince seen f from before (proof_in old) → TookAcceptedSteps f from (seen given) before (steps_in new)
-  -- the lines of DRAT that the steps give are a derivation, and refute the added clauses where these are known to be unsatisfiable
+  -- the DRAT lines of the steps are a derivation, and refute the added clauses if these are known to be unsatisfiable
   pub derives : IsDratDerivation (steps_in new)
   pub refutes : answer_in old ≡ states.Unsat → RefutesByUnits (present (steps_in new)) []
   pub same : OnlyProofDiffers old new
 
--- none was open
+-- no target was open
 pub record ClosedNone {W L : Type 0} {G : Ghosts L} (seen : W → Writer) (old new : Solver W L G) : Type 0 where
   pub going : has_failed old ≡ false
   pub closes : ClosesNone seen (proof_in old) (proof_in new)
@@ -126,7 +126,7 @@ pub record ClosedBroken {W L : Type 0} {G : Ghosts L} (seen : W → Writer) (old
   pub fails : FailsToEmit seen (End ∷ []) (proof_in old) (proof_in new)
   pub clock : schedule_in new ≡ schedule_in old
 
--- no memory was left, and nothing was made; or it was wanted by the solver's own checker behind the last step
+-- memory ran out, and no step was made; or the solver's own checker ran out of memory after the last step
 pub record ClosedStarved {W L : Type 0} {G : Ghosts L} (seen : W → Writer) (old new : Solver W L G) : Type 0 where
   pub going : has_failed old ≡ false
   pub failed : has_failed new ≡ true
@@ -134,14 +134,14 @@ pub record ClosedStarved {W L : Type 0} {G : Ghosts L} (seen : W → Writer) (ol
   pub loss : NamesLoss errors.OutOfMemory (proof_in old) (proof_in new)
   pub clock : schedule_in new ≡ schedule_in old
 
--- the solver's own checker failed behind the last step
+-- the solver's own checker failed after the last step
 pub record ClosedUnchecked {W L : Type 0} {G : Ghosts L} (seen : W → Writer) (fault : CheckFault) (old new : Solver W L G) : Type 0 where
   pub going : has_failed old ≡ false
   pub failed : has_failed new ≡ true
   pub fails : FailsCheck seen fault (End ∷ []) (proof_in old) (proof_in new)
   pub clock : schedule_in new ≡ schedule_in old
 
--- what came of closing a proof: the target came back, or none was open, or something failed
+-- the result of closing a proof: the target is returned, or none was open, or something failed
 abbrev pub ClosesProof : {W L : Type 0} {G : Ghosts L} → (W → Writer) → Result (Option W) SolverError → Solver W L G → Solver W L G → Type 0
 ClosesProof seen (Ok None) old new = ClosedNone seen old new
 ClosesProof seen (Ok (Some given)) old new = ClosedOne seen given old new

@@ -1,4 +1,4 @@
--- What answers rest on.
+-- What answers are based on.
 use Rattle.std.specs.Prelude.{ℕ, ◌≡◌, ◌⊎◌, true, false, List, [], map}
 use Rattle.sat_base.specs.script.ScriptState.{ScriptState, IsRightModel}
 use Rattle.sat_checker.specs.declared.processing.ProofProcessor.{Ghosts}
@@ -14,19 +14,19 @@ use Rattle.sat_solver.specs.solver.Lines.{IsCoreOf}
 use Rattle.sat_solver.specs.solver.Whole.{IsSolver, steps_in, asked_in, line_in}
 use Rattle.sat_solver.specs.solver.View.{IsInState, answer_in, core_told, has_failed, known_names}
 
--- some state of the judge is what names and steps say
+-- names and steps match some state of the judge
 abbrev pub MatchesSomeState : {W L : Type 0} {G : Ghosts L} → Solver W L G → Type 0
 MatchesSomeState s = HasScriptState (known_names s) (steps_in s)
 
--- so it is where a call may be made and none failed
+-- the same for a solver that may be called and has not failed
 abbrev pub SolverMatchesSomeState : {W L : Type 0} {G : Ghosts L} → Solver W L G → Type 0
 SolverMatchesSomeState s = IsSolver s → has_failed s ≡ false → MatchesSomeState s
 
--- right for the assumptions, whatever the judge's state is that names and steps agree with
+-- a right line for the assumptions, for any judge's state that names and steps agree with
 abbrev pub IsRightLine : {W L : Type 0} {G : Ghosts L} → Solver W L G → List ℕ → Type 0
 IsRightLine s line = (j : ScriptState) (live : Live) → IsInState s j live → IsRightModel j (asked_in s) (map user_literal line)
 
--- the same of a failed core, in whatever order
+-- the same for a failed core, in any order
 abbrev pub IsRightCoreOf : {W L : Type 0} {G : Ghosts L} → Solver W L G → List ℕ → Type 0
 IsRightCoreOf s core = (j : ScriptState) (live : Live) → IsInState s j live → IsCoreOf j (asked_in s) (map user_literal core)
 
@@ -37,24 +37,24 @@ pub record IsModel {W L : Type 0} {G : Ghosts L} (s : Solver W L G) (line : List
   pub line_is : line ≡ line_in s
   pub right : IsRightLine s line
 
--- there's none
+-- there is no model
 abbrev pub HasNone : {W L : Type 0} {G : Ghosts L} → Solver W L G → Type 0
 HasNone s = (has_failed s ≡ false) × (answer_in s ≡ states.Sat → ⊥)
 
--- why no model is given
+-- why no model is returned
 abbrev pub ModelFails : {W L : Type 0} {G : Ghosts L} → SolverError → Solver W L G → Type 0
 ModelFails errors.HasFailed s = has_failed s ≡ true
 ModelFails errors.OutOfMemory s = (has_failed s ≡ false) × (answer_in s ≡ states.Sat)
 ModelFails e s = ⊥
 
--- the state is that nothing satisfies the clauses, or the clauses and the assumptions
+-- the state says that nothing satisfies the clauses, or the clauses and the assumptions
 abbrev pub is_unsat : State → Type 0
 is_unsat states.Unknown = ⊥
 is_unsat states.Sat = ⊥
 is_unsat states.UnsatUnderAssumptions = Unit {0}
 is_unsat states.Unsat = Unit {0}
 
--- the failed core where the state is this one: what was told for an ask that failed under its assumptions, else the empty list
+-- the failed core in this state: the reported one of an ask that failed under its assumptions, otherwise the empty list
 abbrev pub core_for : {W L : Type 0} {G : Ghosts L} → State → Solver W L G → List ℕ
 core_for states.UnsatUnderAssumptions s = (core_told s)
 core_for st s = []
@@ -66,6 +66,6 @@ pub record IsCore {W L : Type 0} {G : Ghosts L} (s : Solver W L G) (core : List 
   pub core_is : core ≡ core_for (answer_in s) s
   pub right : IsRightCoreOf s core
 
--- there's none
+-- there is no failed core
 abbrev pub HasNoCore : {W L : Type 0} {G : Ghosts L} → Solver W L G → Type 0
 HasNoCore s = (has_failed s ≡ true) ⊎ (is_unsat (answer_in s) → ⊥)

@@ -1,4 +1,4 @@
--- A clause, or assumptions, over names: taken by names, search and proof.
+-- A clause, or assumptions, over names: how names, search and proof change.
 use Rattle.std.specs.Prelude.{ℕ, ◌≡◌, ◌⊎◌, Bool, true, false, List, [], ◌∷◌, ◌++◌, map, MatchResult, Result, Err}
 use Rattle.sat_base.specs.device.Device.{Writer}
 use Rattle.sat_base.specs.script.ScriptState.{bring_all, with_clause}
@@ -24,16 +24,16 @@ use Rattle.sat_solver.specs.declared.load.literals.Taken.{Taken}
 use Rattle.sat_solver.specs.declared.context.Core.{Core}
 use Rattle.sat_solver.specs.solver.Joined.{IsJoined, AreNamedAssumptions}
 
--- names keep their literals of the search
+-- names keep the search literals that represent them
 abbrev pub KeepImages : Variables → Variables → Type 0
 KeepImages n n' = (user order : List ℕ) → Images n user order → Images n' user order
 
--- the search goes on, or unsat is recorded
+-- the invariant of the search, or unsat is recorded
 abbrev pub GoesOnOr : Bool → {W L : Type 0} {G : Ghosts L} → Variables → Core W L G → Type 0
 GoesOnOr true n c = IsJoined n c
 GoesOnOr false n c = (session_of c.proof).unsat ≡ true
 
--- a clause came in; whether a valuation may be left
+-- a clause was added; `left` says whether the formula may still be satisfiable
 pub record TookClause {W L : Type 0} {G : Ghosts L} (seen : W → Writer) (n n' : Variables) (a b : Core W L G) (user : List ℕ) (left : Bool) : Type 0 where
   pub does : NamesEffect n n' (steps_of a.proof) (steps_of b.proof) (λ j. with_clause (map user_literal user) (bring_all (names_in user) j)) (λ j. bringing (names_in user) j ++ (Adds (map user_literal user) ∷ []))
   pub took : ComesByCheckedSteps seen a.proof b.proof
@@ -46,30 +46,30 @@ pub record TookClause {W L : Type 0} {G : Ghosts L} (seen : W → Writer) (n n' 
   pub config : b.config ≡ a.config
   pub assumed : (session_of b.proof).assumed ≡ (session_of a.proof).assumed
 
--- what a call over names may fail of, behind which the solver only fails
+-- the errors of a call over names after which the solver has failed
 abbrev pub IsNameFaultOr : (full : Type 0) → SolverError → Type 0
 IsNameFaultOr full e = IsFaultOr full e ⊎ (e ≡ errors.VariableLimit)
 
--- a call over names failed behind these steps, for a full clause buffer only where it is full
+-- a call over names failed after these steps; `FormulaTooLarge` only if `full` holds
 pub record BreaksNamesOr {W L : Type 0} {G : Ghosts L} (full : Type 0) (seen : W → Writer) (e : SolverError) (a b : Core W L G) : Type 0 where
   pub fault : IsNameFaultOr full e
   pub steps : List Step
   pub went : EmitsUpToFault {A = Unit {0}} seen (Err e) steps a.proof b.proof
   pub loss : NamesLoss e a.proof b.proof
 
--- the same where no clause is stored
+-- the same if no clause is stored
 abbrev pub BreaksNames : {W L : Type 0} {G : Ghosts L} → (W → Writer) → SolverError → Core W L G → Core W L G → Type 0
 BreaksNames seen e a b = BreaksNamesOr ⊥ seen e a b
 
--- the same, and the proof keeps the cause until it is told
+-- the same, and the proof stores the underlying error until it is reported
 abbrev pub BreaksNamesOff : {W L : Type 0} {G : Ghosts L} → (full : Type 0) → (W → Writer) → SolverError → Core W L G → Core W L G → Type 0
 BreaksNamesOff full seen e a b = BreaksNamesOr full seen e a b × IsKept e b.proof
 
--- what came of taking a clause: whether a valuation may be left, or a fault
+-- the result of adding a clause: whether the formula may still be satisfiable, or an error
 abbrev pub TakesClause : {W L : Type 0} {G : Ghosts L} → (W → Writer) → Result Bool SolverError → Variables → Variables → Core W L G → Core W L G → List ℕ → Type 0
 TakesClause seen r n n' a b user = MatchResult r (TookClause seen n n' a b user) (λ e. BreaksNamesOff (IsFull b.search.parts) seen e a b)
 
--- assumptions came in, in place of others
+-- assumptions replaced the earlier ones
 pub record TookAssumptions {W L : Type 0} {G : Ghosts L} (seen : W → Writer) (n n' : Variables) (a b : Core W L G) (user : List ℕ) (t : Taken) : Type 0 where
   pub does : (o : Outcome) → NamesEffect n n' (steps_of a.proof) (steps_of b.proof) (bring_all (names_in user)) (λ j. bringing (names_in user) j ++ (Opens (map user_literal user) o ∷ []))
   pub comes : OnlyAllowedSteps (MayTake (names_in user)) (steps_of a.proof) (steps_of b.proof)
@@ -78,6 +78,6 @@ pub record TookAssumptions {W L : Type 0} {G : Ghosts L} (seen : W → Writer) (
   pub config : b.config ≡ a.config
   pub asked : AreNamedAssumptions n' b user t
 
--- what came of taking assumptions: these in place of others, or a fault
+-- the result of assumptions: they replace the earlier ones, or an error
 abbrev pub TakesAssumptions : {W L : Type 0} {G : Ghosts L} → (W → Writer) → Result (Unit {0}) SolverError → Variables → Variables → Core W L G → Core W L G → List ℕ → Taken → Type 0
 TakesAssumptions seen r n n' a b user t = MatchResult r (λ _. TookAssumptions seen n n' a b user t) (λ e. BreaksNamesOff ⊥ seen e a b)

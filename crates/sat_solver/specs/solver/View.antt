@@ -1,4 +1,4 @@
--- What callers know of a solver. Contracts of its calls speak of these words and of the judge's state.
+-- What callers know of a solver. Contracts of its calls are stated in these words and in terms of the judge's state.
 use Rattle.std.specs.Prelude.{◌≡◌, ℕ, Bool, true, false, Option, None, List, []}
 use Rattle.std.specs.Global.{Vec}
 use Rattle.sat_base.specs.device.Device.{Writer}
@@ -21,11 +21,11 @@ use Rattle.sat_solver.specs.declared.state.State.{State}
 use Rattle.sat_solver.specs.declared.state.State.TheVariants as states
 use Rattle.sat_solver.specs.solver.Whole.{SolverInvariant, steps_in}
 
--- did a call fail? Then every later call fails
+-- whether a call failed; then every later call fails
 abbrev pub has_failed : {W L : Type 0} {G : Ghosts L} → Solver W L G → Bool
 has_failed s = s.failed
 
--- did a clause, a name, assumptions or an ask come before? Then no proof can be opened
+-- whether a clause, a name, assumptions or an ask came before; then no proof can be opened
 abbrev pub is_used : {W L : Type 0} {G : Ghosts L} → Solver W L G → Bool
 is_used s = s.used
 
@@ -41,11 +41,11 @@ assumptions_in s = s.assumed.items
 abbrev pub assumed_in : {W L : Type 0} {G : Ghosts L} → Solver W L G → Vec ℕ
 assumed_in s = s.assumed
 
--- the names, and the variables for which they stand
+-- the names, and the variables that they refer to
 abbrev pub known_names : {W L : Type 0} {G : Ghosts L} → Solver W L G → Variables
 known_names s = s.names
 
--- what the last answers were: a model over variables, and a failed core
+-- the last answers: a model over variables, and a failed core
 abbrev pub told_in : {W L : Type 0} {G : Ghosts L} → Solver W L G → LastAnswers
 told_in s = s.told
 
@@ -69,23 +69,23 @@ restarts_in s = s.clock.restarts.count
 abbrev pub parameters_in : {W L : Type 0} {G : Ghosts L} → Solver W L G → SolverConfig
 parameters_in s = s.core.config
 
--- all that it works with besides its names: the proof, the search and the parameters
+-- everything besides names: the proof, the search and the parameters
 abbrev pub inside : {W L : Type 0} {G : Ghosts L} → Solver W L G → Core W L G
 inside s = s.core
 
--- the proof, of which contracts see its steps, its target and the solver's own checker
+-- the proof; contracts see its steps, its target and the solver's own checker
 abbrev pub proof_in : {W L : Type 0} {G : Ghosts L} → Solver W L G → Proof W L G
 proof_in s = s.core.proof
 
--- where the text of its steps goes
+-- where the text of its steps is written
 abbrev pub target_in : {W L : Type 0} {G : Ghosts L} → (W → Writer) → Solver W L G → Target
 target_in seen s = target_of seen s.core.proof
 
--- nothing has changed but the proof
+-- only the proof has changed
 abbrev pub OnlyProofDiffers : {W L : Type 0} {G : Ghosts L} → Solver W L G → Solver W L G → Type 0
 OnlyProofDiffers old new = new ≡ record old { core = record old.core { proof = new.core.proof } }
 
--- the same solver, which was used
+-- the same solver, now used
 abbrev pub used_now : {W L : Type 0} {G : Ghosts L} → Solver W L G → Solver W L G
 used_now s = record s { used = true }
 
@@ -104,9 +104,10 @@ pub record View (L : Type 0) : Type 0 where
   pub parameters : SolverConfig
   pub steps : List Step  -- the newest first
   pub target : Target
-  pub listeners : Option (List L)  -- if there is a checker of its own: those who were added to it
-  pub asked : Bool  -- has an ask begun since a proof was opened?
+  pub listeners : Option (List L)  -- those added to its own checker, or `None`
+  pub asked : Bool  -- whether an ask has begun since a proof was opened
 
+-- the view of a solver
 abbrev pub view_of : {W L : Type 0} {G : Ghosts L} → (W → Writer) → Solver W L G → View L
 view_of seen s = record {
   failed = s.failed;

@@ -1,4 +1,4 @@
--- What holds of a solver between calls.
+-- The invariant of a solver between calls.
 use Rattle.std.specs.Prelude.{ℕ, ◌<◌, ◌≡◌, true, false, List, [], map}
 use Rattle.std.specs.List.{AllByRecursion}
 use Rattle.sat_base.specs.script.Script.{Literal, Among}
@@ -24,11 +24,11 @@ use Rattle.sat_solver.specs.declared.state.State.TheVariants as states
 use Rattle.sat_solver.specs.solver.Joined.{IsJoined}
 use Rattle.sat_solver.specs.solver.Answering.{line_of_names}
 
--- all steps that it made, the newest first
+-- all steps that it has made, the newest first
 abbrev pub steps_in : {W L : Type 0} {G : Ghosts L} → Solver W L G → List Step
 steps_in s = steps_of s.core.proof
 
--- what these steps leave, as a session
+-- the session after these steps
 abbrev pub session_in : {W L : Type 0} {G : Ghosts L} → Solver W L G → Session
 session_in s = session_of s.core.proof
 
@@ -36,7 +36,7 @@ session_in s = session_of s.core.proof
 abbrev pub asked_in : {W L : Type 0} {G : Ghosts L} → Solver W L G → List Literal
 asked_in s = map user_literal s.assumed.items
 
--- the literals of names by the values of the search
+-- the literals of all names, by the values of the search
 abbrev pub line_in : {W L : Type 0} {G : Ghosts L} → Solver W L G → List ℕ
 line_in s = line_of_names s.names s.core
 
@@ -44,7 +44,7 @@ line_in s = line_of_names s.names s.core
 abbrev pub HasModel : {W L : Type 0} {G : Ghosts L} → Core W L G → Type 0
 HasModel c = IsComplete c.search.assumptions.lits.items c.search.parts
 
--- a failed core over names, of the assumptions, and not an empty one: no valuation that the steps leave makes it true
+-- a failed core over names: assumptions, at least one, and no valuation that the steps admit satisfies all of them
 pub record HasCore {W L : Type 0} {G : Ghosts L} (c : Core W L G) (assumed core : List ℕ) : Type 0 where
   pub some : core ≡ [] → ⊥
   pub codes : List ℕ
@@ -52,19 +52,19 @@ pub record HasCore {W L : Type 0} {G : Ghosts L} (c : Core W L G) (assumed core 
   pub same : SameSet (variable_of (steps_of c.proof)) (map user_literal core) codes
   pub among : AllByRecursion (λ l. Among l assumed) core
 
--- the search goes on, under the assumptions
+-- the search can continue, under the assumptions
 pub record AskGoesOn {W L : Type 0} {G : Ghosts L} (c : Core W L G) (n : Variables) (asked : Taken) : Type 0 where
   pub joined : IsJoined n c
   pub lits : c.search.assumptions.lits.items ≡ asked.order.items
 
--- what a state says: the search goes on, with a model or a failed core, or unsat is recorded
+-- what a state says: the search can continue, possibly with a model or a failed core; or unsat is recorded
 abbrev pub StateSays : {W L : Type 0} {G : Ghosts L} → State → Core W L G → Variables → Taken → (assumed core : List ℕ) → Type 0
 StateSays states.Unknown c n asked assumed core = AskGoesOn c n asked
 StateSays states.Sat c n asked assumed core = AskGoesOn c n asked × HasModel c
 StateSays states.UnsatUnderAssumptions c n asked assumed core = AskGoesOn c n asked × HasCore c assumed core
 StateSays states.Unsat c n asked assumed core = (session_of c.proof).unsat ≡ true
 
--- what holds of a solver's pieces
+-- the invariant of a solver's parts
 pub record IsWholeOf {W L : Type 0} {G : Ghosts L} (c : Core W L G) (n : Variables) (asked : Taken) (assumed core : List ℕ) (scale : ℕ) (state : State) : Type 0 where
   pub stands : NamesInvariant n (steps_of c.proof)
   pub images : Images n assumed asked.order.items
@@ -73,20 +73,20 @@ pub record IsWholeOf {W L : Type 0} {G : Ghosts L} (c : Core W L G) (n : Variabl
   pub positive : 0 < scale
   pub scaled : scale ≡ c.config.luby_restart_interval_scale
   pub decays : AreDecays c.config
-  -- the solver's own checker, where there is one, took all steps
+  -- the solver's own checker, if there is one, has received all steps
   pub taking : is_lost c.proof ≡ false
-  -- some state of the judge is what names and steps say
+  -- names and steps match some state of the judge
   pub judged : HasScriptState n (steps_of c.proof)
   pub says : StateSays state c n asked assumed core
 
--- what holds unless a call failed
+-- the invariant, unless a call failed
 abbrev pub SolverInvariant : {W L : Type 0} {G : Ghosts L} → Solver W L G → Type 0
 SolverInvariant s = IsWholeOf s.core s.names s.asked s.assumed.items s.told.failed_core.items s.clock.restarts.scale s.state
 
--- the clause buffer holds more than 2^32-1 words, so that it takes no clause more
+-- the clause buffer has more than 2^32-1 words, so that it can store no further clause
 abbrev pub HasFullStore : {W L : Type 0} {G : Ghosts L} → Solver W L G → Type 0
 HasFullStore s = IsFull s.core.search.parts
 
--- a solver that a call may be made of
+-- a solver on which a call may be made
 abbrev pub IsSolver : {W L : Type 0} {G : Ghosts L} → Solver W L G → Type 0
 IsSolver s = s.failed ≡ false → SolverInvariant s

@@ -1,4 +1,4 @@
--- Steps by which a long clause goes, or what is left of it takes its place.
+-- The steps that delete a long clause, or replace it by what is left of it.
 use Rattle.std.specs.Prelude.{ℕ, ◌≡◌, Bool, ◌&&◌, nat_lt, List, ◌∷◌, length, Result, if◌then◌else◌}
 use Rattle.sat_base.specs.device.Device.{Writer}
 use Rattle.sat_base.specs.steps.Steps.{Deletion, Redundant, Simplified, Step, AtClause, DeleteClause}
@@ -9,19 +9,19 @@ use Rattle.sat_solver.specs.declared.proof.Proof.{Proof}
 use Rattle.sat_solver.specs.declared.error.SolverError.{SolverError}
 use Rattle.sat_solver.specs.cdcl.Going.{EmitsSteps}
 
--- why a long clause may be deleted: it's redundant, or what is said of others
+-- why a long clause may be deleted: it is redundant, or otherwise this reason
 abbrev pub deletion : Bool → Deletion → Deletion
 deletion redundant other = if redundant then Redundant else other
 
--- the step by which a long clause goes
+-- the step that deletes a long clause
 abbrev pub deleted_step : Bool → Deletion → List ℕ → Step
 deleted_step redundant other clause = DeleteClause clause (deletion redundant other)
 
--- what is left of a clause is as redundant as the clause was, unless it has two literals
+-- the step that derives what is left of a clause; it is redundant if the clause was, unless it is binary
 abbrev pub derived_step : Bool → (part hashes : List ℕ) → Step
 derived_step redundant part hashes = AtClause (redundant && nat_lt 2 (length part)) part hashes
 
--- what is left of a clause may be derived, and then the clause may go
+-- what is left of a clause may be derived, and then the clause may be deleted
 pub record MayCut (s : Session) (redundant : Bool) (part hashes clause : List ℕ) : Type 0 where
   pub derive : May s (derived_step redundant part hashes)
   pub delete : May (after (derived_step redundant part hashes) s) (deleted_step redundant Simplified clause)

@@ -1,4 +1,4 @@
--- A search at level 0 whose trail is empty.
+-- A search at level 0 with an empty trail.
 use Rattle.std.specs.Prelude.{ℕ, ◌≡◌, ◌≢◌, ◌<◌, ◌≤◌, [], length, Result, slice_index_or as get_or}
 use Rattle.std.specs.List.{Contains}
 use Rattle.sat_base.specs.device.Device.{Writer}
@@ -19,23 +19,24 @@ use Rattle.sat_solver.specs.cdcl.Joint.{assumed_in, global_in, IsSearch, SameVar
 use Rattle.sat_solver.specs.declared.context.Search.{Search}
 use Rattle.sat_solver.specs.unit_simplify.Looks.{IsOpenClause}
 
--- no level is open, and nothing is on the trail
+-- no level is open, and the trail is empty
 pub record HasEmptyTrail (p : Parts) : Type 0 where
   pub bottom : p.trail.starts ≡ []
   pub empty : p.trail.lits ≡ []
 
--- clauses of two literals may go with their steps
+-- binary clauses may be removed with their steps
 pub record MayRemove (c : Search) : Type 0 where
   pub holds : PartsInvariant c.parts
   pub flat : HasEmptyTrail c.parts
   pub paired : ArePaired c.parts.binary.implied
   pub names : length c.parts.assignment.current ≤ length c.globals.items
 
--- what fitted fits, with fewer clauses of two literals: the first k ones of the list l and all of those before it were looked at
+-- the match is preserved with fewer binary clauses: the first k literals of list l, and all lists before it, were visited
 abbrev pub LeavesPairs : Session → Search → (l k : ℕ) → Type 0
 LeavesPairs s c l k = LeftParts c.parts s (global_in c) l k
 
--- clauses went or lost literals: values and variables are as they were, and so is the list of long clauses, with those that went
+-- clauses were removed or strengthened: values and variables are unchanged, and so is the list of long clauses, in which removed ones
+-- remain
 pub record IsStrengthened (s : Session) (c c' : Search) : Type 0 where
   pub search : IsSearch s c'
   pub moved : SameVarsAndAssumptions c c'
@@ -43,25 +44,25 @@ pub record IsStrengthened (s : Session) (c c' : Search) : Type 0 where
   pub state : SameState c.parts c'.parts
   pub refs : c'.parts.db.refs ≡ c.parts.db.refs
 
--- the same by steps of clauses of two literals, of which those went that have a variable with a value
+-- the same by steps: the binary clauses with an assigned variable were removed
 abbrev pub RemovesPairs : {W L : Type 0} {G : Ghosts L} → (W → Writer) → Result (Unit {0}) SolverError → Proof W L G → Proof W L G → Search → Search → Type 0
 RemovesPairs seen r p p' c c' = EmitsSteps seen r p p' (λ _ _. IsStrengthened (session_of p') c c' × RemovesBinaries c.parts c'.parts)
 
--- one long clause went or lost literals: of what is left of it no literal has a value, and other clauses are as they were, but for their order
+-- one long clause was removed or strengthened: what is left of it has no assigned literal, and other clauses are unchanged up to order
 pub record StrengthensClause (s : Session) (c c' : Search) (o : ℕ) : Type 0 where
   pub lighter : IsStrengthened s c c'
   pub left : Contains (live_refs c'.parts.clauses c'.parts.db.refs) o → IsOpenClause c'.parts o
   pub others : (p : ℕ) → p ≢ o → Contains (live_refs c'.parts.clauses c'.parts.db.refs) p → Contains (live_refs c.parts.clauses c.parts.db.refs) p × (IsOpenClause c.parts p → IsOpenClause c'.parts p)
 
--- and its steps were made
+-- the same by its steps
 abbrev pub LightensOne : {W L : Type 0} {G : Ghosts L} → (W → Writer) → Result (Unit {0}) SolverError → Proof W L G → Proof W L G → Search → Search → (o : ℕ) → Type 0
 LightensOne seen r p p' c c' o = EmitsSteps seen r p p' (λ _ _. StrengthensClause (session_of p') c c' o)
 
--- of the live clauses among the first so many of the list no literal has a value
+-- the live clauses among the first `count` of the list have no assigned literal
 abbrev pub AreOpenTo : Search → Search → ℕ → Type 0
 AreOpenTo c c' at = (k : ℕ) → k < at → Contains (live_refs c'.parts.clauses c'.parts.db.refs) (get_or c.parts.db.refs k 0) → IsOpenClause c'.parts (get_or c.parts.db.refs k 0)
 
--- the same of all long clauses: of none of them a literal has a value
+-- the same for all long clauses: none has an assigned literal
 pub record StrengthensAll (s : Session) (c c' : Search) : Type 0 where
   pub lighter : IsStrengthened s c c'
   pub left : (o : ℕ) → Contains (live_refs c'.parts.clauses c'.parts.db.refs) o → IsOpenClause c'.parts o

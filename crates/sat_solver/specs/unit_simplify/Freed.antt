@@ -1,4 +1,4 @@
--- Indices are given up.
+-- Indices are released.
 use Rattle.std.specs.Prelude.{ℕ, ◌≡◌, ◌≢◌, ◌<◌, ◌==◌, Bool, true, Some, None, List, length, if◌then◌else◌}
 use Rattle.sat_base.specs.values.Literals.{coded}
 use Rattle.sat_base.specs.steps.Steps.{Step}
@@ -18,7 +18,7 @@ use Rattle.sat_solver.specs.declared.context.Search.{Search}
 use Rattle.sat_solver.specs.variables.Shared.{SharesIndices}
 use Rattle.sat_solver.specs.unit_simplify.Flat.{HasEmptyTrail}
 
--- a variable has no index any more, and its units may be forgotten: that is all that a search sees
+-- a variable lost its index, and its units may be forgotten; a search sees no other change
 pub record LosesIndex (s t : Session) (v : ℕ) : Type 0 where
   pub live : t.live ≡ s.live
   pub units : (w x : ℕ) (b : Bool) → w ≢ v → s.solver_names w ≡ Some x → t.units (coded w b) ≡ s.units (coded w b)
@@ -27,7 +27,7 @@ pub record LosesIndex (s t : Session) (v : ℕ) : Type 0 where
   pub width : t.width ≡ s.width
   pub assumed : t.assumed ≡ s.assumed
 
--- the same of names, which the judge doesn't see
+-- the same for names; the judge's state is unchanged
 pub record FreesIndex (old new : Variables) (from to : List Step) (v : ℕ) : Type 0 where
   pub does : DoesNothing old new from to
   pub solvers : (w : ℕ) → solver_of new w ≡ (if w == v then None else solver_of old w)
@@ -36,21 +36,21 @@ pub record FreesIndex (old new : Variables) (from to : List Step) (v : ℕ) : Ty
   pub loses : LosesIndex (session_after from) (session_after to) v
   pub quiet : ComesQuietly from to
 
--- indices may be given up: the search is at level 0, with nothing on the trail, and has the indices that the names say
+-- indices may be released: the search is at level 0 with an empty trail, and has the indices of the names
 pub record MayFree (n : Variables) (steps : List Step) (c : Search) : Type 0 where
   pub stands : NamesInvariant n steps
   pub search : IsSearch (session_after steps) c
   pub shares : SharesIndices n c
   pub flat : HasEmptyTrail c.parts
 
--- names stand for the variables for which they stood, and what is assumed is as it was and has its indices
+-- names keep their variables, and the assumptions are unchanged and have indices
 pub record KeepsAsked (old new : Variables) (s t : Session) : Type 0 where
   pub users : new.global_from_user ≡ old.global_from_user
   pub assumed : t.assumed ≡ s.assumed
   pub indices : (v x : ℕ) → mentions s.assumed v ≡ true → solver_of old v ≡ Some x → solver_of new v ≡ Some x
 
--- some indices were given up: no step is one that the judge sees, or by which something is learned, clauses and assumptions are the same,
--- and the word of the trail goes on
+-- some indices were released: no step is visible to the judge, or learns anything; clauses and assumptions are unchanged, and the word of
+-- the trail is unchanged or extended
 pub record FreesSome (old new : Variables) (from to : List Step) (c c' : Search) : Type 0 where
   pub does : DoesNothing old new from to
   pub quiet : ComesQuietly from to
@@ -68,10 +68,10 @@ pub record FreesSome (old new : Variables) (from to : List Step) (c c' : Search)
 abbrev pub IsIndexOfAssumed : Variables → Session → ℕ → Type 0
 IsIndexOfAssumed n s x = (v : ℕ) → global_at n x ≡ Some v → mentions s.assumed v ≡ true
 
--- of the first so many indices each is of a variable that a clause has, or that is assumed
+-- every one of the first `count` indices is that of a variable that a clause has or that is assumed
 abbrev pub AreLeft : Variables → Session → Parts → ℕ → Type 0
 AreLeft n s p at = (x : ℕ) → x < at → InNoClause p x → IsIndexOfAssumed n s x
 
--- the same of all indices
+-- the same for all indices
 abbrev pub AllLeft : Variables → Session → Parts → Type 0
 AllLeft n s p = AreLeft n s p (length p.assignment.current)

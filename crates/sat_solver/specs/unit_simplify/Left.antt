@@ -1,4 +1,4 @@
--- What the parts of a search are left as.
+-- What is left of the parts of a search.
 use Rattle.std.specs.Prelude.{ℕ, ◌≡◌, [], length}
 use Rattle.sat_parts.specs.clause.Db.{live_refs}
 use Rattle.sat_parts.specs.declared.parts.Parts.{Parts}
@@ -14,11 +14,11 @@ use Rattle.sat_solver.specs.session.Units.{FitsAll}
 abbrev pub AllUnits : Parts → Session → (ℕ → ℕ) → Type 0
 AllUnits p s global = FitsAll p.clauses (live_refs p.clauses p.db.refs) p.binary.implied (state p) s global
 
--- the variables are as many
+-- the number of variables is unchanged
 abbrev pub SameSize : Parts → Parts → Type 0
 SameSize p p' = length p'.assignment.current ≡ length p.assignment.current
 
--- nothing is to be propagated, and at level 0 nothing is on the trail
+-- nothing is left to propagate, and the trail has nothing at level 0
 pub record TakesUnitsOff (p p' : Parts) (s : Session) (global : ℕ → ℕ) : Type 0 where
   pub stands : PartsSessionInvariant p' s global
   pub done : IsFullyPropagated p'

@@ -1,4 +1,4 @@
--- What simplification leaves of names, proof and search.
+-- What simplification changes of names, proof and search.
 use Rattle.std.specs.Prelude.{ℕ, ◌≡◌, Option, None, Some, List, [], MatchResult, Result, Err}
 use Rattle.std.specs.List.{Contains}
 use Rattle.sat_base.specs.device.Device.{Writer}
@@ -24,14 +24,14 @@ use Rattle.sat_solver.specs.unit_simplify.Flat.{HasEmptyTrail}
 use Rattle.sat_solver.specs.unit_simplify.Freed.{KeepsAsked, AllLeft}
 use Rattle.sat_solver.specs.unit_simplify.Looks.{IsOpenClause}
 
--- names, proof and search stand together
+-- the invariants of names, proof and search hold together
 pub record StandTogether {W L : Type 0} {G : Ghosts L} (n : Variables) (p : Proof W L G) (c : Search) : Type 0 where
   pub keeps : HasAllowedSteps p
   pub stands : NamesInvariant n (steps_of p)
   pub search : IsSearch (session_of p) c
   pub shares : SharesIndices n c
 
--- the same at level 0 where all was propagated, and no clause is false
+-- the same at level 0 after complete propagation; no clause is falsified
 pub record MaySettle {W L : Type 0} {G : Ghosts L} (n : Variables) (p : Proof W L G) (c : Search) : Type 0 where
   pub keeps : HasAllowedSteps p
   pub stands : NamesInvariant n (steps_of p)
@@ -39,8 +39,8 @@ pub record MaySettle {W L : Type 0} {G : Ghosts L} (n : Variables) (p : Proof W 
   pub propagated : IsPropagated (session_of p) c
   pub bottom : c.parts.trail.starts ≡ []
 
--- They stand together again: steps were made of which the judge sees nothing, and by which nothing is learned, assumptions are as they
--- were, and the word of the trail goes on.
+-- the invariants still hold together: the steps made are invisible to the judge and learn nothing, assumptions are unchanged, and the word
+-- of the trail is unchanged or extended
 pub record PassesQuietly {W L : Type 0} {G : Ghosts L} (seen : W → Writer) (n n' : Variables) (p p' : Proof W L G) (c c' : Search) : Type 0 where
   pub together : StandTogether n' p' c'
   pub took : ComesByCheckedSteps seen p p'
@@ -50,31 +50,31 @@ pub record PassesQuietly {W L : Type 0} {G : Ghosts L} (seen : W → Writer) (n 
   pub moved : SameVarsAndAssumptions c c'
   pub word : TrailWordExtendsFor (assumed_in c) c.parts c'.parts
 
--- what no input decides went wrong, a full clause buffer only where it is full
+-- the call failed for a reason that the input does not determine; `FormulaTooLarge` only if `full` holds
 pub record PassFailsOr {W L : Type 0} {G : Ghosts L} (full : Type 0) (seen : W → Writer) (e : SolverError) (p p' : Proof W L G) : Type 0 where
   pub fault : IsFaultOr full e
   pub steps : List Step
   pub went : EmitsUpToFault {A = Unit {0}} seen (Err e) steps p p'
-  -- whose cause the proof keeps until it is told
+  -- the proof stores the underlying error until it is reported
   pub kept : IsKept e p'
   pub loss : NamesLoss e p p'
 
--- the same where no clause is stored
+-- the same if no clause is stored
 abbrev pub PassFails : {W L : Type 0} {G : Ghosts L} → (W → Writer) → SolverError → Proof W L G → Proof W L G → Type 0
 PassFails seen e p p' = PassFailsOr ⊥ seen e p p'
 
--- nothing is on the trail, no literal of a long clause has a value, and each variable that has an index is in a clause or assumed
+-- the trail is empty, no literal of a long clause is assigned, and every variable that has an index is in a clause or assumed
 pub record IsSimplifiedPass {W L : Type 0} {G : Ghosts L} (seen : W → Writer) (n n' : Variables) (p p' : Proof W L G) (c c' : Search) : Type 0 where
   pub passes : PassesQuietly seen n n' p p' c c'
   pub flat : HasEmptyTrail c'.parts
   pub left : (o : ℕ) → Contains (live_refs c'.parts.clauses c'.parts.db.refs) o → IsOpenClause c'.parts o
   pub indices : AllLeft n' (session_of p') c'.parts
 
--- what came of a simplification, or what it failed of
+-- the result of a simplification
 abbrev pub Simplifies : {W L : Type 0} {G : Ghosts L} → (W → Writer) → Result (Unit {0}) SolverError → Variables → Variables → Proof W L G → Proof W L G → Search → Search → Type 0
 Simplifies seen r n n' p p' c c' = MatchResult r (λ _. IsSimplifiedPass seen n n' p p' c c') (λ e. PassFails seen e p p')
 
--- a clause is false, and nothing was written
+-- a clause is falsified, and nothing was written
 pub record FindsFalseClause {W L : Type 0} {G : Ghosts L} (n n' : Variables) (p p' : Proof W L G) (c c' : Search) (e : Conflict) : Type 0 where
   pub names : n' ≡ n
   pub proof : p' ≡ p
@@ -83,11 +83,11 @@ pub record FindsFalseClause {W L : Type 0} {G : Ghosts L} (n n' : Variables) (p 
   pub moved : SameVarsAndAssumptions c c'
   pub word : TrailWordExtendsFor (assumed_in c) c.parts c'.parts
 
--- a round may go on from here, or a clause is false already
+-- a round may continue from here, or a clause is already falsified
 abbrev pub BeginSays : {W L : Type 0} {G : Ghosts L} → (W → Writer) → Option Conflict → Variables → Variables → Proof W L G → Proof W L G → Search → Search → Type 0
 BeginSays seen None n n' p p' c c' = PassesQuietly seen n n' p p' c c'
 BeginSays seen (Some e) n n' p p' c c' = FindsFalseClause n n' p p' c c' e
 
--- how a round begins
+-- the result of beginning a round
 abbrev pub BeginsRound : {W L : Type 0} {G : Ghosts L} → (W → Writer) → Result (Option Conflict) SolverError → Variables → Variables → Proof W L G → Proof W L G → Search → Search → Type 0
 BeginsRound seen r n n' p p' c c' = MatchResult r (λ o. BeginSays seen o n n' p p' c c') (λ e. PassFails seen e p p')

@@ -1,4 +1,4 @@
--- What a call over names leaves of names, proof and judge.
+-- How calls over names change names, proof and judge.
 use Rattle.std.specs.Prelude.{ℕ, ◌+◌, ◌==◌, ◌≡◌, max, false, Some, List, [], ◌∷◌, map, if◌then◌else◌}
 use Rattle.sat_base.specs.script.ScriptState.{ScriptState, with_name, with_names, new_names, bring_in}
 use Rattle.sat_base.specs.steps.Steps.{Step, UserVarName}
@@ -16,30 +16,30 @@ use Rattle.sat_solver.specs.variables.Coming.{IsDue, IsNextVariable}
 use Rattle.sat_solver.specs.variables.VariableRoom.{live_count, LeavesRoom}
 use Rattle.sat_solver.specs.declared.variables.Variables.{Variables}
 
--- what stands between calls, whatever the judge says: the names fit together, and are what the steps have said, each of which may be written
+-- the invariant between calls, for any judge: the names are consistent and match the steps, all of which were allowed
 pub record NamesInvariant (n : Variables) (steps : List Step) : Type 0 where
   pub tidy : AreTidy n
   pub said : NamesMatchSteps n (session_after steps)
   pub may : MayAll steps
-  -- names as matching reads them from the steps
+  -- the names as matching reads them from the steps
   pub read : (u : ℕ) → variable_of steps (u + 1) ≡ global_of n u
 
--- the names and the steps are what the judge says
+-- names and steps match this state of the judge
 pub record NamesAgree (n : Variables) (steps : List Step) (j : ScriptState) (live : Live) : Type 0 where
   pub judged : NamesMatchState n j live
   pub bridge : IsBridge checker_rules j steps live
 
--- some state of the judge
+-- names and steps match some state of the judge
 abbrev pub HasScriptState : Variables → List Step → Type 0
 HasScriptState n steps = (j : ScriptState) × (live : Live) × NamesAgree n steps j live
 
--- the judge's state is this from here on, and the steps' trace is what was expected
+-- the judge's state is this one from now on, and the ordered steps are the expected ones
 pub record ReachesScriptState (new : Variables) (from to : List Step) (j : ScriptState) (es : List Expected) : Type 0 where
   pub live : Live
   pub agree : NamesAgree new to j live
   pub trace : HasTrace checker_rules from to es
 
--- a name was given to a variable that wasn't known
+-- a name was given to a new variable
 pub record NamesOne (old new : Variables) (from to : List Step) (user v : ℕ) : Type 0 where
   pub stands : NamesInvariant new to
   pub named : (u : ℕ) → global_of new u ≡ (if u == user then Some v else global_of old u)
@@ -52,7 +52,7 @@ pub record NamesOne (old new : Variables) (from to : List Step) (user v : ℕ) :
   pub extends : ExtendsNames old new
   pub unseen : IsUnseen old new from to
 
--- these names came in, in order
+-- these names were introduced, in order
 pub record NamesAll (old new : Variables) (from to : List Step) (names : List ℕ) : Type 0 where
   pub stands : NamesInvariant new to
   pub extends : ExtendsNames old new
@@ -60,16 +60,16 @@ pub record NamesAll (old new : Variables) (from to : List Step) (names : List �
   pub comes : OnlyAllowedSteps IsDue from to
   pub kept : (j : ScriptState) (live : Live) → NamesAgree old from j live → ReachesScriptState new from to (with_names names j) (map NewName names)
 
--- what a call does to the judge's state, and which steps it has to write for it, whatever others come between
+-- how a call changes the judge's state, and which ordered steps it makes; other steps may be in between
 pub record NamesEffect (old new : Variables) (from to : List Step) (judge : ScriptState → ScriptState) (due : ScriptState → List Expected) : Type 0 where
   pub stands : NamesInvariant new to
   pub kept : (j : ScriptState) (live : Live) → NamesAgree old from j live → ReachesScriptState new from to (judge j) (due j)
 
--- a name was brought in
+-- a name was introduced
 abbrev pub BringsIn : Variables → Variables → List Step → List Step → ℕ → Type 0
 BringsIn old new from to user = NamesEffect old new from to (bring_in (user + 1)) (λ j. map NewName (new_names (user + 1) j))
 
--- the same, and the search sees nothing of it
+-- the same; the search does not see it
 pub record BringsInUnseen (old new : Variables) (from to : List Step) (user : ℕ) : Type 0 where
   pub brings : BringsIn old new from to user
   pub extends : ExtendsNames old new
@@ -77,6 +77,6 @@ pub record BringsInUnseen (old new : Variables) (from to : List Step) (user : �
   pub comes : OnlyAllowedSteps IsDue from to
   pub room : LeavesRoom old new user
 
--- the judge sees nothing of it
+-- the judge's state is unchanged
 abbrev pub DoesNothing : Variables → Variables → List Step → List Step → Type 0
 DoesNothing old new from to = NamesEffect old new from to (λ j. j) (λ j. [])

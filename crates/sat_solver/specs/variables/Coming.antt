@@ -9,11 +9,11 @@ use Rattle.sat_checker.specs.matching.Checking.{is_ordered, variable_of}
 use Rattle.sat_solver.specs.variables.Variables.{data_at, solver_of}
 use Rattle.sat_solver.specs.declared.variables.Variables.{Variables}
 
--- a new name's variable: the one of the name's own number where that isn't known, else the lowest one that isn't
+-- the variable for a new name: the one with the name's own number unless that is in use, otherwise the lowest one not in use
 abbrev pub IsNextVariable : Session → ℕ → ℕ → Type 0
 IsNextVariable s user v = ((s.variables user).known ≡ false → v ≡ user) × ((s.variables user).known ≡ true → ((s.variables v).known ≡ false) × ((w : ℕ) → w < v → (s.variables w).known ≡ true))
 
--- an index: the lowest one that no variable has
+-- an index: the lowest that no variable has
 abbrev pub IsNextSolver : Session → Option ℕ → Type 0
 IsNextSolver s None = ⊥
 IsNextSolver s (Some x) = ((v : ℕ) → s.solver_names v ≡ Some x → ⊥) × ((y : ℕ) → y < x → (v : ℕ) × (s.solver_names v ≡ Some y))
@@ -23,33 +23,33 @@ abbrev pub IsDue : List Step → Step → Type 0
 IsDue earlier (UserVarName v (Some user)) = IsNextVariable (session_after earlier) user v
 IsDue earlier step = is_ordered step ≡ true
 
--- beside ordered steps and widths, an index for the variable of one of these names, where it has none
+-- besides ordered steps and widths: an index for a variable of one of these names that has none
 abbrev pub MayTake : List ℕ → List Step → Step → Type 0
 MayTake names earlier (SolverVarName v index) = IsNextSolver (session_after earlier) index × ((session_after earlier).solver_names v ≡ None) × ((name : ℕ) × Among name names × (variable_of earlier name ≡ Some v))
 MayTake names earlier (ChangeHashBits bits) = Unit {0}
 MayTake names earlier step = IsDue earlier step
 
--- and the clause itself is deleted, right behind its step, where a literal of it is true already
+-- the same, or the clause itself is deleted directly after its step because one of its literals is already true
 abbrev pub MayAdd : List ℕ → List Step → Step → Type 0
 MayAdd names earlier (DeleteClause clause proof) = DeletesAdded earlier (DeleteClause clause proof)
 MayAdd names earlier step = MayTake names earlier step
 
--- the last step took the name of this variable, which has no index
+-- the last step removed the name of this variable, which has no index
 pub record IsHiddenLast (earlier : List Step) (v : ℕ) : Type 0 where
   pub before : List Step
   pub last : earlier ≡ UserVarName v None ∷ before
   pub without : (session_after earlier).solver_names v ≡ None
 
--- beside ordered steps, the variable that has lost its name by the step before goes, where it has no index
+-- besides ordered steps: a variable without an index is deleted after the step that removes its name
 abbrev pub MayHide : List Step → Step → Type 0
 MayHide earlier (DeleteVar v) = IsHiddenLast earlier v
 MayHide earlier step = IsDue earlier step
 
--- no such variable is left: it goes right behind the step that takes its name
+-- no such variable is left: it is deleted directly after the step that removes its name
 abbrev pub LeavesNoneIdle : List Step → Type 0
 LeavesNoneIdle steps = (v : ℕ) → IsHiddenLast steps v → ⊥
 
--- the mode of a variable that a step says
+-- the mode of a variable as a step says it
 abbrev pub mode_said : Bool → Mode
 mode_said true = Sample
 mode_said false = Witness
@@ -58,14 +58,15 @@ mode_said false = Witness
 abbrev pub TurnsMode : Session → ℕ → Bool → Type 0
 TurnsMode s v sample = (s.variables v).mode ≢ mode_said sample
 
--- beside ordered steps, this mode for the variable of this name, where it has another: so none where it has it, and no second one
+-- Besides ordered steps: this mode for the variable of this name if it has another one. So there is no step if it has this mode, and never
+-- a second one.
 abbrev pub MaySet : ℕ → Bool → List Step → Step → Type 0
 MaySet name sample earlier (ChangeSamplingMode v mode) = (variable_of earlier name ≡ Some v) × (mode ≡ sample) × TurnsMode (session_after earlier) v mode
 MaySet name sample earlier step = IsDue earlier step
 
 -- INSIDE
 
--- a hidden variable without an index that isn't assumed went, and no other one
+-- a hidden variable that has no index and is not assumed was deleted, and no other one
 abbrev pub ForgetsIdle : Variables → List Step → List Step → ℕ → Type 0
 ForgetsIdle n from to v =
     ((to ≡ DeleteVar v ∷ from) × (solver_of n v ≡ None)) ⊎ ((to ≡ from) × (((data_at n v).assumed ≡ true) ⊎ (solver_of n v ≢ None)))

@@ -2,15 +2,15 @@
 use Rattle.std.specs.Prelude.{ℕ, zero, suc, ◌+◌, ◌≡◌, Bool, is_some, List, Option, length, if◌then◌else◌}
 use Rattle.sat_store.specs.variables.Maps.{MapAndInverse, target}
 
--- of the numbers below a bound, how many pass
+-- the number of numbers below a bound that pass
 unfoldable pub count_to : ℕ → (ℕ → Bool) → ℕ
 count_to zero f = 0
 count_to (suc n) f = count_to n f + (if f n then 1 else 0)
 
--- how many are mapped
+-- the number of keys that are mapped
 abbrev pub mapped_count : List (Option ℕ) → ℕ
 mapped_count map = count_to (length map) (λ v. is_some (target map v))
 
--- as many as have a target are a target
+-- as many keys have a value as values have a key
 abbrev pub IsEven : MapAndInverse → Type 0
 IsEven maps = mapped_count maps.fwd ≡ mapped_count maps.bwd

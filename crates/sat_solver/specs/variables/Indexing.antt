@@ -1,4 +1,4 @@
--- A variable that has an index of the search from here on.
+-- A variable gets or loses an index of the search.
 use Rattle.std.specs.Prelude.{ℕ, ◌==◌, ◌≡◌, ◌⊎◌, ◌∷◌, ◌++◌, Some, None, List, if◌then◌else◌}
 use Rattle.sat_base.specs.steps.Steps.{Step, SolverVarName}
 use Rattle.sat_solver.specs.session.Session.{session_after}
@@ -9,7 +9,7 @@ use Rattle.sat_solver.specs.variables.Search.{KeepsSearch, GivesIndices}
 use Rattle.sat_solver.specs.declared.variables.solver_vars.Given.{Given}
 use Rattle.sat_solver.specs.declared.variables.Variables.{Variables}
 
--- The variable has the index, and where it was given it just now, it stands at the end of the list of those given.
+-- the variable has the index; if it was given just now, it is the last in the list of those given
 pub record Indexes (old new : Variables) (from to : List Step) (before after : List Given) (v x : ℕ) : Type 0 where
   pub does : DoesNothing old new from to
   pub has : solver_of new v ≡ Some x
@@ -21,7 +21,7 @@ pub record Indexes (old new : Variables) (from to : List Step) (before after : L
   pub gives : GivesIndices old new (session_after from) fresh
   pub step : (to ≡ from) ⊎ ((to ≡ SolverVarName v (Some x) ∷ from) × (solver_of old v ≡ None) × IsNextIndex old x)
 
--- The variable has no index from here on.
+-- the variable has no index from now on
 pub record Unindexes (old new : Variables) (from to : List Step) (v x : ℕ) : Type 0 where
   pub does : DoesNothing old new from to
   pub step : to ≡ SolverVarName v None ∷ from

@@ -1,4 +1,4 @@
--- A search gets indices for proof variables: new ones, or such as others gave up.
+-- A search gets indices for proof variables: new ones, or ones that were released.
 use Rattle.std.specs.Prelude.{ℕ, ◌≡◌, ◌≢◌, ◌≤◌, ◌<◌, ◌⊎◌, Bool, true, false, Some, None, List, [], ◌∷◌, length, slice_index_or as get_or}
 use Rattle.std.specs.List.{AllByRecursion}
 use Rattle.sat_base.specs.values.Literals.{coded, variable, is_positive}
@@ -16,23 +16,23 @@ use Rattle.sat_solver.specs.declared.variables.solver_vars.Given.{Given}
 use Rattle.sat_solver.specs.cdcl.Joint.{IsSearch}
 use Rattle.sat_solver.specs.declared.context.Search.{Search}
 
--- an index that was given, with this literal as its unit
+-- an index was given, with this literal as its unit
 abbrev pub GivesLit : List Given → ℕ → Type 0
 GivesLit [] l = ⊥
 GivesLit (g ∷ gs) l = ((g.solver ≡ variable l) × (g.unit ≡ Some (is_positive l))) ⊎ GivesLit gs l
 
--- no variable of a search has the index: it has no value, isn't to be picked, and is below the count
+-- no variable of the search uses the index: it has no value, may not be picked, and is below the count
 pub record IsVacant (p : Parts) (count : ℕ) (g : Given) : Type 0 where
   pub below : g.solver < count
   pub open_value : value_of p.assignment.current g.solver ≡ None
   pub unpicked : may_pick p.vsids g.solver ≡ false
 
--- none of these indices is taken, and none is given twice
+-- none of these indices is in use, and none is given twice
 pub record AreVacant (p : Parts) (count : ℕ) (gs : List Given) : Type 0 where
   pub each : AllByRecursion (IsVacant p count) gs
   pub apart : GivenApart gs
 
--- indices were taken, at level 0: those with a unit have its value, the others are to be picked, and nothing else changed
+-- indices were added at level 0: those with a unit have its value, the others may be picked, and nothing else changed
 pub record TakesIndices (gs : List Given) (p p' : Parts) : Type 0 where
   pub holds : PartsInvariant p'
   pub bottom : p'.trail.starts ≡ []
@@ -45,20 +45,20 @@ pub record TakesIndices (gs : List Given) (p p' : Parts) : Type 0 where
   pub kept : (l : ℕ) → IsTrueLit p.assignment.current l → level (state p) l ≡ 0 → IsTrueLit p'.assignment.current l × (level (state p') l ≡ 0)
   pub its : (l : ℕ) → GivesLit gs l → IsTrueLit p'.assignment.current l × (level (state p') l ≡ 0)
 
--- the variables of these indices are those of the other list, and the rest is as it was
+-- the variables of these indices are those of the other list, and the rest is unchanged
 pub record Renames (gs : List Given) (globals old new : List ℕ) : Type 0 where
   pub size : length new ≡ length old
   pub named : (v : ℕ) → HasGiven gs v → get_or new v 0 ≡ get_or globals v 0
   pub others : (v : ℕ) → (HasGiven gs v → ⊥) → get_or new v 0 ≡ get_or old v 0
 
--- the proof variable got this index, which no other had, and this is its unit
+-- the proof variable got this index, which no other one had, and this is its unit
 pub record IsGivenTo (globals : List ℕ) (s t : Session) (g : Given) : Type 0 where
   pub without : s.solver_names (global_of_index globals g.solver) ≡ None
   pub free : (v : ℕ) → s.solver_names v ≢ Some g.solver
   pub named : t.solver_names (global_of_index globals g.solver) ≡ Some g.solver
   pub unit : (b : Bool) → s.units (coded (global_of_index globals g.solver) b) ≡ says_unit g.unit b
 
--- between these sessions proof variables got the indices, and nothing else happened that a search sees
+-- between these sessions proof variables got the indices, and a search sees no other change
 pub record GivesNames (globals : List ℕ) (gs : List Given) (count : ℕ) (s t : Session) : Type 0 where
   pub keeps : KeepsSearch s t
   pub each : AllByRecursion (IsGivenTo globals s t) gs
@@ -66,7 +66,7 @@ pub record GivesNames (globals : List ℕ) (gs : List Given) (count : ℕ) (s t 
   pub others : (v x : ℕ) → t.solver_names v ≡ Some x → (s.solver_names v ≡ Some x) ⊎ HasGiven gs x
   pub below : (v x : ℕ) → s.solver_names v ≡ Some x → x < count
 
--- these indices are those of these proof variables, the other ones are as they were, and so are the assumptions, at level 0
+-- these indices belong to these proof variables; other indices and the assumptions are unchanged; the search is at level 0
 pub record GivesSearchIndices (globals : List ℕ) (gs : List Given) (c c' : Search) : Type 0 where
   pub named : (v : ℕ) → HasGiven gs v → get_or c'.globals.items v 0 ≡ get_or globals v 0
   pub others : (v : ℕ) → v < length c.globals.items → (HasGiven gs v → ⊥) → get_or c'.globals.items v 0 ≡ get_or c.globals.items v 0

@@ -10,7 +10,7 @@ use Rattle.sat_solver.specs.variables.Free.{is_free, Spans}
 use Rattle.sat_solver.specs.variables.Variables.{data_at, global_of, names_used, variables_used, solver_of, global_at, indices_used, is_witness_kept}
 use Rattle.sat_solver.specs.declared.variables.Variables.{Variables}
 
--- the variable for the name: that of its own number where no name in use or hidden one has it, else the lowest free one
+-- the variable for the name: the one with its own number if neither a name in use nor a hidden one has it, otherwise the lowest free one
 pub record IsRoom (n : Variables) (user v : ℕ) : Type 0 where
   pub unused : (data_at n v).deleted ≡ true
   pub within : v ≤ variables_used n
@@ -103,14 +103,14 @@ pub record PutsDeleted (old new : Variables) (v : ℕ) : Type 0 where
   pub free_solvers : new.free_solvers ≡ old.free_solvers
   pub spans_globals : Spans new.free_globals (variables_used new)
 
--- names in use keep their variables and modes, and those that came in are sampled, on variables that weren't in use
+-- names in use keep their variables and modes; new names are of mode sample, on variables that were not in use
 pub record ExtendsNames (old new : Variables) : Type 0 where
   pub stays : (u v : ℕ) → global_of old u ≡ Some v → (global_of new u ≡ Some v) × ((data_at new v).sampling_mode ≡ (data_at old v).sampling_mode)
   pub came : (u v : ℕ) → global_of old u ≡ None → global_of new u ≡ Some v → (data_at new v).sampling_mode ≡ kept.Sample
   pub fresh : (u v : ℕ) → global_of old u ≡ None → global_of new u ≡ Some v → (data_at old v).deleted ≡ true
   pub lives : (v : ℕ) → (data_at old v).deleted ≡ false → (data_at new v).deleted ≡ false
 
--- a name in use has the variable that it had, or one that wasn't in use
+-- every name in use has its earlier variable, or one that was not in use
 pub record VariablesAreKeptOrNew (old new : Variables) : Type 0 where
   pub same : (u v w : ℕ) → global_of old u ≡ Some v → global_of new u ≡ Some w → w ≡ v
   pub fresh : (u v : ℕ) → global_of old u ≡ None → global_of new u ≡ Some v → (data_at old v).deleted ≡ true
@@ -119,11 +119,11 @@ pub record VariablesAreKeptOrNew (old new : Variables) : Type 0 where
 abbrev pub KeepsNames : Variables → Variables → Type 0
 KeepsNames old new = (u v : ℕ) → global_of old u ≡ Some v → global_of new u ≡ Some v
 
--- names in use keep their variables, but for this one
+-- names in use keep their variables, except for this one
 abbrev pub KeepsOthers : Variables → Variables → ℕ → Type 0
 KeepsOthers old new user = (u v : ℕ) → u ≢ user → global_of old u ≡ Some v → global_of new u ≡ Some v
 
--- maps and free indices are as they were
+-- maps and free indices are unchanged
 pub record SameMaps (old new : Variables) : Type 0 where
   pub users : new.global_from_user ≡ old.global_from_user
   pub solvers : new.solver_from_global ≡ old.solver_from_global
@@ -135,24 +135,24 @@ pub record SameMaps (old new : Variables) : Type 0 where
   pub free_globals : new.free_globals ≡ old.free_globals
   pub free_solvers : new.free_solvers ≡ old.free_solvers
 
--- the value of a variable's unit is known
+-- the value of a variable's unit is stored
 pub record PutsUnit (old new : Variables) (v : ℕ) (value : Option Bool) : Type 0 where
   pub maps : SameMaps old new
   pub kept : (w : ℕ) → data_at new w ≡ (if w == v then record (data_at old v) { unit = value } else data_at old w)
 
--- the name that comes next: the lowest one not in use
+-- the next name: the lowest one not in use
 pub record IsNextUser (n : Variables) (user : ℕ) : Type 0 where
   pub unused : global_of n user ≡ None
   pub reach : user ≤ names_used n
   pub lowest : (m : ℕ) → m < user → global_of n m ≡ None → ⊥
 
--- the same, as the judge has it: the lowest hidden name, else the first never used
+-- the same in the judge's terms: the lowest hidden name, otherwise the first never used
 pub record IsLowestUnused (j : ScriptState) (name : ℕ) : Type 0 where
   pub named : 0 < name
   pub unused : identity_of j name ≡ None
   pub lowest : (m : ℕ) → 0 < m → m < name → identity_of j m ≡ None → ⊥
 
--- a hidden variable has a name again, and mode witness
+-- a hidden variable got a name again, and mode witness
 pub record PutsObserved (old new : Variables) (user v : ℕ) : Type 0 where
   pub users : Links old.global_from_user new.global_from_user user v
   pub inverse : AreInverse new.global_from_user
@@ -167,7 +167,7 @@ pub record PutsObserved (old new : Variables) (user v : ℕ) : Type 0 where
   pub free_solvers : new.free_solvers ≡ old.free_solvers
   pub spans_users : Spans new.free_users (names_used new)
 
--- the index that comes next: the lowest one that no variable has
+-- the next index: the lowest one that no variable has
 pub record IsNextIndex (n : Variables) (x : ℕ) : Type 0 where
   pub free : global_at n x ≡ None
   pub reach : x ≤ indices_used n

@@ -11,7 +11,7 @@ use Rattle.sat_solver.specs.variables.Search.{IsUnseen}
 use Rattle.sat_solver.specs.variables.Variables.{data_at, user_of, variables_used}
 use Rattle.sat_solver.specs.declared.variables.Variables.{Variables}
 
--- the identity has this name from here on, and mode witness
+-- the identity gets this name, and mode witness
 abbrev pub observed : ℕ → ℕ → ScriptState → ScriptState
 observed name identity j = record {
   first_unused = max j.first_unused (name + 1);
@@ -21,13 +21,13 @@ observed name identity j = record {
   clauses = j.clauses;
 }
 
--- Each hidden variable in turn, from this one on and by increasing variable, gets the next name: first its mode is written, then its name.
+-- every hidden variable in turn, from this one on and by increasing variable, gets the next name: first its mode is written, then its name
 pub data Observes : ℕ → List Step → ScriptState → Live → List Step → ScriptState → List ℕ → Type 0 where
   all_named : {low : ℕ} {s : List Step} {j : ScriptState} {live : Live} → Observes low s j live s j []
   one_more : {low : ℕ} {s t : List Step} {j k : ScriptState} {live : Live} {users : List ℕ} (v i user : ℕ) → low ≤ v → given live v ≡ Some i → ((name : ℕ) → variable_of s name ≡ Some v → ⊥) → IsLowestUnused j (user + 1)
       → Observes (v + 1) (UserVarName v (Some user) ∷ ChangeSamplingMode v false ∷ s) (observed (user + 1) i j) live t k users → Observes low s j live t k (user ∷ users)
 
--- a variable that is kept and has no name
+-- a variable that is in use and has no name
 pub record IsHidden (n : Variables) (v : ℕ) : Type 0 where
   pub live : (data_at n v).deleted ≡ false
   pub nameless : user_of n v ≡ None

@@ -1,4 +1,4 @@
--- In which order a clause has its literals. Lists of steps have the newest first.
+-- The order of the literals of a clause. Lists of steps have the newest first.
 use Rattle.std.specs.Prelude.{ℕ, ◌≡◌, List, ◌∷◌, ◌++◌, map}
 use Rattle.sat_base.specs.steps.Steps.{Step, AddClause}
 use Rattle.sat_checker.specs.SortedSets.{IsIncreasing}

@@ -11,7 +11,7 @@ use Rattle.sat_solver.specs.variables.Variables.{global_of, global_at, solver_of
 use Rattle.sat_solver.specs.declared.variables.solver_vars.Given.{Given}
 use Rattle.sat_solver.specs.declared.variables.Variables.{Variables}
 
--- clauses, units and assumptions of the session are as they were
+-- clauses, units and assumptions of the session are unchanged
 pub record KeepsSearch (s t : Session) : Type 0 where
   pub live : t.live ≡ s.live
   pub units : t.units ≡ s.units
@@ -19,7 +19,7 @@ pub record KeepsSearch (s t : Session) : Type 0 where
   pub width : t.width ≡ s.width
   pub assumed : t.assumed ≡ s.assumed
 
--- the same, but that a variable's units are forgotten
+-- the same, except that a variable's units are forgotten
 pub record ForgetsUnits (s t : Session) (v : ℕ) : Type 0 where
   pub live : t.live ≡ s.live
   pub units : (l : ℕ) → t.units l ≡ (s.units l && not (variable l == v))
@@ -27,14 +27,14 @@ pub record ForgetsUnits (s t : Session) (v : ℕ) : Type 0 where
   pub width : t.width ≡ s.width
   pub assumed : t.assumed ≡ s.assumed
 
--- neither the session's clauses nor the search's indices have changed, and each valuation that is left was left before
+-- neither the session's clauses nor the search's indices have changed, and every valuation that is admitted was admitted before
 pub record IsUnseen (old new : Variables) (from to : List Step) : Type 0 where
   pub solvers : new.solver_from_global ≡ old.solver_from_global
   pub globals : new.globals ≡ old.globals
   pub search : KeepsSearch (session_after from) (session_after to)
   pub leaves : (a : Valuation) → Holds to a → Holds from a
 
--- A variable came to have this index, which no variable had, and this is its unit.
+-- a variable got this index, which no variable had, and this is its unit
 pub record IsGiven (old new : Variables) (s : Session) (g : Given) : Type 0 where
   pub variable : ℕ
   pub without : solver_of old variable ≡ None
@@ -52,7 +52,7 @@ abbrev pub HasGiven : List Given → ℕ → Type 0
 HasGiven [] x = ⊥
 HasGiven (g ∷ gs) x = (g.solver ≡ x) ⊎ HasGiven gs x
 
--- Indices were given, these and no others, and none was taken away.
+-- exactly these indices were given, and no variable lost its index
 pub record GivesIndices (old new : Variables) (s : Session) (gs : List Given) : Type 0 where
   pub stays : (v x : ℕ) → solver_of old v ≡ Some x → solver_of new v ≡ Some x
   pub each : AllByRecursion (IsGiven old new s) gs
@@ -60,16 +60,16 @@ pub record GivesIndices (old new : Variables) (s : Session) (gs : List Given) : 
   pub others : (v x : ℕ) → solver_of new v ≡ Some x → (solver_of old v ≡ Some x) ⊎ HasGiven gs x
   pub used : indices_used old ≤ indices_used new
 
--- units of variables with names are as they were
+-- the units of variables with names are unchanged
 abbrev pub KeepsUnits : Variables → List Step → List Step → Type 0
 KeepsUnits new from to = (u v : ℕ) (b : Bool) → global_of new u ≡ Some v → (session_after to).units (coded v b) ≡ (session_after from).units (coded v b)
 
--- some valuation that these steps leave has the same values for the variables of these literals
+-- the steps admit some valuation with the same values for the variables of these literals
 abbrev pub IsLeftOn : List Step → List ℕ → Valuation → Type 0
 IsLeftOn steps ls a = (b : Valuation) × Holds steps b × ((v : ℕ) → mentions ls v ≡ true → b v ≡ a v)
 
--- All that the search may see is as it was: units are forgotten at most of a variable that has no index. What a valuation that is left
--- says of the assumptions was said before.
+-- Everything that the search can see is unchanged; only units of variables without an index may be forgotten. Whatever an admitted
+-- valuation says of the assumptions, an earlier one says, too.
 pub record IsAlike (old new : Variables) (from to : List Step) : Type 0 where
   pub solvers : new.solver_from_global ≡ old.solver_from_global
   pub globals : new.globals ≡ old.globals

@@ -1,4 +1,4 @@
--- Steps of the search, and what they leave of the names.
+-- Steps of the search, and how they affect names.
 use Rattle.std.specs.Prelude.{ℕ, ◌≡◌, ◌∷◌, Bool, false, Option, Some, List, map}
 use Rattle.std.specs.List.{AllByRecursion}
 use Rattle.sat_base.specs.values.Literals.{variable}
@@ -11,11 +11,11 @@ use Rattle.sat_solver.specs.variables.Naming.{PutsUnit}
 use Rattle.sat_solver.specs.variables.Calls.{NamesInvariant, NamesAgree}
 use Rattle.sat_solver.specs.declared.variables.Variables.{Variables}
 
--- over variables that have indices
+-- the literals are over variables that have indices
 abbrev pub AreIndexed : Variables → List ℕ → Type 0
 AreIndexed n = AllByRecursion (λ l. (x : ℕ) × (solver_of n (variable l) ≡ Some x))
 
--- a step of the search's, over variables that have indices; a model's are in use
+-- a step of the search, over variables that have indices; the variables of a model are in use
 abbrev pub IsOfSearch : Variables → Step → Type 0
 IsOfSearch n (AtClause redundant clause hashes) = AreIndexed n clause
 IsOfSearch n (UnitClauses us) = AreIndexed n (map (λ u. u.0) us)
@@ -26,14 +26,14 @@ IsOfSearch n (FailedAssumptions core hashes) = Unit {0}
 IsOfSearch n End = Unit {0}
 IsOfSearch n step = ⊥
 
--- Names stand as they did behind such a step.
+-- such a step preserves the invariant of names
 abbrev pub SearchesStand : Type 0
 SearchesStand = (n : Variables) (steps : List Step) (step : Step) → NamesInvariant n steps → May (session_after steps) step → IsOfSearch n step → NamesInvariant n (step ∷ steps)
 
--- The judge is the same behind it.
+-- such a step leaves the judge's state unchanged
 abbrev pub SearchesAgree : Type 0
 SearchesAgree = (n : Variables) (steps : List Step) (step : Step) → NamesInvariant n steps → May (session_after steps) step → IsOfSearch n step → (j : ScriptState) (live : Live) → NamesAgree n steps j live → NamesAgree n (step ∷ steps) j live
 
--- Names stand, and the judge is the same, where the value of a unit is noted of a variable that has an index.
+-- storing the value of the unit of a variable that has an index preserves the invariant of names and the judge's state
 abbrev pub UnitsStand : Type 0
 UnitsStand = (old new : Variables) (steps : List Step) (v x : ℕ) (value : Option Bool) → NamesInvariant old steps → solver_of old v ≡ Some x → PutsUnit old new v value → NamesInvariant new steps × ((j : ScriptState) (live : Live) → NamesAgree old steps j live → NamesAgree new steps j live)

@@ -1,4 +1,4 @@
--- Why a proof didn't take a step of a call over names.
+-- Why a proof did not accept a step of a call over names.
 use Rattle.std.specs.Prelude.{◌≡◌, Some, List}
 use Rattle.sat_base.specs.device.Device.{Writer}
 use Rattle.sat_base.specs.steps.Steps.{Step}
@@ -10,7 +10,7 @@ use Rattle.sat_solver.specs.session.Making.{BreaksEmitting}
 use Rattle.sat_solver.specs.proof.ProofView.{FailsCheck}
 use Rattle.sat_solver.specs.declared.proof.Proof.{Proof}
 
--- a call of the target failed at the text of the last of these steps, or the checker at it, and the cause is kept
+-- a call of the target failed at the text of the last of these steps, or the checker at the step, and the underlying error is stored
 abbrev pub NotTaken : {W L : Type 0} {G : Ghosts L} → (W → Writer) → Proof W L G → NameError → Proof W L G → Type 0
 NotTaken seen old (errors.Write cause) new = BreaksEmitting seen old new × (new.cause ≡ Some cause)
 NotTaken seen old (errors.Check fault) new = (steps : List Step) × FailsCheck seen fault steps old new × IsComplaint fault new.made.complaint

@@ -1,4 +1,4 @@
--- What a solver keeps of names, variables and indices: whether it fits together, and whether it is what the proof and the judge say.
+-- What a solver stores of names, variables and indices: whether it is consistent, and whether it matches the proof and the judge.
 use Rattle.std.specs.Prelude.{ℕ, ◌+◌, ◌<◌, ◌≤◌, ◌≡◌, ◌≢◌, Bool, true, false, not, ◌&&◌, Option, None, Some, is_some, List, length, get_or, nat_lt, if◌then◌else◌}
 use Rattle.std.specs.List.{AllByRecursion}
 use Rattle.sat_base.specs.values.Literals.{var_limit, coded}
@@ -19,61 +19,61 @@ use Rattle.sat_checker.specs.matching.Bridge.{Live, AreDistinctVariables}
 use Rattle.sat_solver.specs.variables.Live.{given, given_of}
 use Rattle.sat_solver.specs.declared.variables.Variables.{Variables}
 
--- what the solver keeps of a variable of the proof; past its list the variable isn't in use
+-- what the solver stores of a proof variable; past its list the variable is not in use
 abbrev pub data_at : Variables → ℕ → VarData
 data_at n v = get_or n.var_data.items v unused_variable
 
--- the variable that has the name
+-- the variable of a name
 abbrev pub global_of : Variables → ℕ → Option ℕ
 global_of n user = target n.global_from_user.fwd user
 
--- the name of the variable
+-- the name of a variable
 abbrev pub user_of : Variables → ℕ → Option ℕ
 user_of n v = target n.global_from_user.bwd v
 
--- its index in the search
+-- the index of a variable
 abbrev pub solver_of : Variables → ℕ → Option ℕ
 solver_of n v = target n.solver_from_global.fwd v
 
--- the variable that has the index
+-- the variable of an index
 abbrev pub global_at : Variables → ℕ → Option ℕ
 global_at n x = target n.solver_from_global.bwd x
 
--- how many names were ever used
+-- the number of names that were ever used
 abbrev pub names_used : Variables → ℕ
 names_used n = length n.global_from_user.fwd
 
--- so many variables and so many indices were ever used
+-- the number of variables that were ever used
 abbrev pub variables_used : Variables → ℕ
 variables_used n = length n.var_data.items
 
--- how many indices of the search were ever used, also such as are free again
+-- the number of indices that were ever used, including released ones
 abbrev pub indices_used : Variables → ℕ
 indices_used n = length n.solver_from_global.bwd
 
--- is a variable kept as one of mode witness?
+-- whether a variable is stored as one of mode witness
 abbrev pub is_witness_kept : SamplingMode → Bool
 is_witness_kept kept.Sample = false
 is_witness_kept kept.Witness = true
 is_witness_kept kept.Hide = false
 
--- It fits together.
+-- the maps are consistent
 pub record AreTidy (n : Variables) : Type 0 where
   pub users : AreInverse n.global_from_user
   pub solvers : AreInverse n.solver_from_global
-  -- what has a name or an index is in use
+  -- a variable that has a name or an index is in use
   pub named : (v u : ℕ) → user_of n v ≡ Some u → (data_at n v).deleted ≡ false
   pub indexed : (v x : ℕ) → solver_of n v ≡ Some x → (data_at n v).deleted ≡ false
-  -- a variable in use is hidden where it has no name
+  -- a variable in use without a name is hidden
   pub hidden : (v : ℕ) → (data_at n v).deleted ≡ false → user_of n v ≡ None → (data_at n v).sampling_mode ≡ kept.Hide
   pub shown : (v u : ℕ) → user_of n v ≡ Some u → (data_at n v).sampling_mode ≢ kept.Hide
-  -- nothing is kept of a variable that isn't in use
+  -- nothing is stored of a variable that is not in use
   pub gone : (v : ℕ) → (data_at n v).deleted ≡ true → data_at n v ≡ unused_variable
-  -- unless a variable may be of mode witness, none is
+  -- no variable is of mode witness unless the flag says that one may be
   pub plain : n.witnessed ≡ false → (v : ℕ) → is_witness_kept (data_at n v).sampling_mode ≡ false
-  -- while names have the variables of their own indices, each that was used does
+  -- if the flag says so, every name ever used has the variable with its own index
   pub own : n.own_names ≡ true → (u : ℕ) → u < names_used n → global_of n u ≡ Some u
-  -- the list of what has each index
+  -- the list of the variable of every index
   pub globals_count : length n.globals.items ≡ indices_used n
   pub globals : (x v : ℕ) → global_at n x ≡ Some v → get_or n.globals.items x 0 ≡ v
   -- as many variables have names, and indices, as there are of these
@@ -89,7 +89,7 @@ pub record AreTidy (n : Variables) : Type 0 where
   pub free_globals : (v : ℕ) → is_free n.free_globals v ≡ (nat_lt v (variables_used n) && (data_at n v).deleted)
   pub free_solvers : (x : ℕ) → is_free n.free_solvers x ≡ (nat_lt x (indices_used n) && not (is_some (global_at n x)))
 
--- the same mode, as the checker has it
+-- the same mode in the checker's terms
 abbrev pub checker_mode : SamplingMode → Mode
 checker_mode kept.Sample = Sample
 checker_mode kept.Witness = Witness
@@ -101,21 +101,21 @@ checker_variable_at n v =
     if (data_at n v).deleted then unknown
     else record { known = true; mode = checker_mode (data_at n v).sampling_mode; name = user_of n v }
 
--- is this the value of a variable's unit?
+-- whether this is the value of a variable's unit
 abbrev pub says_unit : Option Bool → Bool → Bool
 says_unit None b = false
 says_unit (Some value) true = value
 says_unit (Some value) false = not value
 
--- the variable's unit is the proof's
+-- the variable's unit is that of the proof
 abbrev pub IsUnitOf : Variables → Session → ℕ → Type 0
 IsUnitOf n s v = (b : Bool) → s.units (coded v b) ≡ says_unit (data_at n v).unit b
 
--- no clause of two literals or more has the variable
+-- no clause with two or more literals has the variable
 abbrev pub IsInNoNonUnitClause : Session → ℕ → Type 0
 IsInNoNonUnitClause s v = (r : Bool) (set : List ℕ) → 0 < s.live r set → mentions set v ≡ false
 
--- It is what the proof has said. The unit of a variable that has an index is the search's.
+-- The stored names match the proof. The unit of a variable that has an index is stored by the search.
 pub record NamesMatchSteps (n : Variables) (s : Session) : Type 0 where
   pub variables : (v : ℕ) → s.variables v ≡ checker_variable_at n v
   pub solver_names : (v : ℕ) → s.solver_names v ≡ solver_of n v
@@ -124,13 +124,13 @@ pub record NamesMatchSteps (n : Variables) (s : Session) : Type 0 where
   pub unused : (v : ℕ) → solver_of n v ≡ None → IsInNoNonUnitClause s v
   pub marked : (v : ℕ) → mentions s.assumed v ≡ (data_at n v).assumed
 
--- the mode of an identity whose variable has this one; a hidden one's doesn't count
+-- the mode of an identity whose variable has this one; the mode of a hidden one does not matter
 abbrev pub IsModeOf : SamplingMode → judged.NameMode → Type 0
 IsModeOf kept.Sample m = m ≡ Sampled
 IsModeOf kept.Witness m = m ≡ Witnessed
 IsModeOf kept.Hide m = Unit {0}
 
--- It is what the judge says. Name k is the one with index k - 1.
+-- The stored names match the judge's state. Name k has index k - 1.
 pub record NamesMatchState (n : Variables) (j : ScriptState) (live : Live) : Type 0 where
   pub first_unused : j.first_unused ≡ names_used n + 1
   pub no_zero : identity_of j 0 ≡ None
@@ -139,18 +139,18 @@ pub record NamesMatchState (n : Variables) (j : ScriptState) (live : Live) : Typ
   pub in_use : (v : ℕ) → is_some (given live v) ≡ not (data_at n v).deleted
   pub below : AllByRecursion (λ p. p.1 < j.identity_count) live
   pub distinct : (v w i : ℕ) → given live v ≡ Some i → given live w ≡ Some i → v ≡ w
-  -- each variable was new with an identity
+  -- every variable was new with an identity
   pub identities : variables_used n ≤ j.identity_count
   pub modes_count : length j.modes ≡ j.identity_count
   pub increasing : NamesIncrease j.in_use
   pub modes : (v i : ℕ) → given live v ≡ Some i → IsModeOf (data_at n v).sampling_mode (get_or j.modes i Sampled)
 
--- the mode that a user may set, as the solver and as the judge have it
+-- the mode that a user may set, in the solver's terms
 abbrev pub mode_for : Bool → SamplingMode
 mode_for true = kept.Sample
 mode_for false = kept.Witness
 
--- the same mode in the judge's words
+-- the same mode in the judge's terms
 abbrev pub script_mode : Bool → judged.NameMode
 script_mode true = Sampled
 script_mode false = Witnessed
