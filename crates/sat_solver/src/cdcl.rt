@@ -1,4 +1,4 @@
-//! A conflict step: up to a conflict and what is learned from it, or an answer.
+//! A round: a search up to a conflict and the clause learned from it, or up to an answer.
 ghost use Rattle.std.specs.Prelude.{◌≡◌, ◌<◌, ◌≤◌, length};
 ghost use Rattle.sat_solver.specs.proof.ProofView.{HasAllowedSteps, steps_of, session_of};
 ghost use Rattle.sat_parts.specs.parts.Whole.{IsRefuted};
@@ -57,7 +57,7 @@ fn refute<W: CountedWrite + Drop, P: ProofProcessor>(
     Ok(())
 }
 
-/// Learns from a conflict, or writes that no valuation is left.
+/// Learns from a conflict, or records that the formula is unsatisfiable.
 fn resolve<W: CountedWrite + Drop, P: ProofProcessor>(
     proof: &mut Proof<W, P>,
     search: &mut Search,
@@ -81,8 +81,8 @@ fn resolve<W: CountedWrite + Drop, P: ProofProcessor>(
     Ok(Outcome::Unsat)
 }
 
-/// A conflict step: up to a conflict and what is learned from it, or an answer. Where literals came at level 0, it
-/// begins with a simplification.
+/// Runs a round: up to a conflict and the clause learned from it, or up to an answer. If there are new literals at
+/// level 0, it begins with a simplification.
 pub fn conflict_step<W: CountedWrite + Drop, P: ProofProcessor>(
     proof: &mut Proof<W, P>,
     search: &mut Search,

@@ -1,4 +1,4 @@
-//! Learned clauses: their grades, activities and reductions.
+//! Learned clauses: their tiers, activities and reductions.
 pub mod activity;
 pub mod assess;
 pub mod reduce;

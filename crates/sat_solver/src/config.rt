@@ -7,17 +7,17 @@ use crate::error::SolverError;
 /// The parameters of a search. Decays are in thousandths.
 #[derive(Clone, Copy, Debug, Drop, PartialEq, Eq)]
 pub struct SolverConfig {
-    /// What is left of the activity of a variable from one conflict to the next: 500 to 999, at first 950.
+    /// The factor by which the activity of a variable decays from one conflict to the next: 500 to 999, 950 by default.
     pub vsids_decay: u32,
-    /// The same of clauses: 500 to 999, at first 999.
+    /// The same for clauses: 500 to 999, 999 by default.
     pub clause_activity_decay: u32,
-    /// Rounds between reductions of the clauses of tier Local: at least 1, at first 15000.
+    /// Rounds between reductions of the clauses of tier Local: at least 1, 15000 by default.
     pub reduce_locals_interval: u64,
-    /// Rounds between reductions of the clauses of tier Mid: at least 1, at first 10000.
+    /// Rounds between reductions of the clauses of tier Mid: at least 1, 10000 by default.
     pub reduce_mids_interval: u64,
-    /// Rounds for each unit of the Luby sequence of restarts: at least 1, at first 128.
+    /// Rounds for each unit of the Luby sequence of restarts: at least 1, 128 by default.
     pub luby_restart_interval_scale: u64,
-    /// The most rounds of one `solve`: at first 2^64-1. With 0 it answers only what is known already.
+    /// The maximum number of rounds of one `solve`: 2^64-1 by default. With 0, it answers only what is already known.
     pub max_steps: u64,
 }
 
@@ -36,7 +36,7 @@ impl Default for SolverConfig {
     }
 }
 
-/// Changes of some parameters: those that are `Some`.
+/// An update of some parameters: those that are `Some`.
 #[derive(Clone, Copy, Debug, Drop, PartialEq, Eq, Default)]
 pub struct SolverConfigUpdate {
     pub vsids_decay: Option<u32>,
@@ -47,7 +47,7 @@ pub struct SolverConfigUpdate {
     pub max_steps: Option<u64>,
 }
 
-/// Whether a change of a decay keeps it in its range.
+/// Whether a decay, if given, is in its range.
 fn may_decay(change: Option<u32>) -> bool
     ensures { result ≡ passes is_decay change }
 {
@@ -57,7 +57,7 @@ fn may_decay(change: Option<u32>) -> bool
     }
 }
 
-/// Whether a change keeps a number at least 1.
+/// Whether a number, if given, is at least 1.
 fn may_count(change: Option<u64>) -> bool
     ensures { result ≡ passes (nat_le 1) change }
 {
@@ -68,7 +68,7 @@ fn may_count(change: Option<u64>) -> bool
 }
 
 impl SolverConfigUpdate {
-    /// No change.
+    /// Creates an update that changes nothing.
     pub fn new() -> SolverConfigUpdate
         ensures vsids { result.vsids_decay ≡ None }
         ensures clauses { result.clause_activity_decay ≡ None }
@@ -87,7 +87,7 @@ impl SolverConfigUpdate {
         }
     }
 
-    /// Whether each field that is changed is in its range.
+    /// Whether every given field is in its range.
     fn is_in_range(&self) -> bool
         ensures { result ≡ in_range self.now }
     {
@@ -98,8 +98,7 @@ impl SolverConfigUpdate {
             && may_count(self.luby_restart_interval_scale)
     }
 
-    /// Changes the parameters. All fields are tested before any changes: OutOfRange is answered exactly where one is
-    /// out of its range, and then nothing changes.
+    /// Applies the update. If a field is out of its range, returns `OutOfRange` and changes nothing.
     pub fn apply(&self, config: &mut SolverConfig) -> Result<(), SolverError>
         ensures ok { OnOk result ((in_range self.now ≡ true) × (config.new ≡ updated self.now config.old)) }
         ensures err { IfErr result (λ e. (e ≡ SolverError.OutOfRange) × (in_range self.now ≡ false)

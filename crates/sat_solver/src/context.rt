@@ -1,4 +1,4 @@
-//! What a search works with, and a solver.
+//! What a search works on, and what a solver works on.
 ghost use Rattle.std.specs.Prelude.{◌≡◌, []};
 ghost use Rattle.sat_solver.specs.session.Session.{nothing};
 ghost use Rattle.sat_solver.specs.cdcl.Joint.{IsSearch};
@@ -14,7 +14,7 @@ use sat_parts::{ClauseActivity, Parts};
 use sat_store::TmpFlags;
 use std::alloc::Global;
 
-/// Lists that steps are made of.
+/// Lists for the parts of steps.
 #[derive(Drop)]
 pub struct Scratch {
     pub clause: Vec<Lit>,
@@ -22,7 +22,7 @@ pub struct Scratch {
     pub units: Vec<(Lit, ClauseHash)>,
 }
 
-/// What a search works with, beside its proof.
+/// What a search works on, apart from its proof.
 #[derive(Drop)]
 pub struct Search {
     pub alloc: Global,
@@ -31,14 +31,14 @@ pub struct Search {
     pub analysis: Analysis,
     pub activity: ClauseActivity,
     pub flags: TmpFlags,
-    /// The proof variable of each variable of the search.
+    /// The proof variable of every search variable.
     pub globals: Vec<Var>,
     pub scratch: Scratch,
     /// The assumption that failed last.
     pub failed: Lit,
 }
 
-/// What a solver works with, beside its names.
+/// What a solver works on, apart from its names.
 #[derive(Drop)]
 pub struct Core<W: CountedWrite + Drop, P: ProofProcessor = Nobody> {
     pub proof: Proof<W, P>,
@@ -46,7 +46,7 @@ pub struct Core<W: CountedWrite + Drop, P: ProofProcessor = Nobody> {
     pub config: SolverConfig,
 }
 
-/// No variables, no clauses and no assumptions. Takes no memory.
+/// Creates a search without variables, clauses and assumptions. Never allocates.
 pub fn no_search(alloc: Global) -> Search
     ensures search { IsSearch nothing result }
     ensures bottom { result.parts.trail.starts ≡ [] }

@@ -12,7 +12,7 @@ use sat_base::Lit;
 use sat_parts::Parts;
 use sat_parts::parts::variables::use_variable;
 
-/// Lets the variables of these literals be picked, where they have no value.
+/// Allows the variables of these literals to be picked if they have no value.
 pub fn make_ready(parts: &mut Parts, lits: &[Lit])
     requires holds { PartsInvariant parts.old }
     requires there { HaveVariablesIn lits.now parts.old }

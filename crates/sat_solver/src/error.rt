@@ -1,4 +1,4 @@
-//! What can go wrong in a solver.
+//! The errors of a solver.
 ghost use Rattle.std.specs.Prelude.{◌≡◌};
 ghost use Rattle.sat_solver.specs.Recovery.{is_recoverable};
 
@@ -6,16 +6,16 @@ use std::alloc::AllocError;
 use std::io;
 use thiserror::Error;
 
-/// Why a call of a solver wasn't carried out.
+/// Why a call of a solver failed.
 ///
-/// After an error that isn't recoverable each call that may answer one answers `HasFailed`, but for the `OutOfMemory`
-/// of `model`, which changes nothing.
+/// After an error that is not recoverable, every call that returns errors returns `HasFailed`. The only exception is
+/// the `OutOfMemory` of `model`, which changes nothing.
 #[derive(Debug, Drop, Error)]
 pub enum SolverError {
-    /// The rounds of this `solve` are spent, or the count of all rounds is.
+    /// The rounds of this `solve` are exhausted, or the count of all rounds is.
     #[error("The solver was interrupted")]
     Interrupted,
-    /// A processor of proof steps answered a fault.
+    /// A listener returned a fault.
     #[error("Error in proof processor: {cause}")]
     ProofProcessorError { cause: anyhow::Error },
     /// A write to the proof's target failed.
@@ -27,41 +27,41 @@ pub enum SolverError {
     /// A clause or an assumption has a name of mode witness.
     #[error("a clause or an assumption has a witness variable")]
     WitnessVariable,
-    /// A name that is assumed can't change its mode.
+    /// The mode of a name that is assumed cannot change.
     #[error("an assumed variable can't change its mode")]
     AssumedVariable,
-    /// A proof begins before the first clause, name, assumption and `solve`.
+    /// A proof must begin before the first clause, name, assumption and `solve`.
     #[error("a proof can't begin once the solver was used")]
     TooLate,
-    /// A DRAT proof has no assumptions, and no clauses behind the first `solve`.
+    /// A DRAT proof has no assumptions, and no clauses after the first `solve`.
     #[error("the proof format has no assumptions and no later clauses")]
     NotInDrat,
-    /// The clause buffer holds more than 2^32-1 words.
+    /// The clause buffer has more than 2^32-1 words.
     #[error("the store of clauses is full")]
     StoreFull,
-    /// No index of a variable is left, which are 2^28, or a number of a formula's text is past that limit.
+    /// All 2^28 variables are in use, or a number in a formula's text is above that limit.
     #[error("a variable is past the limit")]
     VariableLimit,
-    /// The solver's own checker has given its last id, or counted a clause as often as it can.
+    /// The solver's own checker has used its last id, or counted a clause as often as it can.
     #[error("a counter is at its end")]
     CounterEnd,
     /// An earlier call failed.
     #[error("the solver has failed before")]
     HasFailed,
-    /// The formula's reader failed, or was read 2^48 times.
+    /// The formula's reader failed, or was called 2^48 times.
     #[error("the formula can't be read")]
     Read,
     /// The formula's text is malformed.
     #[error("the formula's text is malformed")]
     Malformed,
-    /// A parameter is out of its range.
+    /// A parameter is out of range.
     #[error("a parameter is out of its range")]
     OutOfRange,
 }
 
 impl SolverError {
-    /// Whether the solver goes on after this error, whichever call answers it. After the `OutOfMemory` of `model` it
-    /// does, too.
+    /// Whether the solver can still be used after this error, whichever call returned it. After the `OutOfMemory` of
+    /// `model` it can, too.
     pub fn is_recoverable(&self) -> bool
         ensures { result ≡ is_recoverable self.now }
     {

@@ -1,4 +1,4 @@
-//! A clause comes to a search.
+//! Loads clauses into a search.
 ghost use Rattle.std.specs.Prelude.{◌≡◌, ◌<◌, length, true, OnOk};
 ghost use Rattle.sat_base.specs.steps.Steps.{DeleteClause, Satisfied};
 ghost use Rattle.sat_solver.specs.session.Coming.{OnlyAllowedSteps, DeletesAdded};
@@ -48,7 +48,7 @@ pub fn delete_satisfied<W: CountedWrite + Drop, P: ProofProcessor>(
     Ok(())
 }
 
-/// Deletes a clause that has a true literal, and answers that a valuation may be left.
+/// Deletes a clause that has a true literal. Returns true: the formula may still be satisfiable.
 fn delete_true<W: CountedWrite + Drop, P: ProofProcessor>(
     proof: &mut Proof<W, P>,
     search: &mut Search,
@@ -65,9 +65,9 @@ fn delete_true<W: CountedWrite + Drop, P: ProofProcessor>(
     Ok(true)
 }
 
-/// Loads a clause, at level 0, that the last step added. One with a true literal and another one is deleted at once.
-/// Answers whether a valuation may be left: for a clause without literals, or whose one literal is false, it's not, and
-/// unsat is recorded.
+/// Loads a clause, at level 0, that the last step added. One with a true literal and another literal is deleted at
+/// once. Returns whether the formula may still be satisfiable: after an empty clause, or one whose only literal is
+/// false, it is not, and unsat is recorded.
 pub fn load_clause<W: CountedWrite + Drop, P: ProofProcessor>(
     proof: &mut Proof<W, P>,
     search: &mut Search,

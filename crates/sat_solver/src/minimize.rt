@@ -1,4 +1,4 @@
-//! Literals that follow from the others of the clause are dropped.
+//! Removes literals that follow from the others of the clause.
 ghost use Rattle.std.specs.Prelude.{◌≡◌, ◌<◌, ◌∷◌, [], length, OnOk, IfOk};
 ghost use Rattle.sat_base.specs.values.Literals.{variable};
 ghost use Rattle.sat_parts.specs.clause.Glue.{HaveNodes};
@@ -15,7 +15,7 @@ use sat_parts::{Assignment, CauseLits, Conflict, ImplGraph, Trail};
 use sat_store::{ClauseAlloc, LevelAbstraction, Lits};
 use std::alloc::AllocError;
 
-/// Marks a literal of a reason, unless it is marked or of level 0, and returns whether it may follow from the clause.
+/// Marks a literal of a reason, unless it is marked or of level 0. Returns whether it may follow from the clause.
 #[inline(always)]
 fn follow_one(
     analysis: &mut Analysis,
@@ -41,7 +41,7 @@ fn follow_one(
     Ok(true)
 }
 
-/// The same of the literals of a list, up to the first that may not.
+/// Marks the literals of a list, up to the first that cannot follow from the clause.
 fn follow_own(
     analysis: &mut Analysis,
     graph: &ImplGraph,
@@ -62,7 +62,7 @@ fn follow_own(
     Ok(true)
 }
 
-/// The same of the literals of a long clause.
+/// Marks the literals of a long clause, up to the first that cannot follow from the clause.
 fn follow_long(
     analysis: &mut Analysis,
     graph: &ImplGraph,
@@ -82,8 +82,8 @@ fn follow_long(
     Ok(true)
 }
 
-/// Marks the literals of a reason that aren't marked yet, and returns whether each of them may follow from the clause.
-/// Stops at the first one that may not.
+/// Marks the literals of a reason that are not marked yet. Returns whether all of them may follow from the clause;
+/// stops at the first that cannot.
 fn follow(
     analysis: &mut Analysis,
     graph: &ImplGraph,
@@ -103,7 +103,7 @@ fn follow(
     Ok(whole)
 }
 
-/// Whether the literal follows from the others of the clause. The literals by which it does are then among the used
+/// Whether the literal follows from the others of the clause. Then the literals that it follows from are among the used
 /// ones.
 fn is_implied(
     analysis: &mut Analysis,
@@ -138,7 +138,7 @@ fn is_implied(
     Ok(true)
 }
 
-/// A filter for the levels of the literals: it lets each of them pass, and perhaps some others.
+/// Returns a filter that admits the levels of these literals, and possibly others.
 fn levels_of(graph: &ImplGraph, lits: &[Lit]) -> LevelAbstraction
     requires { HaveNodes graph.now lits.now }
 {
@@ -149,7 +149,7 @@ fn levels_of(graph: &ImplGraph, lits: &[Lit]) -> LevelAbstraction
     levels
 }
 
-/// Drops the literals of the clause that follow from its others, but for the first one.
+/// Removes the literals of the clause that follow from its others, but never the first one.
 pub(crate) fn minimize_clause(
     analysis: &mut Analysis,
     clauses: &ClauseAlloc,

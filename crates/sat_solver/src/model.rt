@@ -1,4 +1,4 @@
-//! Models over the proof's variables and over names, from the values of the search.
+//! Models over proof variables and over names, from the values of the search.
 ghost use Rattle.std.specs.Prelude.{◌≡◌, ◌<◌, ◌++◌, OnOk, Option, None, slice_index_or};
 ghost use Rattle.sat_solver.specs.variables.Variables.{AreTidy, global_of, names_used, variables_used};
 ghost use Rattle.sat_solver.specs.Models.{has_true_value, value_in, literal_in, model_to, name_literal, named_to};
@@ -7,7 +7,7 @@ use crate::variables::Variables;
 use sat_base::{Lit, Var};
 use std::alloc::AllocError;
 
-/// What has no value counts as false in a model.
+/// Whether a value is true. In a model, no value counts as false.
 fn holds(value: Option<bool>) -> bool
     ensures { result ≡ has_true_value value }
 {
@@ -17,7 +17,7 @@ fn holds(value: Option<bool>) -> bool
     }
 }
 
-/// The value of an index of the search, false where it has none.
+/// Returns the value of an index of the search, or false if it has none.
 fn value_at(values: &[Option<bool>], solver: Var) -> bool
     ensures { result ≡ has_true_value (slice_index_or values.now solver None) }
 {
@@ -28,7 +28,7 @@ fn value_at(values: &[Option<bool>], solver: Var) -> bool
     holds(values[index])
 }
 
-/// The value of a variable of the proof: that of its index, else its unit's, else false.
+/// Returns the value of a proof variable: that of its index, otherwise that of its unit, otherwise false.
 pub fn value_of(variables: &Variables, values: &[Option<bool>], global: Var) -> bool
     requires within { global < variables_used variables.now }
     ensures { result ≡ value_in variables.now values.now global }
@@ -39,7 +39,7 @@ pub fn value_of(variables: &Variables, values: &[Option<bool>], global: Var) -> 
     }
 }
 
-/// Puts the literal of a variable of the proof behind others, where the variable is in use.
+/// Appends the literal of a proof variable, if the variable is in use.
 fn push_value(
     variables: &Variables,
     values: &[Option<bool>],
@@ -57,7 +57,7 @@ fn push_value(
     Ok(())
 }
 
-/// Puts a literal for each variable of the proof in use, by increasing variable, into a list in place of what it had.
+/// Replaces the content of a list by a literal for every proof variable in use, in increasing order.
 pub fn model_lits(
     variables: &Variables,
     values: &[Option<bool>],
@@ -74,7 +74,7 @@ pub fn model_lits(
     Ok(())
 }
 
-/// Puts the literal of a name behind others, where the name is in use.
+/// Appends the literal of a name, if the name is in use.
 fn push_named(
     variables: &Variables,
     values: &[Option<bool>],
@@ -93,7 +93,7 @@ fn push_named(
     Ok(())
 }
 
-/// Puts a literal for each name in use, by increasing name, into a list in place of what it had.
+/// Replaces the content of a list by a literal for every name in use, in increasing order.
 pub fn named_lits(
     variables: &Variables,
     values: &[Option<bool>],

@@ -1,6 +1,6 @@
 //! How far a solver has come.
 
-/// Counts of a solver. Each is held at 2^64-1.
+/// Counts of a solver. They saturate at 2^64-1.
 #[derive(Clone, Copy, Debug, Drop, PartialEq, Eq)]
 pub struct Progress {
     /// Rounds of search so far, over all calls of `solve`.
@@ -9,14 +9,14 @@ pub struct Progress {
     pub restarts: u64,
     /// Variables of the search without a value.
     pub vars: u64,
-    /// Clauses of two literals.
+    /// Clauses with two literals.
     pub binary: u64,
-    /// Clauses of three literals or more that the formula has.
+    /// Clauses of the formula with three or more literals.
     pub irred: u64,
-    /// Learned ones that are always kept.
+    /// Learned clauses that are always kept.
     pub core: u64,
-    /// Learned ones that are kept while they are used.
+    /// Learned clauses that are kept while they are used.
     pub mid: u64,
-    /// Learned ones of which half are deleted at each reduction.
+    /// Learned clauses of which every reduction deletes half.
     pub local: u64,
 }

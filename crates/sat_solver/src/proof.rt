@@ -1,4 +1,4 @@
-//! The proof that a solver writes. Each step goes through it, and nobody else writes.
+//! The proof that a solver writes. Every step is made here.
 ghost use Rattle.std.specs.Prelude.{◌≡◌, ◌∷◌, [], true, false, Some, OnOk, IfErr};
 ghost use Rattle.sat_base.specs.device.Sink.{empty_sink};
 ghost use Rattle.sat_base.specs.steps.StepViews.{step_of};
@@ -37,12 +37,12 @@ use sat_checker::{Nobody, ProofProcessor};
 use std::alloc::Global;
 use std::{io, mem};
 
-/// Why a step wasn't written, or wasn't checked.
+/// Why a step was not written, or not checked.
 #[derive(Drop)]
 pub enum ProofError {
-    /// A call of the target failed, whose cause is kept with the proof.
+    /// A call of the target failed. The underlying error is stored with the proof.
     Write(Kept<io::Error>),
-    /// Where its hashes are cut. It wasn't made.
+    /// The memory for its shortened hashes could not be allocated. It was not made.
     OutOfMemory,
     /// It was made, and the solver's own checker failed at it.
     Check(CheckFault),
@@ -59,16 +59,16 @@ impl From<CheckFault> for ProofError {
     }
 }
 
-/// All steps that a solver made, the checker that takes them, where there is one, and the target that their text goes
-/// to, where one is open. After a fault of the target it isn't used again, and steps go on as if none were open.
+/// All steps that a solver has made, the solver's own checker, if any, and the open target of their text, if any. After
+/// a failure the target is not used again, and steps continue as if none were open.
 #[derive(Drop)]
 pub struct Proof<W, P: ProofProcessor = Nobody> {
     alloc: Global,
     made: Made<P>,
-    /// What the width of hashes follows while a target is open, or a checker there.
+    /// The counts that determine the width of hashes, while a target is open or there is a checker.
     counting: Counting,
     lists: CutLists,
-    /// Where lines are put together.
+    /// Where DRAT lines are assembled.
     text: Vec<u8>,
     output: Option<Output<W>>,
     broken: bool,
@@ -77,7 +77,7 @@ pub struct Proof<W, P: ProofProcessor = Nobody> {
 }
 
 impl<W: CountedWrite + Drop, P: ProofProcessor> Proof<W, P> {
-    /// No step yet, no checker, and no target. Takes no memory.
+    /// Creates a proof without steps, checker and target. Never allocates.
     pub fn new(alloc: Global) -> Proof<W, P>
         ensures steps { steps_of result ≡ [] }
         ensures checked { is_checked result ≡ false }
@@ -107,7 +107,7 @@ impl<W: CountedWrite + Drop, P: ProofProcessor> Proof<W, P> {
         }
     }
 
-    /// Whether lines of DRAT are written.
+    /// Whether DRAT lines are written.
     pub fn is_drat(&self) -> bool
         ensures { result ≡ is_drat (target_of W.seen self.now) }
     {
@@ -124,14 +124,14 @@ impl<W: CountedWrite + Drop, P: ProofProcessor> Proof<W, P> {
         self.counting.solving
     }
 
-    /// Whether a step was made that is no end of a proof.
+    /// Whether a step was made that is not the end of a proof.
     pub fn has_begun(&self) -> bool
         ensures { result ≡ has_begun (steps_of self.now) }
     {
         self.made.has_begun()
     }
 
-    /// From here on a checker takes the steps. Takes no memory.
+    /// Starts a checker, which receives the steps from now on. Never allocates.
     pub fn begin_checking(&mut self, alloc: Global)
         requires { has_begun (steps_of self.old) ≡ false }
         ensures checks { HasFullChecker self.old self.new }
@@ -141,8 +141,8 @@ impl<W: CountedWrite + Drop, P: ProofProcessor> Proof<W, P> {
         self.made.check(alloc);
     }
 
-    /// A processor, which the checker tells what it announces from here on. Without memory it is dropped, and the
-    /// checker takes no step.
+    /// Adds a listener, which the checker notifies from now on. If memory runs out, the listener is dropped, and the
+    /// checker receives no further step.
     pub fn add_processor(&mut self, processor: P) -> Result<(), ProofError>
         requires begun { has_begun (steps_of self.old) ≡ false }
         requires taking { is_lost self.old ≡ false }
@@ -153,8 +153,8 @@ impl<W: CountedWrite + Drop, P: ProofProcessor> Proof<W, P> {
         Ok(())
     }
 
-    /// From here on steps are written to this target, with whole hashes at first. Takes no memory. A target that failed
-    /// before is dropped.
+    /// Opens a target, to which steps are written from now on, at first with complete hashes. Never allocates. A target
+    /// that failed before is dropped.
     pub fn open(&mut self, format: ProofFormat, target: W)
         requires { is_open (target_of W.seen self.old) ≡ false }
         ensures steps { steps_of self.new ≡ steps_of self.old }
@@ -168,7 +168,7 @@ impl<W: CountedWrite + Drop, P: ProofProcessor> Proof<W, P> {
         self.broken = false;
     }
 
-    /// From here on hashes are shortened where the count of clauses allows it.
+    /// Allows hashes to be shortened from now on, if the number of clauses permits.
     pub fn begin_ask(&mut self)
         ensures keeps { HasAllowedSteps self.old → HasAllowedSteps self.new }
         ensures adds { EmitsExactly W.seen [] self.old self.new }
@@ -178,7 +178,7 @@ impl<W: CountedWrite + Drop, P: ProofProcessor> Proof<W, P> {
         self.counting.solving = true;
     }
 
-    /// From here on the target isn't used any more. Keeps why its last call failed.
+    /// Stops using the target. Stores why its last call failed.
     fn break_off(&mut self, cause: io::Error) -> ProofError
         ensures fault { result ≡ ProofError.Write cause }
         ensures breaks { self.new ≡ record self.old { broken = true; cause = Some cause } }
@@ -189,7 +189,7 @@ impl<W: CountedWrite + Drop, P: ProofProcessor> Proof<W, P> {
         ProofError::Write(kept)
     }
 
-    /// Writes a step where a target is open, with its hashes cut to the width for the clauses behind it.
+    /// Writes a step to the open target, if any, with its hashes shortened to the width for the clauses after it.
     #[inline(always)]
     fn put(
         &mut self,
@@ -213,8 +213,8 @@ impl<W: CountedWrite + Drop, P: ProofProcessor> Proof<W, P> {
         self.put_long(&counting, step, cut)
     }
 
-    /// Lets a step's text wait if there surely is room for it, or does nothing if no target takes it. Returns whether
-    /// the step is done with.
+    /// Buffers a step's text if there is certainly room for it, or does nothing if no target receives it. Returns
+    /// whether the step is done.
     #[inline(always)]
     fn try_put(&mut self, counting: &Counting, _step: &ProofStep<'_>, cut: &ProofStep<'_>) -> bool
         requires width { KeepsWidth (step_of _step.now) }
@@ -242,7 +242,7 @@ impl<W: CountedWrite + Drop, P: ProofProcessor> Proof<W, P> {
         false
     }
 
-    /// The same of any step. A call of its own, since an error of a target takes much room.
+    /// Writes any step. This is a call of its own, since an error of a target is large.
     #[inline(never)]
     fn put_long(
         &mut self,
@@ -279,7 +279,7 @@ impl<W: CountedWrite + Drop, P: ProofProcessor> Proof<W, P> {
         }
     }
 
-    /// Notes a step that was written, and gives it to the checker as it was cut.
+    /// Records a step that was written, and passes it to the checker as it was shortened.
     #[inline(always)]
     fn take(&mut self, step: &ProofStep<'_>, cut: &ProofStep<'_>) -> Result<(), ProofError>
         requires may { MayAll (step_of step.now ∷ steps_of self.old) }
@@ -297,8 +297,8 @@ impl<W: CountedWrite + Drop, P: ProofProcessor> Proof<W, P> {
         Ok(())
     }
 
-    /// Gives target and checker the very same step, with its hashes cut to the width for the clauses behind it. A step
-    /// at whose text the target fails isn't checked.
+    /// Passes the same step to target and checker, with its hashes shortened to the width for the clauses after it. A
+    /// step at whose text the target fails is not checked.
     #[inline(always)]
     fn record<'s>(
         &mut self,
@@ -325,7 +325,7 @@ impl<W: CountedWrite + Drop, P: ProofProcessor> Proof<W, P> {
         }
     }
 
-    /// Cuts a step's hashes, in these lists, to the width for the clauses behind it, and records it.
+    /// Shortens a step's hashes, in these lists, to the width for the clauses after it, and records the step.
     fn record_cut(&mut self, lists: &mut CutLists, step: &ProofStep<'_>) -> Result<(), ProofError>
         requires keeps { HasAllowedSteps self.old }
         requires may { May (session_of self.old) (step_of step.now) }
@@ -386,8 +386,8 @@ impl<W: CountedWrite + Drop, P: ProofProcessor> Proof<W, P> {
         }
     }
 
-    /// Makes a step that the session may write, writes it where a target is open, and gives it to the checker, where
-    /// there is one. Without memory for its text or its hashes nothing is made.
+    /// Makes a step that the session may write: writes it to the open target, if any, and passes it to the checker, if
+    /// any. If the memory for its text or its hashes cannot be allocated, the step is not made.
     #[inline(always)]
     pub fn step(&mut self, step: &ProofStep<'_>) -> Result<(), ProofError>
         requires keeps { HasAllowedSteps self.old }
@@ -406,7 +406,7 @@ impl<W: CountedWrite + Drop, P: ProofProcessor> Proof<W, P> {
         self.record(counting, step, step)
     }
 
-    /// Records a step with hashes, over the lists that hold them once they are cut.
+    /// Records a step with hashes, with the lists that hold them once they are shortened.
     #[inline(never)]
     fn step_with_hashes(&mut self, step: &ProofStep<'_>) -> Result<(), ProofError>
         requires keeps { HasAllowedSteps self.old }
@@ -421,7 +421,7 @@ impl<W: CountedWrite + Drop, P: ProofProcessor> Proof<W, P> {
         recorded
     }
 
-    /// Writes out what waits for an open target, and flushes it.
+    /// Writes pending bytes to the open target, if any, and flushes it.
     fn flush_target(&mut self) -> Result<(), ProofError>
         ensures flushes { FlushesTarget W.seen result self.old self.new }
         ensures taking { is_lost self.new ≡ is_lost self.old }
@@ -440,7 +440,7 @@ impl<W: CountedWrite + Drop, P: ProofProcessor> Proof<W, P> {
         }
     }
 
-    /// Has the checker tell what waits.
+    /// Makes the checker announce what waits.
     fn take_delayed(&mut self) -> Result<(), ProofError>
         ensures steps { steps_of self.new ≡ steps_of self.old }
         ensures listening { audience self.new ≡ audience self.old }
@@ -455,7 +455,7 @@ impl<W: CountedWrite + Drop, P: ProofProcessor> Proof<W, P> {
         Ok(())
     }
 
-    /// Writes out what waits for an open target, and flushes it. Then the checker tells what waits, where there is one.
+    /// Writes pending bytes to the open target, if any, and flushes it. Then the checker, if any, announces what waits.
     pub fn flush(&mut self) -> Result<(), ProofError>
         ensures keeps { HasAllowedSteps self.old → HasAllowedSteps self.new }
         ensures flushes { FlushesOrFails W.seen result self.old self.new }
@@ -464,8 +464,8 @@ impl<W: CountedWrite + Drop, P: ProofProcessor> Proof<W, P> {
         self.take_delayed()
     }
 
-    /// Writes the last step, flushes, and hands the target back; `None` where none is open. After an error the target
-    /// stays.
+    /// Writes the last step, flushes, and returns the target, or `None` if none is open. After an error the proof keeps
+    /// the target.
     pub fn close(&mut self) -> Result<Option<W>, ProofError>
         requires { HasAllowedSteps self.old }
         ensures keeps { HasAllowedSteps self.new }
@@ -479,7 +479,7 @@ impl<W: CountedWrite + Drop, P: ProofProcessor> Proof<W, P> {
         Ok(self.take_target())
     }
 
-    /// The target as it is, where there is one; what waits for it is lost.
+    /// Returns the target as it is, or `None`. Its pending bytes are lost.
     pub fn take_target(&mut self) -> Option<W>
         ensures keeps { HasAllowedSteps self.old → HasAllowedSteps self.new }
         ensures gives { HandsBack W.seen result self.old self.new }
@@ -491,14 +491,14 @@ impl<W: CountedWrite + Drop, P: ProofProcessor> Proof<W, P> {
         }
     }
 
-    /// Why the last call of the target failed.
+    /// Returns why the last call of the target failed.
     pub fn cause(&self) -> Option<io::Error>
         ensures { result ≡ self.now.cause }
     {
         self.cause
     }
 
-    /// What a processor complained of. It is told once.
+    /// Returns the error of a listener. It is returned once.
     pub fn take_complaint(&mut self) -> Option<anyhow::Error>
         ensures gives { result ≡ self.old.made.complaint }
         ensures same { self.new ≡ without_complaint self.old }
@@ -506,8 +506,8 @@ impl<W: CountedWrite + Drop, P: ProofProcessor> Proof<W, P> {
         self.made.take_complaint()
     }
 
-    /// Those who listen to the checker, in the order in which they were added, also after a failure. There is none
-    /// afterwards.
+    /// Returns the checker's listeners in the order in which they were added, also after a failure. The checker has
+    /// none afterwards.
     pub fn take_processors(&mut self, alloc: Global) -> Vec<P>
         ensures handed { HandsBackListeners self.old result.items }
         ensures whole { HandsBackWholeListeners self.old result.items }

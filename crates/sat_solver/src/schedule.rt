@@ -1,4 +1,4 @@
-//! Rounds with restarts.
+//! Rounds, with restarts between them.
 ghost use Rattle.std.specs.Prelude.{◌≡◌, ◌+◌, ◌-◌, ◌^◌, ◌<◌, IfOk, IfErr, None};
 ghost use Rattle.sat_solver.specs.schedule.Climbing.{KeepsProgress};
 ghost use Rattle.sat_solver.specs.schedule.Counting.{AnswersWithin, CountsOn, SpendsRounds, TakesRound, round_allowance};
@@ -21,10 +21,10 @@ use sat_base::CountedWrite;
 use sat_checker::ProofProcessor;
 use sat_parts::parts::assumptions::restart;
 
-/// How a round ended.
+/// The outcome of a round.
 #[derive(Clone, Copy, Debug, Drop, PartialEq, Eq)]
 pub enum Outcome {
-    /// In a conflict, from which a clause was learned.
+    /// A clause was learned from a conflict.
     Learned,
     Model,
     Unsat,
@@ -48,7 +48,7 @@ impl Outcome {
     }
 }
 
-/// Restarts where a restart is due before this round.
+/// Restarts the search if a restart is due before this round.
 fn restart_where_due<W: CountedWrite + Drop, P: ProofProcessor>(
     core: &mut Core<W, P>,
     restarts: &mut Restarts,
@@ -72,7 +72,7 @@ fn restart_where_due<W: CountedWrite + Drop, P: ProofProcessor>(
     begin_gap(restarts, round);
 }
 
-/// Rounds up to an answer, at most so many. None where there is no answer by then.
+/// Runs at most `count` rounds, up to an answer. Returns `None` if there is no answer.
 pub fn search<W: CountedWrite + Drop, P: ProofProcessor>(
     core: &mut Core<W, P>,
     names: &mut Variables,

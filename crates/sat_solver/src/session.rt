@@ -1,4 +1,4 @@
-//! What ties a solver that writes a proof to the checker that reads it.
+//! What connects a solver that writes a proof to the checker that reads it.
 pub mod fit_laws;
 pub mod history;
 pub mod laws;

@@ -1,7 +1,7 @@
 //! An incremental solver that writes a proof.
 //!
-//! Contracts see of a solver what `View` of its definitions has, and the judge's state; what holds between calls is
-//! `IsSolver`, which `new` ensures and every call preserves.
+//! Contracts describe a solver by the `View` of its definitions and by the judge's state. `IsSolver` is the invariant
+//! between calls: `new` establishes it, and every call preserves it.
 ghost use Rattle.std.specs.Prelude.{◌≡◌};
 ghost use Rattle.sat_solver.specs.solver.View.{IsEmpty, rounds_in};
 
@@ -36,7 +36,7 @@ use sat_parts::parts::sorting::no_sorting;
 use sat_store::LubySequence;
 use std::alloc::Global;
 
-/// A solver of clauses over names: it answers under assumptions, again and again, and writes a proof.
+/// A solver of clauses over names. It answers any number of asks, under assumptions, and writes a proof.
 #[derive(Drop)]
 pub struct Solver<W: CountedWrite + Drop, P: ProofProcessor = Nobody> {
     core: Core<W, P>,
@@ -44,11 +44,11 @@ pub struct Solver<W: CountedWrite + Drop, P: ProofProcessor = Nobody> {
     clock: Clock,
     told: LastAnswers,
     state: State,
-    /// Whether a call failed, behind which each one does.
+    /// Whether a call failed. Then every later call fails.
     failed: bool,
     /// Whether a clause, a name, an assumption or an ask came before.
     used: bool,
-    /// The clause in hand.
+    /// The clause that is being added.
     loading: Loading,
     /// The assumptions, over the search and over the proof.
     asked: Taken,
@@ -57,7 +57,7 @@ pub struct Solver<W: CountedWrite + Drop, P: ProofProcessor = Nobody> {
 }
 
 impl<W: CountedWrite + Drop> Solver<W, Nobody> {
-    /// No clauses and no names, and nobody will listen to a checker of its own. Takes no memory.
+    /// Creates a solver without clauses, names and listeners. Never allocates.
     pub fn new(alloc: Global) -> Solver<W, Nobody>
         ensures { IsEmpty W.seen result }
     {
@@ -66,7 +66,7 @@ impl<W: CountedWrite + Drop> Solver<W, Nobody> {
 }
 
 impl<W: CountedWrite + Drop, P: ProofProcessor> Solver<W, P> {
-    /// As `new`, for processors of this type. Nobody listens yet.
+    /// Creates a solver whose listeners are of type `P`. There are none yet.
     pub fn notifying(alloc: Global) -> Solver<W, P>
         ensures { IsEmpty W.seen result }
     {
@@ -103,7 +103,8 @@ impl<W: CountedWrite + Drop, P: ProofProcessor> Solver<W, P> {
         }
     }
 
-    /// The rounds of search so far, over all calls of `solve`: at most 2^64-1, also after a call failed.
+    /// Returns the number of rounds so far, over all calls of `solve`, also after a failed call. It saturates at
+    /// 2^64-1.
     pub fn steps(&self) -> u64
         ensures { result ≡ rounds_in self.now }
     {

@@ -1,12 +1,12 @@
-//! What a solver knows of the clauses and assumptions it has.
+//! What a solver knows about its clauses and assumptions.
 
-/// What a solver knows of the clauses and assumptions it has.
+/// What a solver knows about its clauses and assumptions.
 #[derive(Clone, Copy, Debug, Drop, PartialEq, Eq)]
 pub enum State {
     Unknown,
     /// The last model satisfies them.
     Sat,
-    /// Assumptions can't be true together.
+    /// The assumptions contradict the clauses.
     UnsatUnderAssumptions,
     /// The clauses alone are unsatisfiable.
     Unsat,

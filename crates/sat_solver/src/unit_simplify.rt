@@ -1,4 +1,4 @@
-//! What units of level 0 decide goes: clauses, literals of clauses, and variables that no clause has any more.
+//! Simplifies by the units of level 0: removes clauses, literals of clauses, and variables without a clause.
 ghost use Rattle.sat_solver.specs.proof.ProofView.{HasAllowedSteps, session_of};
 ghost use Rattle.sat_solver.specs.cdcl.Going.{EmitsSteps};
 ghost use Rattle.sat_solver.specs.cdcl.Joint.{IsSearch};
@@ -23,8 +23,8 @@ use crate::variables::Variables;
 use sat_base::CountedWrite;
 use sat_checker::ProofProcessor;
 
-/// Clauses of two literals go where a variable of them has a value, long ones where a literal is true; the others lose
-/// their false literals.
+/// Removes binary clauses with an assigned variable and long clauses with a true literal. Removes the false literals of
+/// the others.
 fn lighten<W: CountedWrite + Drop, P: ProofProcessor>(
     proof: &mut Proof<W, P>,
     search: &mut Search,
@@ -40,9 +40,10 @@ fn lighten<W: CountedWrite + Drop, P: ProofProcessor>(
     simplify_clauses(proof, search, &mut part)
 }
 
-/// Simplifies at level 0, where all was propagated and the trail is empty: true clauses go, false literals are cut off,
-/// and then the variables that no clause has and no assumption give their indices up, in order. Hidden ones among these
-/// are deleted.
+/// Simplifies at level 0, after complete propagation and with an empty trail.
+///
+/// Removes satisfied clauses and false literals. Then the variables that are in no clause and not assumed release their
+/// indices, in order. Hidden ones among these are deleted.
 pub fn unit_simplify<W: CountedWrite + Drop, P: ProofProcessor>(
     proof: &mut Proof<W, P>,
     search: &mut Search,

@@ -26,35 +26,35 @@ use sat_base::Var;
 use sat_store::{SamplingMode, VarBiMap, VarData};
 use std::alloc::{AllocError, Global};
 
-/// Names of the user's, variables of the proof, which are global, and indices of the search, with maps between them.
+/// The caller's names, the proof's variables (which are global), and the search's indices, with maps between them.
 #[derive(Drop)]
 pub struct Variables {
     pub global_from_user: VarBiMap,
     pub solver_from_global: VarBiMap,
 
-    /// The variable that each index of the search has, or last had.
+    /// The variable that each index of the search has, or had last.
     pub globals: Vec<Var>,
 
-    /// What is kept of each variable, by its index.
+    /// What is stored of each variable, indexed by variable.
     pub var_data: Vec<VarData>,
 
-    /// Names that were used and aren't in use.
+    /// Names that were used and are not in use.
     pub free_users: FreeIndices,
 
-    /// Variables that were used and aren't in use.
+    /// Variables that were used and are not in use.
     pub free_globals: FreeIndices,
 
-    /// Indices that were used and aren't in use.
+    /// Indices that were used and are not in use.
     pub free_solvers: FreeIndices,
 
     /// Whether a variable may be of mode witness.
     pub witnessed: bool,
 
-    /// Whether each name that was ever used has the variable with its own index.
+    /// Whether every name that was ever used has the variable with its own index.
     pub own_names: bool,
 }
 
-/// Whether each name still has the variable with its own index, after a name got this one.
+/// Whether every name still has the variable with its own index, after a name got this one.
 fn are_own(own: bool, user: Var, global: Var) -> bool
     ensures own { result ≡ true → own ≡ true }
     ensures same { result ≡ true → global ≡ user }
@@ -63,7 +63,7 @@ fn are_own(own: bool, user: Var, global: Var) -> bool
 }
 
 impl Variables {
-    /// No name. Takes no memory.
+    /// Creates an empty value. Never allocates.
     pub fn new(alloc: Global) -> Variables
         ensures tidy { AreTidy result }
         ensures none { variables_used result ≡ 0 }
@@ -81,7 +81,8 @@ impl Variables {
         }
     }
 
-    /// The variable for a name that isn't in use: its own index if that is free or new, else the lowest free one.
+    /// Returns the variable for a name that is not in use: the one with its own index if that is free or new, otherwise
+    /// the lowest free one.
     #[tactic(auto, using(crate::proofs::lemmas::variables::NextVariables::finding_room))]
     pub(crate) fn room_for(&self, user: Var) -> Option<Var>
         requires tidy { AreTidy self.now }
@@ -119,7 +120,7 @@ impl Variables {
         Ok(())
     }
 
-    /// The first index never used, which there is where a variable in use has none.
+    /// Returns the first index never used. There is one, since a variable in use has none.
     fn new_index(&self, _global: Var) -> Var
         requires tidy { AreTidy self.now }
         requires live { (data_at self.now _global).deleted ≡ false }
@@ -130,7 +131,7 @@ impl Variables {
         Var::from_index(self.solver_from_global.bwd().watermark())
     }
 
-    /// The index for a variable in use that has none: the lowest free one.
+    /// Returns the index for a variable in use that has none: the lowest free one.
     pub(crate) fn next_index(&self, global: Var) -> Var
         requires tidy { AreTidy self.now }
         requires live { (data_at self.now global).deleted ≡ false }
@@ -157,7 +158,7 @@ impl Variables {
         Ok(())
     }
 
-    /// Takes the index of a variable away. Takes no memory.
+    /// Removes the index of a variable. Never allocates.
     pub(crate) fn take_index(&mut self, global: Var, solver: Var)
         requires tidy { AreTidy self.old }
         requires there { solver_of self.old global ≡ Some solver }
@@ -168,7 +169,7 @@ impl Variables {
         unlink(&mut self.solver_from_global, global, solver);
     }
 
-    /// Hides a variable, whose name is free from here on. Takes no memory.
+    /// Hides a variable, whose name is free from now on. Never allocates.
     pub(crate) fn put_hidden(&mut self, user: Var, global: Var)
         requires tidy { AreTidy self.old }
         requires named { global_of self.old user ≡ Some global }
@@ -181,7 +182,7 @@ impl Variables {
         self.own_names = false;
     }
 
-    /// Gives a name to a hidden variable, which is of mode witness from here on.
+    /// Gives a name to a hidden variable, which is of mode witness from now on.
     pub(crate) fn put_observed(&mut self, user: Var, global: Var) -> Result<(), AllocError>
         requires tidy { AreTidy self.old }
         requires free { global_of self.old user ≡ None }
@@ -199,7 +200,7 @@ impl Variables {
         Ok(())
     }
 
-    /// Gives a variable another mode.
+    /// Changes the mode of a variable.
     pub(crate) fn put_mode(&mut self, global: Var, mode: SamplingMode)
         requires within { global < variables_used self.old }
         ensures { PutsMode self.old self.new global mode }
@@ -208,7 +209,7 @@ impl Variables {
         self.witnessed = true;
     }
 
-    /// A variable is no longer in use. Takes no memory.
+    /// Releases a variable, which is no longer in use. Never allocates.
     pub(crate) fn put_deleted(&mut self, global: Var)
         requires tidy { AreTidy self.old }
         requires within { global < variables_used self.old }
@@ -218,7 +219,7 @@ impl Variables {
         set_data(&mut self.var_data, global, VarData::default());
     }
 
-    /// The mode of a variable that was used.
+    /// Returns the mode of a variable that was used.
     pub(crate) fn mode(&self, global: Var) -> SamplingMode
         requires within { global < variables_used self.now }
         ensures { result ≡ (data_at self.now global).sampling_mode }
@@ -226,21 +227,21 @@ impl Variables {
         self.var_data[global.index()].sampling_mode
     }
 
-    /// How many names were ever used.
+    /// Returns the number of names that were ever used.
     pub fn name_count(&self) -> usize
         ensures { result ≡ names_used self.now }
     {
         self.global_from_user.fwd().watermark()
     }
 
-    /// How many variables were ever used.
+    /// Returns the number of variables that were ever used.
     pub fn used_count(&self) -> usize
         ensures { result ≡ variables_used self.now }
     {
         self.var_data.len()
     }
 
-    /// Whether a variable that was used isn't in use any more.
+    /// Whether a variable that was used is no longer in use.
     pub fn is_deleted(&self, global: Var) -> bool
         requires within { global < variables_used self.now }
         ensures { result ≡ (data_at self.now global).deleted }
@@ -256,7 +257,7 @@ impl Variables {
         self.var_data[global.index()].assumed
     }
 
-    /// The value of the unit of a variable that was used.
+    /// Returns the value of the unit of a variable that was used.
     pub(crate) fn unit(&self, global: Var) -> Option<bool>
         requires within { global < variables_used self.now }
         ensures { result ≡ (data_at self.now global).unit }
@@ -264,8 +265,8 @@ impl Variables {
         self.var_data[global.index()].unit
     }
 
-    /// Notes the value of the unit of a variable that has an index, if there is one: the search does so before it gives
-    /// the index up.
+    /// Stores the value of the unit of a variable that has an index, or `None`. The search does so before it releases
+    /// the index.
     pub fn set_unit(&mut self, global: Var, unit: Option<bool>)
         requires within { global < variables_used self.old }
         ensures { PutsUnit self.old self.new global unit }
@@ -273,7 +274,7 @@ impl Variables {
         set_unit(&mut self.var_data, global, unit);
     }
 
-    /// The first name never used, where none is hidden.
+    /// Returns the first name never used. No name is hidden.
     fn first_unused(&self) -> Option<Var>
         requires tidy { AreTidy self.now }
         requires none { (u : ℕ) → is_free self.now.free_users u ≡ false }
@@ -287,7 +288,7 @@ impl Variables {
         None
     }
 
-    /// The name that comes next: the lowest hidden one, else the first never used.
+    /// Returns the next name: the lowest hidden one, otherwise the first never used.
     #[tactic(auto, using(crate::proofs::lemmas::variables::NextNames::next_hidden))]
     pub(crate) fn next_user(&self) -> Option<Var>
         requires tidy { AreTidy self.now }

@@ -8,7 +8,7 @@ use sat_base::{Counted, CountedWrite, ExtendFormula, Lit};
 use sat_solver::{ProofFormat, Solver, SolverError};
 use std::alloc::Global;
 
-/// A model, or else assumptions that can't all be true.
+/// A model, or otherwise assumptions that cannot all be true.
 pub type Answer = Result<Vec<Lit>, Vec<Lit>>;
 
 /// Asks under assumptions. Returns `None` if the rounds of this ask are exhausted.
@@ -37,7 +37,7 @@ pub fn ask<W: CountedWrite + Drop>(
     }
 }
 
-/// What two asks gave, and the proof of both.
+/// The results of two asks, and the proof of both.
 #[derive(Drop)]
 pub struct Solved<W> {
     pub refuted: Option<Answer>,
@@ -70,7 +70,7 @@ fn ask_twice<W: CountedWrite + Drop>(
     })
 }
 
-/// The same with a new solver. A file as target is `Counted::new(File::create(rt, path)?)`.
+/// Does the same with a new solver. To write to a file, pass `Counted::new(File::create(rt, path)?)`.
 pub fn solve<W: CountedWrite + Drop>(alloc: Global, target: W) -> Result<Solved<W>, SolverError> {
     let mut solver = Solver::new(alloc);
     let solved = ask_twice(alloc, &mut solver, target);

@@ -15,7 +15,8 @@ use sat_parts::{Assignment, Conflict, ImplGraph, Trail};
 use sat_store::ClauseAlloc;
 use std::alloc::AllocError;
 
-/// Learns a clause from a conflict above level 0, and gives the level below which it doesn't assert its first literal.
+/// Learns a clause from a conflict above level 0. Returns the level to backtrack to, at which the clause asserts its
+/// first literal.
 pub fn analyze_conflict(
     analysis: &mut Analysis,
     clauses: &ClauseAlloc,

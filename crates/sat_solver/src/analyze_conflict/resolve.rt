@@ -15,7 +15,7 @@ use sat_parts::{Assignment, CauseLits, Conflict, ImplGraph, Trail};
 use sat_store::{ClauseAlloc, Lits};
 use std::alloc::AllocError;
 
-/// Meets the false literals of a list, one after the other.
+/// Meets the false literals of a list one after another.
 fn add_own(
     analysis: &mut Analysis,
     graph: &ImplGraph,
@@ -33,7 +33,7 @@ fn add_own(
     Ok(())
 }
 
-/// Meets the false literals of a long clause, one after the other.
+/// Meets the false literals of a long clause one after another.
 fn add_long(
     analysis: &mut Analysis,
     graph: &ImplGraph,
@@ -50,7 +50,7 @@ fn add_long(
     Ok(())
 }
 
-/// Meets these false literals, one after the other. Those of a level not below the one given are still to be resolved.
+/// Meets these false literals one after another. Those at level `top` or above are still to be resolved.
 pub(crate) fn add_all(
     analysis: &mut Analysis,
     graph: &ImplGraph,
@@ -101,7 +101,7 @@ fn resolve_next(
     Ok(place)
 }
 
-/// Resolves until one literal of the current level is left, and gives a place of the trail behind it.
+/// Resolves until one literal of the current level is left. Returns a position of the trail after it.
 pub(crate) fn resolve_conflict(
     analysis: &mut Analysis,
     clauses: &ClauseAlloc,
@@ -126,7 +126,7 @@ pub(crate) fn resolve_conflict(
     Ok(at)
 }
 
-/// Begins with the literals of a clause that is false.
+/// Begins with the literals of a falsified clause.
 pub(crate) fn begin_conflict(
     analysis: &mut Analysis,
     clauses: &ClauseAlloc,
@@ -156,7 +156,7 @@ pub(crate) fn begin_conflict(
     Ok(())
 }
 
-/// Makes the last flagged literal, negated, the first of the clause.
+/// Makes the negation of the last flagged literal the first literal of the clause.
 pub(crate) fn finish_conflict(
     analysis: &mut Analysis,
     clauses: &ClauseAlloc,

@@ -1,4 +1,4 @@
-//! What conflict analysis works on.
+//! The working state of conflict analysis.
 ghost use Rattle.std.specs.Prelude.{ℕ, ◌≡◌, ◌-◌, replicate, ◌<◌, ◌≤◌, ◌++◌, length, slice_index, slice_index_or, true};
 ghost use Rattle.std.specs.Prelude.{false, [], ◌∷◌, reverse, take, slice_set, OnOk};
 ghost use Rattle.std.specs.List.Sorted.{IsPermutation, IsNonDecreasingBy};
@@ -16,8 +16,7 @@ use sat_store::ClauseRef;
 use std::alloc::{AllocError, Global};
 use std::marker::Model;
 
-/// The lists of an analysis, which are used again by the next one, and a flag for each variable. Contracts see a
-/// `Work`.
+/// The lists of an analysis, which the next one uses again, and a flag for every variable. Contracts see a `Work`.
 #[derive(Drop)]
 pub struct Analysis {
     clause: Vec<Lit>,
@@ -27,7 +26,7 @@ pub struct Analysis {
     core: Vec<Lit>,
     flags: Vec<bool>,
 
-    /// Literals below their depths, while used literals are sorted.
+    /// Sort keys of used literals: a literal's code below its depth.
     keys: Vec<u64>,
     pending: usize,
 }
@@ -42,7 +41,7 @@ impl Model for Analysis {
 }
 
 impl Analysis {
-    /// No variables. Takes no memory.
+    /// Creates an analysis without variables. Never allocates.
     pub fn new(alloc: Global) -> Analysis
         ensures { result.flags ≡ [] }
     {
@@ -58,7 +57,7 @@ impl Analysis {
         }
     }
 
-    /// Makes the variables those with an index below the count.
+    /// Sets the number of variables.
     pub fn set_var_count(&mut self, count: usize) -> Result<(), AllocError>
         ensures size { OnOk result (length self.new.flags ≡ count) }
         ensures clear { OnOk result (AreClear self.old.flags → AreClear self.new.flags) }
@@ -66,7 +65,7 @@ impl Analysis {
         self.resize_flags(count)
     }
 
-    /// Drops flags from the end, or adds some that aren't set.
+    /// Removes flags from the end, or adds cleared ones.
     fn resize_flags(&mut self, count: usize) -> Result<(), AllocError>
         ensures size { OnOk result (length self.new.flags ≡ count) }
         ensures flags { OnOk result (self.new.flags ≡ take count self.old.flags
@@ -75,50 +74,51 @@ impl Analysis {
         self.flags.resize(count, false)
     }
 
-    /// The literals of the learned clause.
+    /// Returns the literals of the learned clause.
     pub fn clause(&self) -> &[Lit]
         ensures { result.now ≡ self.now.clause }
     {
         &self.clause
     }
 
-    /// The literals whose reasons were used, in the order of the trail once an analysis is done.
+    /// Returns the literals whose reasons were used, in trail order once an analysis is done.
     pub fn used(&self) -> &[Lit]
         ensures { result.now ≡ self.now.used }
     {
         &self.used
     }
 
-    /// The variables that resolution met, each once, as it met them.
+    /// Returns the variables that resolution met, each once, in the order in which it met them.
     pub fn met(&self) -> &[Var]
         ensures { result.now ≡ self.now.met }
     {
         &self.met
     }
 
-    /// The long clauses that resolution took: the one that was found false, and then the reasons of literals from the
-    /// end of the trail on.
+    /// Returns the long clauses that took part: the falsified one, and then the reasons of literals from the end of the
+    /// trail on.
     pub fn involved(&self) -> &[ClauseRef]
         ensures { result.now ≡ self.now.involved }
     {
         &self.involved
     }
 
-    /// Of an analysis of assumptions: those that can't all be true, the one that failed first.
+    /// Returns the core of an analysis of assumptions: assumptions that contradict the clauses, the one that failed
+    /// first.
     pub fn core(&self) -> &[Lit]
         ensures { result.now ≡ self.now.core }
     {
         &self.core
     }
 
-    /// How many flagged literals are still to be resolved.
+    /// Returns the number of flagged literals that are still to be resolved.
     pub fn pending(&self) -> usize
         ensures { result ≡ self.now.pending }
     {
         self.pending
     }
 
-    /// Nothing is met yet. The flags stay.
+    /// Clears the lists. Flags are unchanged.
     fn clear(&mut self)
         ensures { self.new ≡ record self.old
             { clause = []; used = []; met = []; involved = []; core = []; pending = 0 } }
@@ -131,7 +131,7 @@ impl Analysis {
         self.pending = 0;
     }
 
-    /// Begins with a clause that was found false, none of whose literals is met yet. The flags stay.
+    /// Begins with a falsified clause, none of whose literals is met yet. Flags are unchanged.
     pub(crate) fn begin(&mut self, conflict: &Conflict) -> Result<(), AllocError>
         ensures { OnOk result (self.new ≡ begun conflict.now self.old) }
     {
@@ -143,7 +143,7 @@ impl Analysis {
         Ok(())
     }
 
-    /// Begins with an assumption that failed. The flags stay.
+    /// Begins with an assumption that failed. Flags are unchanged.
     pub(crate) fn begin_core(&mut self, failed: Lit) -> Result<(), AllocError>
         ensures { OnOk result (self.new ≡ begun_core failed self.old) }
     {
@@ -176,7 +176,7 @@ impl Analysis {
         Ok(())
     }
 
-    /// The place of the last flagged literal among those before this place.
+    /// Returns the position of the last flagged literal before this position.
     pub(crate) fn last_flagged(&self, lits: &[Lit], before: usize) -> usize
         requires within { before ≤ length lits.now }
         requires flags { (p : ℕ) → p < before → variable (slice_index lits.now p) < length self.now.flags }
@@ -196,7 +196,7 @@ impl Analysis {
         }
     }
 
-    /// A true literal isn't to be resolved any more.
+    /// Clears the flag of a true literal, which no longer has to be resolved.
     pub(crate) fn pass_by(&mut self, lit: Lit)
         requires flag { variable lit < length self.old.flags }
         ensures { self.new ≡ passed_by lit self.old }
@@ -205,7 +205,7 @@ impl Analysis {
         self.pending = self.pending.saturating_sub(1);
     }
 
-    /// The reason's clause takes part, if it is a long one.
+    /// Records the reason's clause as taking part, if it is a long one.
     fn involve(&mut self, reason: &Reason) -> Result<(), AllocError>
         ensures { OnOk result (self.new ≡ record self.old { involved = self.old.involved ++ long_of reason.now }) }
     {
@@ -216,7 +216,7 @@ impl Analysis {
         Ok(())
     }
 
-    /// The literal's reason is resolved with.
+    /// Uses the reason of a literal.
     pub(crate) fn take_up(&mut self, reason: &Reason, lit: Lit) -> Result<(), AllocError>
         requires flag { variable lit < length self.old.flags }
         ensures { OnOk result (self.new ≡ taken_up reason.now lit self.old) }
@@ -234,7 +234,7 @@ impl Analysis {
         Ok(())
     }
 
-    /// A true literal that was chosen is one of the core.
+    /// Adds a true literal that was chosen to the core.
     pub(crate) fn choose(&mut self, lit: Lit) -> Result<(), AllocError>
         requires flag { variable lit < length self.old.flags }
         ensures { OnOk result (self.new ≡ with_chosen lit self.old) }
@@ -244,7 +244,7 @@ impl Analysis {
         Ok(())
     }
 
-    /// Adds a literal to the clause, which changes places with the first one.
+    /// Adds a literal to the clause, and swaps it with the first one.
     pub(crate) fn put_first(&mut self, lit: Lit) -> Result<(), AllocError>
         ensures { OnOk result (self.new ≡ with_first lit self.old) }
     {
@@ -254,7 +254,7 @@ impl Analysis {
         Ok(())
     }
 
-    /// Clears the flags of the clause's and the used literals.
+    /// Clears the flags of the clause's literals and of the used ones.
     pub(crate) fn clear_flags(&mut self)
         requires clause { VariablesBelow self.old.clause (length self.old.flags) }
         requires used { VariablesBelow self.old.used (length self.old.flags) }
@@ -267,8 +267,8 @@ impl Analysis {
         unflag(&mut self.flags, &self.used, 0);
     }
 
-    /// Whether the literal's variable is flagged. While a clause is minimised, each flagged variable is one of the
-    /// clause or of a used literal.
+    /// Whether the literal's variable is flagged. During minimization, every flagged variable is in the clause or is
+    /// that of a used literal.
     pub(crate) fn is_flagged(&self, lit: Lit) -> bool
         requires flag { variable lit < length self.now.flags }
         ensures { result ≡ slice_index_or self.now.flags (variable lit) false }
@@ -276,7 +276,7 @@ impl Analysis {
         self.flags[lit.index()]
     }
 
-    /// Flags a false literal, whose negation is used.
+    /// Flags a false literal and uses its negation.
     pub(crate) fn mark(&mut self, lit: Lit) -> Result<(), AllocError>
         requires flag { variable lit < length self.old.flags }
         ensures { OnOk result (self.new ≡ marked lit self.old) }
@@ -294,7 +294,7 @@ impl Analysis {
         Ok(())
     }
 
-    /// Uses the literals from this place on no more, and unflags those behind the first of them.
+    /// Removes the used literals from position `top` on, and clears the flags of all but the first of them.
     pub(crate) fn undo(&mut self, top: usize)
         requires top { top < length self.old.used }
         requires flags { VariablesBelow self.old.used (length self.old.flags) }
@@ -304,7 +304,7 @@ impl Analysis {
         self.used.truncate(top);
     }
 
-    /// A literal that stays comes to this place of the clause.
+    /// Writes a literal that is kept to this position of the clause.
     pub(crate) fn keep(&mut self, at: usize, lit: Lit)
         requires { at < length self.old.clause }
         ensures { self.new ≡ record self.old { clause = slice_set self.old.clause at lit } }
@@ -312,15 +312,15 @@ impl Analysis {
         self.clause[at] = lit;
     }
 
-    /// Drops the literals of the clause from this place on.
+    /// Removes the literals of the clause from this position on.
     pub(crate) fn cut(&mut self, len: usize)
         ensures { self.new ≡ record self.old { clause = take len self.old.clause } }
     {
         self.clause.truncate(len);
     }
 
-    /// Puts a literal of the highest level among those behind the first one second, and gives this level, 0 where there
-    /// is none.
+    /// Moves a literal of the highest level, apart from the first literal, to second position. Returns this level, or 0
+    /// if there is no other literal.
     pub(crate) fn put_second(&mut self, graph: &ImplGraph) -> usize
         requires nodes { HaveNodes graph.now self.old.clause }
         ensures second { PutsSecond graph.now self.old.clause self.new.clause result }
@@ -332,7 +332,7 @@ impl Analysis {
         put_highest_second(&mut self.clause, graph)
     }
 
-    /// Puts the used literals in the order of the trail, of which so many were resolved.
+    /// Puts the used literals, of which the first `resolved` were resolved, in trail order.
     pub(crate) fn order_used(
         &mut self,
         graph: &ImplGraph,
@@ -346,7 +346,7 @@ impl Analysis {
         order_used(&mut self.used, graph, resolved, &mut self.keys)
     }
 
-    /// Turns the used literals round.
+    /// Reverses the used literals.
     pub(crate) fn reverse_used(&mut self)
         ensures { self.new ≡ record self.old { used = reverse self.old.used } }
     {

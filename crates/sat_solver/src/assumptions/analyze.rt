@@ -1,4 +1,4 @@
-//! Which assumptions make an assumption false.
+//! Finds the assumptions that falsify an assumption.
 ghost use Rattle.std.specs.Prelude.{◌≡◌, ◌<◌, false, length, OnOk, IfOk};
 ghost use Rattle.sat_parts.specs.clause.Glue.{AreClear};
 ghost use Rattle.sat_parts.specs.prop.Graphs.{is_unit_reason};
@@ -15,7 +15,7 @@ use sat_parts::{Assignment, ImplGraph, Trail};
 use sat_store::ClauseAlloc;
 use std::alloc::AllocError;
 
-/// Begins with the clause by which the assumption is false, and gives the place of its negation on the trail.
+/// Begins with the clause that falsifies the assumption. Returns the position of its negation on the trail.
 fn begin_trace(
     analysis: &mut Analysis,
     clauses: &ClauseAlloc,
@@ -40,8 +40,8 @@ fn begin_trace(
     Ok(graph.depth(failed.var()) - 1)
 }
 
-/// Goes on with the last flagged literal of the trail: it is one of the core if it has no clause as its reason, and its
-/// clause is used otherwise.
+/// Continues with the last flagged literal of the trail: it belongs to the core if it has no clause as its reason;
+/// otherwise its clause is used.
 fn trace_next(
     analysis: &mut Analysis,
     clauses: &ClauseAlloc,
@@ -70,7 +70,7 @@ fn trace_next(
     Ok(place)
 }
 
-/// Goes back over the reasons until no literal is flagged.
+/// Traces reasons back until no literal is flagged.
 fn trace(
     analysis: &mut Analysis,
     clauses: &ClauseAlloc,
@@ -92,7 +92,7 @@ fn trace(
     Ok(())
 }
 
-/// Finds assumptions that can't be true together with one that is false, and the clauses by which they can't.
+/// Finds assumptions that contradict a false one, and the clauses that show it.
 pub fn analyze_assumption(
     analysis: &mut Analysis,
     clauses: &ClauseAlloc,

@@ -1,4 +1,4 @@
-//! Which assumptions can't be true together is told by a step.
+//! Writes the step of a failed core.
 ghost use Rattle.std.specs.Prelude.{◌≡◌, ◌≤◌, map, length, OnOk};
 ghost use Rattle.sat_solver.specs.session.LiveClauses.{with_var};
 ghost use Rattle.sat_solver.specs.proof.ProofView.{HasAllowedSteps, session_of};
@@ -17,8 +17,7 @@ use sat_base::{CountedWrite, ProofStep};
 use sat_checker::ProofProcessor;
 use std::alloc::AllocError;
 
-/// Puts the step of a core together: its literals and the hashes of the clauses that it follows from, in proof
-/// variables.
+/// Prepares the step of a core: its literals, and the hashes of the clauses that it follows from, over proof variables.
 fn name_core(search: &mut Search) -> Result<(), AllocError>
     requires holds { PartsInvariant search.old.parts }
     requires names { length search.old.parts.assignment.current ≤ length search.old.globals.items }
@@ -43,7 +42,7 @@ fn name_core(search: &mut Search) -> Result<(), AllocError>
     )
 }
 
-/// Finds the assumptions that can't be true together with the failed one, and puts their step together.
+/// Finds the assumptions that contradict the failed one, and prepares their step.
 fn find_core(search: &mut Search) -> Result<(), AllocError>
     requires holds { PartsInvariant search.old.parts }
     requires free { IsFree search.old }
@@ -69,8 +68,7 @@ fn find_core(search: &mut Search) -> Result<(), AllocError>
     name_core(search)
 }
 
-/// Writes the step of the assumptions that can't be true together, of which one failed. They stand in the analysis
-/// behind it.
+/// Writes the step of a failed core, whose literals are in the analysis afterwards.
 pub fn write_core<W: CountedWrite + Drop, P: ProofProcessor>(
     proof: &mut Proof<W, P>,
     search: &mut Search,

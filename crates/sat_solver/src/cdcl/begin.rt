@@ -1,4 +1,4 @@
-//! How a round begins: at level 0 what came there is propagated, and simplified by.
+//! The beginning of a round: new literals of level 0 are propagated and used to simplify.
 ghost use Rattle.sat_solver.specs.unit_simplify.Passes.{StandTogether, BeginsRound};
 
 use crate::cdcl::fault::Fault;
@@ -12,9 +12,9 @@ use sat_checker::ProofProcessor;
 use sat_parts::Conflict;
 use sat_parts::parts::steps::propagate_all;
 
-/// Where no level is open and literals came since the last simplification, propagates and simplifies, once units are
-/// written and taken off the trail. Answers a clause that is false, where there is one. What adds nothing at level 0
-/// costs no pass.
+/// At level 0, if there are literals that were not used to simplify yet, propagates, writes units, takes them off the
+/// trail, and simplifies. Returns a falsified clause, or `None`. Without new literals at level 0, this takes no pass
+/// over the clauses.
 pub fn begin_round<W: CountedWrite + Drop, P: ProofProcessor>(
     proof: &mut Proof<W, P>,
     search: &mut Search,

@@ -1,4 +1,4 @@
-//! Why a call failed, without its cause, which is kept with the proof until a solver tells it.
+//! Why a call failed. The underlying error is stored with the proof until the solver reports it.
 ghost use Rattle.std.specs.Prelude.{◌≡◌};
 ghost use Rattle.sat_solver.specs.cdcl.Faults.{reported_error, IsKept};
 ghost use Rattle.sat_solver.specs.proof.ProofView.{without_complaint};
@@ -19,7 +19,7 @@ use std::marker::Model;
 pub enum Kind {
     /// A call of the target failed.
     Write(Kept<io::Error>),
-    /// A processor answered a fault.
+    /// A listener returned a fault.
     Processor(Kept<anyhow::Error>),
     OutOfMemory,
     StoreFull,
@@ -27,7 +27,7 @@ pub enum Kind {
     CounterEnd,
 }
 
-/// Why a call failed. Contracts see the error that a solver tells.
+/// Why a call failed. Contracts see the error that the solver reports.
 #[derive(Drop)]
 pub struct Fault {
     kind: Kind,
@@ -43,7 +43,7 @@ impl Model for Fault {
 }
 
 impl Fault {
-    /// Of this kind.
+    /// Creates a fault of this kind.
     pub fn of(kind: Kind) -> Fault
         ensures { result ≡ reported_error kind }
     {
@@ -106,7 +106,7 @@ impl From<ProofError> for Fault {
     }
 }
 
-/// A fault as a solver tells it, with its cause, which the proof kept.
+/// Returns the solver's error for a fault, with the underlying error that the proof stored.
 pub fn report<W: CountedWrite + Drop, P: ProofProcessor>(
     fault: Fault,
     proof: &mut Proof<W, P>,

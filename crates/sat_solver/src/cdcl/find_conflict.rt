@@ -1,4 +1,4 @@
-//! The turns of a search: it propagates, and then assumes or decides.
+//! The turns of a search: propagation, and then an assumption or a decision.
 ghost use Rattle.std.specs.Prelude.{IfOk};
 ghost use Rattle.sat_solver.specs.proof.ProofView.{HasAllowedSteps, session_of};
 ghost use Rattle.sat_parts.specs.parts.Assumed.{HaveVariablesIn, ArePlaced};
@@ -18,10 +18,10 @@ use sat_parts::parts::steps::{make_decision, propagate_all};
 use sat_parts::{Conflict, Parts};
 use std::alloc::AllocError;
 
-/// Where a search stopped.
+/// Why a search stopped.
 #[derive(Clone, Copy)]
 pub enum FoundConflict {
-    /// A clause is false.
+    /// A clause is falsified.
     Falsified(Conflict),
     /// No variable of a clause is open.
     Complete,
@@ -29,8 +29,8 @@ pub enum FoundConflict {
     Failed(Lit),
 }
 
-/// Begins a level by the next assumption, or where there is none by the variable of highest activity. None where it
-/// did.
+/// Begins a level with the next assumption, or with the variable of highest activity if there is none. Returns `None`
+/// if it did, otherwise why the search stopped.
 fn assume_or_decide(
     parts: &mut Parts,
     assumptions: &mut Assumptions,
@@ -52,8 +52,8 @@ fn assume_or_decide(
     Ok(Some(FoundConflict::Complete))
 }
 
-/// Propagates, assumes and decides until a clause is false, an assumption is, or no variable of a clause is open. What
-/// comes at level 0 is written, and taken off the trail.
+/// Propagates, assumes and decides until a clause is falsified, an assumption is false, or no variable of a clause is
+/// open. New literals of level 0 are written, and taken off the trail.
 pub fn find_conflict<W: CountedWrite + Drop, P: ProofProcessor>(
     proof: &mut Proof<W, P>,
     search: &mut Search,

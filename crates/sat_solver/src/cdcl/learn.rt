@@ -1,4 +1,4 @@
-//! A clause is learned from a conflict: its step is written, and it comes to the others.
+//! Learns a clause from a conflict: writes its step and stores it.
 ghost use Rattle.std.specs.Prelude.{◌≡◌, ◌<◌, ◌≤◌, length, map, Err, false, OnOk, IfOk};
 ghost use Rattle.sat_parts.specs.clause.Glue.{levels_of, different};
 ghost use Rattle.sat_solver.specs.session.LiveClauses.{with_var};
@@ -31,8 +31,8 @@ use sat_parts::parts::steps::{learn, undo};
 use sat_store::{ClauseHeader, StoreError};
 use std::alloc::AllocError;
 
-/// Puts the step of a learned clause together: its literals and the hashes of the clauses that it follows from, in
-/// proof variables.
+/// Prepares the step of a learned clause: its literals, and the hashes of the clauses that it follows from, over proof
+/// variables.
 fn name_learned(search: &mut Search, _level: usize, conflict: &Conflict) -> Result<(), AllocError>
     requires refuted { IsRefuted search.old.parts conflict.now }
     requires names { length search.old.parts.assignment.current ≤ length search.old.globals.items }
@@ -57,8 +57,8 @@ fn name_learned(search: &mut Search, _level: usize, conflict: &Conflict) -> Resu
     )
 }
 
-/// Goes back to a level, and takes over what was learned from a conflict. Before it comes in, the clauses that took
-/// part are raised and improved, by the levels that were.
+/// Backtracks, and stores the clause learned from a conflict. Before that, it bumps the clauses that took part and
+/// improves their headers, by the levels before backtracking.
 fn take_in(search: &mut Search, header: ClauseHeader, level: usize) -> Result<(), StoreError>
     requires holds { HoldsBelow (length search.old.parts.trail.starts) search.old.parts }
     requires units { UnitsAreUncaused (state search.old.parts) }
@@ -85,7 +85,7 @@ fn take_in(search: &mut Search, header: ClauseHeader, level: usize) -> Result<()
     learn(&mut search.parts, header, search.analysis.clause())
 }
 
-/// Whether the step of a clause of this header says that it is redundant.
+/// Whether the step of a clause with this header calls it redundant.
 fn says_redundant(header: &ClauseHeader, lits: &[Lit]) -> bool
     ensures { FlagFits result header.now lits.now }
 {
@@ -95,8 +95,8 @@ fn says_redundant(header: &ClauseHeader, lits: &[Lit]) -> bool
     header.redundant()
 }
 
-/// Analyses a conflict above level 0, and puts the step of what is learned together. Gives the level to go back to, and
-/// the header.
+/// Analyses a conflict above level 0, and prepares the step of the learned clause. Returns the level to backtrack to,
+/// and the header.
 fn analyze(search: &mut Search, conflict: &Conflict) -> Result<(usize, ClauseHeader), AllocError>
     requires refuted { IsRefuted search.old.parts conflict.now }
     requires above { 0 < length search.old.parts.trail.starts }
@@ -137,7 +137,7 @@ fn analyze(search: &mut Search, conflict: &Conflict) -> Result<(usize, ClauseHea
     Ok((level, header))
 }
 
-/// Learns a clause from a conflict above level 0, writes its step, and takes it over.
+/// Learns a clause from a conflict above level 0, writes its step, and stores it.
 fn learn_clause<W: CountedWrite + Drop, P: ProofProcessor>(
     proof: &mut Proof<W, P>,
     search: &mut Search,
@@ -162,7 +162,7 @@ fn learn_clause<W: CountedWrite + Drop, P: ProofProcessor>(
     Ok(())
 }
 
-/// Learns a clause from a conflict above level 0, with its step, and raises the activity of the clauses and variables
+/// Learns a clause from a conflict above level 0, with its step, and bumps the activity of the clauses and variables
 /// that the conflict met.
 pub fn learn_from<W: CountedWrite + Drop, P: ProofProcessor>(
     proof: &mut Proof<W, P>,

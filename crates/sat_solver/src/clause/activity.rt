@@ -1,4 +1,4 @@
-//! What an analysis met counts for more from there on: variables are picked sooner, and clauses are kept longer.
+//! Bumps activities: variables that an analysis met are picked sooner, and clauses that it met are kept longer.
 ghost use Rattle.std.specs.Prelude.{◌≡◌, length};
 ghost use Rattle.sat_store.specs.clause.Buffer.{header_at, lits_at};
 ghost use Rattle.sat_store.specs.heap.Vsids.{decayed};
@@ -19,7 +19,7 @@ use sat_parts::parts::clauses::{bump_clause, bump_variable, decay_clauses, decay
 use sat_parts::{ClauseActivity, Parts, compute_clause_glue_below};
 use sat_store::{ClauseRef, TmpFlags};
 
-/// Raises the activity of each of these variables, and lets later bumps raise more.
+/// Bumps the activity of these variables, and raises the amount of later bumps.
 fn bump_variables(parts: &mut Parts, vars: &[Var])
     requires holds { PartsInvariant parts.old }
     requires there { AreBelow vars.now (length parts.old.assignment.current) }
@@ -34,7 +34,7 @@ fn bump_variables(parts: &mut Parts, vars: &[Var])
     decay_variables(parts);
 }
 
-/// Raises the activity of the variables that the last analysis met.
+/// Bumps the activity of the variables that the last analysis met.
 pub fn bump_met(search: &mut Search)
     requires holds { PartsInvariant search.old.parts }
     requires there { AreBelow search.old.analysis.met (length search.old.parts.assignment.current) }
@@ -46,7 +46,7 @@ pub fn bump_met(search: &mut Search)
     bump_variables(&mut search.parts, search.analysis.met());
 }
 
-/// Lets activities decay as the parameters say.
+/// Sets the decay of activities to that of the parameters.
 pub fn set_decays(search: &mut Search, config: &SolverConfig)
     requires holds { PartsInvariant search.old.parts }
     requires decays { AreDecays config.now }
@@ -60,8 +60,8 @@ pub fn set_decays(search: &mut Search, config: &SolverConfig)
     search.activity.set_decay(config.clause_activity_decay);
 }
 
-/// Counts the levels of a learned clause's literals, as far as its header may be improved by them: up to its glue. The
-/// header of a clause that was given isn't.
+/// Counts the levels of a learned clause's literals, up to its glue, since only a smaller number improves its header.
+/// The header of an input clause is never improved.
 fn count_levels(parts: &Parts, flags: &mut TmpFlags, cref: ClauseRef) -> usize
     requires holds { PartsInvariant parts.now }
     requires live { HasClause parts.now cref }
@@ -78,8 +78,7 @@ fn count_levels(parts: &Parts, flags: &mut TmpFlags, cref: ClauseRef) -> usize
     compute_clause_glue_below(flags, &parts.graph, &parts.clauses, cref, header.glue())
 }
 
-/// Raises the activity of a clause that took part in an analysis, and improves its header by the levels of its
-/// literals.
+/// Bumps the activity of a clause that took part in an analysis, and improves its header by the levels of its literals.
 fn bump_one(parts: &mut Parts, activity: &mut ClauseActivity, flags: &mut TmpFlags, cref: ClauseRef)
     requires holds { PartsInvariant parts.old }
     requires live { HasClause parts.old cref }
@@ -95,7 +94,7 @@ fn bump_one(parts: &mut Parts, activity: &mut ClauseActivity, flags: &mut TmpFla
     improve(parts, cref, levels);
 }
 
-/// Raises the activity of these clauses, which took part in an analysis, and improves their headers. Then activities
+/// Bumps the activity of these clauses, which took part in an analysis, and improves their headers. Then activities
 /// decay.
 pub fn bump_clauses(
     parts: &mut Parts,

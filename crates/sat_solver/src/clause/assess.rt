@@ -1,4 +1,4 @@
-//! Learned clauses are graded by the levels of their literals.
+//! Grades learned clauses by the levels of their literals.
 ghost use Rattle.std.specs.Prelude.{◌≡◌, ◌<◌};
 ghost use Rattle.sat_store.specs.clause.Buffer.{header_at};
 ghost use Rattle.sat_parts.specs.clause.Db.{PutsHeader};
@@ -11,7 +11,7 @@ use sat_parts::parts::clauses::{put_header, set_tier};
 use sat_parts::{ImplGraph, Parts, compute_glue};
 use sat_store::{ClauseHeader, ClauseRef, Tier, TmpFlags};
 
-/// The tier of a learned clause of this glue.
+/// Returns the tier of a learned clause with this glue.
 fn tier_of(glue: usize) -> Tier
     ensures { result ≡ tier_for glue }
 {
@@ -21,7 +21,7 @@ fn tier_of(glue: usize) -> Tier
     if glue <= 6 { Tier::Mid } else { Tier::Local }
 }
 
-/// The header of a learned clause: its glue is the number of its levels, less one.
+/// Returns the header of a learned clause: its glue is the number of its levels, less one.
 pub fn assess(flags: &mut TmpFlags, graph: &ImplGraph, lits: &[Lit]) -> ClauseHeader
     requires nodes { HaveNodes graph.now lits.now }
     requires levels { HaveFlags graph.now flags.old.flags.items lits.now }
@@ -36,8 +36,8 @@ pub fn assess(flags: &mut TmpFlags, graph: &ImplGraph, lits: &[Lit]) -> ClauseHe
     header
 }
 
-/// Makes a clause that took part in an analysis active. A learned one whose literals are of fewer levels than its glue
-/// says takes their number as its glue, with the tier for it.
+/// Marks a clause that took part in an analysis as active. A learned one whose literals have fewer levels than its glue
+/// says gets the smaller glue, and the tier for it.
 pub fn improve(parts: &mut Parts, cref: ClauseRef, levels: usize)
     requires holds { PartsInvariant parts.old }
     requires live { HasClause parts.old cref }

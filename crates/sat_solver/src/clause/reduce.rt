@@ -1,4 +1,4 @@
-//! Learned clauses that are used least are deleted, and the room of deleted clauses is taken back.
+//! Deletes learned clauses that are used least, and compacts the clause buffer.
 ghost use Rattle.std.specs.Prelude.{◌≡◌, ◌-◌, ◌<◌, if◌then◌else◌, OnOk, Err, length, map};
 ghost use Rattle.sat_store.specs.clause.Buffer.{IsClause, lits_at};
 ghost use Rattle.sat_solver.specs.session.LiveClauses.{with_var};
@@ -25,7 +25,7 @@ use sat_parts::parts::reduce::list_locals;
 use sat_store::{ClauseRef, StoreError};
 use std::alloc::AllocError;
 
-/// Puts the literals of a long clause, in proof variables, into a list in place of what it had.
+/// Replaces the content of a list by the literals of a long clause, over proof variables.
 pub fn map_clause(
     parts: &Parts,
     globals: &[Var],
@@ -46,7 +46,7 @@ pub fn map_clause(
     Ok(())
 }
 
-/// Deletes a learned clause that no value depends on, and writes its step. Answers whether it did.
+/// Deletes a learned clause that is no reason, and writes its step. Returns whether it did.
 fn delete_learned<W: CountedWrite + Drop, P: ProofProcessor>(
     proof: &mut Proof<W, P>,
     search: &mut Search,
@@ -75,7 +75,7 @@ fn delete_learned<W: CountedWrite + Drop, P: ProofProcessor>(
     Ok(true)
 }
 
-/// How many clauses are still to be deleted.
+/// Returns the number of clauses that are still to be deleted.
 fn left_after(left: usize, deleted: bool) -> usize
     requires { 0 < left }
     ensures { result ≡ (if deleted then left - 1 else left) }
@@ -83,8 +83,7 @@ fn left_after(left: usize, deleted: bool) -> usize
     if deleted { left - 1 } else { left }
 }
 
-/// Deletes half of the clauses of tier Local where that is due: those that were used least, without those that values
-/// depend on.
+/// If a reduction is due, deletes half of the clauses of tier Local: those that were used least, but no reasons.
 fn reduce_locals<W: CountedWrite + Drop, P: ProofProcessor>(
     proof: &mut Proof<W, P>,
     search: &mut Search,
@@ -110,7 +109,7 @@ fn reduce_locals<W: CountedWrite + Drop, P: ProofProcessor>(
     Ok(())
 }
 
-/// Moves unused clauses of tier Mid to Local where that is due.
+/// If a reduction is due, moves unused clauses of tier Mid to Local.
 fn reduce_mids(search: &mut Search, is_due: bool)
     requires holds { PartsInvariant search.old.parts }
     ensures holds { PartsInvariant search.new.parts }
@@ -123,7 +122,7 @@ fn reduce_mids(search: &mut Search, is_due: bool)
     reduce_middle(&mut search.parts);
 }
 
-/// Where deleted clauses take more than half of the buffer, the others move together.
+/// If deleted clauses take more than half of the buffer, moves the others together.
 fn collect_deleted(search: &mut Search) -> Result<(), StoreError>
     requires holds { PartsInvariant search.old.parts }
     ensures reduced { OnOk result ((s : Session) → IsSearch s search.old → ReductionEffect s search.old search.new) }
@@ -133,8 +132,8 @@ fn collect_deleted(search: &mut Search) -> Result<(), StoreError>
     collect(search.alloc, &mut search.parts)
 }
 
-/// Reduces the learned clauses where that is due before this round: first those of tier Local, then those of tier Mid.
-/// Then it collects deleted clauses.
+/// Runs the reductions that are due before this round: first that of tier Local, then that of tier Mid. Then it
+/// compacts the clause buffer.
 pub fn reduce<W: CountedWrite + Drop, P: ProofProcessor>(
     proof: &mut Proof<W, P>,
     search: &mut Search,

@@ -1,4 +1,4 @@
-//! Takes assumptions over names.
+//! Accepts assumptions over names.
 ghost use Rattle.std.specs.Prelude.{ℕ, ◌≡◌, ◌<◌, OnOk, map, length, slice_index_or};
 ghost use Rattle.sat_base.specs.steps.Steps.{Assumptions};
 ghost use Rattle.sat_checker.specs.LiteralSets.{mentions};
@@ -34,7 +34,7 @@ fn mark_all(list: &mut Vec<VarData>, lits: &[Lit], assumed: bool)
     }
 }
 
-/// The marks of the earlier assumptions go, and those that were taken are listed over the proof's variables and marked.
+/// Clears the marks of the earlier assumptions, lists the new ones over proof variables, and marks them.
 fn change_marks(
     variables: &mut Variables,
     _user: &[Lit],
@@ -55,8 +55,8 @@ fn change_marks(
     Ok(())
 }
 
-/// Replaces the assumptions by others without a name of mode witness. `asked` has the assumptions so far, over the
-/// proof's variables, and afterwards those taken.
+/// Replaces the assumptions by others without a name of mode witness. `asked` has the earlier assumptions over proof
+/// variables, and afterwards the new ones.
 pub fn assume<W: StepLog>(
     variables: &mut Variables,
     writer: &mut W,

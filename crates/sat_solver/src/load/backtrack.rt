@@ -1,11 +1,11 @@
-//! A search goes back to level 0.
+//! Backtracks a search to level 0.
 ghost use Rattle.sat_parts.specs.parts.Whole.{PartsInvariant};
 ghost use Rattle.sat_solver.specs.load.Bottom.{AtBottom};
 
 use crate::context::Search;
 use sat_parts::parts::steps::full_restart;
 
-/// Undoes all levels. Assumptions are looked at from the first one on.
+/// Undoes all levels. The first assumption is next.
 pub fn back_to_bottom(search: &mut Search)
     requires { PartsInvariant search.old.parts }
     ensures { AtBottom search.old search.new }

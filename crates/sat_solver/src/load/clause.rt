@@ -1,4 +1,4 @@
-//! Takes a clause over names.
+//! Adds a clause over names.
 ghost use Rattle.std.specs.Prelude.{◌≡◌, true, ◌∷◌, [], map, OnOk, IfOk, IfErr};
 ghost use Rattle.sat_base.specs.script.ScriptState.{with_clause};
 ghost use Rattle.sat_base.specs.steps.Steps.{AddClause};
@@ -20,7 +20,7 @@ use crate::variables::user_vars::global_from_user;
 use sat_base::{Lit, ProofStep};
 use sat_checker::sorted_lits::copy_canonical;
 
-/// Writes a clause over variables that names in use have, none of mode witness.
+/// Writes a clause over variables of names in use, none of mode witness.
 fn write_clause<W: StepLog>(
     _variables: &Variables,
     writer: &mut W,
@@ -41,8 +41,8 @@ fn write_clause<W: StepLog>(
     Ok(())
 }
 
-/// Sorts the literals of a clause that were taken, without repeats, and lists them over the proof's variables. The
-/// answer is whether both signs of a variable are among them.
+/// Sorts the literals of a clause, without repetitions, and lists them over proof variables. Returns whether both signs
+/// of a variable are among them.
 fn map_clause(variables: &Variables, _user: &[Lit], taken: &mut Taken) -> Result<bool, NameError>
     requires tidy { AreTidy variables.now }
     requires images { Images variables.now _user.now taken.old.order.items }
@@ -57,8 +57,8 @@ fn map_clause(variables: &Variables, _user: &[Lit], taken: &mut Taken) -> Result
     Ok(both_signs)
 }
 
-/// Adds a clause without a name of mode witness, while the clauses aren't known to be unsatisfiable. The answer is
-/// whether both signs of a variable are in the clause, which then is written and nothing more.
+/// Adds a clause without a name of mode witness, while the clauses are not known to be unsatisfiable. Returns whether
+/// both signs of a variable are in the clause; then it is only written.
 pub fn add_clause<W: StepLog>(
     variables: &mut Variables,
     writer: &mut W,
@@ -80,7 +80,7 @@ pub fn add_clause<W: StepLog>(
     Ok(both_signs)
 }
 
-/// Takes a clause once the clauses are known to be unsatisfiable: its names come in, and it isn't written.
+/// Introduces the names of a clause once the clauses are known to be unsatisfiable. The clause is not written.
 pub fn leave_out_clause<W: StepLog>(
     variables: &mut Variables,
     writer: &mut W,

@@ -1,4 +1,4 @@
-//! Faults of calls over names, as a solver tells them.
+//! Faults of calls over names, as the solver reports them.
 
 use crate::cdcl::fault::{Fault, Kind};
 use crate::variables::error::NameError;

@@ -1,4 +1,4 @@
-//! Names of literals come in, and their variables get indices.
+//! Introduces the names of literals, and gives their variables indices.
 ghost use Rattle.std.specs.Prelude.{◌≡◌, ◌<◌, [], OnOk, length, map, slice_index_or};
 ghost use Rattle.sat_solver.specs.session.LiveClauses.{with_var};
 ghost use Rattle.sat_solver.specs.load.Literals.{BringsLiterals};
@@ -21,18 +21,18 @@ pub struct Taken {
     /// The literals over indices of the search, in the order of the call.
     pub order: Vec<Lit>,
 
-    /// The same as a set, in order of their codes.
+    /// The same as a set, ordered by code.
     pub lits: Vec<Lit>,
 
-    /// What was written of them: literals over variables of the proof.
+    /// The literals as they were written, over proof variables.
     pub globals: Vec<Lit>,
 
-    /// The indices that the call gave, in order.
+    /// The indices that the call gave to variables, in order.
     pub given: Vec<Given>,
 }
 
 impl Taken {
-    /// No literal. Takes no memory.
+    /// Creates an empty value. Never allocates.
     pub fn new(alloc: Global) -> Taken
         ensures order { result.order.items ≡ [] }
         ensures globals { result.globals.items ≡ [] }
@@ -46,7 +46,7 @@ impl Taken {
     }
 }
 
-/// Brings in the names of literals from left to right, and gives their variables indices.
+/// Introduces the names of literals from left to right, and gives their variables indices.
 pub fn take_names<W: StepLog>(
     variables: &mut Variables,
     writer: &mut W,
@@ -72,7 +72,7 @@ pub fn take_names<W: StepLog>(
     Ok(())
 }
 
-/// Puts literals over variables of the proof into a list in place of what it had.
+/// Replaces the content of a list by the literals over proof variables.
 pub fn map_lits(globals: &[Var], lits: &[Lit], mapped: &mut Vec<Lit>) -> Result<(), AllocError>
     requires { VariablesBelow lits.now (length globals.now) }
     ensures { OnOk result (mapped.new.items ≡ map (with_var (λ x. slice_index_or globals.now x 0)) lits.now) }

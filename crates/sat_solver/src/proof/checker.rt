@@ -1,4 +1,4 @@
-//! A solver's own checker, which takes the steps that a file in bytes would have, but for the ends of proofs.
+//! A solver's own checker. It receives the steps of a proof in bytes, except for the ends of proofs.
 ghost use Rattle.std.specs.Prelude.{◌≡◌, [], OnOk};
 ghost use Rattle.sat_base.specs.steps.StepViews.{step_of};
 ghost use Rattle.sat_checker.specs.CheckerView.{seen_of};
@@ -14,7 +14,7 @@ use sat_checker::{Checker, CheckerError, Nobody, Processors, ProofProcessor, Sel
 use std::alloc::Global;
 use std::mem;
 
-/// Whether it's the end of a proof.
+/// Whether the step is the end of a proof.
 #[inline(always)]
 pub fn is_end(step: &ProofStep<'_>) -> bool
     ensures { result ≡ is_end (step_of step.now) }
@@ -36,7 +36,7 @@ pub fn is_end(step: &ProofStep<'_>) -> bool
     }
 }
 
-/// Feeds a step to the checker, which tells those who listen. What may be written is never refused.
+/// Passes a step to the checker, which notifies its listeners. A step that may be written is never rejected.
 fn feed<P: ProofProcessor>(
     checker: &mut Checker<P, Nobody>,
     step: &ProofStep<'_>,
@@ -46,7 +46,7 @@ fn feed<P: ProofProcessor>(
     checker.self_check_step(step)
 }
 
-/// A checker, and the width that it was told last.
+/// A checker, and the width that it was set to last.
 #[derive(Drop)]
 pub struct Checked<P: ProofProcessor> {
     bits: HashBits,
@@ -54,7 +54,7 @@ pub struct Checked<P: ProofProcessor> {
 }
 
 impl<P: ProofProcessor> Checked<P> {
-    /// It has taken nothing yet. Takes no memory.
+    /// Creates a checker that has received nothing. Never allocates.
     pub fn new(alloc: Global) -> Checked<P>
         ensures { IsFed P.takes result [] [] }
     {
@@ -64,7 +64,7 @@ impl<P: ProofProcessor> Checked<P> {
         }
     }
 
-    /// Tells a width, where it's another than the one before.
+    /// Sets the width, if it has changed.
     fn take_width(&mut self, bits: HashBits) -> Result<(), CheckerError>
         ensures takes { TakesWidth P.takes result self.old self.new }
         ensures bits { OnOk result (self.new.bits ≡ bits) }
@@ -79,8 +79,8 @@ impl<P: ProofProcessor> Checked<P> {
         )
     }
 
-    /// Takes a step at a width, to which its hashes were cut, and of an end the width alone. What a solver may write is
-    /// never refused.
+    /// Receives a step at the width to which its hashes were shortened; of an end only the width. A step that a solver
+    /// may write is never rejected.
     pub fn take(
         &mut self,
         bits: HashBits,
@@ -99,22 +99,22 @@ impl<P: ProofProcessor> Checked<P> {
         feed(&mut self.checker, cut)
     }
 
-    /// Gives a unit conflict that waits for it its id.
+    /// Gives a waiting unit conflict its id.
     pub fn take_delayed(&mut self) -> Result<(), CheckerError>
         ensures takes { TakesDelayed P.takes result self.old self.new }
         ensures bits { self.new.bits ≡ self.old.bits }
     {
         self.checker.self_check_delayed_steps()
     }
-    /// A processor, which is told all announcements from here on. Without memory it is dropped, and the checker has
-    /// failed.
+    /// Adds a listener, which is notified of all announcements from now on. If memory runs out, it is dropped, and the
+    /// checker has failed.
     pub fn add_processor(&mut self, processor: P) -> Result<(), CheckerError>
         ensures { AddsOwnListener P.takes result self.old processor self.new }
     {
         self.checker.add_processor(processor)
     }
 
-    /// Begins anew, as if it had taken nothing, and tells those who listened to it. Takes no memory.
+    /// Restarts the checker, as if it had received nothing, with the listeners that it had. Never allocates.
     pub fn begin_anew(&mut self, alloc: Global) -> Roll<P>
         ensures { BeginsAnew P.takes self.old self.new result.items }
     {
@@ -129,7 +129,7 @@ impl<P: ProofProcessor> Checked<P> {
         roll
     }
 
-    /// Those who listen, in the order in which they were added, also after a failure.
+    /// Returns the listeners in the order in which they were added, also after a failure.
     pub fn into_processors(self) -> Vec<P>
         ensures { result.items ≡ (listeners_of (who_listens self)).processors }
     {

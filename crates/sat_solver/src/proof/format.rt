@@ -3,10 +3,10 @@
 /// The format of a proof's text.
 #[derive(Clone, Copy, Debug, Drop, PartialEq, Eq)]
 pub enum ProofFormat {
-    /// The steps in the bytes that `sat_checker` reads.
+    /// The steps in bytes, as `sat_checker` reads them.
     Varisat,
-    /// Lines of DRAT, in words.
+    /// DRAT lines in decimal.
     Drat,
-    /// Lines of DRAT, in bytes.
+    /// DRAT lines in binary.
     BinaryDrat,
 }

@@ -1,4 +1,4 @@
-//! How many bits of hashes a proof keeps: their number follows the count of its clauses.
+//! The number of hash bits that a proof writes, which follows the number of its clauses.
 ghost use Rattle.std.specs.Prelude.{◌≡◌, ◌≤◌, ◌/◌, ◌^◌, ◌&&◌, not};
 ghost use Rattle.sat_base.specs.steps.StepViews.{step_of};
 ghost use Rattle.sat_solver.specs.proof.Counting.{nothing_counted, one_more_if, one_less_if, count_after, too_short, too_long};
@@ -6,21 +6,21 @@ ghost use Rattle.sat_solver.specs.proof.Counting.{widened_bits, shortened, fitti
 
 use sat_base::{HashBits, Lit, ProofStep};
 
-/// So many turns lead from any width to any other, by two bits each.
+/// The number of changes by two bits that suffice to get from any width to any other.
 const TURNS: u32 = 32;
 
-/// What the width of hashes follows.
+/// What determines the width of hashes.
 #[derive(Clone, Copy, Debug, Drop)]
 pub struct Counting {
-    /// Clauses of two literals or more: those that came in less those that were deleted.
+    /// The number of clauses with two or more literals that are present.
     pub clauses: u64,
     /// The width.
     pub bits: HashBits,
-    /// Whether the first ask has begun, from which on hashes are shortened.
+    /// Whether the first ask has begun. Hashes are only shortened after that.
     pub solving: bool,
 }
 
-/// A width that was computed: it is never past 64.
+/// Returns a width that was computed, which is at most 64.
 fn of_bits(bits: u32) -> HashBits
     requires { bits ≤ 64 }
     ensures { result ≡ bits }
@@ -31,7 +31,7 @@ fn of_bits(bits: u32) -> HashBits
     }
 }
 
-/// The count where a clause comes: it is that of clauses of two literals or more.
+/// Returns the count after a clause was added; only clauses with two or more literals count.
 fn with_clause(clauses: u64, clause: &[Lit]) -> u64
     ensures { result ≡ one_more_if clause.now clauses }
 {
@@ -41,7 +41,7 @@ fn with_clause(clauses: u64, clause: &[Lit]) -> u64
     clauses.saturating_add(1)
 }
 
-/// The same where a clause goes.
+/// Returns the count after a clause was deleted.
 fn without_clause(clauses: u64, clause: &[Lit]) -> u64
     ensures { result ≡ one_less_if clause.now clauses }
 {
@@ -51,7 +51,7 @@ fn without_clause(clauses: u64, clause: &[Lit]) -> u64
     clauses.saturating_sub(1)
 }
 
-/// The count of clauses behind a step.
+/// Returns the count of clauses after a step.
 #[inline(always)]
 fn count(clauses: u64, step: &ProofStep<'_>) -> u64
     ensures { result ≡ count_after (step_of step.now) clauses }
@@ -73,7 +73,7 @@ fn count(clauses: u64, step: &ProofStep<'_>) -> u64
     }
 }
 
-/// The square root of the number of hashes of this width.
+/// Returns the square root of the number of hashes of this width.
 fn enough(bits: u32) -> u64
     requires { bits ≤ 64 }
     ensures { result ≡ 2 ^ (bits / 2) }
@@ -81,7 +81,7 @@ fn enough(bits: u32) -> u64
     1 << (bits / 2)
 }
 
-/// Whether the width is too short for so many clauses.
+/// Whether the width is too short for this many clauses.
 fn is_short(clauses: u64, bits: u32) -> bool
     requires { bits ≤ 64 }
     ensures { result ≡ too_short clauses bits }
@@ -89,7 +89,7 @@ fn is_short(clauses: u64, bits: u32) -> bool
     bits < 64 && enough(bits) < clauses
 }
 
-/// Whether it's longer than they need.
+/// Whether the width is longer than this many clauses need.
 fn is_long(clauses: u64, bits: u32) -> bool
     requires { bits ≤ 64 }
     ensures { result ≡ too_long clauses bits }
@@ -97,7 +97,7 @@ fn is_long(clauses: u64, bits: u32) -> bool
     6 < bits && clauses.saturating_mul(4) < enough(bits)
 }
 
-/// The width, with two bits more each time it's too short.
+/// Returns the width, with two more bits each time that it is too short.
 fn widen(clauses: u64, from: u32) -> u32
     requires { from ≤ 64 }
     ensures value { result ≡ widened_bits 32 clauses from }
@@ -113,7 +113,7 @@ fn widen(clauses: u64, from: u32) -> u32
     bits
 }
 
-/// The width, with two bits less each time it's longer than needed.
+/// Returns the width, with two bits less each time that it is longer than needed.
 fn shorten(clauses: u64, from: u32) -> u32
     requires { from ≤ 64 }
     ensures value { result ≡ shortened 32 clauses from }
@@ -129,7 +129,7 @@ fn shorten(clauses: u64, from: u32) -> u32
     bits
 }
 
-/// Whether the width stays, as it mostly does.
+/// Whether the width does not change, which is the usual case.
 fn fits(solving: bool, clauses: u64, bits: u32) -> bool
     requires { bits ≤ 64 }
     ensures { result ≡ (not (too_short clauses bits) && not (solving && too_long clauses bits)) }
@@ -137,7 +137,7 @@ fn fits(solving: bool, clauses: u64, bits: u32) -> bool
     !is_short(clauses, bits) && !(solving && is_long(clauses, bits))
 }
 
-/// The width for so many clauses, from the one before.
+/// Returns the width for this many clauses, from the width before.
 #[inline(always)]
 fn fit(solving: bool, clauses: u64, from: HashBits) -> HashBits
     ensures { result ≡ fitting solving clauses from }
@@ -153,7 +153,7 @@ fn fit(solving: bool, clauses: u64, from: HashBits) -> HashBits
 }
 
 impl Counting {
-    /// No clause, and whole hashes.
+    /// Creates a count of no clauses, with complete hashes.
     pub fn new() -> Counting
         ensures { result ≡ nothing_counted }
     {
@@ -164,7 +164,7 @@ impl Counting {
         }
     }
 
-    /// With a step that comes next, at whose width it's written.
+    /// Counts the next step, and returns the width at which it is written.
     #[inline(always)]
     pub fn with(&self, step: &ProofStep<'_>) -> Counting
         ensures { result ≡ counted (step_of step.now) self.now }

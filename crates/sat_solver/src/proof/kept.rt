@@ -1,11 +1,10 @@
-//! What contracts alone see of a cause that is kept elsewhere. It takes no memory, and its function does nothing at run
-//! time.
+//! A ghost of an error that is stored elsewhere. It has no size, and its function does nothing at run time.
 ghost use Rattle.std.specs.Prelude.{◌≡◌};
 ghost use Rattle.std.specs.Borrow.{ftrue};
 
 use std::marker::{Model, PhantomData};
 
-/// A cause, which isn't in it.
+/// An error, which is not stored here.
 #[derive(Drop)]
 pub struct Kept<T> {
     of: PhantomData<T>,
@@ -21,7 +20,7 @@ impl<T> Model for Kept<T> {
 }
 
 impl<T> Kept<T> {
-    /// For this one.
+    /// Creates the ghost of this error.
     pub fn of(_cause: &T) -> Kept<T>
         ensures { result ≡ _cause.now }
     {

@@ -1,4 +1,4 @@
-//! All steps that a solver made, and its own checker, which takes them as they are made.
+//! All steps that a solver has made, and its own checker, which receives them as they are made.
 ghost use Rattle.std.specs.Prelude.{ℕ, ◌≡◌, ◌∷◌, [], true, false, OnOk};
 ghost use Rattle.sat_base.specs.steps.StepViews.{step_of};
 ghost use Rattle.sat_solver.specs.proof.Checked.{has_begun, cause_in, FedUnless, IsCause};
@@ -18,13 +18,13 @@ use std::alloc::Global;
 #[derive(Drop)]
 pub enum CheckFault {
     OutOfMemory,
-    /// It has no id left.
+    /// No id is left.
     CounterEnd,
-    /// A processor answered a fault, which is kept with the steps.
+    /// A listener returned a fault, which is stored with the steps.
     Processor(Kept<anyhow::Error>),
 }
 
-/// Why a checker failed that refused nothing. What a processor complains of is kept.
+/// Returns why a checker failed that rejected nothing. The error of a listener is stored.
 fn keep_cause(complaint: &mut Option<anyhow::Error>, error: CheckerError) -> CheckFault
     requires { IsCause error }
     ensures fault { result ≡ cause_in error }
@@ -46,18 +46,18 @@ fn keep_cause(complaint: &mut Option<anyhow::Error>, error: CheckerError) -> Che
     }
 }
 
-/// All steps that were made, for contracts alone, and a checker of them, where there is one.
+/// All steps that were made, only for contracts, and a checker of them, if any.
 #[derive(Drop)]
 pub struct Made<P: ProofProcessor = Nobody> {
     pub history: History,
     own: Option<Checked<P>>,
-    /// Who was added to it.
+    /// The listeners that were added to it.
     roll: Roll<P>,
-    /// Whether a step was made that is no end of a proof.
+    /// Whether a step was made that is not the end of a proof.
     begun: bool,
-    /// Whether one was made that the checker hasn't taken.
+    /// Whether a step was made that the checker has not received.
     lost: bool,
-    /// What a processor complained of, until it is told.
+    /// The error of a listener, until it is reported.
     complaint: Option<anyhow::Error>,
     ghost counted: { begun ≡ has_begun history.steps },
     ghost may: { ∥ MayAll history.steps ∥₁ },
@@ -69,7 +69,7 @@ impl<P: ProofProcessor> Made<P> {
     ghost use Rattle.sat_solver.specs.proof.MadeView.{MadeIsReported, LastWidthIs, MadeEffect, OkOrComplains, OkOrComplainsUnless};
     ghost use Rattle.sat_solver.specs.proof.MadeView.{MadeTakesListener, cleared_complaint};
 
-    /// No step yet, and no checker.
+    /// Creates a value without steps and checker.
     pub fn new() -> Made<P>
         ensures steps { result.history.steps ≡ [] }
         ensures checked { made_is_checked result ≡ false }
@@ -92,14 +92,14 @@ impl<P: ProofProcessor> Made<P> {
         self.own.is_some()
     }
 
-    /// Whether a step was made that is no end of a proof.
+    /// Whether a step was made that is not the end of a proof.
     pub fn has_begun(&self) -> bool
         ensures { result ≡ has_begun self.now.history.steps }
     {
         self.begun
     }
 
-    /// From here on there is a checker. Takes no memory.
+    /// Starts a checker. Never allocates.
     pub fn check(&mut self, alloc: Global)
         requires { has_begun self.old.history.steps ≡ false }
         ensures { MadeHasChecker self.old self.new }
@@ -115,8 +115,8 @@ impl<P: ProofProcessor> Made<P> {
         }
     }
 
-    /// A processor, which the checker tells what it announces from here on. Without memory it is dropped, and the
-    /// checker takes no step.
+    /// Adds a listener, which the checker notifies from now on. If memory runs out, the listener is dropped, and the
+    /// checker receives no further step.
     pub fn add_processor(&mut self, processor: P) -> Result<(), CheckFault>
         requires begun { has_begun self.old.history.steps ≡ false }
         requires taking { made_is_lost self.old ≡ false }
@@ -140,7 +140,7 @@ impl<P: ProofProcessor> Made<P> {
         }
     }
 
-    /// Notes a step that the checker isn't given: it takes none from here on.
+    /// Records a step that the checker does not receive. It receives none from now on.
     pub fn skip(&mut self, step: &ProofStep<'_>)
         requires { MayAll (step_of step.now ∷ self.old.history.steps) }
         ensures { MadeEffect (step_of step.now) self.old self.new }
@@ -150,7 +150,7 @@ impl<P: ProofProcessor> Made<P> {
         self.lost = true;
     }
 
-    /// Notes a step, and gives it to the checker, where there is one, with its hashes cut to this width.
+    /// Records a step, and passes it to the checker, if any, with its hashes shortened to this width.
     #[inline(always)]
     pub fn take(
         &mut self,
@@ -174,7 +174,7 @@ impl<P: ProofProcessor> Made<P> {
         self.take_checked(bits, step, cut)
     }
 
-    /// Notes a step, and gives it to the checker. A call of its own, since an error of the checker takes much room.
+    /// Records a step, and passes it to the checker. This is a call of its own, since an error of the checker is large.
     #[inline(never)]
     fn take_checked(
         &mut self,
@@ -207,7 +207,8 @@ impl<P: ProofProcessor> Made<P> {
         }
     }
 
-    /// Has the checker tell what waits for the next step. Where a step was made that it hasn't taken, the call fails.
+    /// Makes the checker announce what waits for the next step. If a step was made that the checker has not received,
+    /// the call fails.
     pub fn take_delayed(&mut self) -> Result<(), CheckFault>
         ensures steps { self.new.history.steps ≡ self.old.history.steps }
         ensures listening { made_audience self.new ≡ made_audience self.old }
@@ -233,7 +234,7 @@ impl<P: ProofProcessor> Made<P> {
         }
     }
 
-    /// What a processor complained of. It is told once.
+    /// Returns the error of a listener. It is returned once.
     pub fn take_complaint(&mut self) -> Option<anyhow::Error>
         ensures gives { result ≡ self.old.complaint }
         ensures same { self.new ≡ cleared_complaint self.old }
@@ -241,7 +242,8 @@ impl<P: ProofProcessor> Made<P> {
         self.complaint.take()
     }
 
-    /// Those who listen, in the order in which they were added, also after a failure. There is no checker afterwards.
+    /// Returns the listeners in the order in which they were added, also after a failure. There is no checker
+    /// afterwards.
     pub fn take_processors(&mut self, alloc: Global) -> Vec<P>
         ensures handed { MadeHandsBack self.old result.items }
         ensures whole { MadeHandsBackWhole self.old result.items }

@@ -1,4 +1,4 @@
-//! Clauses in proof variables, and their hashes.
+//! Clauses over proof variables, and their hashes.
 ghost use Rattle.std.specs.Prelude.{ℕ, ◌≡◌, ◌<◌, ◌≤◌, OnOk, length, map};
 ghost use Rattle.sat_base.specs.values.Literals.{variable};
 ghost use Rattle.sat_base.specs.values.Hashes.{hash_of};
@@ -18,7 +18,7 @@ use sat_parts::{CauseLits, Conflict, Parts, Reason};
 use sat_store::Lits;
 use std::alloc::AllocError;
 
-/// Puts the literals, in proof variables, into a list in place of what it had.
+/// Replaces the content of a list by the literals over proof variables.
 pub fn map_lits(globals: &[Var], lits: &[Lit], clause: &mut Vec<Lit>) -> Result<(), AllocError>
     requires { VariablesBelow lits.now (length globals.now) }
     ensures { OnOk result (clause.new.items ≡ map (with_var (global_of_index globals.now)) lits.now) }
@@ -31,7 +31,7 @@ pub fn map_lits(globals: &[Var], lits: &[Lit], clause: &mut Vec<Lit>) -> Result<
     Ok(())
 }
 
-/// The hash of the literals of a list.
+/// Returns the hash of the literals of a list.
 fn own_hash(lits: &[Lit]) -> ClauseHash
     ensures { result ≡ hash_of lits.now }
 {
@@ -42,7 +42,7 @@ fn own_hash(lits: &[Lit]) -> ClauseHash
     hash
 }
 
-/// The hash of the literals of a long clause.
+/// Returns the hash of the literals of a long clause.
 fn long_hash(lits: &Lits<'_>) -> ClauseHash
     ensures { result ≡ hash_of lits.now }
 {
@@ -53,7 +53,7 @@ fn long_hash(lits: &Lits<'_>) -> ClauseHash
     hash
 }
 
-/// The hash of these literals.
+/// Returns the hash of these literals.
 fn causes_hash(lits: &CauseLits) -> ClauseHash
     ensures { result ≡ hash_of lits.now }
 {
@@ -61,7 +61,7 @@ fn causes_hash(lits: &CauseLits) -> ClauseHash
     own_hash(own) ^ long_hash(long)
 }
 
-/// The hash of the clause by which a literal is true.
+/// Returns the hash of the clause that implies a literal.
 fn reason_hash(parts: &Parts, lit: Lit) -> ClauseHash
     requires there { variable lit < length parts.now.graph }
     requires clause { (o : ℕ) → (node (state parts.now) lit).reason ≡ Reason.Long o → IsClause parts.now.clauses o }
@@ -73,7 +73,7 @@ fn reason_hash(parts: &Parts, lit: Lit) -> ClauseHash
     lit_hash(lit) ^ causes_hash(&reason.lits(&parts.clauses))
 }
 
-/// Puts the hashes of the clauses by which these literals are true into a list in place of what it had.
+/// Replaces the content of a list by the hashes of the clauses that imply these literals.
 pub fn name_reasons(
     parts: &Parts,
     used: &[Lit],
@@ -92,7 +92,7 @@ pub fn name_reasons(
     Ok(())
 }
 
-/// Puts the hashes of the clauses that an analysis names into a list in place of what it had.
+/// Replaces the content of a list by the hashes of the clauses that an analysis names.
 pub fn name_clauses(
     parts: &Parts,
     used: &[Lit],
@@ -110,7 +110,7 @@ pub fn name_clauses(
     Ok(())
 }
 
-/// The literal in proof variables.
+/// Returns the literal over proof variables.
 fn map_lit(globals: &[Var], lit: Lit) -> Lit
     requires { variable lit < length globals.now }
     ensures { result ≡ with_var (global_of_index globals.now) lit }
@@ -118,7 +118,7 @@ fn map_lit(globals: &[Var], lit: Lit) -> Lit
     Lit::from_var(globals[lit.index()], lit.is_positive())
 }
 
-/// A unit in proof variables, with the hash of the clause that it follows from.
+/// Returns a unit over proof variables, with the hash of the clause that it follows from.
 fn unit_of(parts: &Parts, globals: &[Var], lit: Lit) -> (Lit, ClauseHash)
     requires there { variable lit < length parts.now.graph }
     requires name { variable lit < length globals.now }
@@ -135,7 +135,7 @@ fn unit_of(parts: &Parts, globals: &[Var], lit: Lit) -> (Lit, ClauseHash)
     (map_lit(globals, lit), hash)
 }
 
-/// Puts the units of the trail that have a clause as their reason into a list in place of what it had.
+/// Replaces the content of a list by the units of the trail that have a clause as their reason.
 pub fn collect_units(
     parts: &Parts,
     globals: &[Var],

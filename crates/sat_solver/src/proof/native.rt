@@ -1,4 +1,4 @@
-//! Steps are put into a target's text in bytes, each behind its width.
+//! Writes steps to a target in bytes, each after its width.
 ghost use Rattle.std.specs.Prelude.{◌≡◌, ◌∷◌, true, false};
 ghost use Rattle.sat_base.specs.steps.StepViews.{step_of};
 ghost use Rattle.sat_base.specs.steps.StepWriting.{steps_sink};
@@ -9,7 +9,7 @@ ghost use Rattle.sat_solver.specs.proof.OutputView.{PutsSteps, SendsSteps};
 use crate::proof::output::OutputError;
 use sat_base::{CountedWrite, HashBits, ProofStep, StepWriter};
 
-/// Writes a width, where it's another than the one before.
+/// Writes a width, if it has changed.
 fn write_width<W: CountedWrite>(
     writer: &mut StepWriter<W>,
     before: HashBits,
@@ -25,8 +25,7 @@ fn write_width<W: CountedWrite>(
     Ok(())
 }
 
-/// Lets a step wait if it has the width of the one before and there surely is room for it, and returns whether it does
-/// so.
+/// Buffers a step if it has the width of the step before and there is certainly room for it. Returns whether it did.
 #[inline(always)]
 pub fn try_write_at<W: CountedWrite>(
     writer: &mut StepWriter<W>,
@@ -44,7 +43,7 @@ pub fn try_write_at<W: CountedWrite>(
     writer.try_write(step)
 }
 
-/// Writes a step, and before it its width where that is another than the one before.
+/// Writes a step, after its width if that has changed.
 pub fn write_at<W: CountedWrite>(
     writer: &mut StepWriter<W>,
     widths: (HashBits, HashBits),

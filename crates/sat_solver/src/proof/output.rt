@@ -1,4 +1,4 @@
-//! Where a proof's text goes.
+//! Where the text of a proof is written.
 ghost use Rattle.std.specs.Prelude.{◌≡◌, ◌∷◌, true, false};
 ghost use Rattle.sat_base.specs.device.Sink.{Flushes, empty_sink};
 ghost use Rattle.sat_base.specs.steps.StepViews.{step_of};
@@ -12,12 +12,12 @@ use sat_base::{CountedWrite, HashBits, ProofStep, StepWriter};
 use std::alloc::AllocError;
 use std::io;
 
-/// Why a step's text wasn't written.
+/// Why the text of a step was not written.
 #[derive(Drop)]
 pub enum OutputError {
     /// A call of the writer failed.
     Write(io::Error),
-    /// Nothing was written of it.
+    /// Memory ran out, and none of it was written.
     OutOfMemory,
 }
 
@@ -43,7 +43,7 @@ impl From<AllocError> for OutputError {
     }
 }
 
-/// A writer of DRAT lines. Those of a step are one write.
+/// A writer of DRAT lines. The lines of a step are one write.
 #[derive(Drop)]
 pub struct LineWriter<W> {
     pub writer: W,
@@ -51,7 +51,7 @@ pub struct LineWriter<W> {
 }
 
 impl<W: CountedWrite> LineWriter<W> {
-    /// Writes a step's lines, which are put together in the text.
+    /// Writes the lines of a step, which are assembled in `text`.
     fn write(&mut self, text: &mut Vec<u8>, step: &ProofStep<'_>) -> Result<(), OutputError>
         ensures binary { self.new.binary ≡ self.old.binary }
         ensures puts { PutsLines self.old.binary result (step_of step.now) (W.seen self.old.writer)
@@ -64,7 +64,7 @@ impl<W: CountedWrite> LineWriter<W> {
     }
 }
 
-/// A writer of steps, or of lines.
+/// A writer of steps, or of DRAT lines.
 #[derive(Drop)]
 pub enum Output<W> {
     Steps(StepWriter<W>),
@@ -72,7 +72,7 @@ pub enum Output<W> {
 }
 
 impl<W: CountedWrite> Output<W> {
-    /// Writes nothing yet, and takes no memory.
+    /// Creates an output that has written nothing. Never allocates.
     pub fn new(format: ProofFormat, writer: W) -> Output<W>
         ensures format { output_format result ≡ format }
         ensures sink { output_sink W.seen result ≡ empty_sink (W.seen writer) }
@@ -90,7 +90,7 @@ impl<W: CountedWrite> Output<W> {
         }
     }
 
-    /// Whether lines of DRAT are written.
+    /// Whether DRAT lines are written.
     pub fn is_drat(&self) -> bool
         ensures { result ≡ is_lines (output_format self.now) }
     {
@@ -100,8 +100,8 @@ impl<W: CountedWrite> Output<W> {
         }
     }
 
-    /// Writes a step, where the widths are that of the step before and its own, to which its hashes are cut. Lines are
-    /// put together in the text.
+    /// Writes a step. `widths` has the width of the step before and its own, to which its hashes are shortened. DRAT
+    /// lines are assembled in `text`.
     #[inline(never)]
     pub fn write(
         &mut self,
@@ -119,8 +119,8 @@ impl<W: CountedWrite> Output<W> {
         }
     }
 
-    /// Lets a step's bytes wait if it has the width of the one before and there surely is room for them, and returns
-    /// whether it does so. Calls no writer.
+    /// Buffers the bytes of a step if it has the width of the step before and there is certainly room for them. Returns
+    /// whether it did. Never calls the writer.
     #[inline(always)]
     pub fn try_write(&mut self, widths: (HashBits, HashBits), step: &ProofStep<'_>) -> bool
         ensures format { output_format self.new ≡ output_format self.old }
@@ -134,7 +134,7 @@ impl<W: CountedWrite> Output<W> {
         }
     }
 
-    /// Writes out what waits, and flushes the writer.
+    /// Writes pending bytes, and flushes the writer.
     pub fn flush(&mut self) -> io::Result<()>
         ensures format { output_format self.new ≡ output_format self.old }
         ensures flushes { Flushes result (output_sink W.seen self.old) (output_sink W.seen self.new) }
@@ -145,7 +145,7 @@ impl<W: CountedWrite> Output<W> {
         }
     }
 
-    /// The writer. What waits is lost.
+    /// Returns the writer. Its pending bytes are lost.
     pub fn into_writer(self) -> W
         ensures { W.seen result ≡ (output_sink W.seen self).writer }
     {

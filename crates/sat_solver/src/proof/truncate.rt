@@ -1,4 +1,4 @@
-//! Hashes lose their lower bits.
+//! Shortens hashes to their top bits.
 ghost use Rattle.std.specs.Prelude.{ℕ, ◌≡◌, map, OnOk, [], false};
 ghost use Rattle.sat_base.specs.steps.StepViews.{step_of};
 ghost use Rattle.sat_solver.specs.proof.Widths.{kept_bits, narrowed};
@@ -6,7 +6,7 @@ ghost use Rattle.sat_solver.specs.proof.Widths.{kept_bits, narrowed};
 use sat_base::{ClauseHash, HashBits, Lit, ProofStep};
 use std::alloc::{AllocError, Global};
 
-/// The topmost bits of a hash.
+/// Returns the top bits of a hash.
 fn top_bits(hash: ClauseHash, bits: HashBits) -> ClauseHash
     ensures { result ≡ kept_bits bits hash }
 {
@@ -15,7 +15,7 @@ fn top_bits(hash: ClauseHash, bits: HashBits) -> ClauseHash
 }
 
 #[tactic(auto, using(crate::proofs::lemmas::session::CuttingLemmas::narrow_next))]
-/// Puts the topmost bits of hashes into a list in place of what it had.
+/// Replaces the content of a list by the top bits of hashes.
 pub fn narrow(
     narrowed: &mut Vec<ClauseHash>,
     hashes: &[ClauseHash],
@@ -30,7 +30,7 @@ pub fn narrow(
     Ok(())
 }
 
-/// Puts units with the topmost bits of their hashes into a list in place of what it had.
+/// Replaces the content of a list by units with the top bits of their hashes.
 pub fn narrow_units(
     narrowed: &mut Vec<(Lit, ClauseHash)>,
     units: &[(Lit, ClauseHash)],
@@ -67,7 +67,7 @@ pub fn has_hashes(step: &ProofStep<'_>) -> bool
     }
 }
 
-/// Where the hashes of a step are cut.
+/// Where the hashes of a step are shortened.
 #[derive(Drop)]
 pub struct CutLists {
     pub hashes: Vec<ClauseHash>,
@@ -75,7 +75,7 @@ pub struct CutLists {
 }
 
 impl CutLists {
-    /// Empty ones, which take no memory.
+    /// Creates empty lists. Never allocates.
     pub fn new(alloc: Global) -> CutLists
         ensures hashes { result.hashes.items ≡ [] }
         ensures units { result.units.items ≡ [] }

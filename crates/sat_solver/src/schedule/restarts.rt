@@ -12,7 +12,7 @@ pub struct Restarts {
     pub scale: u64,
     /// The round before which the next restart is due.
     pub next: u64,
-    /// The number of restarts, at most 2^64-1.
+    /// The number of restarts; it saturates at 2^64-1.
     pub count: u64,
 }
 

@@ -1,28 +1,28 @@
-//! Laws: each is the contract of a function that does nothing.
+//! Laws. Each is the contract of a function that does nothing.
 ghost use Rattle.sat_solver.specs.session.Advancing.{LearnedAdvancesIn};
 ghost use Rattle.sat_solver.specs.session.FitLaws.{LearnedMay, ModelMay, LearnedIsNew, NothingFits};
 
-/// What is learned may be written.
+/// States that a learned clause may be written.
 pub fn learned_may()
     ensures { LearnedMay }
 {}
 
-/// Where all is assigned, the true literals may be written as a model.
+/// States that true literals may be written as a model if all variables are assigned.
 pub fn model_may()
     ensures { ModelMay }
 {}
 
-/// What is learned was not there.
+/// States that a learned clause is new.
 pub fn learned_is_new()
     ensures { LearnedIsNew }
 {}
 
-/// A session of no steps fits parts without variables.
+/// States that the empty session matches parts without variables.
 pub fn nothing_fits()
     ensures { NothingFits }
 {}
 
-/// What is learned advances in the session.
+/// States that a learned clause advances in the session.
 pub fn learned_advances_in()
     ensures { LearnedAdvancesIn }
 {}

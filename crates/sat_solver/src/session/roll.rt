@@ -1,11 +1,10 @@
-//! What contracts alone see of those who were added to a checker. It takes no memory, and its functions do nothing at
-//! run time.
+//! A ghost of the listeners that were added to a checker. It has no size, and its functions do nothing at run time.
 ghost use Rattle.std.specs.Prelude.{◌≡◌, ◌++◌, ◌∷◌, [], List};
 ghost use Rattle.std.specs.Borrow.{ftrue};
 
 use std::marker::{Model, PhantomData};
 
-/// Each as it was then, in order.
+/// The listeners in order, each as it was added.
 #[derive(Drop)]
 pub struct Roll<P> {
     of: PhantomData<P>,
@@ -17,21 +16,21 @@ impl<P> Model for Roll<P> {
 }
 
 impl<P> Roll<P> {
-    /// Nobody.
+    /// Creates an empty roll.
     pub fn new() -> Roll<P>
         ensures { result.items ≡ [] }
     {
         Roll { of: PhantomData }
     }
 
-    /// With one more.
+    /// Returns the roll with one more listener.
     pub fn and(&self, _one: &P) -> Roll<P>
         ensures { result.items ≡ self.now.items ++ _one.now ∷ [] }
     {
         Roll { of: PhantomData }
     }
 
-    /// All of these.
+    /// Returns the roll of these listeners.
     pub fn of(all: &[P]) -> Roll<P>
         ensures { result.items ≡ all.now }
     {

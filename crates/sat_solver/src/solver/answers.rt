@@ -1,4 +1,4 @@
-//! What the last answer rests on.
+//! What the last answer is based on.
 ghost use Rattle.std.specs.Prelude.{◌≡◌, false, IfOk, IfErr, MatchOption};
 ghost use Rattle.sat_solver.specs.declared.error.SolverError.TheVariants as errors;
 ghost use Rattle.sat_solver.specs.solver.Resting.{HasNone, HasNoCore, IsCore, IsModel, ModelFails};
@@ -13,7 +13,7 @@ use sat_checker::ProofProcessor;
 use std::alloc::Global;
 
 impl<W: CountedWrite + Drop, P: ProofProcessor> Solver<W, P> {
-    /// The literals of a model, one for each name in use, in increasing order.
+    /// Returns the literals of a model, one for every name in use, in increasing order.
     fn model_lits(&self, alloc: Global) -> Result<Vec<Lit>, SolverError>
         requires solver { IsSolver self.now }
         requires going { self.now.failed ≡ false }
@@ -26,8 +26,10 @@ impl<W: CountedWrite + Drop, P: ProofProcessor> Solver<W, P> {
         Ok(lits)
     }
 
-    /// A model: a literal for each name in use, in increasing order. There is one only behind a `solve` that answered
-    /// true, with no clause and no assumptions since; names that came since are false. `OutOfMemory` changes nothing.
+    /// Returns a model: a literal for every name in use, in increasing order; or `None`.
+    ///
+    /// There is a model only after a `solve` that returned true, with no clause and no assumptions since. Names
+    /// introduced since are false. `OutOfMemory` changes nothing.
     pub fn model(&self, alloc: Global) -> Result<Option<Vec<Lit>>, SolverError>
         requires { IsSolver self.now }
         ensures model { IfOk result (λ o. MatchOption o (HasNone self.now) (λ lits. IsModel self.now lits.items)) }
@@ -44,9 +46,10 @@ impl<W: CountedWrite + Drop, P: ProofProcessor> Solver<W, P> {
         }
     }
 
-    /// Assumptions that can't be true together. There are some only behind a `solve` that answered false, with no
-    /// clause and no assumptions since; an empty list once the clauses alone are known to be unsatisfiable. None after
-    /// a call failed.
+    /// Returns assumptions that contradict the clauses, or `None`.
+    ///
+    /// There are some only after a `solve` that returned false, with no clause and no assumptions since. The list is
+    /// empty once the clauses alone are known to be unsatisfiable. Returns `None` after a failed call.
     pub fn failed_core(&self) -> Option<&[Lit]>
         requires { IsSolver self.now }
         ensures { MatchOption result (HasNoCore self.now) (λ core. IsCore self.now core.now) }

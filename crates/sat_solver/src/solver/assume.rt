@@ -23,7 +23,7 @@ use sat_base::{CountedWrite, Lit};
 use sat_checker::ProofProcessor;
 
 impl<W: CountedWrite + Drop, P: ProofProcessor> Solver<W, P> {
-    /// Takes assumptions where the clauses alone are known to be unsatisfiable: the search isn't told.
+    /// Accepts assumptions when the clauses are known to be unsatisfiable. The search does not receive them.
     fn ask_known(&mut self, lits: &[Lit]) -> Result<(), Fault>
         requires whole { SolverInvariant self.old }
         requires unsat { self.old.state ≡ Unsat }
@@ -36,7 +36,7 @@ impl<W: CountedWrite + Drop, P: ProofProcessor> Solver<W, P> {
         Ok(())
     }
 
-    /// Takes assumptions without a name of mode witness.
+    /// Accepts assumptions without a name of mode witness.
     fn ask(&mut self, lits: &[Lit]) -> Result<(), Fault>
         requires whole { SolverInvariant self.old }
         requires sampled { NoWitness self.old.names lits.now }
@@ -55,9 +55,10 @@ impl<W: CountedWrite + Drop, P: ProofProcessor> Solver<W, P> {
         Ok(())
     }
 
-    /// Replaces the assumptions, whose names come in from left to right. `NotInDrat` while lines of DRAT are written.
-    /// `WitnessVariable` where a literal is over a name of mode witness. `VariableLimit` where a variable is lacking
-    /// for a name that would come in.
+    /// Replaces the assumptions, whose names are introduced from left to right.
+    ///
+    /// Errors: `NotInDrat` if DRAT lines are written; `WitnessVariable` if a name is of mode witness; `VariableLimit`
+    /// if there is no variable for a name that would be introduced.
     pub fn assume(&mut self, lits: &[Lit]) -> Result<(), SolverError>
         requires { IsSolver self.old }
         ensures solver { IsSolver self.new }

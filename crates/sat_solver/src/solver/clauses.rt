@@ -1,4 +1,4 @@
-//! Clauses that a user adds.
+//! Clauses that a caller adds.
 ghost use Rattle.std.specs.Prelude.{◌≡◌, true, false, IfErr, IsErrOf};
 ghost use Rattle.sat_solver.specs.variables.VariableRoom.{HasVariablesFor, users_in};
 ghost use Rattle.sat_solver.specs.cdcl.Going.{IsFault, IsFaultOr};
@@ -31,7 +31,7 @@ impl<W: CountedWrite + Drop, P: ProofProcessor> Solver<W, P> {
         self.core.proof.has_asked()
     }
 
-    /// Takes the names of a clause, and nothing more: the clauses alone are known to be unsatisfiable.
+    /// Introduces the names of a clause, and does nothing else: the clauses are known to be unsatisfiable.
     fn leave_out(&mut self, lits: &[Lit]) -> Result<(), Fault>
         requires whole { SolverInvariant self.old }
         requires unsat { self.old.state ≡ Unsat }
@@ -44,7 +44,7 @@ impl<W: CountedWrite + Drop, P: ProofProcessor> Solver<W, P> {
         Ok(())
     }
 
-    /// Takes a clause without a name of mode witness.
+    /// Adds a clause without a name of mode witness.
     fn take(&mut self, lits: &[Lit]) -> Result<(), Fault>
         requires whole { SolverInvariant self.old }
         requires sampled { NoWitness self.old.names lits.now }
@@ -64,10 +64,11 @@ impl<W: CountedWrite + Drop, P: ProofProcessor> Solver<W, P> {
         Ok(())
     }
 
-    /// Adds a clause, whose names come in from left to right. It may stand behind asks, and ends what is known of an
-    /// answer. Once the clauses alone are known to be unsatisfiable, only its names come in. `NotInDrat` behind the
-    /// first `solve` while lines of DRAT are written. `WitnessVariable` where a literal is over a name of mode witness.
-    /// `VariableLimit` where a variable is lacking for a name that would come in.
+    /// Adds a clause, whose names are introduced from left to right.
+    ///
+    /// It may come after asks, and discards the answer. Once the clauses alone are known to be unsatisfiable, only its
+    /// names are introduced. Errors: `NotInDrat` after the first `solve` if DRAT lines are written; `WitnessVariable`
+    /// if a name is of mode witness; `VariableLimit` if there is no variable for a name that would be introduced.
     pub fn add_clause(&mut self, lits: &[Lit]) -> Result<(), SolverError>
         requires { IsSolver self.old }
         ensures solver { IsSolver self.new }

@@ -14,7 +14,7 @@ use crate::{SolverConfigUpdate, SolverError};
 use sat_base::CountedWrite;
 use sat_checker::ProofProcessor;
 
-/// Hands the decays on to a search, unless it is over.
+/// Passes the decays to a search, unless it has ended.
 fn hand_on<W: CountedWrite + Drop, P: ProofProcessor>(core: &mut Core<W, P>, state: State)
     requires holds { (state ≡ Unsat → ⊥) → PartsInvariant core.old.search.parts }
     requires decays { AreDecays core.old.config }
@@ -29,8 +29,7 @@ fn hand_on<W: CountedWrite + Drop, P: ProofProcessor>(core: &mut Core<W, P>, sta
 }
 
 impl<W: CountedWrite + Drop, P: ProofProcessor> Solver<W, P> {
-    /// Changes parameters: those that the update has. `OutOfRange` changes nothing, and comes exactly where one is out
-    /// of its range.
+    /// Updates parameters. If one is out of its range, returns `OutOfRange` and changes nothing.
     pub fn config(&mut self, update: &SolverConfigUpdate) -> Result<(), SolverError>
         requires { IsSolver self.old }
         ensures solver { IsSolver self.new }

@@ -1,4 +1,4 @@
-//! A solver as a formula that can be added to.
+//! `Solver` as a formula that can be extended.
 ghost use Rattle.std.specs.Prelude.{Ok, Err};
 ghost use Rattle.sat_solver.specs.solver.Adding.{AddsClause};
 ghost use Rattle.sat_solver.specs.solver.Naming.{NamesNew};

@@ -1,4 +1,4 @@
-//! Rounds up to an answer, which is told by its step.
+//! Runs rounds up to an answer, and writes the step of the answer.
 ghost use Rattle.std.specs.Prelude.{◌≡◌, ◌<◌, IfOk, IfErr};
 ghost use Rattle.sat_solver.specs.schedule.Counting.{AnswersWithin, CountsOn, SpendsRounds, TakesRound, round_allowance};
 ghost use Rattle.sat_solver.specs.schedule.Solving.{values_in};
@@ -16,21 +16,21 @@ use crate::variables::Variables;
 use sat_base::{CountedWrite, Lit};
 use sat_checker::ProofProcessor;
 
-/// What the last answers were: a model over the proof's variables, a failed core over names.
+/// The last answers: a model over proof variables, and a failed core over names.
 #[derive(Drop)]
 pub struct LastAnswers {
     pub model: Vec<Lit>,
     pub failed_core: Vec<Lit>,
 }
 
-/// The rounds that were made, and when restarts are due.
+/// The number of rounds so far, and when restarts are due.
 #[derive(Drop)]
 pub struct Clock {
     pub restarts: Restarts,
     pub rounds: u64,
 }
 
-/// Tells what a search came to.
+/// Writes and stores the outcome of a search.
 fn report<W: CountedWrite + Drop, P: ProofProcessor>(
     core: &mut Core<W, P>,
     names: &Variables,
@@ -54,8 +54,8 @@ fn report<W: CountedWrite + Drop, P: ProofProcessor>(
     }
 }
 
-/// Rounds up to an answer, at most so many as the parameters say, and the answer's step. None where there is no answer
-/// by then.
+/// Runs rounds up to an answer, at most as many as the parameters allow, and writes the answer's step. Returns `None`
+/// if there is no answer.
 pub fn find_answer<W: CountedWrite + Drop, P: ProofProcessor>(
     core: &mut Core<W, P>,
     names: &mut Variables,

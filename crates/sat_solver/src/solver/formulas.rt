@@ -1,4 +1,4 @@
-//! Formulas, clause by clause, and their texts.
+//! Adds formulas and their texts, clause by clause.
 ghost use Rattle.std.specs.Prelude.{◌≡◌, ◌≤◌, ◌+◌, false};
 ghost use Rattle.sat_base.specs.device.Device.{most_reads};
 ghost use Rattle.sat_base.specs.dimacs.Parsing.{all_taken, no_progress};
@@ -10,13 +10,13 @@ use crate::solver::Solver;
 use sat_base::{CnfFormula, CountedRead, CountedWrite, DimacsError, DimacsParser};
 use sat_checker::ProofProcessor;
 
-/// How many bytes are asked for at a time.
+/// The number of bytes that are requested at a time.
 const PIECE: usize = 4096;
 
-/// A reader is read at most so often.
+/// The maximum number of reads of a text.
 const MAX_READS: u64 = 1 << 48;
 
-/// The fault of a text, as a solver tells it.
+/// Returns the solver's error for an error of a text.
 fn text_fault(error: DimacsError) -> SolverError
     ensures { result ≡ text_fault error }
 {
@@ -29,7 +29,7 @@ fn text_fault(error: DimacsError) -> SolverError
     }
 }
 
-/// Whether a solver has failed then: for want of memory.
+/// Whether the solver has failed after this error: only on an allocation failure.
 fn is_want(error: DimacsError) -> bool
     ensures { result ≡ is_solver_out_of_memory error }
 {
@@ -43,8 +43,8 @@ fn is_want(error: DimacsError) -> bool
 }
 
 impl<W: CountedWrite + Drop, P: ProofProcessor> Solver<W, P> {
-    /// Adds the clauses of a formula, in order, each as by a call of its own, up to the first that is refused: those
-    /// before it stand. The formula's variable count brings in no name.
+    /// Adds the clauses of a formula in order, as by one call each, up to the first that is refused. Those before it
+    /// remain. The formula's variable count introduces no name.
     pub fn add_formula(&mut self, formula: &CnfFormula) -> Result<(), SolverError>
         requires { IsSolver self.old }
         ensures solver { IsSolver self.new }
@@ -59,7 +59,7 @@ impl<W: CountedWrite + Drop, P: ProofProcessor> Solver<W, P> {
         Ok(())
     }
 
-    /// Adds the clauses that wait in a parser, which has answered so to a piece or to the end of its text.
+    /// Adds the clauses that the parser has completed so far, after it reported `result`.
     fn add_read(
         &mut self,
         parser: &mut DimacsParser,
@@ -110,10 +110,11 @@ impl<W: CountedWrite + Drop, P: ProofProcessor> Solver<W, P> {
         Err(SolverError::Read)
     }
 
-    /// Adds the clauses of a formula's text in DIMACS CNF, in order, as the text is read in pieces of 4,096 bytes.
-    /// Those before a fault stand, and those before a clause that is refused. A text that can't be read leaves the
-    /// solver going on: `Malformed`, `VariableLimit` for a number past the limit, or `Read`. The header's variable
-    /// count brings in no name.
+    /// Adds the clauses of a text in DIMACS CNF, in order. The text is read in chunks of 4,096 bytes.
+    ///
+    /// Clauses before an error, or before a clause that is refused, remain. If the text cannot be read, the solver can
+    /// still be used: the error is `Malformed`, `VariableLimit` for a number above the limit, or `Read`. The header's
+    /// variable count introduces no name.
     pub fn add_dimacs_cnf<R: CountedRead>(&mut self, reader: &mut R) -> Result<(), SolverError>
         requires { IsSolver self.old }
         ensures solver { IsSolver self.new }

@@ -1,4 +1,4 @@
-//! What holds of solvers: each law is the contract of a function that does nothing.
+//! Laws about solvers. Each is the contract of a function that does nothing.
 ghost use Rattle.sat_solver.specs.solver.Fronts.{CallsGoOn, FlushedIsText};
 ghost use Rattle.sat_solver.specs.solver.Resting.{SolverMatchesSomeState};
 
@@ -6,7 +6,8 @@ use crate::solver::Solver;
 use sat_base::CountedWrite;
 use sat_checker::ProofProcessor;
 
-/// Whatever a call answers, its steps come behind those that were made, and the target takes no more than their text.
+/// States that the steps of a call come after those made before, whatever it answers, and that the target receives only
+/// their text.
 pub fn calls_go_on<W: CountedWrite + Drop, P: ProofProcessor>(
     _old: &Solver<W, P>,
     _new: &Solver<W, P>,
@@ -14,13 +15,13 @@ pub fn calls_go_on<W: CountedWrite + Drop, P: ProofProcessor>(
     ensures { CallsGoOn W.seen _old.now _new.now }
 {}
 
-/// Where no call failed some state of the judge is what names and steps say, so that what answers and bounds say of
-/// each such state is said of one.
+/// States that names and steps of a solver that has not failed match some state of the judge. So what is stated for
+/// every such state holds for one.
 pub fn solvers_are_judged<W: CountedWrite + Drop, P: ProofProcessor>(_solver: &Solver<W, P>)
     ensures { SolverMatchesSomeState _solver.now }
 {}
 
-/// A target that was flushed, no call of which failed, took the text of all steps that were made since it was opened.
+/// States that a flushed target whose calls all succeeded has received the text of all steps made since it was opened.
 pub fn flushed_targets_took_texts()
     ensures { FlushedIsText }
 {}

@@ -1,4 +1,4 @@
-//! Clauses and assumptions over names come to a search.
+//! Passes clauses and assumptions over names to a search.
 ghost use Rattle.sat_solver.specs.load.Literals.{NoWitness};
 ghost use Rattle.std.specs.Prelude.{◌≡◌, IfErr};
 ghost use Rattle.sat_solver.specs.variables.VariableRoom.{HasVariablesFor, users_in};
@@ -21,15 +21,15 @@ use sat_base::{CountedWrite, Lit};
 use sat_checker::ProofProcessor;
 use sat_parts::parts::sorting::Sorting;
 
-/// Where a clause is put together.
+/// Where a clause is assembled.
 #[derive(Drop)]
 pub struct Loading {
     pub taken: Taken,
     pub sorting: Sorting,
 }
 
-/// Takes a clause without a name of mode witness, where the clauses aren't known to be unsatisfiable. Answers whether a
-/// valuation may be left.
+/// Adds a clause without a name of mode witness, when the clauses are not known to be unsatisfiable. Returns whether
+/// the formula may still be satisfiable.
 pub fn take_clause<W: CountedWrite + Drop, P: ProofProcessor>(
     core: &mut Core<W, P>,
     names: &mut Variables,
@@ -54,7 +54,7 @@ pub fn take_clause<W: CountedWrite + Drop, P: ProofProcessor>(
     )
 }
 
-/// Takes assumptions without a name of mode witness, in place of those before.
+/// Replaces the assumptions by these, which have no name of mode witness.
 pub fn take_assumptions<W: CountedWrite + Drop, P: ProofProcessor>(
     core: &mut Core<W, P>,
     names: &mut Variables,

@@ -1,4 +1,4 @@
-//! Names that come in, that are hidden, and modes that a user sets.
+//! Introducing and hiding names, and setting their modes.
 ghost use Rattle.std.specs.Prelude.{◌≡◌, ◌==◌, ◌||◌, not, length, true, false, IfOk, IfErr, OnOk};
 ghost use Rattle.sat_solver.specs.solver.Naming.{Hides, Witnesses, Samples, SetsMode, NamesNew, NamesFail, Observed};
 ghost use Rattle.sat_solver.specs.variables.Coming.{LeavesNoneIdle};
@@ -16,7 +16,7 @@ use crate::variables::user_vars::new_user_var;
 use sat_base::{CountedWrite, Var};
 use sat_checker::ProofProcessor;
 
-/// Whether no variable was left.
+/// Whether the error says that no variable was left.
 fn is_limit(error: &NameError) -> bool
     ensures limit { result ≡ true → error.now ≡ NameError.VariableLimit }
     ensures other { result ≡ false → error.now ≡ NameError.VariableLimit → ⊥ }
@@ -29,7 +29,7 @@ fn is_limit(error: &NameError) -> bool
     }
 }
 
-/// Whether a solver was used that gave these names.
+/// Whether a solver is used after it has introduced these names.
 fn is_used(used: bool, users: &[Var]) -> bool
     ensures { result ≡ (used || not (length users.now == 0)) }
 {
@@ -37,10 +37,11 @@ fn is_used(used: bool, users: &[Var]) -> bool
 }
 
 impl<W: CountedWrite + Drop, P: ProofProcessor> Solver<W, P> {
-    /// Brings a name in, and hides it: its variable stays in the clauses, and the name may become that of a new
-    /// variable. A variable without an index, which is in no clause, is deleted at once. What is known of an answer
-    /// stays. `AssumedVariable` where the name is assumed. `VariableLimit` where a variable is lacking for a name that
-    /// would come in.
+    /// Hides a name, which is introduced first if it is new.
+    ///
+    /// Its variable remains in the clauses, and the name may be given to a new variable. A variable without an index,
+    /// which is in no clause, is deleted at once. The answer is unchanged. Errors: `AssumedVariable` if the name is
+    /// assumed; `VariableLimit` if there is no variable for a name that would be introduced.
     pub fn hide_var(&mut self, user: Var) -> Result<(), SolverError>
         requires { IsSolver self.old }
         ensures solver { IsSolver self.new }
@@ -63,7 +64,7 @@ impl<W: CountedWrite + Drop, P: ProofProcessor> Solver<W, P> {
         }
     }
 
-    /// Brings a name in, and sets its mode.
+    /// Introduces a name if it is new, and sets its mode.
     fn set_mode(&mut self, user: Var, sample: bool) -> Result<(), SolverError>
         requires { IsSolver self.old }
         ensures solver { IsSolver self.new }
@@ -85,9 +86,11 @@ impl<W: CountedWrite + Drop, P: ProofProcessor> Solver<W, P> {
         }
     }
 
-    /// Brings a name in, and sets its mode to witness: no clause and no assumption may have it. What is known of an
-    /// answer stays. `AssumedVariable` where the name is assumed, also where the mode would stay. `VariableLimit` as by
-    /// `hide_var`.
+    /// Sets the mode of a name to witness, and introduces the name if it is new: no clause and no assumption may have
+    /// it.
+    ///
+    /// The answer is unchanged. Errors: `AssumedVariable` if the name is assumed, even if it has this mode already;
+    /// `VariableLimit` as for `hide_var`.
     pub fn witness_var(&mut self, user: Var) -> Result<(), SolverError>
         requires { IsSolver self.old }
         ensures solver { IsSolver self.new }
@@ -96,8 +99,10 @@ impl<W: CountedWrite + Drop, P: ProofProcessor> Solver<W, P> {
         self.set_mode(user, false)
     }
 
-    /// Brings a name in, and sets its mode to sample, as new names have it. What is known of an answer stays.
-    /// `AssumedVariable` where the name is assumed, also where the mode would stay. `VariableLimit` as by `hide_var`.
+    /// Sets the mode of a name to sample, as new names have it, and introduces the name if it is new.
+    ///
+    /// The answer is unchanged. Errors: `AssumedVariable` if the name is assumed, even if it has this mode already;
+    /// `VariableLimit` as for `hide_var`.
     pub fn sample_var(&mut self, user: Var) -> Result<(), SolverError>
         requires { IsSolver self.old }
         ensures solver { IsSolver self.new }
@@ -106,9 +111,10 @@ impl<W: CountedWrite + Drop, P: ProofProcessor> Solver<W, P> {
         self.set_mode(user, true)
     }
 
-    /// Brings in the lowest hidden name, else the first never used, and gives it. What is known of an answer stays: in
-    /// a model the name is false. `VariableLimit` changes nothing, and comes only where every variable of the proof is
-    /// in use.
+    /// Introduces the lowest hidden name, or the first never used if none is hidden, and returns it.
+    ///
+    /// The answer is unchanged: in a model the name is false. `VariableLimit` occurs only if every variable of the
+    /// proof is in use, and changes nothing.
     pub fn new_var(&mut self) -> Result<Var, SolverError>
         requires { IsSolver self.old }
         ensures solver { IsSolver self.new }
@@ -132,9 +138,10 @@ impl<W: CountedWrite + Drop, P: ProofProcessor> Solver<W, P> {
         }
     }
 
-    /// Gives each hidden variable that is still kept the name that `new_var` would take, and mode witness, by
-    /// increasing variable of the proof; the names in this order. What is known of an answer stays. Where there is
-    /// none, a proof may still be opened.
+    /// Gives every hidden variable that is still in use the name that `new_var` would return, and mode witness, by
+    /// increasing proof variable. Returns the names in this order.
+    ///
+    /// The answer is unchanged. If there is no such variable, a proof may still be opened.
     pub fn observe_internal_vars(&mut self) -> Result<Vec<Var>, SolverError>
         requires { IsSolver self.old }
         ensures solver { IsSolver self.new }

@@ -26,7 +26,7 @@ fn is_open(names: &Variables, global: Var, index: usize, values: &[Option<bool>]
     values[index].is_none()
 }
 
-/// The number of variables that have an index, and no value.
+/// Returns the number of variables that have an index, and no value.
 fn open_count(names: &Variables, values: &[Option<bool>]) -> u64
     ensures { AreTidy names.now → result ≡ open_vars names.now values.now }
 {
@@ -40,7 +40,7 @@ fn open_count(names: &Variables, values: &[Option<bool>]) -> u64
 }
 
 impl<W: CountedWrite + Drop, P: ProofProcessor> Solver<W, P> {
-    /// Rounds, restarts, variables without a value, and clauses by kind, at this time. Takes no memory.
+    /// Returns the current number of rounds, restarts, variables without a value, and clauses by kind. Never allocates.
     pub fn progress(&self) -> Progress
         ensures conflicts { result.conflicts ≡ rounds_in self.now }
         ensures restarts { result.restarts ≡ restarts_in self.now }

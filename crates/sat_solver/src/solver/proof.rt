@@ -1,4 +1,4 @@
-//! The proof of a solver, where its text goes.
+//! The proof of a solver, and where its text is written.
 ghost use Rattle.sat_solver.specs.proof.ProofView.{GivesWriter, HandsBackListeners, HandsBackWholeListeners, handed_writer};
 ghost use Rattle.sat_solver.specs.solver.Fronts.{HandsFront};
 ghost use Rattle.sat_solver.specs.solver.Proving.{AddsProcessor, Enables, OpensProof, ClosesProof};
@@ -12,7 +12,7 @@ use crate::solver::Solver;
 use sat_base::CountedWrite;
 use sat_checker::ProofProcessor;
 
-/// What a solver held of others.
+/// The target and the listeners that a solver returns.
 #[derive(Drop)]
 pub struct HandedBack<W, P> {
     pub target: Option<W>,
@@ -20,8 +20,10 @@ pub struct HandedBack<W, P> {
 }
 
 impl<W: CountedWrite + Drop, P: ProofProcessor> Solver<W, P> {
-    /// Writes the steps that are made from here on to this target, in this format. `TooLate` once a clause, a name,
-    /// assumptions or an ask came, or while a proof is open; the target is dropped then.
+    /// Writes all further steps to this target, in this format.
+    ///
+    /// Returns `TooLate` after a clause, a name, assumptions or an ask, and while a proof is open. Then the target is
+    /// dropped.
     pub fn write_proof(&mut self, target: W, format: ProofFormat) -> Result<(), SolverError>
         requires { IsSolver self.old }
         ensures solver { IsSolver self.new }
@@ -37,8 +39,10 @@ impl<W: CountedWrite + Drop, P: ProofProcessor> Solver<W, P> {
         Ok(())
     }
 
-    /// From here on a checker of the solver's own takes each step that is made, as a file in bytes would have it, but
-    /// for the ends of proofs; it refuses none. `TooLate` once a clause, a name, assumptions or an ask came.
+    /// Starts a checker of the solver's own, which receives all further steps as a file in bytes would have them,
+    /// except for the ends of proofs. It rejects none.
+    ///
+    /// Returns `TooLate` after a clause, a name, assumptions or an ask.
     pub fn enable_self_checking(&mut self) -> Result<(), SolverError>
         requires { IsSolver self.old }
         ensures solver { IsSolver self.new }
@@ -55,8 +59,9 @@ impl<W: CountedWrite + Drop, P: ProofProcessor> Solver<W, P> {
         Ok(())
     }
 
-    /// A processor, which the solver's own checker, which comes by it where there is none, tells what it announces.
-    /// `TooLate` as `enable_self_checking`; the processor is dropped then, and so it is where there's no memory for it.
+    /// Adds a listener to the solver's own checker, which is started if there is none.
+    ///
+    /// Returns `TooLate` as `enable_self_checking` does. Then the listener is dropped, and also if memory runs out.
     pub fn add_proof_processor(&mut self, processor: P) -> Result<(), SolverError>
         requires { IsSolver self.old }
         ensures solver { IsSolver self.new }
@@ -76,8 +81,8 @@ impl<W: CountedWrite + Drop, P: ProofProcessor> Solver<W, P> {
         }
     }
 
-    /// Writes the last step, flushes, and hands the target back; `None` where no proof is open. After a fault the
-    /// target stays.
+    /// Writes the last step, flushes, and returns the target, or `None` if no proof is open. After an error the solver
+    /// keeps the target.
     pub fn close_proof(&mut self) -> Result<Option<W>, SolverError>
         requires { IsSolver self.old }
         ensures solver { IsSolver self.new }
@@ -92,8 +97,8 @@ impl<W: CountedWrite + Drop, P: ProofProcessor> Solver<W, P> {
         }
     }
 
-    /// The target as it is, where a proof is open or its target failed; what waits for it is lost. So who lent a target
-    /// to a solver that failed learns what it took: a front of the text of steps that a checker accepts.
+    /// Returns the target as it is, if a proof is open or its target failed; its pending bytes are lost. It has
+    /// received a prefix of the text of steps that a checker accepts, even if the solver has failed.
     pub fn into_target(self) -> Option<W>
         ensures gives { GivesWriter (target_in W.seen self) (handed_writer W.seen result) }
         ensures front { HandsFront W.seen result self }
@@ -104,8 +109,8 @@ impl<W: CountedWrite + Drop, P: ProofProcessor> Solver<W, P> {
         target
     }
 
-    /// The processors that were added, in their order, and the target as it is, where a proof is open or its target
-    /// failed, also after a failure; what waits for the target is lost.
+    /// Returns the listeners in the order in which they were added, and the target as it is, if a proof is open or its
+    /// target failed. This works after a failure, too. Pending bytes of the target are lost.
     pub fn into_processors(self) -> HandedBack<W, P>
         ensures target { GivesWriter (target_in W.seen self) (handed_writer W.seen result.target) }
         ensures front { HandsFront W.seen result.target self }

@@ -14,7 +14,7 @@ use sat_base::CountedWrite;
 use sat_checker::ProofProcessor;
 
 impl<W: CountedWrite + Drop, P: ProofProcessor> Solver<W, P> {
-    /// Looks for an answer, where none is known.
+    /// Searches for an answer if none is known.
     fn find_where_unknown(&mut self) -> Result<(), Fault>
         requires whole { SolverInvariant self.old }
         ensures answers { AnswersOrBreaks W.seen result self.old self.new }
@@ -42,10 +42,12 @@ impl<W: CountedWrite + Drop, P: ProofProcessor> Solver<W, P> {
         }
     }
 
-    /// Whether the clauses and the assumptions can be satisfied. `Interrupted` where the rounds of this call are spent,
-    /// as many as the parameters allow, or the count of all rounds is. With no clause and no assumptions accepted since
-    /// an answer, this one is given again, without a round or a step. Before it answers, an open target is flushed, and
-    /// the solver's own checker, where there is one, has taken all steps and told what waited in it.
+    /// Returns whether the clauses and the assumptions can be satisfied.
+    ///
+    /// Returns `Interrupted` if the rounds that the parameters allow for this call are exhausted, or the count of all
+    /// rounds is. If no clause and no assumptions were accepted since an answer, returns this answer again, without a
+    /// round or a step. Before it returns, an open target is flushed, and the solver's own checker, if any, has
+    /// received all steps and announced what waited in it.
     pub fn solve(&mut self) -> Result<bool, SolverError>
         requires { IsSolver self.old }
         ensures solver { IsSolver self.new }

@@ -1,4 +1,4 @@
-//! Clauses of two literals go that units made true.
+//! Removes binary clauses that units satisfy.
 ghost use Rattle.std.specs.Prelude.{◌≡◌, ◌+◌, ◌<◌, length};
 ghost use Rattle.sat_base.specs.values.Literals.{variable};
 ghost use Rattle.sat_parts.specs.prop.Binaries.{implied_by};
@@ -27,7 +27,7 @@ fn are_open(parts: &Parts, first: Lit, second: Lit) -> bool
     values.var_value(first.var()).is_none() && values.var_value(second.var()).is_none()
 }
 
-/// Deletes the clause by which a literal implies another, in the list of its lower literal, where a variable of it has
+/// Deletes the clause by which a literal implies another, in the list of its lower literal, if one of its variables has
 /// a value.
 fn delete_pair<W: CountedWrite + Drop, P: ProofProcessor>(
     proof: &mut Proof<W, P>,
@@ -76,7 +76,7 @@ fn delete_pairs_of<W: CountedWrite + Drop, P: ProofProcessor>(
     Ok(())
 }
 
-/// Deletes the clauses of two literals of which a variable has a value, each once, in the order of the lists.
+/// Deletes the binary clauses with an assigned variable, each once, in the order of the lists.
 pub fn simplify_binary<W: CountedWrite + Drop, P: ProofProcessor>(
     proof: &mut Proof<W, P>,
     search: &mut Search,

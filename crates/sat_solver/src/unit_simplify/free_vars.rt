@@ -1,4 +1,4 @@
-//! Variables that are in no clause lose their indices.
+//! Releases the indices of variables that are in no clause.
 ghost use Rattle.std.specs.Prelude.{◌≡◌, ◌+◌, ◌<◌, ◌≤◌, IfErr, OnOk, Some, false, true, length, slice_index_or, slice_set};
 ghost use Rattle.sat_base.specs.values.Literals.{var_limit};
 ghost use Rattle.sat_solver.specs.session.Session.{session_after};
@@ -19,7 +19,7 @@ use sat_base::Var;
 use sat_parts::Parts;
 use sat_parts::parts::unused::mark_used;
 
-/// Takes the index of a variable away, whose unit is known by then. A hidden variable is deleted.
+/// Removes the index of a variable, whose unit is already stored. A hidden variable is deleted.
 fn give_up<S: StepLog>(
     variables: &mut Variables,
     writer: &mut S,
@@ -51,8 +51,8 @@ fn mark(used: &mut Vec<bool>, index: Var)
     used[index.index()] = true;
 }
 
-/// Releases an index that no clause uses, or marks it if its variable is assumed or no variable has it. The search still
-/// has its value.
+/// Releases an index that no clause uses, or marks it if its variable is assumed or no variable has it. The search
+/// still has its value.
 fn release_unused<S: StepLog>(
     variables: &mut Variables,
     writer: &mut S,
@@ -87,8 +87,7 @@ fn release_unused<S: StepLog>(
     Ok(())
 }
 
-/// Frees the variables that aren't marked, from the last one to the first: where activities are equal, each is then the
-/// last of those that may be picked.
+/// Frees the variables without a mark, from the last one to the first. Among equal activities each is then picked last.
 fn free_unmarked(parts: &mut Parts, used: &Vec<bool>)
     requires size { length used.now.items ≤ length parts.old.assignment.current }
     requires queue { length used.now.items ≤ length parts.old.vsids.available }
@@ -105,8 +104,8 @@ fn free_unmarked(parts: &mut Parts, used: &Vec<bool>)
     }
 }
 
-/// Gives the indices up, in order, that no clause has and no assumption. What units they have is noted; hidden
-/// variables are deleted.
+/// Releases, in order, the indices that no clause has and no assumption. Stores their units; hidden variables are
+/// deleted.
 pub fn free_indices<S: StepLog>(
     variables: &mut Variables,
     writer: &mut S,

@@ -1,4 +1,4 @@
-//! Long clauses go that units made true, and others lose the literals that units made false.
+//! Removes long clauses that units satisfy, and the literals that units falsify.
 ghost use Rattle.sat_solver.specs.proof.ProofView.{HasAllowedSteps, session_of};
 ghost use Rattle.sat_solver.specs.cdcl.Going.{EmitsSteps};
 ghost use Rattle.sat_solver.specs.cdcl.Joint.{IsSearch};
@@ -18,7 +18,7 @@ use sat_checker::ProofProcessor;
 use sat_parts::parts::clauses::delete_long;
 use sat_store::ClauseRef;
 
-/// Deletes a clause of which a literal is true.
+/// Deletes a clause with a true literal.
 fn delete_true<W: CountedWrite + Drop, P: ProofProcessor>(
     proof: &mut Proof<W, P>,
     search: &mut Search,
@@ -47,8 +47,8 @@ fn delete_true<W: CountedWrite + Drop, P: ProofProcessor>(
     Ok(())
 }
 
-/// Deletes a live long clause where a unit made it true, and replaces it by what is left of it where units made
-/// literals false.
+/// Deletes a live long clause if a unit satisfies it. If units falsify some of its literals, replaces it by what is
+/// left.
 fn simplify_clause<W: CountedWrite + Drop, P: ProofProcessor>(
     proof: &mut Proof<W, P>,
     search: &mut Search,
@@ -68,8 +68,8 @@ fn simplify_clause<W: CountedWrite + Drop, P: ProofProcessor>(
     }
 }
 
-/// Looks at the long clauses in the order of their list, the redundant ones too. Behind it none of their literals has a
-/// value.
+/// Visits the long clauses in the order of their list, including redundant ones. Afterwards none of their literals has
+/// a value.
 pub fn simplify_clauses<W: CountedWrite + Drop, P: ProofProcessor>(
     proof: &mut Proof<W, P>,
     search: &mut Search,

@@ -1,4 +1,4 @@
-//! What long clauses look like at level 0.
+//! How long clauses look at level 0.
 ghost use Rattle.std.specs.Prelude.{ℕ, ◌<◌};
 ghost use Rattle.sat_parts.specs.clause.Stored.{lit_of, size_of};
 ghost use Rattle.sat_parts.specs.prop.Values.{IsTrueLit, IsFalseLit};
@@ -8,7 +8,7 @@ ghost use Rattle.sat_solver.specs.unit_simplify.Looks.{LooksSo};
 use sat_parts::Parts;
 use sat_store::ClauseRef;
 
-/// What a clause looks like.
+/// How a clause looks.
 #[derive(Clone, Copy)]
 pub enum Looks {
     /// A literal is true.
@@ -19,7 +19,7 @@ pub enum Looks {
     Shorter,
 }
 
-/// Looks for a true literal from a place on, at which a literal is false.
+/// Looks for a true literal from a position on at which a literal is false.
 fn look_on(parts: &Parts, cref: ClauseRef, from: usize) -> Looks
     requires holds { PartsInvariant parts.now }
     requires live { HasClause parts.now cref }
@@ -37,7 +37,7 @@ fn look_on(parts: &Parts, cref: ClauseRef, from: usize) -> Looks
     Looks::Shorter
 }
 
-/// What the values make of a clause. Its literals are looked at up to the first that is true.
+/// Returns how a clause looks under the values. Its literals are visited up to the first true one.
 pub fn look(parts: &Parts, cref: ClauseRef) -> Looks
     requires holds { PartsInvariant parts.now }
     requires live { HasClause parts.now cref }

@@ -1,4 +1,4 @@
-//! Units of level 0 are written, and taken off the trail.
+//! Writes units of level 0, and takes them off the trail.
 ghost use Rattle.std.specs.Prelude.{◌≡◌, ◌+◌, ◌<◌, ◌≤◌, length};
 ghost use Rattle.sat_solver.specs.proof.ProofView.{HasAllowedSteps, session_of};
 ghost use Rattle.sat_parts.specs.parts.Round.{UnitsAreUncaused, IsBased};
@@ -41,7 +41,7 @@ pub fn write_units<W: CountedWrite + Drop, P: ProofProcessor>(
     Ok(())
 }
 
-/// Where all is of level 0, writes the units and takes them off the trail.
+/// At level 0, writes the units and takes them off the trail.
 pub fn settle<W: CountedWrite + Drop, P: ProofProcessor>(
     proof: &mut Proof<W, P>,
     parts: &mut Parts,

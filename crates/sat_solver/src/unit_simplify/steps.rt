@@ -1,4 +1,4 @@
-//! The steps of clauses that go, or lose literals.
+//! The steps of clauses that are deleted or lose literals.
 ghost use Rattle.std.specs.Prelude.{◌≡◌, ◌&&◌, true, nat_lt};
 ghost use Rattle.sat_base.specs.steps.StepViews.{deletion_of};
 ghost use Rattle.sat_base.specs.steps.Steps.{Simplified};
@@ -13,7 +13,7 @@ use crate::proof::Proof;
 use sat_base::{CountedWrite, DeleteClauseProof, Lit, ProofStep};
 use sat_checker::ProofProcessor;
 
-/// Why a clause may be deleted: it's redundant, or what is said of others.
+/// Returns why a clause may be deleted: it is redundant, or otherwise this reason.
 pub fn deletion_for(redundant: bool, other: DeleteClauseProof) -> DeleteClauseProof
     ensures { deletion_of result ≡ deletion redundant (deletion_of other) }
 {
@@ -23,7 +23,8 @@ pub fn deletion_for(redundant: bool, other: DeleteClauseProof) -> DeleteClausePr
     other
 }
 
-/// The flag of the step by which a clause loses literals: redundant only where it was and three literals are left.
+/// Returns the flag of the step by which a clause loses literals: redundant only if the clause was, and three or more
+/// literals are left.
 fn left_redundant(redundant: bool, len: usize) -> bool
     ensures { result ≡ (redundant && nat_lt 2 len) }
 {

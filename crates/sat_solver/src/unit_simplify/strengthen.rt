@@ -1,4 +1,4 @@
-//! Long clauses lose their false literals.
+//! Removes the false literals of long clauses.
 ghost use Rattle.std.specs.Prelude.{ℕ, ◌≡◌, ◌<◌, ◌≤◌, OnOk, IfOk, length};
 ghost use Rattle.sat_parts.specs.clause.Stored.{lit_of, size_of};
 ghost use Rattle.sat_parts.specs.prop.Values.{IsOpenLit};
@@ -23,8 +23,8 @@ use sat_parts::{Conflict, Parts};
 use sat_store::ClauseRef;
 use std::alloc::AllocError;
 
-/// Brings the open literals of a clause to its front, in order, of which the first two are there. Answers how many they
-/// are.
+/// Moves the open literals of a clause to its beginning, in order; the first two are there already. Returns their
+/// number.
 fn gather_open(parts: &mut Parts, cref: ClauseRef) -> usize
     requires holds { PartsInvariant parts.old }
     requires live { HasClause parts.old cref }
@@ -45,7 +45,7 @@ fn gather_open(parts: &mut Parts, cref: ClauseRef) -> usize
     kept
 }
 
-/// Brings the open literals of a clause to its front, and puts its steps together. Answers how many they are.
+/// Moves the open literals of a clause to its beginning, and prepares its steps. Returns their number.
 fn name_cut(search: &mut Search, cref: ClauseRef, part: &mut Vec<Lit>) -> Result<usize, AllocError>
     requires holds { PartsInvariant search.old.parts }
     requires flat { HasEmptyTrail search.old.parts }
@@ -69,7 +69,7 @@ fn name_cut(search: &mut Search, cref: ClauseRef, part: &mut Vec<Lit>) -> Result
     Ok(len)
 }
 
-/// Puts the first literals of a clause in its place.
+/// Replaces a clause by its first literals.
 fn replace(parts: &mut Parts, cref: ClauseRef, len: usize) -> Result<(), AllocError>
     requires holds { PartsInvariant parts.old }
     requires flat { HasEmptyTrail parts.old }
@@ -89,7 +89,7 @@ fn replace(parts: &mut Parts, cref: ClauseRef, len: usize) -> Result<(), AllocEr
     Ok(())
 }
 
-/// Replaces a clause by what is left of it, where some of its literals are false and none is true.
+/// Replaces a clause by what is left of it, if some of its literals are false and none is true.
 pub fn cut_clause<W: CountedWrite + Drop, P: ProofProcessor>(
     proof: &mut Proof<W, P>,
     search: &mut Search,

@@ -1,4 +1,4 @@
-//! Indices that are free.
+//! Sets of free indices.
 ghost use Rattle.std.specs.Prelude.{ℕ, ◌≡◌, ◌==◌, ◌||◌, ◌+◌, ◌*◌, ◌<◌, ◌≤◌, true, false, MatchOption, OnOk, length};
 ghost use Rattle.std.specs.Prelude.{if◌then◌else◌, slice_index_or};
 ghost use Rattle.sat_base.specs.values.Literals.{var_limit};
@@ -8,24 +8,24 @@ ghost use Rattle.sat_solver.specs.variables.Free.{IsCounted};
 use sat_base::Var;
 use std::alloc::{AllocError, Global};
 
-/// A set of indices below a bound, as a binary tree of tests in one list: node 1 is the root, the nodes below node k
-/// are 2 k and 2 k + 1, and the second half are the leaves, one for each index. A node says whether a leaf below it is
+/// A set of indices below a bound, as a binary tree of flags in one list. Node 1 is the root, and the children of node
+/// k are 2 k and 2 k + 1. The second half are the leaves, one for every index. A node says whether a leaf below it is
 /// in the set.
 #[derive(Drop)]
 pub struct FreeIndices {
     nodes: Vec<bool>,
 
-    /// How many leaves there are: 0 or a power of two.
+    /// The number of leaves: 0 or a power of two.
     room: usize,
 
-    /// How many levels stand above the leaves.
+    /// The number of levels above the leaves.
     height: usize,
 
-    /// How many indices are in the set.
+    /// The number of indices in the set.
     count: usize,
 }
 
-/// How many indices are free once the test of one of them has changed.
+/// Returns the number of free indices after the flag of one of them has changed.
 fn recount_free(count: usize, before: bool, after: bool) -> usize
     requires some { before ≡ true → 0 < count }
     requires small { count ≤ var_limit }
@@ -37,7 +37,7 @@ fn recount_free(count: usize, before: bool, after: bool) -> usize
     if after { count + 1 } else { count - 1 }
 }
 
-/// Whether a node is as those below it say.
+/// Whether a node agrees with its children.
 fn is_fresh(nodes: &Vec<bool>, at: usize) -> bool
     requires within { 2 * at + 1 < length nodes.now.items }
     ensures { result ≡ true → slice_index_or nodes.now.items at false
@@ -47,7 +47,7 @@ fn is_fresh(nodes: &Vec<bool>, at: usize) -> bool
     nodes[at] == any
 }
 
-/// Makes a node as those below it say.
+/// Updates a node from its children.
 fn refresh(nodes: &mut Vec<bool>, at: usize)
     requires within { 2 * at + 1 < length nodes.old.items }
     ensures { Refreshes nodes.old.items nodes.new.items at }
@@ -56,7 +56,7 @@ fn refresh(nodes: &mut Vec<bool>, at: usize)
     nodes[at] = any;
 }
 
-/// The lower one of the nodes below a node that has an index in the set.
+/// Returns the lower child of a node that has an index in the set.
 fn child(nodes: &Vec<bool>, at: usize) -> usize
     requires within { 2 * at + 1 < length nodes.now.items }
     requires some { (slice_index_or nodes.now.items (2 * at) false || slice_index_or nodes.now.items (2 * at + 1) false)
@@ -69,7 +69,7 @@ fn child(nodes: &Vec<bool>, at: usize) -> usize
     2 * at + 1
 }
 
-/// Lengthens the list by nodes that hold for none.
+/// Extends the list by cleared nodes.
 pub(crate) fn widen(nodes: &mut Vec<bool>, count: usize) -> Result<(), AllocError>
     requires more { length nodes.old.items ≤ count }
     ensures size { OnOk result (length nodes.new.items ≡ count) }
@@ -80,7 +80,7 @@ pub(crate) fn widen(nodes: &mut Vec<bool>, count: usize) -> Result<(), AllocErro
     Ok(())
 }
 
-/// The leaves of the first half of the list, each of which is one further on from here on.
+/// Copies the leaves of the first half of the list one level down.
 fn copy_leaves(nodes: &mut Vec<bool>, room: usize)
     requires size { length nodes.old.items ≡ 4 * room }
     ensures { CopiesLeaves nodes.old.items nodes.new.items room }
@@ -91,7 +91,7 @@ fn copy_leaves(nodes: &mut Vec<bool>, room: usize)
 }
 
 impl FreeIndices {
-    /// None. Takes no memory.
+    /// Creates an empty set. Never allocates.
     pub fn new(alloc: Global) -> FreeIndices
         ensures tree { IsTree result }
         ensures none { (i : ℕ) → is_free result i ≡ false }
@@ -104,14 +104,14 @@ impl FreeIndices {
         }
     }
 
-    /// How many there are.
+    /// Returns the number of indices in the set.
     pub fn count(&self) -> usize
         ensures { result ≡ self.now.count }
     {
         self.count
     }
 
-    /// The lowest one.
+    /// Returns the lowest index in the set, or `None`.
     pub fn lowest(&self) -> Option<Var>
         requires { IsTree self.now }
         ensures { MatchOption result ((i : ℕ) → is_free self.now i ≡ false) (IsLowest self.now) }
@@ -126,7 +126,7 @@ impl FreeIndices {
         Some(Var::from_index(at - self.room))
     }
 
-    /// Whether an index is in the set, from here on. Where it is so already, no node is looked at but its leaf.
+    /// Adds an index to the set, or removes it. If nothing changes, only its leaf is read.
     fn set(&mut self, index: usize, free: bool)
         requires tree { IsTree self.old }
         requires within { index < self.old.room }
@@ -140,7 +140,7 @@ impl FreeIndices {
         self.change(index, free);
     }
 
-    /// Puts an index in or takes it out, and updates the nodes from its leaf up to the first one that stays.
+    /// Adds an index or removes it, and updates the nodes from its leaf up to the first that does not change.
     fn change(&mut self, index: usize, free: bool)
         requires tree { IsTree self.old }
         requires within { index < self.old.room }
@@ -161,7 +161,7 @@ impl FreeIndices {
         }
     }
 
-    /// The index is free from here on. Takes no memory.
+    /// Adds an index. Never allocates.
     pub fn put(&mut self, index: Var)
         requires tree { IsTree self.old }
         requires within { index < self.old.room }
@@ -172,7 +172,7 @@ impl FreeIndices {
         self.set(index.index(), true);
     }
 
-    /// It isn't free any more, if it was. Takes no memory.
+    /// Removes an index if it is in the set. Never allocates.
     pub fn take(&mut self, index: Var)
         requires tree { IsTree self.old }
         requires within { index < self.old.room }
@@ -183,7 +183,7 @@ impl FreeIndices {
         self.set(index.index(), false);
     }
 
-    /// Each inner node is as those below it say.
+    /// Updates every inner node from its children.
     fn refresh_all(&mut self)
         requires size { length self.old.nodes.items ≡ 2 * self.old.room }
         requires power { Powers self.old }
@@ -197,7 +197,7 @@ impl FreeIndices {
         }
     }
 
-    /// Makes room for one index at least, which is not in the set.
+    /// Makes room for at least one more index, which is not in the set.
     fn grow(&mut self) -> Result<(), AllocError>
         requires tree { IsTree self.old }
         requires small { self.old.room < var_limit }
@@ -224,7 +224,7 @@ impl FreeIndices {
         Ok(())
     }
 
-    /// Makes room for the index, which is the first past the room at most.
+    /// Makes room for the index, which is at most the first one past the room.
     pub fn reserve(&mut self, index: Var) -> Result<(), AllocError>
         requires tree { IsTree self.old }
         requires next { index ≤ self.old.room }

@@ -1,4 +1,4 @@
-//! Variables come to a search.
+//! Gives indices of the search to variables.
 ghost use Rattle.std.specs.Prelude.{ℕ, ◌≡◌, ◌<◌, ◌≤◌, None, [], ◌∷◌, OnOk, length};
 ghost use Rattle.std.specs.List.{AllByRecursion};
 ghost use Rattle.sat_base.specs.values.Literals.{var_limit};
@@ -16,8 +16,8 @@ use sat_parts::parts::grow;
 use sat_parts::parts::variables::{reset_activity, use_variable, use_with_unit};
 use std::alloc::AllocError;
 
-/// Takes an index at level 0: a unit gives it its value, and otherwise it may be picked, from activity 0 on. The value
-/// that it is picked with first is the one that it had last.
+/// Adds an index at level 0: its unit becomes its value, or it may be picked, with activity 0. Its saved phase is the
+/// value that it had last.
 fn take_index(parts: &mut Parts, given: &Given)
     requires holds { PartsInvariant parts.old }
     requires bottom { parts.old.trail.starts ≡ [] }
@@ -31,7 +31,7 @@ fn take_index(parts: &mut Parts, given: &Given)
     }
 }
 
-/// Takes these indices.
+/// Adds these indices.
 fn take_indices(parts: &mut Parts, given: &[Given])
     requires holds { PartsInvariant parts.old }
     requires bottom { parts.old.trail.starts ≡ [] }
@@ -43,7 +43,7 @@ fn take_indices(parts: &mut Parts, given: &[Given])
     }
 }
 
-/// Writes down the variables that have these indices.
+/// Stores the variables that have these indices.
 fn rename(list: &mut Vec<Var>, globals: &[Var], given: &[Given])
     requires there { AllByRecursion (λ g. g.solver < length list.old.items) given.now }
     requires below { AllByRecursion (λ g. g.solver < length globals.now) given.now }
@@ -56,7 +56,7 @@ fn rename(list: &mut Vec<Var>, globals: &[Var], given: &[Given])
     }
 }
 
-/// The least count that is no lower than this one and past these indices.
+/// Returns the lowest number that is at least `count` and above these indices.
 fn count_with(count: usize, given: &[Given]) -> usize
     requires few { count ≤ var_limit }
     ensures few { result ≤ var_limit }
@@ -71,7 +71,7 @@ fn count_with(count: usize, given: &[Given]) -> usize
     all
 }
 
-/// Makes room for the indices that proof variables were given, goes back to level 0, and takes them.
+/// Makes room for the indices that proof variables were given, backtracks to level 0, and adds them.
 fn add_indices(search: &mut Search, globals: &[Var], given: &[Given]) -> Result<(), AllocError>
     requires holds { PartsInvariant search.old.parts }
     requires same { length search.old.globals.items ≡ length search.old.parts.assignment.current }
@@ -89,8 +89,8 @@ fn add_indices(search: &mut Search, globals: &[Var], given: &[Given]) -> Result<
     Ok(())
 }
 
-/// Goes back to level 0, and takes the indices that proof variables were given: new ones, or such as others gave up.
-/// The list has the proof variable of each index, or the one that it had last.
+/// Backtracks to level 0, and adds the indices that proof variables were given: new ones, or released ones. `globals`
+/// has the proof variable that each index has, or had last.
 pub fn new_indices(search: &mut Search, globals: &[Var], given: &[Given]) -> Result<(), AllocError>
     requires holds { PartsInvariant search.old.parts }
     requires same { length search.old.globals.items ≡ length search.old.parts.assignment.current }

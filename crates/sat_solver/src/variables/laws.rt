@@ -1,13 +1,13 @@
-//! What holds of names: each law is the contract of a function that does nothing.
+//! Laws about names. Each is the contract of a function that does nothing.
 ghost use Rattle.sat_solver.specs.variables.Searching.{SearchesStand, SearchesAgree, UnitsStand};
 
-/// Steps of the search leave names, and what the judge sees of them, as they are.
+/// States that steps of the search preserve the invariant of names, and leave the judge's state unchanged.
 pub fn searches_stand()
     ensures stand { SearchesStand }
     ensures agree { SearchesAgree }
 {}
 
-/// So does the value of a unit that is noted.
+/// States the same for storing the value of a unit.
 pub fn units_stand()
     ensures { UnitsStand }
 {}

@@ -1,4 +1,4 @@
-//! What takes the steps of a proof.
+//! What receives the steps of a proof.
 ghost use Rattle.std.specs.Prelude.{◌≡◌, ◌∷◌, List, OnOk, IfErr};
 ghost use Rattle.sat_base.specs.steps.Steps.{Step};
 ghost use Rattle.sat_base.specs.steps.StepViews.{step_of};
@@ -12,21 +12,21 @@ use crate::variables::error::NameError;
 use sat_base::{CountedWrite, ProofStep};
 use sat_checker::ProofProcessor;
 
-/// What takes the steps of a proof, one after another.
+/// What receives the steps of a proof one after another.
 pub trait StepLog: Drop {
     /// The steps so far, the newest first.
     ghost steps: { Self → List Step };
 
-    /// What it keeps between steps.
+    /// The invariant between steps.
     ghost keeps: { Self → Type 0 };
 
-    /// It came from there by steps that were taken.
+    /// Steps were made and accepted.
     ghost took: { Self → Self → Type 0 };
 
-    /// It came from there by steps of which the last wasn't taken, for this reason.
+    /// Steps were made, and the last one was not accepted, for this reason.
     ghost broke: { Self → Fault → Self → Type 0 };
 
-    /// Takes a step that may be written behind those before it.
+    /// Receives a step that is allowed after those before it.
     fn step(&mut self, step: &ProofStep<'_>) -> Result<(), NameError>
         requires keeps { keeps self.old }
         requires may { May (session_after (steps self.old)) (step_of step.now) }

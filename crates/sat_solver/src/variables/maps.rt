@@ -1,4 +1,4 @@
-//! Maps and data of variables, changed in one place.
+//! Changes maps and data of variables.
 ghost use Rattle.std.specs.Prelude.{ℕ, ◌≡◌, ◌==◌, ◌+◌, ◌≤◌, ◌<◌, max, length, None, Some, OnOk, if◌then◌else◌};
 ghost use Rattle.std.specs.Prelude.{slice_index_or};
 ghost use Rattle.sat_store.specs.variables.Maps.{target, AreInverse, Links, Unlinks};
@@ -21,7 +21,7 @@ pub(crate) fn link(map: &mut VarBiMap, from: Var, into: Var) -> Result<(), Alloc
 }
 
 #[tactic(auto, using(crate::proofs::lemmas::variables::MapLemmas::pushed))]
-/// What is kept of a variable, from the last index on, is replaced.
+/// Replaces what is stored of a variable; its index is at most the length of the list.
 pub(crate) fn put_data(list: &mut Vec<VarData>, var: Var, new: VarData) -> Result<(), AllocError>
     requires within { var ≤ length list.old.items }
     ensures put { OnOk result ((v : ℕ) → slice_index_or list.new.items v unused_variable ≡
@@ -38,7 +38,7 @@ pub(crate) fn put_data(list: &mut Vec<VarData>, var: Var, new: VarData) -> Resul
 }
 
 #[tactic(auto, using(crate::proofs::lemmas::variables::MapLemmas::pushed))]
-/// The variable of an index, from the last one on, is replaced.
+/// Replaces the variable of an index, which is at most the length of the list.
 pub(crate) fn put_global(list: &mut Vec<Var>, solver: Var, global: Var) -> Result<(), AllocError>
     requires within { solver ≤ length list.old.items }
     ensures put { OnOk result ((x : ℕ) → slice_index_or list.new.items x 0
@@ -54,7 +54,7 @@ pub(crate) fn put_global(list: &mut Vec<Var>, solver: Var, global: Var) -> Resul
     Ok(())
 }
 
-/// Leaves a variable unmapped, and what it was mapped to.
+/// Removes the mapping between two variables.
 pub(crate) fn unlink(map: &mut VarBiMap, from: Var, into: Var)
     requires { target map.old.fwd from ≡ Some into }
     ensures unlinked { Unlinks map.old map.new from into }
@@ -64,7 +64,7 @@ pub(crate) fn unlink(map: &mut VarBiMap, from: Var, into: Var)
     let _inverse = map.fwd();
 }
 
-/// What is kept of a variable is replaced.
+/// Replaces what is stored of a variable.
 pub(crate) fn set_data(list: &mut Vec<VarData>, var: Var, new: VarData)
     requires within { var < length list.old.items }
     ensures put { (v : ℕ) → slice_index_or list.new.items v unused_variable ≡
@@ -74,7 +74,7 @@ pub(crate) fn set_data(list: &mut Vec<VarData>, var: Var, new: VarData)
     list[var.index()] = new;
 }
 
-/// Gives a variable another mode.
+/// Changes the mode of a variable.
 pub(crate) fn set_mode(list: &mut Vec<VarData>, var: Var, mode: SamplingMode)
     requires within { var < length list.old.items }
     ensures put { (v : ℕ) → slice_index_or list.new.items v unused_variable ≡
@@ -96,7 +96,7 @@ pub(crate) fn set_assumed(list: &mut Vec<VarData>, var: Var, assumed: bool)
     list[var.index()].assumed = assumed;
 }
 
-/// Notes the unit of a variable, or that it has none.
+/// Stores the unit of a variable, or `None`.
 pub(crate) fn set_unit(list: &mut Vec<VarData>, var: Var, unit: Option<bool>)
     requires within { var < length list.old.items }
     ensures put { (v : ℕ) → slice_index_or list.new.items v unused_variable ≡

@@ -1,4 +1,4 @@
-//! Modes of variables, names that go, and variables that are deleted.
+//! Sets modes of variables, hides names, and deletes variables.
 ghost use Rattle.std.specs.Prelude.{ℕ, ◌≡◌, ◌⊎◌, ◌+◌, true, false, Some, None, [], ◌∷◌, ◌++◌, map, IfErr, OnOk};
 ghost use Rattle.sat_base.specs.script.ScriptState.{without_name, with_mode, bring_in, new_names};
 ghost use Rattle.sat_solver.specs.session.Session.{session_after};
@@ -20,7 +20,7 @@ use crate::variables::user_vars::global_from_user;
 use sat_base::{ProofStep, Var};
 use sat_store::SamplingMode;
 
-/// A variable loses its name and is hidden.
+/// Hides a variable, which loses its name.
 fn hide_global<W: StepLog>(
     variables: &mut Variables,
     writer: &mut W,
@@ -47,7 +47,7 @@ fn hide_global<W: StepLog>(
     Ok(())
 }
 
-/// A hidden variable without an index, in no clause and not assumed, is forgotten.
+/// Deletes a hidden variable without an index that is in no clause and not assumed.
 pub fn delete_var<W: StepLog>(
     variables: &mut Variables,
     writer: &mut W,
@@ -75,7 +75,7 @@ pub fn delete_var<W: StepLog>(
     Ok(())
 }
 
-/// A hidden variable without an index, which is in no clause, is forgotten, unless an assumption has it.
+/// Deletes a hidden variable without an index, which is in no clause, unless it is assumed.
 pub(crate) fn forget_idle<W: StepLog>(
     variables: &mut Variables,
     writer: &mut W,
@@ -104,7 +104,8 @@ pub(crate) fn forget_idle<W: StepLog>(
     Ok(())
 }
 
-/// Brings a name in and hides its variable, which is forgotten at once where it has no index. The name isn't assumed.
+/// Introduces a name if it is new, and hides its variable, which is deleted at once if it has no index. The name is not
+/// assumed.
 pub fn hide_var<W: StepLog>(
     variables: &mut Variables,
     writer: &mut W,
@@ -131,7 +132,7 @@ pub fn hide_var<W: StepLog>(
     forget_idle(variables, writer, global)
 }
 
-/// The mode that a user sets: sample, or else witness. Mode hide comes only with the loss of a name.
+/// Returns the mode that a caller sets: sample or witness. Mode hide occurs only when a name is lost.
 fn mode_of(sample: bool) -> SamplingMode
     ensures { result ≡ mode_for sample }
 {
@@ -142,7 +143,7 @@ fn mode_of(sample: bool) -> SamplingMode
     }
 }
 
-/// Whether a variable has the mode already that is to be set.
+/// Whether a variable already has the mode that is to be set.
 #[tactic(auto, using(crate::proofs::lemmas::variables::ModeChanges::other_modes))]
 fn is_mode(mode: SamplingMode, sample: bool) -> bool
     ensures same { result ≡ true → mode ≡ mode_for sample }
@@ -155,7 +156,7 @@ fn is_mode(mode: SamplingMode, sample: bool) -> bool
     }
 }
 
-/// A variable with a name is sampled from here on, or a witness. Where it is already, nothing is written.
+/// Sets the mode of a variable with a name to sample or witness. If it has this mode already, nothing is written.
 fn set_global_mode<W: StepLog>(
     variables: &mut Variables,
     writer: &mut W,
@@ -188,7 +189,7 @@ fn set_global_mode<W: StepLog>(
     Ok(())
 }
 
-/// Brings a name in and sets the mode of its variable. The name isn't assumed.
+/// Introduces a name if it is new, and sets the mode of its variable. The name is not assumed.
 pub fn set_sampling_mode<W: StepLog>(
     variables: &mut Variables,
     writer: &mut W,

@@ -1,4 +1,4 @@
-//! Hidden variables that get names.
+//! Gives names to hidden variables.
 ghost use Rattle.std.specs.Prelude.{◌≡◌, ◌<◌, true, false, IfOk, IfErr, OnOk};
 ghost use Rattle.sat_solver.specs.variables.Variables.{variables_used};
 ghost use Rattle.sat_solver.specs.variables.Calls.{NamesInvariant};
@@ -10,7 +10,7 @@ use crate::variables::error::NameError;
 use crate::variables::log::StepLog;
 use sat_base::{ProofStep, Var};
 
-/// Whether a variable that was used is kept and has no name.
+/// Whether a variable that was used is in use and has no name.
 fn is_hidden(variables: &Variables, global: Var) -> bool
     requires within { global < variables_used variables.now }
     ensures hidden { result ≡ true → IsHidden variables.now global }
@@ -22,7 +22,7 @@ fn is_hidden(variables: &Variables, global: Var) -> bool
     variables.global_from_user.bwd().get(global).is_none()
 }
 
-/// Gives a hidden variable the next name, and mode witness. A name is left for it.
+/// Gives a hidden variable the next name, and mode witness. There is a name for it.
 fn observe_var<W: StepLog>(
     variables: &mut Variables,
     writer: &mut W,
@@ -52,8 +52,8 @@ fn observe_var<W: StepLog>(
     Ok(user)
 }
 
-/// Gives each hidden variable that is kept the next name and mode witness, by increasing variable, and puts their names
-/// into a list in place of what it had.
+/// Gives every hidden variable in use the next name and mode witness, by increasing variable. Replaces the content of a
+/// list by these names.
 pub fn observe_internal_vars<W: StepLog>(
     variables: &mut Variables,
     writer: &mut W,

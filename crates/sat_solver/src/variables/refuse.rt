@@ -36,7 +36,7 @@ fn is_witness(variables: &Variables, user: Var) -> bool
     is_witness_mode(variables.mode(global))
 }
 
-/// The leftmost literal over a name of mode witness.
+/// Returns the leftmost literal over a name of mode witness, or `None`.
 pub fn leftmost_witness(variables: &Variables, lits: &[Lit]) -> Option<Var>
     requires { AreTidy variables.now }
     ensures judged { (j : ScriptState) (live : Live) → NamesMatchState variables.now j live
@@ -53,7 +53,7 @@ pub fn leftmost_witness(variables: &Variables, lits: &[Lit]) -> Option<Var>
     None
 }
 
-/// Whether a name is in use and an assumption has it, which refuses a change of its mode.
+/// Whether a name is in use and assumed, so that its mode may not change.
 pub fn is_assumed(variables: &Variables, user: Var) -> bool
     requires { AreTidy variables.now }
     ensures assumed { result ≡ true → IsAssumed variables.now user }

@@ -1,4 +1,4 @@
-//! Whether a variable is left for each name that comes in.
+//! Whether there is a variable for every name that is introduced.
 ghost use Rattle.std.specs.Prelude.{◌≡◌, ◌+◌, ◌<◌, ◌≤◌, [], ◌∷◌, length};
 ghost use Rattle.sat_base.specs.values.Literals.{var_limit};
 ghost use Rattle.sat_checker.specs.LiteralSets.{mentions};
@@ -8,7 +8,7 @@ ghost use Rattle.sat_solver.specs.variables.Variables.{AreTidy};
 use crate::variables::Variables;
 use sat_base::{Lit, Var};
 
-/// How many variables aren't in use.
+/// Returns the number of variables that are not in use.
 fn left_count(variables: &Variables) -> usize
     requires { AreTidy variables.now }
     ensures { result + live_count variables.now ≡ var_limit }
@@ -17,7 +17,7 @@ fn left_count(variables: &Variables) -> usize
     Var::max_count() - live
 }
 
-/// The first name above those that were used and those of the literals.
+/// Returns the first name above those that were used and those of the literals.
 fn name_reach(used: usize, lits: &[Lit]) -> usize
     requires { used ≤ var_limit }
     ensures is { result ≡ reach used (users_in lits.now) }
@@ -43,8 +43,8 @@ fn has_name(lits: &[Lit], user: Var) -> bool
     false
 }
 
-/// Counts the name of the literal at this place, if it was used and isn't in use, but where a literal behind it is over
-/// the name, too.
+/// Counts the name of the literal at this position if it was used and is not in use, unless a later literal is over the
+/// same name.
 fn count_hidden_name(variables: &Variables, lits: &[Lit], at: usize, count: usize) -> usize
     requires within { at < length lits.now }
     requires count { count ≤ var_limit }
@@ -63,7 +63,7 @@ fn count_hidden_name(variables: &Variables, lits: &[Lit], at: usize, count: usiz
     count + 1
 }
 
-/// How many names of the literals were used and aren't in use, each counted once.
+/// Returns how many names of the literals were used and are not in use, each counted once.
 fn count_hidden(variables: &Variables, lits: &[Lit]) -> usize
     requires { AreTidy variables.now }
     ensures { result ≡ hidden_count variables.now (users_in lits.now) }
@@ -75,8 +75,8 @@ fn count_hidden(variables: &Variables, lits: &[Lit]) -> usize
     count
 }
 
-/// Whether a variable is left for each name that comes in with these literals. Where that depends on how often a name
-/// is among them, each hidden one is looked for among the literals behind it.
+/// Whether there is a variable for every name that is introduced with these literals. If that depends on how often a
+/// name occurs, every hidden name is searched for among the later literals.
 pub fn has_room(variables: &Variables, lits: &[Lit]) -> bool
     requires { AreTidy variables.now }
     ensures { SaysRoom result variables.now (users_in lits.now) }
@@ -94,7 +94,7 @@ pub fn has_room(variables: &Variables, lits: &[Lit]) -> bool
     hidden <= left - never
 }
 
-/// Whether a variable is left for each name that comes in with this one.
+/// Whether there is a variable for every name that is introduced with this one.
 pub fn has_room_for(variables: &Variables, user: Var) -> bool
     requires { AreTidy variables.now }
     ensures { SaysRoom result variables.now (user ∷ []) }

@@ -1,4 +1,4 @@
-//! Indices of the search, and the steps that speak of them.
+//! Indices of the search, and the steps about them.
 ghost use Rattle.std.specs.Prelude.{◌≡◌, false, Some, None, IfOk, IfErr, OnOk};
 ghost use Rattle.sat_solver.specs.session.Session.{session_after};
 ghost use Rattle.sat_solver.specs.variables.Variables.{data_at, solver_of, IsUnitOf, IsInNoNonUnitClause};
@@ -11,14 +11,14 @@ use crate::variables::error::NameError;
 use crate::variables::log::StepLog;
 use sat_base::{ProofStep, Var};
 
-/// An index of the search that a variable was given, and the value of the variable's unit, where it has one.
+/// An index of the search that a variable was given, and the value of the variable's unit, or `None`.
 #[derive(Clone, Copy)]
 pub struct Given {
     pub solver: Var,
     pub unit: Option<bool>,
 }
 
-/// A variable that has no index gets the lowest free one, and its unit is handed on with it.
+/// Gives a variable that has no index the lowest free one. Its unit is passed on with it.
 fn new_index<W: StepLog>(
     variables: &mut Variables,
     writer: &mut W,
@@ -46,7 +46,7 @@ fn new_index<W: StepLog>(
     Ok(solver)
 }
 
-/// The index of a variable. One that has none gets the lowest free one, which is put behind those given.
+/// Returns the index of a variable. A variable without one gets the lowest free one, which is appended to those given.
 pub fn solver_from_global<W: StepLog>(
     variables: &mut Variables,
     writer: &mut W,
@@ -68,7 +68,7 @@ pub fn solver_from_global<W: StepLog>(
     new_index(variables, writer, global, given)
 }
 
-/// Takes the index of a variable away, whose unit is known by then.
+/// Removes the index of a variable, whose unit is already stored.
 pub fn remove_solver_var<W: StepLog>(
     variables: &mut Variables,
     writer: &mut W,

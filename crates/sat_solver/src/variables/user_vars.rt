@@ -1,4 +1,4 @@
-//! Brings names in, and writes the steps.
+//! Introduces names, and writes the steps.
 ghost use Rattle.std.specs.Prelude.{ℕ, ◌≡◌, ◌≤◌, ◌<◌, ◌+◌, ◌-◌, None, Some, List, ◌∷◌, IfOk, IfErr, OnOk};
 ghost use Rattle.sat_base.specs.script.ScriptState.{names_from};
 ghost use Rattle.sat_solver.specs.variables.Variables.{global_of, names_used};
@@ -12,7 +12,7 @@ use crate::variables::error::NameError;
 use crate::variables::log::StepLog;
 use sat_base::{ProofStep, Var};
 
-/// Gives a name that isn't in use to a new variable.
+/// Gives a name that is not in use to a new variable.
 fn new_name<W: StepLog>(
     variables: &mut Variables,
     writer: &mut W,
@@ -41,7 +41,7 @@ fn new_name<W: StepLog>(
 }
 
 #[tactic(auto, using(crate::proofs::lemmas::variables::NamingSteps::none_yet, crate::proofs::lemmas::variables::NamingSteps::last_named))]
-/// Brings in all names from the first never used up to this one.
+/// Introduces all names from the first never used up to this one.
 fn bring_new<W: StepLog>(
     variables: &mut Variables,
     writer: &mut W,
@@ -64,7 +64,8 @@ fn bring_new<W: StepLog>(
     new_name(variables, writer, user)
 }
 
-/// The variable of a name, which is brought in where it isn't in use, with all names below it that were never used.
+/// Returns the variable of a name. A name that is not in use is introduced, with all names below it that were never
+/// used.
 #[tactic(auto, using(crate::proofs::lemmas::variables::NamingSteps::last_named, crate::proofs::lemmas::variables::BroughtIn::ok_new))]
 pub fn global_from_user<W: StepLog>(
     variables: &mut Variables,
@@ -91,7 +92,7 @@ pub fn global_from_user<W: StepLog>(
     new_name(variables, writer, user)
 }
 
-/// Brings in the lowest hidden name, else the first never used. Where no variable is left nothing has changed.
+/// Introduces the lowest hidden name, otherwise the first never used. If no variable is left, nothing changes.
 pub fn new_user_var<W: StepLog>(variables: &mut Variables, writer: &mut W) -> Result<Var, NameError>
     requires stands { NamesInvariant variables.old (W.steps writer.old) }
     requires keeps { W.keeps writer.old }
