@@ -72,7 +72,7 @@ fn restart_where_due<W: CountedWrite + Drop, P: ProofProcessor>(
     begin_gap(restarts, round);
 }
 
-/// Runs at most `count` rounds, up to an answer. Returns `None` if there is no answer.
+/// Runs at most `max_steps` rounds, up to an answer. Returns `None` if there is no answer.
 pub fn search<W: CountedWrite + Drop, P: ProofProcessor>(
     core: &mut Core<W, P>,
     names: &mut Variables,

@@ -34,6 +34,6 @@ pub record RoundEnds {W L : Type 0} {G : Ghosts L} (seen : W → Writer) (outcom
   pub says : RoundSays outcome (steps_of p) steps (session_of p') c c'
   pub shares : RoundShares outcome n' c'
 
--- the result of a round: an outcome or an error; `FormulaTooLarge` only if the clause buffer is full
+-- the result of a round: an outcome or an error; `StoreFull` only if the clause buffer is full
 abbrev pub EndsRound : {W L : Type 0} {G : Ghosts L} → (W → Writer) → Result Outcome SolverError → Variables → Variables → Proof W L G → Proof W L G → Search → Search → Type 0
 EndsRound seen r n n' p p' c c' = MatchResult r (λ o. RoundEnds seen o n n' p p' c c') (λ e. PassFailsOr (IsFull c'.parts) seen e p p')

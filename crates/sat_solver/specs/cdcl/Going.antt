@@ -50,7 +50,7 @@ proof_fault (Write cause) = errors.ProofIoError cause
 proof_fault OutOfMemory = errors.OutOfMemory
 proof_fault (Check fault) = check_fault_of fault
 
--- the errors of a search; `FormulaTooLarge` only if this holds
+-- the errors of a search; `StoreFull` only if this holds
 abbrev pub IsFaultOr : (full : Type 0) → SolverError → Type 0
 IsFaultOr full errors.OutOfMemory = Unit {0}
 IsFaultOr full errors.StoreFull = full
@@ -72,12 +72,12 @@ EmitsUpToFault seen (Err (errors.ProofProcessorError cause)) steps old new = Fai
 EmitsUpToFault seen (Err errors.CounterEnd) steps old new = FailsCheck seen checks.CounterEnd steps old new
 EmitsUpToFault seen (Err e) steps old new = EmitsExactly seen steps old new
 
--- nothing was learned, unless `learns`
+-- nothing was learned, unless the flag permits it
 abbrev pub AreQuietUnless : Bool → List Step → Type 0
 AreQuietUnless true steps = Unit {0}
 AreQuietUnless false steps = AreQuiet steps
 
--- the steps of a search were made, and its answer satisfies the relation, or it failed; `FormulaTooLarge` only if `full` holds
+-- the steps of a search were made, and its answer satisfies the relation, or it failed; `StoreFull` only if `full` holds
 pub record EmitsStepsWith {A W L : Type 0} {G : Ghosts L} (full : Type 0) (learns : Bool) (seen : W → Writer) (result : Result A SolverError) (old new : Proof W L G) (Answers : A → List Step → Type 0) : Type 0 where
   pub steps : List Step
   pub went : EmitsUpToFault seen result steps old new

@@ -46,7 +46,7 @@ pub record LearnsAndRises (earlier steps : List Step) (s : Session) (c c' : Sear
   pub rises : TrailWordRises c.parts c'.parts
   pub last : LastAdvances earlier steps
 
--- a clause was learned by these steps, or the call failed; `FormulaTooLarge` only if the buffer is full
+-- a clause was learned by these steps, or the call failed; `StoreFull` only if the buffer is full
 abbrev pub LearnsClause : {W L : Type 0} {G : Ghosts L} → (W → Writer) → Result (Unit {0}) SolverError → Proof W L G → Proof W L G → Search → Search → Type 0
 LearnsClause seen r p p' c c' = EmitsStepsOr (IsFull c'.parts) seen r p p' (λ _ steps. LearnsAndRises (steps_of p) steps (session_of p') c c')
 

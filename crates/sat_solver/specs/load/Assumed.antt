@@ -18,7 +18,7 @@ use Rattle.sat_solver.specs.variables.Coming.{MayTake}
 use Rattle.sat_solver.specs.declared.variables.Variables.{Variables}
 use Rattle.sat_solver.specs.declared.load.literals.Taken.{Taken}
 
--- marked as assumed, or not, if `asked`
+-- marked as assumed, or not, if the first flag is set
 abbrev pub marked_if : Bool → Bool → VarData → VarData
 marked_if true assumed d = record d { assumed = assumed }
 marked_if false assumed d = d

@@ -54,7 +54,7 @@ HasWitness s user = (j : ScriptState) (live : Live) → IsInState s j live → (
 abbrev pub AreSampled : {W L : Type 0} {G : Ghosts L} → Solver W L G → List ℕ → Type 0
 AreSampled s user = (j : ScriptState) (live : Live) → IsInState s j live → refused_literal j (names_in user) ≡ None
 
--- a call over names failed, and so does every later call; `FormulaTooLarge` only if `full` holds
+-- a call over names failed, and so does every later call; `StoreFull` only if `full` holds
 pub record EndsNamesOr {W L : Type 0} {G : Ghosts L} (full : Type 0) (seen : W → Writer) (e : SolverError) (old new : Solver W L G) : Type 0 where
   pub going : has_failed old ≡ false
   pub failed : has_failed new ≡ true

@@ -26,7 +26,7 @@ model_of n c = model_to n c.search.parts.assignment.current (variables_used n)
 abbrev pub line_of_names : {W L : Type 0} {G : Ghosts L} → Variables → Core W L G → List ℕ
 line_of_names n c = named_to n c.search.parts.assignment.current (names_used n)
 
--- a call failed for a reason that the input does not determine; `FormulaTooLarge` only if the buffer is full
+-- a call failed for a reason that the input does not determine; `StoreFull` only if the buffer is full
 pub record BreaksCall {W L : Type 0} {G : Ghosts L} (seen : W → Writer) (e : SolverError) (a b : Core W L G) : Type 0 where
   pub fault : IsFaultOr (IsFull b.search.parts) e
   pub steps : List Step

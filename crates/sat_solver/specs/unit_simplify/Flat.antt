@@ -58,7 +58,7 @@ pub record StrengthensClause (s : Session) (c c' : Search) (o : ℕ) : Type 0 wh
 abbrev pub LightensOne : {W L : Type 0} {G : Ghosts L} → (W → Writer) → Result (Unit {0}) SolverError → Proof W L G → Proof W L G → Search → Search → (o : ℕ) → Type 0
 LightensOne seen r p p' c c' o = EmitsSteps seen r p p' (λ _ _. StrengthensClause (session_of p') c c' o)
 
--- the live clauses among the first `count` of the list have no assigned literal
+-- the live clauses among the first `at` of the list have no assigned literal
 abbrev pub AreOpenTo : Search → Search → ℕ → Type 0
 AreOpenTo c c' at = (k : ℕ) → k < at → Contains (live_refs c'.parts.clauses c'.parts.db.refs) (get_or c.parts.db.refs k 0) → IsOpenClause c'.parts (get_or c.parts.db.refs k 0)
 

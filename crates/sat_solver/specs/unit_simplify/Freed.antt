@@ -68,7 +68,7 @@ pub record FreesSome (old new : Variables) (from to : List Step) (c c' : Search)
 abbrev pub IsIndexOfAssumed : Variables → Session → ℕ → Type 0
 IsIndexOfAssumed n s x = (v : ℕ) → global_at n x ≡ Some v → mentions s.assumed v ≡ true
 
--- every one of the first `count` indices is that of a variable that a clause has or that is assumed
+-- every one of the first `at` indices is that of a variable that a clause has or that is assumed
 abbrev pub AreLeft : Variables → Session → Parts → ℕ → Type 0
 AreLeft n s p at = (x : ℕ) → x < at → InNoClause p x → IsIndexOfAssumed n s x
 

@@ -50,7 +50,7 @@ pub record PassesQuietly {W L : Type 0} {G : Ghosts L} (seen : W → Writer) (n 
   pub moved : SameVarsAndAssumptions c c'
   pub word : TrailWordExtendsFor (assumed_in c) c.parts c'.parts
 
--- the call failed for a reason that the input does not determine; `FormulaTooLarge` only if `full` holds
+-- the call failed for a reason that the input does not determine; `StoreFull` only if `full` holds
 pub record PassFailsOr {W L : Type 0} {G : Ghosts L} (full : Type 0) (seen : W → Writer) (e : SolverError) (p p' : Proof W L G) : Type 0 where
   pub fault : IsFaultOr full e
   pub steps : List Step
