@@ -9,7 +9,7 @@ use Rattle.sat_solver.specs.declared.context.Search.{Search}
 abbrev pub without_var : ℕ → Parts → Parts
 without_var v p = record p { assignment = assigned v None p.assignment; vsids = with_available v false p.vsids }
 
--- all unmarked variables among those of lower index were freed this way
+-- all unmarked variables below this index were freed this way
 unfoldable pub freed_below : List Bool → ℕ → Parts → Parts
 freed_below used zero p = p
 freed_below used (suc k) p = if get_or used k false then freed_below used k p else without_var k (freed_below used k p)

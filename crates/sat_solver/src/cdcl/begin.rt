@@ -12,9 +12,10 @@ use sat_checker::ProofProcessor;
 use sat_parts::Conflict;
 use sat_parts::parts::steps::propagate_all;
 
-/// At level 0, if there are literals that were not used to simplify yet, propagates, writes units, takes them off the
-/// trail, and simplifies. Returns a falsified clause, or `None`. Without new literals at level 0, this takes no pass
-/// over the clauses.
+/// Simplifies at level 0, if there are literals that were not used to simplify yet.
+///
+/// Before that, it propagates, writes units, and takes them off the trail. Returns a falsified clause, or `None`.
+/// Without new literals at level 0, this takes no pass over the clauses.
 pub fn begin_round<W: CountedWrite + Drop, P: ProofProcessor>(
     proof: &mut Proof<W, P>,
     search: &mut Search,

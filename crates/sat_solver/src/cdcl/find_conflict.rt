@@ -52,8 +52,10 @@ fn assume_or_decide(
     Ok(Some(FoundConflict::Complete))
 }
 
-/// Propagates, assumes and decides until a clause is falsified, an assumption is false, or no variable of a clause is
-/// open. New literals of level 0 are written, and taken off the trail.
+/// Propagates, assumes and decides until the search stops.
+///
+/// It stops if a clause is falsified, an assumption is false, or no variable of a clause is open. New literals of level
+/// 0 are written, and taken off the trail.
 pub fn find_conflict<W: CountedWrite + Drop, P: ProofProcessor>(
     proof: &mut Proof<W, P>,
     search: &mut Search,

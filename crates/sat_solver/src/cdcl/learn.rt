@@ -162,8 +162,9 @@ fn learn_clause<W: CountedWrite + Drop, P: ProofProcessor>(
     Ok(())
 }
 
-/// Learns a clause from a conflict above level 0, with its step, and bumps the activity of the clauses and variables
-/// that the conflict met.
+/// Learns a clause from a conflict above level 0, with its step.
+///
+/// Bumps the activity of the clauses and variables that the conflict met.
 pub fn learn_from<W: CountedWrite + Drop, P: ProofProcessor>(
     proof: &mut Proof<W, P>,
     search: &mut Search,

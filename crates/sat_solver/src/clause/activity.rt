@@ -60,8 +60,9 @@ pub fn set_decays(search: &mut Search, config: &SolverConfig)
     search.activity.set_decay(config.clause_activity_decay);
 }
 
-/// Counts the levels of a learned clause's literals, up to its glue, since only a smaller number improves its header.
-/// The header of an input clause is never improved.
+/// Counts the levels of a learned clause's literals, up to its glue.
+///
+/// Only a smaller number improves its header. The header of an input clause is never improved.
 fn count_levels(parts: &Parts, flags: &mut TmpFlags, cref: ClauseRef) -> usize
     requires holds { PartsInvariant parts.now }
     requires live { HasClause parts.now cref }
@@ -78,7 +79,9 @@ fn count_levels(parts: &Parts, flags: &mut TmpFlags, cref: ClauseRef) -> usize
     compute_clause_glue_below(flags, &parts.graph, &parts.clauses, cref, header.glue())
 }
 
-/// Bumps the activity of a clause that took part in an analysis, and improves its header by the levels of its literals.
+/// Bumps the activity of a clause that took part in an analysis.
+///
+/// Improves its header by the levels of its literals.
 fn bump_one(parts: &mut Parts, activity: &mut ClauseActivity, flags: &mut TmpFlags, cref: ClauseRef)
     requires holds { PartsInvariant parts.old }
     requires live { HasClause parts.old cref }

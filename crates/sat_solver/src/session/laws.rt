@@ -59,8 +59,9 @@ pub fn plain_steps_mean_clauses()
     ensures { NoneHiddenMeans }
 {}
 
-/// States that the target of a closed proof has received the text of the steps made since it was opened, and one that
-/// failed a prefix of it.
+/// States what the target of a proof has received since it was opened.
+///
+/// If the proof was closed, this is the text of the steps made since; if the target failed, a prefix of it.
 pub fn targets_take_texts()
     ensures closed { ClosedIsText }
     ensures broken { BrokenIsFront }

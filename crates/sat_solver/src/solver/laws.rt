@@ -6,8 +6,7 @@ use crate::solver::Solver;
 use sat_base::CountedWrite;
 use sat_checker::ProofProcessor;
 
-/// States that the steps of a call come after those made before, whatever it answers, and that the target receives only
-/// their text.
+/// States that a call only appends steps, and that the target receives only their text, whatever the call returns.
 pub fn calls_go_on<W: CountedWrite + Drop, P: ProofProcessor>(
     _old: &Solver<W, P>,
     _new: &Solver<W, P>,
@@ -21,7 +20,7 @@ pub fn solvers_are_judged<W: CountedWrite + Drop, P: ProofProcessor>(_solver: &S
     ensures { SolverMatchesSomeState _solver.now }
 {}
 
-/// States that a flushed target whose calls all succeeded has received the text of all steps made since it was opened.
+/// States that a flushed target whose calls all succeeded has received the text of all steps since it was opened.
 pub fn flushed_targets_took_texts()
     ensures { FlushedIsText }
 {}

@@ -138,10 +138,10 @@ impl<W: CountedWrite + Drop, P: ProofProcessor> Solver<W, P> {
         }
     }
 
-    /// Gives every hidden variable that is still in use the name that `new_var` would return, and mode witness, by
-    /// increasing proof variable. Returns the names in this order.
+    /// Gives every hidden variable that is still in use a name and mode witness. Returns the names.
     ///
-    /// The answer is unchanged. If there is no such variable, a proof may still be opened.
+    /// The variables are visited in increasing order, and each gets the name that `new_var` would return. The answer is
+    /// unchanged. If there is no such variable, a proof may still be opened.
     pub fn observe_internal_vars(&mut self) -> Result<Vec<Var>, SolverError>
         requires { IsSolver self.old }
         ensures solver { IsSolver self.new }

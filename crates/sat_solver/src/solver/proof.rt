@@ -39,10 +39,10 @@ impl<W: CountedWrite + Drop, P: ProofProcessor> Solver<W, P> {
         Ok(())
     }
 
-    /// Starts a checker of the solver's own, which receives all further steps as a file in bytes would have them,
-    /// except for the ends of proofs. It rejects none.
+    /// Starts a checker of the solver's own, which receives all further steps.
     ///
-    /// Returns `TooLate` after a clause, a name, assumptions or an ask.
+    /// It receives them as a file in bytes would have them, except for the ends of proofs, and rejects none. Returns
+    /// `TooLate` after a clause, a name, assumptions or an ask.
     pub fn enable_self_checking(&mut self) -> Result<(), SolverError>
         requires { IsSolver self.old }
         ensures solver { IsSolver self.new }
@@ -109,8 +109,10 @@ impl<W: CountedWrite + Drop, P: ProofProcessor> Solver<W, P> {
         target
     }
 
-    /// Returns the listeners in the order in which they were added, and the target as it is, if a proof is open or its
-    /// target failed. This works after a failure, too. Pending bytes of the target are lost.
+    /// Returns the listeners in the order in which they were added, and the target.
+    ///
+    /// The target is returned as it is, if a proof is open or its target failed; its pending bytes are lost. This works
+    /// after a failure, too.
     pub fn into_processors(self) -> HandedBack<W, P>
         ensures target { GivesWriter (target_in W.seen self) (handed_writer W.seen result.target) }
         ensures front { HandsFront W.seen result.target self }

@@ -27,8 +27,9 @@ fn are_open(parts: &Parts, first: Lit, second: Lit) -> bool
     values.var_value(first.var()).is_none() && values.var_value(second.var()).is_none()
 }
 
-/// Deletes the clause by which a literal implies another, in the list of its lower literal, if one of its variables has
-/// a value.
+/// Deletes the clause by which a literal implies another, if one of its variables has a value.
+///
+/// The clause is found in the list of its lower literal.
 fn delete_pair<W: CountedWrite + Drop, P: ProofProcessor>(
     proof: &mut Proof<W, P>,
     search: &mut Search,

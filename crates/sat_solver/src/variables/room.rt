@@ -43,8 +43,9 @@ fn has_name(lits: &[Lit], user: Var) -> bool
     false
 }
 
-/// Counts the name of the literal at this position if it was used and is not in use, unless a later literal is over the
-/// same name.
+/// Counts the name of the literal at this position if it was used and is not in use.
+///
+/// It is not counted if a later literal is over the same name.
 fn count_hidden_name(variables: &Variables, lits: &[Lit], at: usize, count: usize) -> usize
     requires within { at < length lits.now }
     requires count { count ≤ var_limit }
