@@ -103,8 +103,8 @@ fn follow(
     Ok(whole)
 }
 
-/// Whether the literal follows from the others of the clause. Then the literals that it follows from are among the used
-/// ones.
+/// Whether the literal follows from the others of the clause. Then the literals that it follows from are among
+/// the used ones.
 fn is_implied(
     analysis: &mut Analysis,
     clauses: &ClauseAlloc,

@@ -82,17 +82,17 @@ can_follow nodes filter r = not (is_unit_reason (node_of nodes (variable r)).rea
 abbrev pub is_settled : (nodes : List ImplNode) (r : ℕ) → Work → Bool
 is_settled nodes r w = (node_of nodes (variable r)).level == 0 || get_or w.flags (variable r) false
 
--- marks these literals one after another, and stops at the first that is neither settled nor able to follow; `whole` says that there was
--- none
+-- marks these literals one after another, and stops at the first that is neither settled nor able to follow; `whole` says that
+-- there was none
 abbrev pub followed : (nodes : List ImplNode) (filter : ℕ) → List ℕ → Work → Followed
 followed nodes filter [] w = record { work = w; whole = true }
 followed nodes filter (r ∷ rs) w =
     if is_settled nodes r w then followed nodes filter rs w
     else (if can_follow nodes filter r then followed nodes filter rs (marked r w) else record { work = w; whole = false })
 
--- The invariant while the clause is minimized: its first literal is of the current level, every other literal is false, flagged, and of a
--- level between 0 and that one. Flagged variables are in the clause or used, and no used literal is the negation of a literal of the
--- clause.
+-- The invariant while the clause is minimized: its first literal is of the current level, every other literal is false, flagged, and
+-- of a level between 0 and that one. Flagged variables are in the clause or used, and no used literal is the negation of a literal
+-- of the clause.
 pub record Minimal (words : List ℕ) (s : State) (conflict : List ℕ) (first low : ℕ) (rest : List ℕ) (w : Work) : Type 0 where
   pub searching : MinimizationInvariant words s conflict first low w (length w.used)
   pub distinct : AreDistinct rest

@@ -40,8 +40,8 @@ pub record PutsMarks (old new : Variables) (ls : List ℕ) : Type 0 where
   pub free_globals : new.free_globals ≡ old.free_globals
   pub free_solvers : new.free_solvers ≡ old.free_solvers
 
--- the names of the literals were introduced, their variables have indices, and they are the assumptions from now on, whatever the ask
--- answers
+-- the names of the literals were introduced, their variables have indices, and they are the assumptions from now on, whatever
+-- the ask answers
 pub record BringsAssumptions (old new : Variables) (from to : List Step) (user : List ℕ) (t : Taken) : Type 0 where
   pub does : (o : Outcome) → NamesEffect old new from to (bring_all (names_in user)) (λ j. bringing (names_in user) j ++ (Opens (map user_literal user) o ∷ []))
   pub extends : ExtendsNames old new

@@ -34,8 +34,8 @@ mapped global c = record c { literals = map (with_var global) c.literals }
 abbrev pub AreMapped : (ℕ → ℕ) → (ℕ → Option ℕ) → List ℕ → Type 0
 AreMapped global names = AllByRecursion (λ l. names (global (variable l)) ≡ Some (variable l))
 
--- the live clauses of a solver are those of the session: different literals over variables that have indices, and every set with the same
--- multiplicity
+-- the live clauses of a solver are those of the session: different literals over variables that have indices, and every set with
+-- the same multiplicity
 pub record AreOf (s : Session) (global : ℕ → ℕ) (cs : List LiveClause) : Type 0 where
   pub named : (c : LiveClause) → IsIn c cs → AreMapped global s.solver_names c.literals
   pub once : (c : LiveClause) → IsIn c cs → NoRepeats c.literals

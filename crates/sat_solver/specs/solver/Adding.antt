@@ -101,8 +101,8 @@ pub record Added {W L : Type 0} {G : Ghosts L} (seen : W → Writer) (old new : 
   pub state : ForgetsAnswer (answer_in old) (answer_in new)
   pub steps : StepsOfClause old new user
 
--- The result of adding a clause. Refusals are checked in this order: an earlier failure, DRAT lines, a name of mode witness, no variable
--- left.
+-- The result of adding a clause. Refusals are checked in this order: an earlier failure, DRAT lines, a name of mode witness,
+-- no variable left.
 abbrev pub AddsClause : {W L : Type 0} {G : Ghosts L} → (W → Writer) → Result (Unit {0}) SolverError → Solver W L G → Solver W L G → List ℕ → Type 0
 AddsClause seen (Ok x) old new user = Added seen old new user
 AddsClause seen (Err errors.WitnessVariable) old new user = Refuses old new (((has_failed old ≡ false) × IsBeforeDrat seen old) × HasWitness old user)

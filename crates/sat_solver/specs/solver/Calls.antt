@@ -110,8 +110,8 @@ pub record AnswersAgain {W L : Type 0} {G : Ghosts L} (old new : Solver W L G) :
   pub steps : steps_in new ≡ steps_in old
   pub same : OnlyProofDiffers (used_now old) new
 
--- The rounds of an ask, by the schedule of restarts and reductions. From its first step on, hashes may be shortened. Then the target was
--- flushed.
+-- The rounds of an ask, by the schedule of restarts and reductions. From its first step on, hashes may be shortened. Then the
+-- target was flushed.
 pub record MakesRounds {W L : Type 0} {G : Ghosts L} (seen : W → Writer) (old new : Solver W L G) : Type 0 where
   pub behind : Proof W L G
   pub searched : SearchedBy seen (answer_in new) (schedule_in old) (schedule_in new) (known_names old) (known_names new) (record (inside old) { proof = asking (proof_in old) }) (record (inside new) { proof = behind }) (core_told new)

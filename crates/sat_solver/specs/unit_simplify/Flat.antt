@@ -35,8 +35,8 @@ pub record MayRemove (c : Search) : Type 0 where
 abbrev pub LeavesPairs : Session → Search → (l k : ℕ) → Type 0
 LeavesPairs s c l k = LeftParts c.parts s (global_in c) l k
 
--- clauses were removed or strengthened: values and variables are unchanged, and so is the list of long clauses, in which removed ones
--- remain
+-- clauses were removed or strengthened: values and variables are unchanged, and so is the list of long clauses, in which
+-- removed ones remain
 pub record IsStrengthened (s : Session) (c c' : Search) : Type 0 where
   pub search : IsSearch s c'
   pub moved : SameVarsAndAssumptions c c'

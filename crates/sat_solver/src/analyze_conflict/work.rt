@@ -103,8 +103,8 @@ impl Analysis {
         &self.involved
     }
 
-    /// Returns the core of an analysis of assumptions: assumptions that contradict the clauses, the one that failed
-    /// first.
+    /// Returns the core of an analysis of assumptions: assumptions that contradict the clauses, the one
+    /// that failed first.
     pub fn core(&self) -> &[Lit]
         ensures { result.now ≡ self.now.core }
     {

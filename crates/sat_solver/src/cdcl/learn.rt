@@ -31,8 +31,8 @@ use sat_parts::parts::steps::{learn, undo};
 use sat_store::{ClauseHeader, StoreError};
 use std::alloc::AllocError;
 
-/// Prepares the step of a learned clause: its literals, and the hashes of the clauses that it follows from, over proof
-/// variables.
+/// Prepares the step of a learned clause: its literals, and the hashes of the clauses that it follows from,
+/// over proof variables.
 fn name_learned(search: &mut Search, _level: usize, conflict: &Conflict) -> Result<(), AllocError>
     requires refuted { IsRefuted search.old.parts conflict.now }
     requires names { length search.old.parts.assignment.current ≤ length search.old.globals.items }

@@ -97,8 +97,8 @@ fn bump_one(parts: &mut Parts, activity: &mut ClauseActivity, flags: &mut TmpFla
     improve(parts, cref, levels);
 }
 
-/// Bumps the activity of these clauses, which took part in an analysis, and improves their headers. Then activities
-/// decay.
+/// Bumps the activity of these clauses, which took part in an analysis, and improves their headers.
+/// Then activities decay.
 pub fn bump_clauses(
     parts: &mut Parts,
     activity: &mut ClauseActivity,

@@ -242,8 +242,8 @@ impl<P: ProofProcessor> Made<P> {
         self.complaint.take()
     }
 
-    /// Returns the listeners in the order in which they were added, also after a failure. There is no checker
-    /// afterwards.
+    /// Returns the listeners in the order in which they were added, also after a failure. There is
+    /// no checker afterwards.
     pub fn take_processors(&mut self, alloc: Global) -> Vec<P>
         ensures handed { MadeHandsBack self.old result.items }
         ensures whole { MadeHandsBackWhole self.old result.items }

@@ -86,8 +86,8 @@ impl<W: CountedWrite + Drop, P: ProofProcessor> Solver<W, P> {
         }
     }
 
-    /// Sets the mode of a name to witness, and introduces the name if it is new: no clause and no assumption may have
-    /// it.
+    /// Sets the mode of a name to witness, and introduces the name if it is new: no clause and no assumption
+    /// may have it.
     ///
     /// The answer is unchanged. Errors: `AssumedVariable` if the name is assumed, even if it has this mode already;
     /// `VariableLimit` as for `hide_var`.

@@ -22,8 +22,8 @@ pub struct HandedBack<W, P> {
 impl<W: CountedWrite + Drop, P: ProofProcessor> Solver<W, P> {
     /// Writes all further steps to this target, in this format.
     ///
-    /// Returns `TooLate` after a clause, a name, assumptions or an ask, and while a proof is open. Then the target is
-    /// dropped.
+    /// Returns `TooLate` after a clause, a name, assumptions or an ask, and while a proof is open. Then the
+    /// target is dropped.
     pub fn write_proof(&mut self, target: W, format: ProofFormat) -> Result<(), SolverError>
         requires { IsSolver self.old }
         ensures solver { IsSolver self.new }

@@ -23,8 +23,8 @@ use sat_parts::{Conflict, Parts};
 use sat_store::ClauseRef;
 use std::alloc::AllocError;
 
-/// Moves the open literals of a clause to its beginning, in order; the first two are there already. Returns their
-/// number.
+/// Moves the open literals of a clause to its beginning, in order; the first two are there already.
+/// Returns their number.
 fn gather_open(parts: &mut Parts, cref: ClauseRef) -> usize
     requires holds { PartsInvariant parts.old }
     requires live { HasClause parts.old cref }

@@ -104,8 +104,8 @@ pub(crate) fn forget_idle<W: StepLog>(
     Ok(())
 }
 
-/// Introduces a name if it is new, and hides its variable, which is deleted at once if it has no index. The name is not
-/// assumed.
+/// Introduces a name if it is new, and hides its variable, which is deleted at once if it has no index. The name
+/// is not assumed.
 pub fn hide_var<W: StepLog>(
     variables: &mut Variables,
     writer: &mut W,

@@ -64,8 +64,8 @@ fn bring_new<W: StepLog>(
     new_name(variables, writer, user)
 }
 
-/// Returns the variable of a name. A name that is not in use is introduced, with all names below it that were never
-/// used.
+/// Returns the variable of a name. A name that is not in use is introduced, with all names below it that
+/// were never used.
 #[tactic(auto, using(crate::proofs::lemmas::variables::NamingSteps::last_named, crate::proofs::lemmas::variables::BroughtIn::ok_new))]
 pub fn global_from_user<W: StepLog>(
     variables: &mut Variables,
