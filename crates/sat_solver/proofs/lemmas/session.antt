@@ -16,7 +16,6 @@ pub mod ProofLemmas
 pub mod CountingLemmas
 pub mod CutsLemmas
 pub mod ProofRowLemmas
-pub mod LineLemmas
 pub mod DratLemmas
 pub mod DratDerivations
 pub mod PuttingLemmas

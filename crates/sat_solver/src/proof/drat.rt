@@ -1,42 +1,26 @@
-//! The lines of a DRAT proof: each clause that is derived or deleted has one, in words or in bytes.
+//! The lines of a DRAT proof: one for every derived or deleted clause, in decimal or in binary.
 ghost use Rattle.std.specs.Prelude.{◌≡◌, ◌++◌, [], ◌∷◌, OnOk, codes, decimal, if◌then◌else◌};
 ghost use Rattle.sat_base.specs.dimacs.DimacsText.{clause_line};
 ghost use Rattle.sat_base.specs.steps.StepViews.{step_of};
-ghost use Rattle.sat_solver.specs.proof.DratText.{seven_bits, bytes_line, mark, clause_text, unit_lines, lines_text};
+ghost use Rattle.sat_solver.specs.proof.DratText.{bytes_line, mark, clause_text, unit_lines, lines_text};
 ghost use Rattle.sat_solver.specs.proof.DratText.{drat_text};
 
-use sat_base::{ClauseHash, Lit, ProofStep};
+use sat_base::{ClauseHash, Lit, ProofStep, push_decimal, push_leb128};
 use std::alloc::AllocError;
 
-/// So many groups of seven bits hold the code of each literal.
-const GROUPS: u32 = 5;
-
-/// A number without leading zeros.
-fn put_decimal(text: &mut Vec<u8>, number: u64) -> Result<(), AllocError>
-    ensures { OnOk result (text.new.items ≡ text.old.items ++ decimal number) }
-{
-    if number < 10 {
-        text.push(b'0' + number as u8)?;
-        return Ok(());
-    }
-    put_decimal(text, number / 10)?;
-    text.push(b'0' + (number % 10) as u8)?;
-    Ok(())
-}
-
-/// The number of a literal: a negative one has a minus sign before it.
+/// Writes the number of a literal, after a minus sign if it is negative.
 fn put_sign(text: &mut Vec<u8>, number: u64, positive: bool) -> Result<(), AllocError>
     ensures { OnOk result (text.new.items
         ≡ text.old.items ++ ((if positive then [] else codes "-") ++ decimal number)) }
 {
     if positive {
-        return put_decimal(text, number);
+        return push_decimal(text, number);
     }
     text.push(b'-')?;
-    put_decimal(text, number)
+    push_decimal(text, number)
 }
 
-/// Each literal's number and a space, then `0` and LF.
+/// Writes every literal's number and a space, then `0` and LF.
 fn put_words(text: &mut Vec<u8>, lits: &[Lit]) -> Result<(), AllocError>
     ensures { OnOk result (text.new.items ≡ text.old.items ++ clause_line lits.now) }
 {
@@ -47,33 +31,18 @@ fn put_words(text: &mut Vec<u8>, lits: &[Lit]) -> Result<(), AllocError>
     text.extend_from_slice(b"0\n")
 }
 
-/// A number in groups of seven bits, the low one first: each but the last has its top bit set.
-fn put_groups(text: &mut Vec<u8>, groups: u32, number: u32) -> Result<(), AllocError>
-    ensures { OnOk result (text.new.items ≡ text.old.items ++ seven_bits groups number) }
-{
-    if groups == 0 {
-        return Ok(());
-    }
-    if number < 128 {
-        text.push(number as u8)?;
-        return Ok(());
-    }
-    text.push((number % 128) as u8 + 128)?;
-    put_groups(text, groups - 1, number / 128)
-}
-
-/// Each literal's code and two in groups of seven bits, then a byte of zero.
+/// Writes every literal's code plus two in LEB128, then a zero byte.
 fn put_bytes(text: &mut Vec<u8>, lits: &[Lit]) -> Result<(), AllocError>
     ensures { OnOk result (text.new.items ≡ text.old.items ++ bytes_line lits.now) }
 {
     for lit in lits {
-        put_groups(text, GROUPS, lit.code() as u32 + 2)?;
+        push_leb128(text, lit.code() as u64 + 2)?;
     }
     text.push(0)?;
     Ok(())
 }
 
-/// What tells a deleted clause from a derived one.
+/// Writes what marks a deleted or a derived clause.
 fn put_mark(text: &mut Vec<u8>, binary: bool, deleted: bool) -> Result<(), AllocError>
     ensures { OnOk result (text.new.items ≡ text.old.items ++ mark binary deleted) }
 {
@@ -85,7 +54,7 @@ fn put_mark(text: &mut Vec<u8>, binary: bool, deleted: bool) -> Result<(), Alloc
     }
 }
 
-/// One line: what tells whether its clause is derived or deleted, and the clause with its end.
+/// Writes one line: the mark, and the clause with its end.
 fn put_line(text: &mut Vec<u8>, binary: bool, deleted: bool, lits: &[Lit]) -> Result<(), AllocError>
     ensures { OnOk result (text.new.items ≡ text.old.items ++ (mark binary deleted ++ clause_text binary lits.now)) }
 {
@@ -96,7 +65,7 @@ fn put_line(text: &mut Vec<u8>, binary: bool, deleted: bool, lits: &[Lit]) -> Re
     put_words(text, lits)
 }
 
-/// A line for each unit.
+/// Writes a line for every unit.
 fn put_units(
     text: &mut Vec<u8>,
     binary: bool,
@@ -110,7 +79,7 @@ fn put_units(
     Ok(())
 }
 
-/// The lines of a step, if it has any.
+/// Writes the lines of a step, if it has any.
 pub fn put_step(text: &mut Vec<u8>, binary: bool, step: &ProofStep<'_>) -> Result<(), AllocError>
     ensures { OnOk result (text.new.items ≡ text.old.items ++ drat_text binary (step_of step.now)) }
 {

@@ -1,5 +1,6 @@
 -- Rows of widths and lines, computed.
 use Rattle.std.proofs.Common.{refl}
+use Rattle.sat_base.specs.steps.StepBytes.{groups}
 use Rattle.sat_solver.specs.proof.Counting.{widened_bits, shortened}
 use Rattle.sat_solver.specs.proof.ProofRows.{WidthRows, CountRow, LineRows}
 
@@ -12,4 +13,5 @@ unfolding widened_bits
 count_row = refl
 
 pub line_rows : LineRows
+unfolding groups
 line_rows = (refl, refl, refl)
