@@ -10,7 +10,6 @@ use crate::device::ahead::Ahead;
 use crate::device::input::Input;
 use crate::device::kept_error::WriteFailed;
 use crate::device::output::Output;
-use crate::device::pending::Pending;
 use crate::device::room::Room;
 use crate::{CountedRead, CountedWrite, StepError};
 use std::alloc::AllocError;
@@ -214,9 +213,13 @@ pub(super) fn push_number<P: Room>(pending: &mut P, number: u64)
 pub fn push_leb128(out: &mut Vec<u8>, number: u64) -> Result<(), AllocError>
     ensures { OnOk result (out.new.items ≡ out.old.items ++ number_bytes number) }
 {
-    let mut bytes: Pending<LONGEST> = Pending::new();
-    push_number(&mut bytes, number);
-    out.extend_from_slice(bytes.as_slice())
+    let mut rest = number;
+    while rest >= 128 {
+        out.push((rest % 128) as u8 + 128)?;
+        rest /= 128;
+    }
+    out.push(rest as u8)?;
+    Ok(())
 }
 
 impl<W: CountedWrite, P: Room> Output<W, P> {
