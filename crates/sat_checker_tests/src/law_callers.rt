@@ -27,7 +27,7 @@ fn resolvent_passes()
 fn counts_return()
     ensures { (earlier : List Step) (hashes : List ℕ) (side : Bool) (set : List ℕ)
         → (contents (ready_after (DeleteClause (0 ∷ 2 ∷ []) Redundant ∷ AtClause true (0 ∷ 2 ∷ []) hashes
-        ∷ earlier))).counts side set ≡ (contents (ready_after earlier)).counts side set }
+        ∷ earlier))).state.counts side set ≡ (contents (ready_after earlier)).state.counts side set }
 {
     contents_follow_steps();
 }

@@ -1,3 +1,4 @@
+pub mod Changes
 pub mod Views
 pub mod LastLemmas
 pub mod AcceptLemmas
@@ -11,6 +12,7 @@ pub mod PromiseLemmas
 pub mod CuttingLemmas
 pub mod Naming
 pub mod RowLemmas
+pub mod WidthLemmas
 pub mod Narrowing
 pub mod ProofLemmas
 pub mod CountingLemmas

@@ -5,13 +5,13 @@ use Rattle.std.specs.Prelude.{◌==◌, ◌||◌, nat_eq, if◌then◌else◌}
 use Rattle.std.specs.List.{AllByRecursion}
 use Rattle.sat_base.specs.values.Literals.{negated}
 use Rattle.sat_base.specs.script.Script.{Among}
-use Rattle.sat_base.specs.steps.Steps.{Redundant, Step, SolverVarName, UserVarName, AddClause, AtClause, UnitClauses, DeleteClause, ChangeHashBits}
-use Rattle.sat_checker.specs.LiteralSets.{is_among, is_tautology, canonical, same_literals}
+use Rattle.sat_base.specs.steps.Steps.{Step, AtClause, ChangeHashBits}
+use Rattle.sat_checker.specs.LiteralSets.{is_among, canonical, same_literals}
 use Rattle.sat_checker.specs.Stored.{Stored, StoredClause, is_unit, unit_literals, long_clauses}
 use Rattle.sat_checker.specs.Storing.{clause_with, irredundant_count, redundant_count}
 use Rattle.sat_checker.specs.Propagation.{IsFalsified, IsUnit}
 use Rattle.sat_checker.specs.Accepts.{ready_after}
-use Rattle.sat_checker.specs.Contents.{Contents, contents, contents_after, contents_of, clause_more, set_more, unit_more, units_more, literals_known, count_of, one_more}
+use Rattle.sat_checker.specs.Contents.{ProofState, Contents, stored_state, state_after, contents_of, count_of}
 use Rattle.sat_checker.specs.Invariants.{IsProper}
 use Rattle.sat_checker.proofs.lemmas.contents.Steps.{contents_of_steps}
 use Rattle.sat_checker.proofs.lemmas.contents.Counts.{found}
@@ -23,136 +23,52 @@ use Rattle.sat_checker.proofs.lemmas.sets.Marks.{once}
 use Rattle.sat_checker.proofs.lemmas.sets.Members.{canonical_each}
 use Rattle.sat_checker.proofs.lemmas.sets.Order.{among-append}
 use Rattle.sat_checker.proofs.lemmas.sets.Rising.{canonical_stays}
-use Rattle.sat_solver.specs.session.Session.{Session, changed, after, last_after, session_after, with_live_clause, with_sorted, with_fact, with_facts, with_live, IsLive, denied_in}
-use Rattle.sat_solver.specs.proof.Widths.{narrowed, KeepsWidth, kept_bits}
+use Rattle.sat_solver.specs.session.Session.{Session, session_with, after, last_after, session_after, IsLive, denied_in}
+use Rattle.sat_solver.specs.proof.Widths.{narrowed}
 use Rattle.sat_solver.specs.proof.Counting.{TruncatesHashes, none_made, ask_begun, one_made, counted}
 use Rattle.sat_solver.specs.session.Advancing as made
 use Rattle.sat_solver.specs.session.Quiet.{NeverAdvances, others_of}
 use Rattle.sat_solver.specs.schedule.Solving as made_steps
 use Rattle.sat_solver.specs.declared.proof.hash_bits.Counting.{Counting}
 use Rattle.sat_solver.proofs.lemmas.session.Mapped.{among_mapped}
+use Rattle.sat_solver.proofs.lemmas.session.WidthLemmas.{wide, after_wide}
 use Rattle.certify.specs.run.Advancing.{PropagatesTo, leads_none, leads_one, supposed, IsOpenStill, LeavesOpen, AdvancesStored, DerivesAdvancing}
 
--- A SESSION IS WHAT STEPS MAKE OF THE CONTENTS
-abbrev session_of : Contents → Option (List ℕ) → Session
-session_of c last = record {
-  live = c.counts;
-  units = c.units;
-  unsat = c.unsat;
-  variables = c.variables;
-  solver_names = c.solver_names;
-  width = c.width;
-  assumed = c.assumed;
-  last = last;
-}
-
-either : (b : Bool) (x y : Session) (p q : Contents) (last : Option (List ℕ)) → x ≡ session_of p last → y ≡ session_of q last → (if b then x else y) ≡ session_of (if b then p else q) last
-either true x y p q last e f = e
-either false x y p q last e f = f
-
-fact : (l : ℕ) (c : Contents) (last : Option (List ℕ)) → with_fact l (session_of c last) ≡ session_of (unit_more l c) last
-fact l c last = either (c.units l) _ _ c _ last refl (either (c.units (negated l)) _ _ (record c { unsat = true }) _ last refl refl)
-
-facts : (ls : List ℕ) (c : Contents) (last : Option (List ℕ)) → with_facts ls (session_of c last) ≡ session_of (units_more ls c) last
-facts [] c last = refl
-facts (l ∷ ls) c last = ap (with_facts ls) (fact l c last) ∙ facts ls (unit_more l c) last
-
-live_more : (r : Bool) (set : List ℕ) (c : Contents) (last : Option (List ℕ)) → with_live r set (session_of c last) ≡ session_of (one_more r set c) last
-live_more true set c last = refl
-live_more false set c last = refl
-
-sorted_more : (r : Bool) (set : List ℕ) (c : Contents) (last : Option (List ℕ)) → with_sorted r set (session_of c last) ≡ session_of (set_more r set c) last
-sorted_more r [] c last = refl
-sorted_more r (l ∷ []) c last = fact l c last
-sorted_more r (l ∷ m ∷ ls) c last = live_more r (l ∷ m ∷ ls) c last
-
-stored_more : (r : Bool) (clause : List ℕ) (c : Contents) (last : Option (List ℕ)) → with_live_clause r clause (session_of c last) ≡ session_of (clause_more r clause c) last
-stored_more r clause c last = either (is_tautology clause) _ _ c _ last refl (sorted_more r (canonical clause) c last)
-
-changed_is : (step : Step) (c : Contents) (last : Option (List ℕ)) → changed step (session_of c last) ≡ session_of (contents_after step c) last
-changed_is (SolverVarName v None) c last = refl
-changed_is (UserVarName v (Some name)) c last = refl
-changed_is (AddClause clause) c last = either c.unsat _ _ c _ last refl (stored_more false clause (literals_known clause c) last)
-changed_is (AtClause r clause hashes) c last = stored_more r clause (literals_known clause c) last
-changed_is (UnitClauses us) c last = facts (map (λ (u : ℕ × ℕ). u.0) us) (literals_known (map (λ (u : ℕ × ℕ). u.0) us) c) last
-changed_is (DeleteClause clause Redundant) c last = refl
-changed_is step c last = refl
-
-session_is : (steps : List Step) → (last : Option (List ℕ)) × (session_after steps ≡ session_of (contents_of steps) last)
+-- A SESSION IS WHAT STEPS MAKE OF THE STATE
+session_is : (steps : List Step) → (last : Option (List ℕ)) × (session_after steps ≡ session_with last (contents_of steps).state)
 session_is [] = (None, refl)
-session_is (step ∷ earlier) =
-    let h = session_is earlier in
-    (last_after step h.0, ap (after step) h.1 ∙ ap (λ (s : Session). record s { last = last_after step h.0 }) (changed_is step (contents_of earlier) h.0))
+session_is (step ∷ earlier) = let h = session_is earlier in (last_after step h.0, ap (after step) h.1)
 
 -- WIDTHS CHANGE NOTHING ELSE
-abbrev wide : ℕ → Contents → Contents
-wide x c = record c { width = x }
-
-either_wide : (b : Bool) (x : ℕ) (p q r s : Contents) → p ≡ wide x r → q ≡ wide x s → (if b then p else q) ≡ wide x (if b then r else s)
-either_wide true x p q r s e f = e
-either_wide false x p q r s e f = f
-
-fact_wide : (l x : ℕ) (c : Contents) → unit_more l (wide x c) ≡ wide x (unit_more l c)
-fact_wide l x c = either_wide (c.units l) x _ _ c _ refl (either_wide (c.units (negated l)) x _ _ (record c { unsat = true }) _ refl refl)
-
-facts_wide : (ls : List ℕ) (x : ℕ) (c : Contents) → units_more ls (wide x c) ≡ wide x (units_more ls c)
-facts_wide [] x c = refl
-facts_wide (l ∷ ls) x c = ap (units_more ls) (fact_wide l x c) ∙ facts_wide ls x (unit_more l c)
-
-set_wide : (r : Bool) (set : List ℕ) (x : ℕ) (c : Contents) → set_more r set (wide x c) ≡ wide x (set_more r set c)
-set_wide r [] x c = refl
-set_wide r (l ∷ []) x c = fact_wide l x c
-set_wide r (l ∷ m ∷ ls) x c = refl
-
-clause_wide : (r : Bool) (clause : List ℕ) (x : ℕ) (c : Contents) → clause_more r clause (wide x c) ≡ wide x (clause_more r clause c)
-clause_wide r clause x c = either_wide (is_tautology clause) x _ _ c _ refl (set_wide r (canonical clause) x c)
-
-after_wide : (w : ℕ) (step : Step) (x : ℕ) (c : Contents) → KeepsWidth step → contents_after (narrowed w step) (wide x c) ≡ wide x (contents_after step c)
-after_wide w (SolverVarName v None) x c k = refl
-after_wide w (UserVarName v (Some name)) x c k = refl
-after_wide w (AddClause clause) x c k = either_wide c.unsat x _ _ c _ refl (clause_wide false clause x (literals_known clause c))
-after_wide w (AtClause r clause hashes) x c k = clause_wide r clause x (literals_known clause c)
-after_wide w (UnitClauses us) x c k = units_wide w us x c
-  where
-    firsts : (w : ℕ) (us : List (ℕ × ℕ)) → map (λ (u : ℕ × ℕ). u.0) (map (λ (u : ℕ × ℕ). (u.0, kept_bits w u.1)) us) ≡ map (λ (u : ℕ × ℕ). u.0) us
-    firsts w [] = refl
-    firsts w (u ∷ us) = ap (λ (ls : List ℕ). u.0 ∷ ls) (firsts w us)
-
-    units_wide : (w : ℕ) (us : List (ℕ × ℕ)) (x : ℕ) (c : Contents) → contents_after (narrowed w (UnitClauses us)) (wide x c) ≡ wide x (contents_after (UnitClauses us) c)
-    units_wide w us x c =
-        ap (λ (ls : List ℕ). units_more ls (literals_known ls (wide x c))) (firsts w us) ∙ facts_wide (map (λ (u : ℕ × ℕ). u.0) us) x (literals_known (map (λ (u : ℕ × ℕ). u.0) us) c)
-after_wide w (DeleteClause clause Redundant) x c k = refl
-after_wide w (ChangeHashBits bits) x c k = absurd k
-after_wide w step x c k = refl
 
 -- behind a width that is told
-pub reported_wide : (same : Bool) (now : ℕ) (written : List Step) (c : Contents) (x : ℕ) → contents_of written ≡ wide x c
-    → (y : ℕ) × (contents_of ((if same then [] else ChangeHashBits now ∷ []) ++ written) ≡ wide y c)
+pub reported_wide : (same : Bool) (now : ℕ) (written : List Step) (c : ProofState) (x : ℕ) → (contents_of written).state ≡ wide x c
+    → (y : ℕ) × ((contents_of ((if same then [] else ChangeHashBits now ∷ []) ++ written)).state ≡ wide y c)
 reported_wide true now written c x e = (x, e)
 reported_wide false now written c x e = (now, ap (wide now) e)
 
--- what was written has the contents of what was made, but for the width
-pub cuts_contents : {c d : Counting} {m w : List Step} → TruncatesHashes c m w d → (x : ℕ) × (contents_of w ≡ wide x (contents_of m))
-cuts_contents none_made = (64, refl)
-cuts_contents (ask_begun p) = cuts_contents p
-cuts_contents (one_made {d = d} {made = made} {written = written} step k p) =
-    let h = cuts_contents p in
+-- what was written has the state of what was made, but for the width
+pub cuts_state : {c d : Counting} {m w : List Step} → TruncatesHashes c m w d → (x : ℕ) × ((contents_of w).state ≡ wide x (contents_of m).state)
+cuts_state none_made = (64, refl)
+cuts_state (ask_begun p) = cuts_state p
+cuts_state (one_made {d = d} {made = made} {written = written} step k p) =
+    let h = cuts_state p in
     let now = (counted step d).bits in
-    let t = reported_wide (nat_eq d.bits now) now written (contents_of made) h.0 h.1 in
-    (t.0, ap (contents_after (narrowed now step)) t.1 ∙ after_wide now step t.0 (contents_of made) k)
+    let t = reported_wide (nat_eq d.bits now) now written (contents_of made).state h.0 h.1 in
+    (t.0, ap (state_after (narrowed now step)) t.1 ∙ after_wide now step t.0 (contents_of made).state k)
 
 -- WHAT THE CHECKER HAS STORED
 pub record IsSame (f : Stored) (s : Session) : Type 0 where
   pub units : (l : ℕ) → is_unit f l ≡ s.units l
   pub live : (r : Bool) (set : List ℕ) → count_of r set f.clauses ≡ s.live r set
 
-pub is_same : (steps made : List Step) (x : ℕ) → contents_of steps ≡ wide x (contents_of made) → IsSame (ready_after steps) (session_after made)
+pub is_same : (steps made : List Step) (x : ℕ) → (contents_of steps).state ≡ wide x (contents_of made).state → IsSame (ready_after steps) (session_after made)
 is_same steps made x e =
     let s = session_is made in
-    let c : contents (ready_after steps) ≡ wide x (contents_of made) = contents_of_steps steps ∙ e in
+    let c : stored_state (ready_after steps) ≡ wide x (contents_of made).state = ap (λ (d : Contents). d.state) (contents_of_steps steps) ∙ e in
     record {
-      units = λ l. ap (λ (d : Contents). d.units l) c ∙ sym (ap (λ (t : Session). t.units l) s.1);
-      live = λ r set. ap (λ (d : Contents). d.counts r set) c ∙ sym (ap (λ (t : Session). t.live r set) s.1);
+      units = λ l. ap (λ (d : ProofState). d.units l) c ∙ sym (ap (λ (t : Session). t.units l) s.1);
+      live = λ r set. ap (λ (d : ProofState). d.counts r set) c ∙ sym (ap (λ (t : Session). t.live r set) s.1);
     }
 
 -- a stored clause

@@ -4,7 +4,7 @@ use Rattle.std.specs.Prelude.{nat_eq, if◌then◌else◌}
 use Rattle.std.specs.List.{AllByRecursion}
 use Rattle.sat_base.specs.steps.Steps.{Step, SolverVarName, ChangeHashBits}
 use Rattle.sat_checker.specs.Accepts.{ready_after}
-use Rattle.sat_checker.specs.Contents.{Contents, contents_after, contents_of}
+use Rattle.sat_checker.specs.Contents.{ProofState, Contents, contents_after, contents_of}
 use Rattle.sat_checker.specs.Stored.{Stored}
 use Rattle.sat_checker.specs.matching.Checking.{is_ordered}
 use Rattle.sat_checker.specs.matching.ProofChecking.{checker_rules}
@@ -16,7 +16,7 @@ use Rattle.sat_solver.specs.proof.Counting.{TruncatesHashes, none_made, ask_begu
 use Rattle.sat_solver.specs.session.Session.{Session, session_after}
 use Rattle.sat_solver.specs.proof.Widths.{narrowed}
 use Rattle.certify.specs.run.Advancing.{DerivesAdvancing, AdvanceTimesStored, AreUnordered}
-use Rattle.certify.proofs.lemmas.run.Advanced.{IsSame, advancing_as, cuts_contents, is_same, never_as, reported_wide}
+use Rattle.certify.proofs.lemmas.run.Advanced.{IsSame, advancing_as, cuts_state, is_same, never_as, reported_wide}
 
 -- STEPS BY WHICH NOTHING IS LEARNED, AND NOTHING RECORDED
 
@@ -75,15 +75,15 @@ asides_never earlier [] xs k h t = t
 asides_never earlier (s ∷ front) xs k h t = inl (asides_never earlier front xs k h.1 t, aside_never (ready_after ((front ++ xs) ++ earlier)) h.0)
 
 -- whether unsat is recorded
-unsat_is : (steps : List Step) → checker_rules.unsat steps ≡ (contents_of steps).unsat
-unsat_is steps = ap (λ (c : Contents). c.unsat) (contents_of_steps steps)
+unsat_is : (steps : List Step) → checker_rules.unsat steps ≡ (contents_of steps).state.unsat
+unsat_is steps = ap (λ (c : Contents). c.state.unsat) (contents_of_steps steps)
 
-aside_unsat : {step : Step} (c : Contents) → IsAside step → (contents_after step c).unsat ≡ c.unsat
+aside_unsat : {step : Step} (c : Contents) → IsAside step → (contents_after step c).state.unsat ≡ c.state.unsat
 aside_unsat c (index_aside {index = None}) = refl
 aside_unsat c (index_aside {index = Some x}) = refl
 aside_unsat c width_aside = refl
 
-asides_contents : (front earlier : List Step) → AreAside front → (contents_of (front ++ earlier)).unsat ≡ (contents_of earlier).unsat
+asides_contents : (front earlier : List Step) → AreAside front → (contents_of (front ++ earlier)).state.unsat ≡ (contents_of earlier).state.unsat
 asides_contents [] earlier h = refl
 asides_contents (s ∷ front) earlier h = aside_unsat (contents_of (front ++ earlier)) h.0 ∙ asides_contents front earlier h.1
 
@@ -91,7 +91,7 @@ pub asides_unsat : (front earlier : List Step) → AreAside front → checker_ru
 asides_unsat front earlier h = unsat_is (front ++ earlier) ∙ asides_contents front earlier h ∙ sym (unsat_is earlier)
 
 pub cut_unsat : {c d : Counting} {m w : List Step} → TruncatesHashes c m w d → checker_rules.unsat w ≡ checker_rules.unsat m
-cut_unsat {m = m} {w = w} p = unsat_is w ∙ ap (λ (x : Contents). x.unsat) (cuts_contents p).1 ∙ sym (unsat_is m)
+cut_unsat {m = m} {w = w} p = unsat_is w ∙ ap (λ (x : ProofState). x.unsat) (cuts_state p).1 ∙ sym (unsat_is m)
 
 -- BETWEEN TWO PLACES
 
@@ -174,8 +174,8 @@ record Here (d : Counting) (step : Step) (m w : List Step) : Type 0 where
 here : {c d : Counting} {m w : List Step} (step : Step) → TruncatesHashes c m w d → Here d step m w
 here {d = d} {m = m} {w = w} step p =
     let now = (counted step d).bits in
-    let h = cuts_contents p in
-    let wider = reported_wide (nat_eq d.bits now) now w (contents_of m) h.0 h.1 in
+    let h = cuts_state p in
+    let wider = reported_wide (nat_eq d.bits now) now w (contents_of m).state h.0 h.1 in
     record { same = is_same (width_change d.bits now ++ w) m wider.0 wider.1 }
 
 pub timed : {c d : Counting} {m w : List Step} → TruncatesHashes c m w d → (steps opened : List Step) (k : ℕ) → m ≡ steps ++ opened → made.AdvanceTimes opened steps k → Timed c opened w steps k

@@ -13,7 +13,8 @@ use Rattle.sat_checker.specs.matching.Checking.{CheckerRules, is_ordered}
 use Rattle.sat_checker.specs.matching.Expected.{Outcome, Sat, Unsat, Unknown, Expected, NewName, NoName, Adds, Opens, Finish, Fits, new_name, no_name, adds, opens, shows, fails, closes, finish, bringing, hiding, setting}
 use Rattle.sat_checker.specs.matching.ProofChecking.{checker_rules}
 use Rattle.sat_checker.specs.matching.Traces.{HasTrace, no_step, silent, visible}
-use Rattle.sat_solver.specs.session.Session.{Session, with_fact, with_facts, with_sorted, with_live_clause, knowing, changed, session_after, MayAll}
+use Rattle.sat_solver.specs.session.Session.{Session, with_fact, session_after, MayAll}
+use Rattle.sat_solver.proofs.lemmas.session.Changes.{with_facts, with_sorted, with_live_clause, knowing, changed, session_if}
 use Rattle.sat_solver.specs.proof.Widths.{narrowed}
 use Rattle.sat_solver.specs.proof.Counting.{TruncatesHashes, none_made, ask_begun, one_made, width_change, counted}
 use Rattle.sat_solver.specs.declared.proof.hash_bits.Counting.{Counting}
@@ -133,7 +134,7 @@ NoneHidden s = (v : ℕ) → (s.variables v).mode ≢ stored.Hide
 fact_variables : (l : ℕ) (s : Session) → (with_fact l s).variables ≡ s.variables
 fact_variables l s = go (s.units l) (s.units (negated l))
   where
-    go : (a b : Bool) → (cond a s (cond b (record s { unsat = true }) (record s { units = λ m. eqb l m || s.units m }))).variables ≡ s.variables
+    go : (a b : Bool) → (session_if a s (session_if b (record s { unsat = true }) (record s { units = λ m. eqb l m || s.units m }))).variables ≡ s.variables
     go true b = refl
     go false true = refl
     go false false = refl
@@ -150,7 +151,7 @@ sorted_variables r (l ∷ m ∷ ls) s = refl
 clause_variables : (r : Bool) (c : List ℕ) (s : Session) → (with_live_clause r c s).variables ≡ s.variables
 clause_variables r c s = go (is_tautology c)
   where
-    go : (b : Bool) → (cond b s (with_sorted r (canonical c) s)).variables ≡ s.variables
+    go : (b : Bool) → (session_if b s (with_sorted r (canonical c) s)).variables ≡ s.variables
     go true = refl
     go false = sorted_variables r (canonical c) s
 
@@ -183,7 +184,7 @@ changed_none (AddClause c) s p h = go s.unsat
     k : Session
     k = knowing (map variable c) s
 
-    go : (b : Bool) → NoneHidden (cond b s (with_live_clause false c (knowing (map variable c) s)))
+    go : (b : Bool) → NoneHidden (session_if b s (with_live_clause false c (knowing (map variable c) s)))
     go true = h
     go false = same_none (knowing (map variable c) s) (with_live_clause false c (knowing (map variable c) s)) (clause_variables false c (knowing (map variable c) s)) (knowing_none (map variable c) s h)
 changed_none (AtClause r c hs) s p h = same_none (knowing (map variable c) s) (with_live_clause r c (knowing (map variable c) s)) (clause_variables r c (knowing (map variable c) s)) (knowing_none (map variable c) s h)

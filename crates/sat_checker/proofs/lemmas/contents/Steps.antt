@@ -1,9 +1,8 @@
 -- Whatever steps there were, their contents are those of what is stored behind them.
 use Rattle.std.proofs.Common.{◌≡◌, Bool, true, false, List, [], ◌∷◌, refl, ◌∙◌, ap, None}
 use Rattle.sat_base.specs.steps.Steps.{Step}
-use Rattle.sat_checker.specs.Stored.{nothing_stored}
 use Rattle.sat_checker.specs.Accepts.{stored_after, ready_after}
-use Rattle.sat_checker.specs.Contents.{contents, count_in, contents_after, contents_of}
+use Rattle.sat_checker.specs.Contents.{contents, count_in, empty_state, contents_after, contents_of}
 use Rattle.sat_checker.specs.Invariants.{ContentsOfSteps}
 use Rattle.sat_checker.proofs.lemmas.contents.Views.{contents_follow, contents_are_settled}
 use Rattle.sat_checker.proofs.lemmas.invariants.Counted.{tidy_clauses}
@@ -13,7 +12,7 @@ none_counts true = refl
 none_counts false = refl
 
 stored : (steps : List Step) → contents (stored_after steps) ≡ contents_of steps
-stored [] = λ i. record { counts = λ r set. none_counts r i; units = λ l. false; unsat = false; variables = nothing_stored.variables; solver_names = nothing_stored.solver_names; width = 64; assumed = []; ended = false; var_deleted = false }
+stored [] = λ i. record { state = record empty_state { counts = λ r set. none_counts r i }; ended = false; var_deleted = false }
 stored (step ∷ earlier) =
     contents_follow (ready_after earlier) step (tidy_clauses earlier).once ∙ ap (contents_after step) (contents_are_settled (stored_after earlier) ∙ stored earlier)
 

@@ -7,7 +7,7 @@ use Rattle.sat_checker.specs.LiteralSets.{is_among, is_tautology, canonical}
 use Rattle.sat_checker.specs.Stored.{StoredUnit, unknown, Stored, is_unit}
 use Rattle.sat_checker.specs.Storing.{with_contradiction, with_new_unit, with_unit, with_units, settled_by, settled, with_set, with_canonical, with_stored, with_input, with_literals_known}
 use Rattle.sat_checker.specs.Accepts.{effect}
-use Rattle.sat_checker.specs.Contents.{contents, unit_more, units_more, set_more, clause_more, literals_known, contents_after}
+use Rattle.sat_checker.specs.Contents.{ProofState, Contents, stored_state, contents, unit_more, units_more, set_more, clause_more, literals_known, contents_after}
 use Rattle.sat_checker.specs.Invariants.{EachOnce, ContentsFollow, ContentsAreSettled}
 use Rattle.sat_checker.proofs.lemmas.contents.Counts.{count_more, count_less}
 
@@ -20,36 +20,40 @@ among_push (u ∷ us) id l m = ap (λ b. eqb u.literal m || b) (among_push us id
     turn true false z = refl
     turn false y z = refl
 
-pub view_unit : (l : ℕ) (f : Stored) → contents (with_unit l f) ≡ unit_more l (contents f)
+-- a change of the state, which leaves the rest
+abbrev pub onto : (ProofState → ProofState) → Contents → Contents
+onto change c = record c { state = change c.state }
+
+pub view_unit : (l : ℕ) (f : Stored) → contents (with_unit l f) ≡ onto (unit_more l) (contents f)
 view_unit l f = go (is_unit f l) (is_unit f (negated l))
   where
     units : is_unit (with_new_unit l f) ≡ (λ m. eqb l m || is_unit f m)
     units = λ i. λ m. among_push f.units f.next_id l m i
 
-    go : (b d : Bool) → contents (cond b f (cond d (with_contradiction l f) (with_new_unit l f))) ≡ cond b (contents f) (cond d (record (contents f) { unsat = true }) (record (contents f) { units = λ m. eqb l m || is_unit f m }))
+    go : (b d : Bool) → contents (cond b f (cond d (with_contradiction l f) (with_new_unit l f))) ≡ onto (λ s. cond b s (cond d (record s { unsat = true }) (record s { units = λ m. eqb l m || is_unit f m }))) (contents f)
     go true d = refl
     go false true = refl
-    go false false = ap (λ us. record (contents f) { units = us }) units
+    go false false = ap (λ us. onto (λ s. record s { units = us }) (contents f)) units
 
-pub view_units : (ls : List ℕ) (f : Stored) → contents (with_units ls f) ≡ units_more ls (contents f)
+pub view_units : (ls : List ℕ) (f : Stored) → contents (with_units ls f) ≡ onto (units_more ls) (contents f)
 view_units [] f = refl
-view_units (l ∷ ls) f = view_units ls (with_unit l f) ∙ ap (units_more ls) (view_unit l f)
+view_units (l ∷ ls) f = view_units ls (with_unit l f) ∙ ap (onto (units_more ls)) (view_unit l f)
 
-view_set : (r : Bool) (set : List ℕ) (f : Stored) → contents (with_set r set f) ≡ set_more r set (contents f)
+view_set : (r : Bool) (set : List ℕ) (f : Stored) → contents (with_set r set f) ≡ onto (set_more r set) (contents f)
 view_set r [] f = refl
 view_set r (l ∷ []) f = view_unit l f
-view_set r (l ∷ m ∷ ls) f = λ i. record (contents f) { counts = λ q other. count_more r q f.next_id (l ∷ m ∷ ls) other f.clauses i }
+view_set r (l ∷ m ∷ ls) f = λ i. onto (λ s. record s { counts = λ q other. count_more r q f.next_id (l ∷ m ∷ ls) other f.clauses i }) (contents f)
 
 -- with whatever last clause
-view_stored : (r : Bool) (clause : List ℕ) (f : Stored) → contents (with_stored r clause f) ≡ clause_more r clause (contents f)
+view_stored : (r : Bool) (clause : List ℕ) (f : Stored) → contents (with_stored r clause f) ≡ onto (clause_more r clause) (contents f)
 view_stored true clause f = go (is_tautology clause)
   where
-    go : (b : Bool) → contents (cond b f (with_canonical true (canonical clause) f)) ≡ cond b (contents f) (set_more true (canonical clause) (contents f))
+    go : (b : Bool) → contents (cond b f (with_canonical true (canonical clause) f)) ≡ onto (λ s. cond b s (set_more true (canonical clause) s)) (contents f)
     go true = refl
     go false = view_set true (canonical clause) f
 view_stored false clause f = go (is_tautology clause)
   where
-    go : (b : Bool) → contents (cond b f (with_canonical false (canonical clause) f)) ≡ cond b (contents f) (set_more false (canonical clause) (contents f))
+    go : (b : Bool) → contents (cond b f (with_canonical false (canonical clause) f)) ≡ onto (λ s. cond b s (set_more false (canonical clause) s)) (contents f)
     go true = refl
     go false = view_set false (canonical clause) f
 
@@ -78,17 +82,17 @@ among_left (u ∷ us) v m = go (eqb (variable u.literal) v) refl (eqb u.literal 
 view_changed : (step : Step) (f : Stored) → EachOnce f.clauses → contents (effect step f) ≡ contents_after step (contents f)
 view_changed (SolverVarName v None) f h = refl
 view_changed (UserVarName v (Some name)) f h = refl
-view_changed (DeleteVar v) f h = λ i. record (contents f) { variables = λ w. cond (eqb w v) unknown (f.variables w); units = λ m. among_left f.units v m i; var_deleted = true }
+view_changed (DeleteVar v) f h = λ i. record { state = record (stored_state f) { variables = λ w. cond (eqb w v) unknown (f.variables w); units = λ m. among_left f.units v m i }; ended = f.ended; var_deleted = true }
 view_changed (AddClause clause) f h = go f.unsat
   where
-    go : (b : Bool) → contents (cond b f (with_input clause (with_literals_known clause f))) ≡ cond b (contents f) (clause_more false clause (literals_known clause (contents f)))
+    go : (b : Bool) → contents (cond b f (with_input clause (with_literals_known clause f))) ≡ onto (λ s. cond b s (clause_more false clause (literals_known clause s))) (contents f)
     go true = refl
     go false = view_stored false clause (with_literals_known clause f)
 view_changed (AtClause r clause hashes) f h = view_stored r clause (with_literals_known clause f)
 view_changed (UnitClauses us) f h = let ls : List ℕ = map (λ u. u.0) us in view_units ls (with_literals_known ls f)
-view_changed (DeleteClause clause Redundant) f h = λ i. record (contents f) { counts = λ q other. count_less true q (canonical clause) other f.clauses h i }
-view_changed (DeleteClause clause Simplified) f h = λ i. record (contents f) { counts = λ q other. count_less false q (canonical clause) other f.clauses h i }
-view_changed (DeleteClause clause Satisfied) f h = λ i. record (contents f) { counts = λ q other. count_less false q (canonical clause) other f.clauses h i }
+view_changed (DeleteClause clause Redundant) f h = λ i. onto (λ s. record s { counts = λ q other. count_less true q (canonical clause) other f.clauses h i }) (contents f)
+view_changed (DeleteClause clause Simplified) f h = λ i. onto (λ s. record s { counts = λ q other. count_less false q (canonical clause) other f.clauses h i }) (contents f)
+view_changed (DeleteClause clause Satisfied) f h = λ i. onto (λ s. record s { counts = λ q other. count_less false q (canonical clause) other f.clauses h i }) (contents f)
 view_changed step f h = refl
 
 pub view_settled : (f : Stored) → contents (settled f) ≡ contents f

@@ -11,5 +11,5 @@ less_more false n = refl
 pub returns : goal.returns
 returns c = λ earlier hashes side set.
     let all = c.contents_follow_steps.ensures.steps in
-    ap (λ (x : Contents). x.counts side set) (all (DeleteClause (0 ∷ 2 ∷ []) Redundant ∷ AtClause true (0 ∷ 2 ∷ []) hashes ∷ earlier))
-    ∙ less_more (same_side true side && same_literals (0 ∷ 2 ∷ []) set) ((contents_of earlier).counts side set) ∙ sym (ap (λ (x : Contents). x.counts side set) (all earlier))
+    ap (λ (x : Contents). x.state.counts side set) (all (DeleteClause (0 ∷ 2 ∷ []) Redundant ∷ AtClause true (0 ∷ 2 ∷ []) hashes ∷ earlier))
+    ∙ less_more (same_side true side && same_literals (0 ∷ 2 ∷ []) set) ((contents_of earlier).state.counts side set) ∙ sym (ap (λ (x : Contents). x.state.counts side set) (all earlier))

@@ -5,7 +5,8 @@ use Rattle.sat_base.specs.values.Literals.{variable, negated}
 use Rattle.sat_base.specs.steps.Steps.{Step, AtClause, UnitClauses, DeleteClause, Redundant, Simplified, Satisfied}
 use Rattle.sat_checker.specs.LiteralSets.{is_among, is_tautology, canonical}
 use Rattle.sat_checker.specs.Stored.{Variable}
-use Rattle.sat_solver.specs.session.Session.{Session, with_fact, with_facts, with_sorted, with_live_clause, knowing_literals, after, session_after}
+use Rattle.sat_solver.specs.session.Session.{Session, with_fact, after, session_after}
+use Rattle.sat_solver.proofs.lemmas.session.Changes.{with_facts, with_sorted, with_live_clause, knowing_literals, session_if}
 use Rattle.sat_solver.specs.cdcl.Going.{is_searched, AreSearched, IsSearched}
 use Rattle.sat_solver.specs.cdcl.Joint.{SameAssumedAndNames}
 
@@ -35,9 +36,9 @@ kept_refl s = record { asked = refl; names = refl; modes = λ v. refl }
 kept_trans : (s t u : Session) → Kept s t → Kept t u → Kept s u
 kept_trans s t u x y = record { asked = y.asked ∙ x.asked; names = y.names ∙ x.names; modes = λ v. y.modes v ∙ x.modes v }
 
-both : (b : Bool) (s x y : Session) → Kept s x → Kept s y → Kept s (cond b x y)
+both : (b : Bool) (s x y : Session) → Kept s x → Kept s y → Kept s (session_if b x y)
 both true s x y e f = e
-both false s x y e f = f
+both false s x y e f = record { asked = f.asked; names = f.names; modes = f.modes }
 
 fact : (l : ℕ) (s : Session) → Kept s (with_fact l s)
 fact l s = both (s.units l) s s _ (kept_refl s) (both (s.units (negated l)) s _ _ (record { asked = refl; names = refl; modes = λ v. refl }) (record { asked = refl; names = refl; modes = λ v. refl }))

@@ -1,5 +1,5 @@
 -- Clauses of the formula come in: each case of loading a clause, at level 0.
-use Rattle.std.proofs.Common.{ℕ, ◌*◌, ◌<◌, ◌≤◌, ◌≡◌, ◌≢◌, true, false, ◌||◌, cond, eqb, List, [], ◌∷◌, map, length, refl, sym, ◌∙◌, ap, subst, arith, inl, inr, Some}
+use Rattle.std.proofs.Common.{ℕ, ◌*◌, ◌<◌, ◌≤◌, ◌≡◌, ◌≢◌, true, false, ◌||◌, eqb, List, [], ◌∷◌, map, length, refl, sym, ◌∙◌, ap, subst, arith, inl, inr, Some}
 use Rattle.std.proofs.lemmas.Bool.{true≢false, false_from_ne_true}
 use Rattle.sat_base.specs.values.Literals.{variable, negated}
 use Rattle.sat_base.specs.steps.Steps.{AddClause, AtClause, DeleteClause, Satisfied}
@@ -15,7 +15,8 @@ use Rattle.sat_parts.specs.prop.Values.{IsTrueLit, IsFalseLit}
 use Rattle.sat_parts.specs.prop.State.{State, node, level, lit_at, StateIsConsistent}
 use Rattle.sat_parts.proofs.lemmas.clause.OrderLemmas.{shuffled_trans}
 use Rattle.sat_parts.proofs.lemmas.prop.StateLemmas.{negated_variable, negated_twice, false_from_true, not_both}
-use Rattle.sat_solver.specs.session.Session.{Session, with_fact, with_live_clause, with_sorted, knowing_literals, after, May}
+use Rattle.sat_solver.specs.session.Session.{Session, with_fact, after, May}
+use Rattle.sat_solver.proofs.lemmas.session.Changes.{with_live_clause, with_sorted, knowing_literals, session_if}
 use Rattle.sat_solver.specs.session.LiveClauses.{LiveClause, with_var, AreMapped}
 use Rattle.sat_solver.proofs.lemmas.session.Mapped.{negated_mapped, apart}
 use Rattle.sat_solver.proofs.lemmas.session.StepsOfClauses.{short_leaves}
@@ -85,20 +86,20 @@ module _ (words live : List ℕ) (implied : List (List ℕ)) (st : State) (s : S
       let open_here : s.units (with_var global l) ≡ false = false_from_ne_true (s.units (with_var global l)) (λ u.
       not_both st.values l (fits.sound l own u).0 (subst (λ z. IsFalseLit st.values z) (negated_twice l) (false_from_true st.values (negated l) x.0))) in
       let other : s.units (negated (with_var global l)) ≡ true = subst (λ z. s.units z ≡ true) (negated_mapped global l) (fits.known (negated l) unit) in
-      ap (λ b. (cond b s (with_fact w known)).unsat) fits.consistent
-      ∙ ap (λ b. (cond b known (cond (s.units (negated w)) (record known { unsat = true }) (record known { units = λ m. eqb w m || s.units m }))).unsat) open_here
-      ∙ ap (λ b. (cond b (record known { unsat = true }) (record known { units = λ m. eqb w m || s.units m })).unsat) other
+      ap (λ b. (session_if b s (with_fact w known)).unsat) fits.consistent
+      ∙ ap (λ b. (session_if b known (session_if (s.units (negated w)) (record known { unsat = true }) (record known { units = λ m. eqb w m || s.units m }))).unsat) open_here
+      ∙ ap (λ b. (session_if b (record known { unsat = true }) (record known { units = λ m. eqb w m || s.units m })).unsat) other
 
   -- so it is where the clause is empty
   pub added_empty : (after (AddClause []) s).unsat ≡ true
-  added_empty = ap (λ b. (cond b s (record (knowing_literals [] s) { unsat = true })).unsat) fits.consistent
+  added_empty = ap (λ b. (session_if b s (record (knowing_literals [] s) { unsat = true })).unsat) fits.consistent
 
   -- a tautology changes nothing
   pub fits_added_tautology : (ls : List ℕ) → is_tautology ls ≡ true → SessionMatches words live implied st (after (AddClause (map (with_var global) ls)) s) global
   fits_added_tautology ls taut =
       let ks : List ℕ = map (with_var global) ls in
-      let same : cond s.unsat s (with_live_clause false ks (knowing_literals ks s)) ≡ knowing_literals ks s =
-      ap (λ b. cond b s (with_live_clause false ks (knowing_literals ks s))) fits.consistent ∙ ap (λ b. cond b (knowing_literals ks s) (with_sorted false (canonical ks) (knowing_literals ks s))) (taut_carried global ls taut) in
+      let same : session_if s.unsat s (with_live_clause false ks (knowing_literals ks s)) ≡ knowing_literals ks s =
+      ap (λ b. session_if b s (with_live_clause false ks (knowing_literals ks s))) fits.consistent ∙ ap (λ b. session_if b (knowing_literals ks s) (with_sorted false (canonical ks) (knowing_literals ks s))) (taut_carried global ls taut) in
       fits_listed words live implied st (after (AddClause ks) s) global
       (listed_stays all st s (after (AddClause ks) s) global its
       (record {

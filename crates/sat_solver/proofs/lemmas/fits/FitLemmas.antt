@@ -1,5 +1,5 @@
 -- Sessions fit on as the parts take their steps.
-use Rattle.std.proofs.Common.{ℕ, zero, suc, ◌+◌, ◌<◌, ◌≡◌, ◌≢◌, Bool, true, false, ◌||◌, cond, eqb, List, [], ◌∷◌, ◌++◌, map, length, get_or, refl, sym, ◌∙◌, ap, subst, arith, ◌⊎◌, inl, inr, Option, Some, None, length-set, ◌&&◌}
+use Rattle.std.proofs.Common.{ℕ, zero, suc, ◌+◌, ◌<◌, ◌≡◌, ◌≢◌, Bool, true, false, ◌||◌, eqb, List, [], ◌∷◌, ◌++◌, map, length, get_or, refl, sym, ◌∙◌, ap, subst, arith, ◌⊎◌, inl, inr, Option, Some, None, length-set, ◌&&◌}
 use Rattle.std.proofs.lemmas.Bool.{or_cases, or_left, or_right, eqb-true, eq-eqb, true≢false, false_from_ne_true, or_from, or_parts, cases_lt}
 use Rattle.std.proofs.lemmas.List.{length_push}
 use Rattle.std.specs.List.{Contains, AllByRecursion}
@@ -22,7 +22,8 @@ use Rattle.sat_parts.proofs.lemmas.clause.ListLemmas.{at_place, place_in}
 use Rattle.sat_parts.proofs.lemmas.prop.StateLemmas.{negated_twice, negated_variable, grows_enqueued, lit_last, node_new, true_new}
 use Rattle.sat_parts.proofs.lemmas.prop.RoomLemmas.{room_for}
 use Rattle.sat_checker.specs.Contents.{same_side, more_if}
-use Rattle.sat_solver.specs.session.Session.{Session, with_fact, with_live, with_live_clause, knowing_literals, after}
+use Rattle.sat_solver.specs.session.Session.{Session, with_fact, after}
+use Rattle.sat_solver.proofs.lemmas.session.Changes.{with_live, with_live_clause, knowing_literals, session_if}
 use Rattle.sat_solver.specs.session.LiveClauses.{LiveClause, live_count_of, IsIn, with_var, mapped, AreMapped, AreOf}
 use Rattle.sat_solver.proofs.lemmas.session.Mapped.{negated_mapped, among_mapped, not_among, apart}
 use Rattle.sat_solver.proofs.lemmas.session.StepsOfClauses.{clause_long, short_leaves}
@@ -230,7 +231,7 @@ two_of (x ∷ y ∷ z ∷ zs) e = absurd (omega arith)
 pub fact_unsat : (l : ℕ) (s : Session) → s.units (negated l) ≡ false → (with_fact l s).unsat ≡ s.unsat
 fact_unsat l s n = go (s.units l) (s.units (negated l)) n
   where
-    go : (b d : Bool) → d ≡ false → (cond b s (cond d (record s { unsat = true }) (record s { units = λ m. eqb l m || s.units m }))).unsat ≡ s.unsat
+    go : (b d : Bool) → d ≡ false → (session_if b s (session_if d (record s { unsat = true }) (record s { units = λ m. eqb l m || s.units m }))).unsat ≡ s.unsat
     go true d e = refl
     go false true e = absurd (true≢false e)
     go false false e = refl

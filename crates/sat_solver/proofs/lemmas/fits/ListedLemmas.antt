@@ -1,5 +1,5 @@
 -- Lists of clauses fit sessions on as steps are written.
-use Rattle.std.proofs.Common.{ℕ, ◌<◌, ◌≡◌, Bool, true, false, cond, List, [], ◌∷◌, ◌++◌, map, length, refl, sym, ◌∙◌, ap, subst, arith, inl, inr, Option}
+use Rattle.std.proofs.Common.{ℕ, ◌<◌, ◌≡◌, Bool, true, false, List, [], ◌∷◌, ◌++◌, map, length, refl, sym, ◌∙◌, ap, subst, arith, inl, inr, Option}
 use Rattle.std.specs.List.{list_any}
 use Rattle.sat_base.specs.values.Literals.{variable}
 use Rattle.sat_base.specs.steps.Steps.{AddClause, AtClause, DeleteClause, Redundant, Satisfied, Simplified}
@@ -8,7 +8,8 @@ use Rattle.sat_checker.specs.SortedSets.{NoRepeats}
 use Rattle.sat_checker.proofs.lemmas.sets.Subsets.{any_true}
 use Rattle.sat_parts.specs.clause.Orders.{IsReordering}
 use Rattle.sat_parts.specs.prop.State.{State}
-use Rattle.sat_solver.specs.session.Session.{Session, with_live_clause, with_live, without_live, knowing_literals, after, May, MayReplace}
+use Rattle.sat_solver.specs.session.Session.{Session, after, May, MayReplace}
+use Rattle.sat_solver.proofs.lemmas.session.Changes.{with_live_clause, with_live, without_live, knowing_literals, session_if}
 use Rattle.sat_solver.specs.session.LiveClauses.{LiveClause, IsIn, with_var, mapped, AreMapped, AreOf}
 use Rattle.sat_solver.proofs.lemmas.session.Lists.{in_counts}
 use Rattle.sat_solver.proofs.lemmas.session.Mapped.{once_mapped, among_mapped}
@@ -90,7 +91,7 @@ module _ (s : Session) (global : ℕ → ℕ) (ls ms : List ℕ) (c : MayCome s.
 pub listed_by : (cs : List LiveClause) (st : State) (s : Session) (global : ℕ → ℕ) (ks hashes : List ℕ) → s.unsat ≡ false →
     FitsList cs st (after (AtClause false ks hashes) s) global → FitsList cs st (after (AddClause ks) s) global
 listed_by cs st s global ks hashes u h =
-    let same : cond s.unsat s (with_live_clause false ks (knowing_literals ks s)) ≡ with_live_clause false ks (knowing_literals ks s) = ap (λ b. cond b s (with_live_clause false ks (knowing_literals ks s))) u in
+    let same : session_if s.unsat s (with_live_clause false ks (knowing_literals ks s)) ≡ with_live_clause false ks (knowing_literals ks s) = ap (λ b. session_if b s (with_live_clause false ks (knowing_literals ks s))) u in
     listed_stays cs st (after (AtClause false ks hashes) s) (after (AddClause ks) s) global h
     (record {
       names = λ v. ap (λ (x : Session). x.solver_names v) same;

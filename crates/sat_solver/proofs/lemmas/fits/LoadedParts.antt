@@ -13,7 +13,8 @@ use Rattle.sat_parts.specs.prop.Values.{value_of, IsTrueLit, IsOpenLit}
 use Rattle.sat_parts.specs.prop.State.{State, level, current_level, StateIsConsistent}
 use Rattle.sat_parts.proofs.lemmas.clause.OrderLemmas.{shuffled_refl}
 use Rattle.sat_parts.proofs.lemmas.prop.StateLemmas.{negated_variable, true_from_false, level_low}
-use Rattle.sat_solver.specs.session.Session.{Session, with_fact, knowing_literals, after}
+use Rattle.sat_solver.specs.session.Session.{Session, with_fact, after}
+use Rattle.sat_solver.proofs.lemmas.session.Changes.{knowing_literals}
 use Rattle.sat_solver.specs.session.LiveClauses.{LiveClause, with_var, AreMapped}
 use Rattle.sat_solver.proofs.lemmas.session.Mapped.{negated_mapped, apart}
 use Rattle.sat_solver.proofs.lemmas.session.StepsOfClauses.{short_leaves}

@@ -8,7 +8,8 @@ use Rattle.sat_checker.specs.LiteralSets.{mentions}
 use Rattle.sat_parts.specs.prop.Binaries.{implied_by}
 use Rattle.sat_parts.specs.prop.Values.{IsTrueLit}
 use Rattle.sat_parts.specs.prop.State.{State, level}
-use Rattle.sat_solver.specs.session.Session.{Session, session_with_name, after}
+use Rattle.sat_solver.specs.session.Session.{Session, after}
+use Rattle.sat_solver.proofs.lemmas.session.Changes.{session_with_name}
 use Rattle.sat_solver.specs.session.LiveClauses.{LiveClause, IsIn}
 use Rattle.sat_solver.proofs.lemmas.session.Represented.{loses_name, still_of}
 use Rattle.sat_solver.specs.session.SolverClauses.{binaries, longs, solver_clauses}

@@ -1,5 +1,5 @@
 -- No live clause of a session has both signs of a variable.
-use Rattle.std.proofs.Common.{ℕ, ◌<◌, ◌≡◌, Bool, true, false, ◌&&◌, cond, List, [], ◌∷◌, map, refl, sym, ◌∙◌, ap, subst, arith, ◌⊎◌, inl, inr, Some, None}
+use Rattle.std.proofs.Common.{ℕ, ◌<◌, ◌≡◌, Bool, true, false, ◌&&◌, List, [], ◌∷◌, map, refl, sym, ◌∙◌, ap, subst, arith, ◌⊎◌, inl, inr, Some, None}
 use Rattle.std.proofs.lemmas.Bool.{true≢false, false_from_ne_true}
 use Rattle.sat_base.specs.values.Literals.{negated}
 use Rattle.sat_base.specs.steps.Steps.{Redundant, Simplified, Satisfied, Step, SolverVarName, UserVarName, AddClause, AtClause, UnitClauses, DeleteClause}
@@ -7,7 +7,8 @@ use Rattle.sat_checker.specs.LiteralSets.{is_part, is_tautology, canonical, same
 use Rattle.sat_checker.proofs.lemmas.sets.Canonical.{canonical_tautology, tautology_from, both_signs}
 use Rattle.sat_checker.proofs.lemmas.meaning.Clauses.{same}
 use Rattle.sat_checker.specs.Contents.{same_side, more_if, less_if}
-use Rattle.sat_solver.specs.session.Session.{Session, with_fact, with_facts, with_live, with_sorted, with_live_clause, knowing_literals, without_live, changed, session_after}
+use Rattle.sat_solver.specs.session.Session.{Session, with_fact, session_after}
+use Rattle.sat_solver.proofs.lemmas.session.Changes.{with_facts, with_live, with_sorted, with_live_clause, knowing_literals, without_live, changed, session_if}
 use Rattle.sat_solver.proofs.lemmas.session.StepsOfClauses.{fact_stays, facts_stay}
 use Rattle.sat_solver.specs.session.Listed.{ArePlain}
 use Rattle.sat_solver.proofs.lemmas.fits.SetLemmas.{part_has}
@@ -49,7 +50,7 @@ plain_sorted r (l ∷ m ∷ ls) s n h = plain_live r (l ∷ m ∷ ls) s n h
 plain_clause : (r : Bool) (c : List ℕ) (s : Session) → ArePlain s → ArePlain (with_live_clause r c s)
 plain_clause r c s h = go (is_tautology c) refl
   where
-    go : (b : Bool) → is_tautology c ≡ b → ArePlain (cond b s (with_sorted r (canonical c) s))
+    go : (b : Bool) → is_tautology c ≡ b → ArePlain (session_if b s (with_sorted r (canonical c) s))
     go true e = h
     go false e = plain_sorted r (canonical c) s (canonical_tautology c ∙ e) h
 
@@ -61,7 +62,7 @@ plain_changed (SolverVarName v None) s h = h
 plain_changed (UserVarName v (Some name)) s h = h
 plain_changed (AddClause clause) s h = go s.unsat
   where
-    go : (b : Bool) → ArePlain (cond b s (with_live_clause false clause (knowing_literals clause s)))
+    go : (b : Bool) → ArePlain (session_if b s (with_live_clause false clause (knowing_literals clause s)))
     go true = h
     go false = plain_clause false clause (knowing_literals clause s) h
 plain_changed (AtClause redundant clause hashes) s h = plain_clause redundant clause (knowing_literals clause s) h

@@ -1,5 +1,5 @@
 -- Literals in another order, as sets, and over proof variables.
-use Rattle.std.proofs.Common.{ℕ, ◌<◌, ◌≡◌, Bool, true, false, eqb, cond, List, [], ◌∷◌, map, length, refl, sym, ◌∙◌, ap, subst, arith, inl, inr}
+use Rattle.std.proofs.Common.{ℕ, ◌<◌, ◌≡◌, Bool, true, false, eqb, List, [], ◌∷◌, map, length, refl, sym, ◌∙◌, ap, subst, arith, inl, inr}
 use Rattle.std.proofs.lemmas.Bool.{or_cases, and_parts, eqb-true, true≢false}
 use Rattle.sat_base.specs.values.Literals.{negated}
 use Rattle.sat_checker.specs.LiteralSets.{is_among, is_tautology, is_part, canonical}
@@ -7,7 +7,8 @@ use Rattle.sat_checker.specs.SortedSets.{NoRepeats}
 use Rattle.sat_checker.proofs.lemmas.sets.Canonical.{canonical_among, canonical_increasing, same_increasing, same_tautology, tautology_from, both_signs}
 use Rattle.sat_checker.proofs.lemmas.sets.Subsets.{all_true}
 use Rattle.sat_parts.specs.clause.Orders.{AreDistinct, IsReordering}
-use Rattle.sat_solver.specs.session.Session.{Session, with_live_clause, with_sorted, with_live}
+use Rattle.sat_solver.specs.session.Session.{Session}
+use Rattle.sat_solver.proofs.lemmas.session.Changes.{with_live_clause, with_sorted, with_live, session_if}
 use Rattle.sat_solver.specs.session.LiveClauses.{with_var}
 use Rattle.sat_solver.proofs.lemmas.session.Mapped.{negated_mapped, among_mapped}
 use Rattle.sat_solver.proofs.lemmas.fits.UsableLemmas.{among_place, once_distinct}
@@ -75,7 +76,7 @@ part_mapped f xs ys h = all_true (is_among (map f ys)) (map f xs) (λ y t.
 
 -- a clause of two literals or more, of which the sorted set is known
 pub clause_of_set : (r : Bool) (c set : List ℕ) (s : Session) → canonical c ≡ set → 1 < length set → is_tautology c ≡ false → with_live_clause r c s ≡ with_live r set s
-clause_of_set r c set s e n t = ap (λ b. cond b s (with_sorted r (canonical c) s)) t ∙ ap (λ x. with_sorted r x s) e ∙ long set n
+clause_of_set r c set s e n t = ap (λ b. session_if b s (with_sorted r (canonical c) s)) t ∙ ap (λ x. with_sorted r x s) e ∙ long set n
   where
     long : (set : List ℕ) → 1 < length set → with_sorted r set s ≡ with_live r set s
     long [] n = absurd (omega arith)

@@ -15,7 +15,8 @@ use Rattle.sat_parts.specs.prop.State.{State, node, level, lit_at, current_level
 use Rattle.sat_parts.specs.prop.Reasons.{AreInTurn}
 use Rattle.sat_parts.specs.prop.Ready.{IsConflict}
 use Rattle.sat_parts.proofs.lemmas.prop.StateLemmas.{negated_variable, true_from_false, false_from_true, not_both, level_low}
-use Rattle.sat_solver.specs.session.Session.{Session, with_fact, with_facts, knowing_literals, after, MayProve, MayDerive, by_clauses, denied_in}
+use Rattle.sat_solver.specs.session.Session.{Session, with_fact, after, MayProve, MayDerive, by_clauses, denied_in}
+use Rattle.sat_solver.proofs.lemmas.session.Changes.{with_facts, knowing_literals}
 use Rattle.sat_solver.specs.session.LiveClauses.{with_var}
 use Rattle.sat_solver.proofs.lemmas.session.Mapped.{negated_mapped, apart}
 use Rattle.sat_solver.proofs.lemmas.session.StepsOfClauses.{units_leave}

@@ -1,5 +1,5 @@
 -- A clause is loaded.
-use Rattle.std.proofs.Common.{ℕ, ◌≡◌, ◌<◌, ◌≤◌, ◌*◌, ◌^◌, ◌∙◌, Err, Bool, true, false, cond, List, [], ◌∷◌, map, length, get_or, refl, sym, ap, subst, arith, inl, inr, None, Some, zero, suc, eqb}
+use Rattle.std.proofs.Common.{ℕ, ◌≡◌, ◌<◌, ◌≤◌, ◌*◌, ◌^◌, ◌∙◌, Err, Bool, true, false, List, [], ◌∷◌, map, length, get_or, refl, sym, ap, subst, arith, inl, inr, None, Some, zero, suc, eqb}
 use Rattle.sat_base.specs.values.Literals.{variable}
 use Rattle.sat_base.specs.steps.Steps.{Step, AddClause, AtClause, DeleteClause, Satisfied as True}
 use Rattle.sat_base.specs.device.Device.{Writer}
@@ -21,7 +21,8 @@ use Rattle.sat_parts.specs.parts.Whole.{state, PartsInvariant}
 use Rattle.sat_parts.proofs.lemmas.parts.LoadFrames.{carries_same, says_size, says_units}
 use Rattle.sat_parts.proofs.lemmas.parts.SortLemmas.{shuffled_last}
 use Rattle.sat_parts.proofs.lemmas.parts.WordSteps.{fits_below}
-use Rattle.sat_solver.specs.session.Session.{Session, May, after, session_after, with_live_clause, knowing_literals}
+use Rattle.sat_solver.specs.session.Session.{Session, May, after, session_after}
+use Rattle.sat_solver.proofs.lemmas.session.Changes.{with_live_clause, knowing_literals, session_if}
 use Rattle.sat_solver.specs.session.Coming.{IsLastAdded}
 use Rattle.sat_solver.specs.session.LiveClauses.{with_var}
 use Rattle.sat_solver.specs.session.Fits.{SessionMatchesParts}
@@ -50,14 +51,14 @@ use Rattle.sat_solver.proofs.lemmas.load.BottomLemmas.{mention_named}
 -- what is assumed stays so as a clause is added
 pub asked_added : (ks : List ℕ) (earlier : List Step) → (session_after earlier).unsat ≡ false → (session_after (AddClause ks ∷ earlier)).assumed ≡ (session_after earlier).assumed
 asked_added ks earlier consistent =
-    ap (λ b. (cond b (session_after earlier) (with_live_clause false ks (knowing_literals ks (session_after earlier)))).assumed) consistent ∙ asked_after (AtClause false ks [] ∷ []) earlier (refl, tt)
+    ap (λ b. (session_if b (session_after earlier) (with_live_clause false ks (knowing_literals ks (session_after earlier)))).assumed) consistent ∙ asked_after (AtClause false ks [] ∷ []) earlier (refl, tt)
 
 -- and the solver names
 pub leaves_added : (ks : List ℕ) (earlier : List Step) → (session_after earlier).unsat ≡ false → SameAssumedAndNames (session_after earlier) (session_after (AddClause ks ∷ earlier))
 leaves_added ks earlier consistent = record {
   assumed = asked_added ks earlier consistent;
   names = λ v.
-      ap (λ b. (cond b (session_after earlier) (with_live_clause false ks (knowing_literals ks (session_after earlier)))).solver_names v) consistent ∙ (leaves_after (AtClause false ks [] ∷ []) earlier (refl, tt)).names v;
+      ap (λ b. (session_if b (session_after earlier) (with_live_clause false ks (knowing_literals ks (session_after earlier)))).solver_names v) consistent ∙ (leaves_after (AtClause false ks [] ∷ []) earlier (refl, tt)).names v;
 }
 
 -- different literals of these variables are few

@@ -1,5 +1,5 @@
 -- What a call over names took is what a search loads.
-use Rattle.std.proofs.Common.{ℕ, zero, suc, ◌≡◌, ◌<◌, ◌∙◌, true, false, List, [], ◌∷◌, length, get_or, refl, sym, ap, subst, arith, Bool, cond, eqb, inl, inr, Some}
+use Rattle.std.proofs.Common.{ℕ, zero, suc, ◌≡◌, ◌<◌, ◌∙◌, true, false, List, [], ◌∷◌, length, get_or, refl, sym, ap, subst, arith, Bool, eqb, inl, inr, Some}
 use Rattle.std.proofs.lemmas.Bool.{true≢false, or_cases, or_left, or_right, eq-eqb, eqb-true}
 use Rattle.sat_base.specs.values.Literals.{variable, is_positive}
 use Rattle.sat_base.specs.steps.Steps.{Step, AddClause}
@@ -8,7 +8,8 @@ use Rattle.sat_checker.specs.SortedSets.{NoRepeats}
 use Rattle.sat_checker.proofs.lemmas.sets.Canonical.{canonical_increasing, canonical_tautology, canonical_among}
 use Rattle.sat_checker.proofs.lemmas.sets.Marks.{once}
 use Rattle.sat_parts.specs.clause.Orders.{AreDistinct}
-use Rattle.sat_solver.specs.session.Session.{Session, session_after, after, with_live_clause, knowing_literals}
+use Rattle.sat_solver.specs.session.Session.{Session, session_after, after}
+use Rattle.sat_solver.proofs.lemmas.session.Changes.{with_live_clause, knowing_literals, session_if}
 use Rattle.sat_solver.proofs.lemmas.fits.FitLemmas.{among_at, all_at}
 use Rattle.sat_solver.specs.load.Literals.{MapsClause, Images, Image}
 use Rattle.sat_solver.specs.declared.variables.Variables.{Variables}
@@ -58,7 +59,7 @@ set_over n ls h = all_members (λ l. (v : ℕ) × (global_at n (variable l) ≡ 
 pub added_names : (ks : List ℕ) (s : Session) (v : ℕ) → (after (AddClause ks) s).solver_names v ≡ s.solver_names v
 added_names ks s v = ap (λ f. f v) (go s.unsat)
   where
-    go : (b : Bool) → (cond b s (with_live_clause false ks (knowing_literals ks s))).solver_names ≡ s.solver_names
+    go : (b : Bool) → (session_if b s (with_live_clause false ks (knowing_literals ks s))).solver_names ≡ s.solver_names
     go true = refl
     go false = names_added ks s
 

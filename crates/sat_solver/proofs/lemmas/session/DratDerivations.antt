@@ -10,7 +10,8 @@ use Rattle.sat_checker.proofs.lemmas.propagation.Soundness.{negated-negated}
 use Rattle.sat_solver.specs.proof.Drat.{times, without_set, behind_lines, behind_step, present, RefutesByUnits, LinesStand, IsDratDerivation, DratStands}
 use Rattle.sat_solver.specs.proof.DratText.{unit_lines, drat_lines}
 use Rattle.sat_checker.specs.Contents.{more_if, less_if, same_side}
-use Rattle.sat_solver.specs.session.Session.{Session, nothing, with_live, without_live, with_fact, with_facts, with_sorted, with_live_clause, knowing_literals, after, session_after, AreLiveByHash, denied_in, MayDerive, by_unit, by_clauses, MayProve, May, MayAll}
+use Rattle.sat_solver.specs.session.Session.{Session, nothing, with_fact, after, session_after, AreLiveByHash, denied_in, MayDerive, by_unit, by_clauses, MayProve, May, MayAll}
+use Rattle.sat_solver.proofs.lemmas.session.Changes.{with_live, without_live, with_facts, with_sorted, with_live_clause, knowing_literals, session_if}
 use Rattle.sat_solver.proofs.lemmas.session.DratLemmas.{times_behind, times_itself, times_left, times_less, refutes_one, refutes_unit, leads_refute, units_first, negations, leads_within, units_in, units_there, units_are}
 
 -- of two literals or more
@@ -63,7 +64,7 @@ fact_kept l s ps k = go (s.units l) (s.units (negated l)) refl
     there : (m : ℕ) → (eqb l m || s.units m) ≡ true → 0 < times (m ∷ []) ((l ∷ []) ∷ ps)
     there m e = elim (or_cases (eqb l m) (s.units m) e) [ inl t ↦ subst (λ x. 0 < times (x ∷ []) ((l ∷ []) ∷ ps)) (eqb-true l m t) (here (l ∷ []) ps) | inr t ↦ wider.units m t ]
 
-    go : (b d : Bool) → s.units (negated l) ≡ d → Kept (cond b s (cond d (record s { unsat = true }) (record s { units = units }))) ((l ∷ []) ∷ ps)
+    go : (b d : Bool) → s.units (negated l) ≡ d → Kept (session_if b s (session_if d (record s { unsat = true }) (record s { units = units }))) ((l ∷ []) ∷ ps)
     go true d e = wider
     go false true e = record { counts = wider.counts; long = wider.long; units = wider.units; unsat = λ _. inr (l, here (l ∷ []) ps, wider.units (negated l) e) }
     go false false e = record { counts = wider.counts; long = wider.long; units = there; unsat = wider.unsat }
@@ -97,7 +98,7 @@ sorted_kept r (l ∷ m ∷ ls) s ps k = live_kept r (l ∷ m ∷ ls) s ps tt k
 clause_kept : (r : Bool) (clause : List ℕ) (s : Session) (ps : List (List ℕ)) → Kept s ps → Kept (with_live_clause r clause s) (canonical clause ∷ ps)
 clause_kept r clause s ps k = go (is_tautology clause)
   where
-    go : (b : Bool) → Kept (cond b s (with_sorted r (canonical clause) s)) (canonical clause ∷ ps)
+    go : (b : Bool) → Kept (session_if b s (with_sorted r (canonical clause) s)) (canonical clause ∷ ps)
     go true = kept_more s (canonical clause) ps k
     go false = sorted_kept r (canonical clause) s ps k
 
@@ -221,7 +222,7 @@ step_kept (AddClause clause) s ps k m = go s.unsat
     rest : Session → Session
     rest t = record t { last = None }
 
-    go : (b : Bool) → Kept (rest (cond b s (with_live_clause false clause known))) (canonical clause ∷ ps)
+    go : (b : Bool) → Kept (rest (session_if b s (with_live_clause false clause known))) (canonical clause ∷ ps)
     go true = let w = kept_more s (canonical clause) ps k in record { counts = w.counts; long = w.long; units = w.units; unsat = w.unsat }
     go false = let w = clause_kept false clause known ps (moved s known ps refl refl refl k) in record { counts = w.counts; long = w.long; units = w.units; unsat = w.unsat }
 step_kept (AtClause r clause hashes) s ps k m =

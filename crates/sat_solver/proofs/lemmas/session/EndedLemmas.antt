@@ -1,9 +1,9 @@
 -- The ends of proofs change nothing of what may be made: without them the session keeps the last clause longer, and nothing else differs.
-use Rattle.std.proofs.Common.{ℕ, ◌≡◌, Bool, true, false, ◌||◌, cond, eqb, Option, None, Some, List, [], ◌∷◌, map, refl, sym, ◌∙◌, ap, subst}
+use Rattle.std.proofs.Common.{ℕ, ◌≡◌, Option, None, Some, List, [], ◌∷◌, map, refl, sym, ap, subst}
 use Rattle.sat_base.specs.values.Literals.{negated}
-use Rattle.sat_base.specs.steps.Steps.{Redundant, Simplified, Step, SolverVarName, UserVarName, DeleteVar, AddClause, AtClause, UnitClauses, DeleteClause, ChangeHashBits, Model, Assumptions, FailedAssumptions, End}
-use Rattle.sat_checker.specs.LiteralSets.{is_tautology, canonical}
-use Rattle.sat_solver.specs.session.Session.{Session, with_fact, with_facts, with_sorted, with_live_clause, knowing_literals, changed, last_after, after, session_after, AreLiveByHash, MayDerive, MayFail, by_signs, by_derivation, by_unit, by_clauses, MayProve, May, MayAll}
+use Rattle.sat_base.specs.steps.Steps.{Simplified, Step, SolverVarName, UserVarName, DeleteVar, AtClause, UnitClauses, DeleteClause, ChangeHashBits, Model, Assumptions, FailedAssumptions, End}
+use Rattle.sat_checker.specs.Contents.{state_after}
+use Rattle.sat_solver.specs.session.Session.{Session, proof_state, session_with, with_fact, last_after, after, session_after, AreLiveByHash, MayDerive, MayFail, by_signs, by_derivation, by_unit, by_clauses, MayProve, May, MayAll}
 use Rattle.sat_solver.specs.proof.Checked.{unended}
 
 -- the session with another last clause
@@ -25,51 +25,10 @@ fail_at : (o : Option (List ℕ)) (s : Session) (core hashes : List ℕ) → May
 fail_at o s core hashes (by_signs t) = by_signs t
 fail_at o s core hashes (by_derivation d) = by_derivation (derive_at o s (map negated core) hashes d)
 
--- a unit
-fact_at : (o : Option (List ℕ)) (l : ℕ) (s : Session) → with_fact l (at o s) ≡ at o (with_fact l s)
-fact_at o l s = go (s.units l) (s.units (negated l))
-  where
-    units : ℕ → Bool
-    units = λ m. eqb l m || s.units m
-
-    go : (b d : Bool) → cond b (at o s) (cond d (record (at o s) { unsat = true }) (record (at o s) { units = units })) ≡ at o (cond b s (cond d (record s { unsat = true }) (record s { units = units })))
-    go true d = refl
-    go false true = refl
-    go false false = refl
-
-facts_at : (o : Option (List ℕ)) (ls : List ℕ) (s : Session) → with_facts ls (at o s) ≡ at o (with_facts ls s)
-facts_at o [] s = refl
-facts_at o (l ∷ ls) s = ap (with_facts ls) (fact_at o l s) ∙ facts_at o ls (with_fact l s)
-
+-- units
 prove_at : (o : Option (List ℕ)) (us : List (ℕ × ℕ)) (s : Session) → MayProve s us → MayProve (at o s) us
 prove_at o [] s h = tt
-prove_at o (u ∷ us) s h = (derive_at o s (u.0 ∷ []) (u.1 ∷ []) h.0, subst (λ x. MayProve x us) (sym (fact_at o u.0 s)) (prove_at o us (with_fact u.0 s) h.1))
-
-sorted_at : (o : Option (List ℕ)) (r : Bool) (set : List ℕ) (s : Session) → with_sorted r set (at o s) ≡ at o (with_sorted r set s)
-sorted_at o r [] s = refl
-sorted_at o r (l ∷ []) s = fact_at o l s
-sorted_at o r (l ∷ m ∷ ls) s = refl
-
-clause_at : (o : Option (List ℕ)) (r : Bool) (clause : List ℕ) (s : Session) → with_live_clause r clause (at o s) ≡ at o (with_live_clause r clause s)
-clause_at o r clause s = go (is_tautology clause)
-  where
-    go : (b : Bool) → cond b (at o s) (with_sorted r (canonical clause) (at o s)) ≡ at o (cond b s (with_sorted r (canonical clause) s))
-    go true = refl
-    go false = sorted_at o r (canonical clause) s
-
--- what a step changes
-changed_at : (o : Option (List ℕ)) (step : Step) (s : Session) → changed step (at o s) ≡ at o (changed step s)
-changed_at o (SolverVarName v None) s = refl
-changed_at o (UserVarName v (Some name)) s = refl
-changed_at o (AddClause clause) s = go s.unsat
-  where
-    go : (b : Bool) → cond b (at o s) (with_live_clause false clause (knowing_literals clause (at o s))) ≡ at o (cond b s (with_live_clause false clause (knowing_literals clause s)))
-    go true = refl
-    go false = clause_at o false clause (knowing_literals clause s)
-changed_at o (AtClause r clause hashes) s = clause_at o r clause (knowing_literals clause s)
-changed_at o (UnitClauses us) s = facts_at o (map (λ u. u.0) us) (knowing_literals (map (λ u. u.0) us) s)
-changed_at o (DeleteClause clause Redundant) s = refl
-changed_at o step s = refl
+prove_at o (u ∷ us) s h = (derive_at o s (u.0 ∷ []) (u.1 ∷ []) h.0, prove_at o us (with_fact u.0 s) h.1)
 
 -- the last clause is kept, at least
 abbrev Longer : Option (List ℕ) → Option (List ℕ) → Type 0
@@ -107,7 +66,7 @@ record Alike (s t : Session) : Type 0 where
 
 alike_after : (step : Step) (s t : Session) → Alike s t → Alike (after step s) (after step t)
 alike_after step s t h = record {
-  same = ap (λ (x : Session). record x { last = last_after step t.last }) (ap (changed step) h.same ∙ changed_at t.last step s);
+  same = ap (λ (x : Session). session_with (last_after step t.last) (state_after step (proof_state x))) h.same;
   longer = longer_after step s.last t.last h.longer;
 }
 

@@ -1,12 +1,12 @@
 -- A solver need not think of widths: what it may write with whole hashes may be written with their top bits at any width.
-use Rattle.std.proofs.Common.{ℕ, ◌-◌, ◌/◌, ◌^◌, ◌≡◌, Bool, true, false, ◌||◌, cond, eqb, List, [], ◌∷◌, map, refl, sym, ◌∙◌, ap, subst, arith, Option, None, Some}
+use Rattle.std.proofs.Common.{ℕ, ◌-◌, ◌/◌, ◌^◌, ◌≡◌, List, [], ◌∷◌, map, refl, sym, ◌∙◌, ap, subst, arith, Option, Some}
 use Rattle.sat_base.specs.values.Literals.{negated}
 use Rattle.sat_base.specs.values.Hashes.{hash_of}
-use Rattle.sat_base.specs.steps.Steps.{Redundant, Simplified, Step, SolverVarName, UserVarName, DeleteVar, AddClause, AtClause, UnitClauses, DeleteClause, ChangeHashBits, Model, Assumptions, FailedAssumptions, End}
-use Rattle.sat_checker.specs.LiteralSets.{is_tautology, canonical}
+use Rattle.sat_base.specs.steps.Steps.{Simplified, Step, SolverVarName, UserVarName, DeleteVar, AtClause, UnitClauses, DeleteClause, ChangeHashBits, Model, Assumptions, FailedAssumptions, End}
 use Rattle.sat_checker.specs.Stored.{solver_literal}
-use Rattle.sat_solver.specs.session.Session.{Session, with_fact, with_facts, with_sorted, with_live_clause, knowing_literals, changed, last_after, after, session_after, AreLiveByHash, MayDerive, MayFail, by_signs, by_derivation, by_unit, by_clauses, MayProve, May, MayAll}
+use Rattle.sat_solver.specs.session.Session.{Session, proof_state, session_with, with_fact, last_after, after, session_after, AreLiveByHash, MayDerive, MayFail, by_signs, by_derivation, by_unit, by_clauses, MayProve, May, MayAll}
 use Rattle.sat_solver.specs.proof.Widths.{kept_bits, narrowed, KeepsWidth, IsNarrowedTo, none_yet, width_changes, one_more, MayAt, WidthsAreFree}
+use Rattle.sat_solver.proofs.lemmas.session.WidthLemmas.{after_wide, fact_wide, fact_width, step_width}
 
 -- the session at another width
 abbrev pub at : ℕ → Session → Session
@@ -37,77 +37,13 @@ fail_at : (w : ℕ) (s : Session) → s.width ≡ 64 → (core hashes : List ℕ
 fail_at w s e core hashes (by_signs t) = by_signs t
 fail_at w s e core hashes (by_derivation d) = by_derivation (derive_at w s e (map negated core) hashes d)
 
--- a unit, at another width
-fact_at : (w l : ℕ) (s : Session) → with_fact l (at w s) ≡ at w (with_fact l s)
-fact_at w l s = go (s.units l) (s.units (negated l))
-  where
-    units : ℕ → Bool
-    units = λ m. eqb l m || s.units m
-
-    go : (b d : Bool) → cond b (at w s) (cond d (record (at w s) { unsat = true }) (record (at w s) { units = units })) ≡ at w (cond b s (cond d (record s { unsat = true }) (record s { units = units })))
-    go true d = refl
-    go false true = refl
-    go false false = refl
-
--- a unit leaves the width
-fact_width : (l : ℕ) (s : Session) → (with_fact l s).width ≡ s.width
-fact_width l s = go (s.units l) (s.units (negated l))
-  where
-    units : ℕ → Bool
-    units = λ m. eqb l m || s.units m
-
-    go : (b d : Bool) → (cond b s (cond d (record s { unsat = true }) (record s { units = units }))).width ≡ s.width
-    go true d = refl
-    go false true = refl
-    go false false = refl
-
--- units, at another width
-facts_at : (w : ℕ) (ls : List ℕ) (s : Session) → with_facts ls (at w s) ≡ at w (with_facts ls s)
-facts_at w [] s = refl
-facts_at w (l ∷ ls) s = ap (with_facts ls) (fact_at w l s) ∙ facts_at w ls (with_fact l s)
-
 -- units that may be proved may be at another width
 pub prove_at : (w : ℕ) (us : List (ℕ × ℕ)) (s : Session) → s.width ≡ 64 → MayProve s us → MayProve (at w s) (map (λ u. (u.0, kept_bits w u.1)) us)
 prove_at w [] s e h = tt
 prove_at w (u ∷ us) s e h = (
   derive_at w s e (u.0 ∷ []) (u.1 ∷ []) h.0,
-  subst (λ x. MayProve x (map (λ v. (v.0, kept_bits w v.1)) us)) (sym (fact_at w u.0 s)) (prove_at w us (with_fact u.0 s) (fact_width u.0 s ∙ e) h.1),
+  subst (λ x. MayProve x (map (λ v. (v.0, kept_bits w v.1)) us)) (sym (ap (session_with s.last) (fact_wide u.0 w (proof_state s)))) (prove_at w us (with_fact u.0 s) (fact_width u.0 (proof_state s) ∙ e) h.1),
 )
-
--- a sorted clause, at another width
-sorted_at : (w : ℕ) (r : Bool) (set : List ℕ) (s : Session) → with_sorted r set (at w s) ≡ at w (with_sorted r set s)
-sorted_at w r [] s = refl
-sorted_at w r (l ∷ []) s = fact_at w l s
-sorted_at w r (l ∷ m ∷ ls) s = refl
-
--- a clause, at another width
-clause_at : (w : ℕ) (r : Bool) (clause : List ℕ) (s : Session) → with_live_clause r clause (at w s) ≡ at w (with_live_clause r clause s)
-clause_at w r clause s = go (is_tautology clause)
-  where
-    go : (b : Bool) → cond b (at w s) (with_sorted r (canonical clause) (at w s)) ≡ at w (cond b s (with_sorted r (canonical clause) s))
-    go true = refl
-    go false = sorted_at w r (canonical clause) s
-
--- cut hashes leave the literals of units
-firsts : (w : ℕ) (us : List (ℕ × ℕ)) → map (λ (u : ℕ × ℕ). u.0) (map (λ (u : ℕ × ℕ). (u.0, kept_bits w u.1)) us) ≡ map (λ (u : ℕ × ℕ). u.0) us
-firsts w [] = refl
-firsts w (u ∷ us) = ap (λ ls. u.0 ∷ ls) (firsts w us)
-
--- a step, at another width
-changed_at : (w : ℕ) (step : Step) (s : Session) → KeepsWidth step → changed (narrowed w step) (at w s) ≡ at w (changed step s)
-changed_at w (SolverVarName v None) s k = refl
-changed_at w (UserVarName v (Some name)) s k = refl
-changed_at w (AddClause clause) s k = go s.unsat
-  where
-    go : (b : Bool) → cond b (at w s) (with_live_clause false clause (knowing_literals clause (at w s))) ≡ at w (cond b s (with_live_clause false clause (knowing_literals clause s)))
-    go true = refl
-    go false = clause_at w false clause (knowing_literals clause s)
-changed_at w (AtClause r clause hashes) s k = clause_at w r clause (knowing_literals clause s)
-changed_at w (UnitClauses us) s k =
-    ap (λ ls. with_facts ls (knowing_literals ls (at w s))) (firsts w us) ∙ facts_at w (map (λ u. u.0) us) (knowing_literals (map (λ u. u.0) us) s)
-changed_at w (DeleteClause clause Redundant) s k = refl
-changed_at w (ChangeHashBits bits) s k = absurd k
-changed_at w step s k = refl
 
 -- the last irredundant clause does not look at hashes
 last_at : (w : ℕ) (step : Step) (last : Option (List ℕ)) → last_after (narrowed w step) last ≡ last_after step last
@@ -116,7 +52,7 @@ last_at w step last = refl
 
 -- what a step leaves, at another width
 pub after_at : (w : ℕ) (step : Step) (s : Session) → KeepsWidth step → after (narrowed w step) (at w s) ≡ at w (after step s)
-after_at w step s k = λ i. record (changed_at w step s k i) { last = last_at w step s.last i }
+after_at w step s k = λ i. session_with (last_at w step s.last i) (after_wide w step w (proof_state s) k i)
 
 -- a step that may be written may be at another width, with cut hashes
 pub may_at : (w : ℕ) (step : Step) (s : Session) → s.width ≡ 64 → May s step → May (at w s) (narrowed w step)
@@ -133,40 +69,6 @@ may_at w (FailedAssumptions core hashes) s e m = (m.0, fail_at w s e core hashes
 may_at w End s e m = tt
 may_at w step s e m = m
 
--- the width stays 64 where no step changes it
-sorted_width : (r : Bool) (set : List ℕ) (s : Session) → (with_sorted r set s).width ≡ s.width
-sorted_width r [] s = refl
-sorted_width r (l ∷ []) s = fact_width l s
-sorted_width r (l ∷ m ∷ ls) s = refl
-
--- a clause leaves the width
-clause_width : (r : Bool) (clause : List ℕ) (s : Session) → (with_live_clause r clause s).width ≡ s.width
-clause_width r clause s = go (is_tautology clause)
-  where
-    go : (b : Bool) → (cond b s (with_sorted r (canonical clause) s)).width ≡ s.width
-    go true = refl
-    go false = sorted_width r (canonical clause) s
-
--- units leave the width
-facts_width : (ls : List ℕ) (s : Session) → (with_facts ls s).width ≡ s.width
-facts_width [] s = refl
-facts_width (l ∷ ls) s = facts_width ls (with_fact l s) ∙ fact_width l s
-
--- a step leaves the width
-changed_width : (step : Step) (s : Session) → KeepsWidth step → (changed step s).width ≡ s.width
-changed_width (SolverVarName v None) s k = refl
-changed_width (UserVarName v (Some name)) s k = refl
-changed_width (AddClause clause) s k = go s.unsat
-  where
-    go : (b : Bool) → (cond b s (with_live_clause false clause (knowing_literals clause s))).width ≡ s.width
-    go true = refl
-    go false = clause_width false clause (knowing_literals clause s)
-changed_width (AtClause r clause hashes) s k = clause_width r clause (knowing_literals clause s)
-changed_width (UnitClauses us) s k = facts_width (map (λ u. u.0) us) (knowing_literals (map (λ u. u.0) us) s)
-changed_width (DeleteClause clause Redundant) s k = refl
-changed_width (ChangeHashBits bits) s k = absurd k
-changed_width step s k = refl
-
 -- what is written for steps may be written, and the steps themselves are at 64 bits
 written_may : {wide written : List Step} {width : ℕ} → IsNarrowedTo wide written width → MayAll wide → MayAt wide written width × (session_after wide).width ≡ 64
 written_may none_yet h = (record { may = tt; session = refl }, refl)
@@ -180,7 +82,7 @@ written_may (one_more {wide = wide} {written = written} {width = width} step k w
         may = (ih.0.may, subst (λ x. May x (narrowed width step)) (sym ih.0.session) (may_at width step s ih.1 h.1));
         session = ap (after (narrowed width step)) ih.0.session ∙ after_at width step s k;
       },
-      changed_width step s k ∙ ih.1,
+      step_width step (proof_state s) k ∙ ih.1,
     )
 
 -- whatever widths are chosen, what is written may be written

@@ -1,9 +1,10 @@
 -- Steps mean what the accepted clauses do, as steps come and no name is hidden.
-use Rattle.std.proofs.Common.{ℕ, ◌≡◌, Bool, true, false, ◌||◌, cond, eqb, Some, None, List, [], ◌∷◌, map, refl}
+use Rattle.std.proofs.Common.{ℕ, ◌≡◌, Bool, true, false, ◌||◌, eqb, Some, None, List, [], ◌∷◌, map, refl}
 use Rattle.sat_base.specs.values.Literals.{negated}
 use Rattle.sat_base.specs.steps.Steps.{Redundant, Step, SolverVarName, UserVarName, AddClause, AtClause, UnitClauses, DeleteClause}
 use Rattle.sat_checker.specs.LiteralSets.{is_tautology, canonical}
-use Rattle.sat_solver.specs.session.Session.{Session, with_fact, with_facts, with_sorted, with_live_clause, knowing_literals, after}
+use Rattle.sat_solver.specs.session.Session.{Session, with_fact, after}
+use Rattle.sat_solver.proofs.lemmas.session.Changes.{with_facts, with_sorted, with_live_clause, knowing_literals, session_if}
 
 -- RECORDED UNSAT STAYS
 
@@ -11,7 +12,7 @@ use Rattle.sat_solver.specs.session.Session.{Session, with_fact, with_facts, wit
 fact_unsat : (l : ℕ) (s : Session) → s.unsat ≡ true → (with_fact l s).unsat ≡ true
 fact_unsat l s u = go (s.units l) (s.units (negated l))
   where
-    go : (b d : Bool) → (cond b s (cond d (record s { unsat = true }) (record s { units = λ m. eqb l m || s.units m }))).unsat ≡ true
+    go : (b d : Bool) → (session_if b s (session_if d (record s { unsat = true }) (record s { units = λ m. eqb l m || s.units m }))).unsat ≡ true
     go true d = u
     go false true = refl
     go false false = u
@@ -31,7 +32,7 @@ sorted_unsat r (l ∷ m ∷ ls) s u = u
 clause_unsat : (r : Bool) (clause : List ℕ) (s : Session) → s.unsat ≡ true → (with_live_clause r clause s).unsat ≡ true
 clause_unsat r clause s u = go (is_tautology clause)
   where
-    go : (b : Bool) → (cond b s (with_sorted r (canonical clause) s)).unsat ≡ true
+    go : (b : Bool) → (session_if b s (with_sorted r (canonical clause) s)).unsat ≡ true
     go true = u
     go false = sorted_unsat r (canonical clause) s u
 
@@ -41,7 +42,7 @@ unsat_stays (SolverVarName v None) s u = u
 unsat_stays (UserVarName v (Some name)) s u = u
 unsat_stays (AddClause clause) s u = go s.unsat
   where
-    go : (b : Bool) → (cond b s (with_live_clause false clause (knowing_literals clause s))).unsat ≡ true
+    go : (b : Bool) → (session_if b s (with_live_clause false clause (knowing_literals clause s))).unsat ≡ true
     go true = u
     go false = clause_unsat false clause (knowing_literals clause s) u
 unsat_stays (AtClause r clause hashes) s u = clause_unsat r clause (knowing_literals clause s) u

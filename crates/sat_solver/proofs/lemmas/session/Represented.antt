@@ -7,7 +7,8 @@ use Rattle.sat_base.specs.values.Hashes.{hash_of}
 use Rattle.sat_checker.specs.LiteralSets.{mentions, canonical, same_literals}
 use Rattle.sat_checker.specs.SortedSets.{NoRepeats}
 use Rattle.sat_checker.specs.Contents.{same_side, more_if, less_if}
-use Rattle.sat_solver.specs.session.Session.{Session, with_live, without_live, session_with_name, IsLive, hash_in}
+use Rattle.sat_solver.specs.session.Session.{Session, IsLive, hash_in}
+use Rattle.sat_solver.proofs.lemmas.session.Changes.{with_live, without_live, session_with_name}
 use Rattle.sat_solver.specs.session.LiveClauses.{LiveClause, live_count_of, IsIn, with_var, mapped, AreMapped, AreOf}
 use Rattle.sat_solver.proofs.lemmas.session.Lists.{count_between, in_counts, solver_hash}
 use Rattle.sat_solver.proofs.lemmas.session.Mapped.{once_mapped}

@@ -6,7 +6,8 @@ use Rattle.sat_base.specs.steps.Steps.{AtClause, UnitClauses}
 use Rattle.sat_checker.specs.LiteralSets.{is_among, is_tautology, with_literal, canonical}
 use Rattle.sat_checker.specs.SortedSets.{NoRepeats}
 use Rattle.sat_checker.proofs.lemmas.sets.Canonical.{canonical_among}
-use Rattle.sat_solver.specs.session.Session.{Session, with_live, with_fact, with_facts, with_sorted, with_live_clause, knowing_literals, after}
+use Rattle.sat_solver.specs.session.Session.{Session, with_fact, after}
+use Rattle.sat_solver.proofs.lemmas.session.Changes.{with_live, with_facts, with_sorted, with_live_clause, knowing_literals, session_if}
 use Rattle.sat_solver.specs.session.LiveClauses.{LiveClause, with_var, AreMapped, AreOf}
 use Rattle.sat_solver.proofs.lemmas.session.Mapped.{once_mapped}
 use Rattle.sat_solver.proofs.lemmas.session.Represented.{comes_in, still_of}
@@ -48,7 +49,7 @@ pub record Stays (s t : Session) : Type 0 where
 pub fact_stays : (l : ℕ) (s : Session) → Stays s (with_fact l s)
 fact_stays l s = go (s.units l) (s.units (negated l))
   where
-    go : (b d : Bool) → Stays s (cond b s (cond d (record s { unsat = true }) (record s { units = λ m. eqb l m || s.units m })))
+    go : (b d : Bool) → Stays s (session_if b s (session_if d (record s { unsat = true }) (record s { units = λ m. eqb l m || s.units m })))
     go true d = record { live = refl; names = refl }
     go false true = record { live = refl; names = refl }
     go false false = record { live = refl; names = refl }
@@ -77,7 +78,7 @@ sorted_short r (l ∷ m ∷ ls) s n = absurd (omega arith)
 -- a clause of two literals or more comes to the live ones
 pub clause_long : (r : Bool) (c : List ℕ) (s : Session) → NoRepeats c → 1 < length c → is_tautology c ≡ false → with_live_clause r c s ≡ with_live r (canonical c) s
 clause_long r c s n l t =
-    ap (λ b. cond b s (with_sorted r (canonical c) s)) t ∙ sorted_long r (canonical c) s (let e : length (canonical c) ≡ length c = length_sorted c n in omega arith)
+    ap (λ b. session_if b s (with_sorted r (canonical c) s)) t ∙ sorted_long r (canonical c) s (let e : length (canonical c) ≡ length c = length_sorted c n in omega arith)
 
 -- STEPS
 
@@ -102,7 +103,7 @@ module _ (s : Session) (global : ℕ → ℕ) where
   short_leaves cs r c hashes n l t h =
       let e : length (canonical c) ≡ length c = length_sorted c n in
       let k = sorted_short r (canonical c) (knowing_literals c s) (omega arith) in
-      let same : with_live_clause r c (knowing_literals c s) ≡ with_sorted r (canonical c) (knowing_literals c s) = ap (λ b. cond b (knowing_literals c s) (with_sorted r (canonical c) (knowing_literals c s))) t in
+      let same : with_live_clause r c (knowing_literals c s) ≡ with_sorted r (canonical c) (knowing_literals c s) = ap (λ b. session_if b (knowing_literals c s) (with_sorted r (canonical c) (knowing_literals c s))) t in
       of_staying s (after (AtClause r c hashes) s) global cs (record { live = ap (λ x. x.live) same ∙ k.live; names = ap (λ x. x.solver_names) same ∙ k.names }) h
 
   -- the step may have the literals in another order than the list

@@ -1,11 +1,12 @@
 -- No literal and its negation are both units, whatever steps came.
-use Rattle.std.proofs.Common.{ℕ, ◌≡◌, ◌≢◌, Bool, true, false, not, ◌&&◌, ◌||◌, cond, eqb, Some, None, List, [], ◌∷◌, map, refl, sym, ◌∙◌, ap, arith, inl, inr}
+use Rattle.std.proofs.Common.{ℕ, ◌≡◌, ◌≢◌, Bool, true, false, not, ◌&&◌, ◌||◌, eqb, Some, None, List, [], ◌∷◌, map, refl, sym, ◌∙◌, ap, arith, inl, inr}
 use Rattle.std.proofs.lemmas.Bool.{or_cases, eqb-true, false_from_ne_true, true≢false}
 use Rattle.sat_base.specs.values.Literals.{variable, negated}
 use Rattle.sat_base.specs.steps.Steps.{Redundant, Step, SolverVarName, UserVarName, DeleteVar, AddClause, AtClause, UnitClauses, DeleteClause}
 use Rattle.sat_checker.specs.LiteralSets.{is_tautology, canonical}
 use Rattle.sat_parts.proofs.lemmas.prop.StateLemmas.{negated_twice}
-use Rattle.sat_solver.specs.session.Session.{Session, with_fact, with_facts, with_sorted, with_live_clause, knowing_literals, after, session_after}
+use Rattle.sat_solver.specs.session.Session.{Session, with_fact, after, session_after}
+use Rattle.sat_solver.proofs.lemmas.session.Changes.{with_facts, with_sorted, with_live_clause, knowing_literals, session_if}
 use Rattle.sat_solver.specs.session.Advancing.{AreConsistent}
 
 negated_other : (l : ℕ) → negated l ≢ l
@@ -30,7 +31,7 @@ more units l new other h m t = false_from_ne_true (eqb l (negated m) || units (n
 fact_consistent : (l : ℕ) (s : Session) → AreConsistent s.units → AreConsistent (with_fact l s).units
 fact_consistent l s h = go (s.units l) (s.units (negated l)) refl refl
   where
-    go : (b d : Bool) → s.units l ≡ b → s.units (negated l) ≡ d → AreConsistent (cond b s (cond d (record s { unsat = true }) (record s { units = λ m. eqb l m || s.units m }))).units
+    go : (b d : Bool) → s.units l ≡ b → s.units (negated l) ≡ d → AreConsistent (session_if b s (session_if d (record s { unsat = true }) (record s { units = λ m. eqb l m || s.units m }))).units
     go true d e f = h
     go false true e f = h
     go false false e f = more s.units l e f h
@@ -47,7 +48,7 @@ sorted_consistent r (l ∷ m ∷ ls) s h = h
 clause_consistent : (r : Bool) (clause : List ℕ) (s : Session) → AreConsistent s.units → AreConsistent (with_live_clause r clause s).units
 clause_consistent r clause s h = go (is_tautology clause)
   where
-    go : (b : Bool) → AreConsistent (cond b s (with_sorted r (canonical clause) s)).units
+    go : (b : Bool) → AreConsistent (session_if b s (with_sorted r (canonical clause) s)).units
     go true = h
     go false = sorted_consistent r (canonical clause) s h
 
@@ -66,7 +67,7 @@ step_consistent (UserVarName v (Some name)) s h = h
 step_consistent (DeleteVar v) s h = without s.units (λ l. not (eqb (variable l) v)) h
 step_consistent (AddClause clause) s h = go s.unsat
   where
-    go : (b : Bool) → AreConsistent (cond b s (with_live_clause false clause (knowing_literals clause s))).units
+    go : (b : Bool) → AreConsistent (session_if b s (with_live_clause false clause (knowing_literals clause s))).units
     go true = h
     go false = clause_consistent false clause (knowing_literals clause s) h
 step_consistent (AtClause r clause hashes) s h = clause_consistent r clause (knowing_literals clause s) h

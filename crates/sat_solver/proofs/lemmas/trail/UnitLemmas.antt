@@ -13,6 +13,7 @@ use Rattle.sat_parts.specs.prop.Values.{value_of, IsTrueLit}
 use Rattle.sat_parts.specs.prop.State.{State, node, lit_at, IsBefore, StateIsConsistent}
 use Rattle.sat_parts.specs.prop.Reasons.{IsFalseBefore, Implies, AreInTurn}
 use Rattle.sat_solver.specs.session.Session.{Session, with_fact, MayProve}
+use Rattle.sat_solver.proofs.lemmas.session.Changes.{session_if}
 use Rattle.sat_solver.specs.session.LiveClauses.{with_var}
 use Rattle.sat_solver.proofs.lemmas.session.Deriving.{proves}
 use Rattle.sat_solver.proofs.lemmas.session.Mapped.{negated_mapped, apart}
@@ -26,7 +27,7 @@ module _ (s : Session) (l : ℕ) where
   pub fact_keeps : (m : ℕ) → s.units m ≡ true → (with_fact l s).units m ≡ true
   fact_keeps m h = go (s.units l) (s.units (negated l))
     where
-      go : (b d : Bool) → (cond b s (cond d (record s { unsat = true }) (record s { units = λ m. eqb l m || s.units m }))).units m ≡ true
+      go : (b d : Bool) → (session_if b s (session_if d (record s { unsat = true }) (record s { units = λ m. eqb l m || s.units m }))).units m ≡ true
       go true d = h
       go false true = h
       go false false = or_right (eqb l m) (s.units m) h
@@ -34,7 +35,7 @@ module _ (s : Session) (l : ℕ) where
   pub fact_gives : s.units (negated l) ≡ false → (with_fact l s).units l ≡ true
   fact_gives n = go (s.units l) refl (s.units (negated l)) n
     where
-      go : (b : Bool) → s.units l ≡ b → (d : Bool) → d ≡ false → (cond b s (cond d (record s { unsat = true }) (record s { units = λ m. eqb l m || s.units m }))).units l ≡ true
+      go : (b : Bool) → s.units l ≡ b → (d : Bool) → d ≡ false → (session_if b s (session_if d (record s { unsat = true }) (record s { units = λ m. eqb l m || s.units m }))).units l ≡ true
       go true u d e = u
       go false u true e = absurd (true≢false e)
       go false u false e = or_left (eqb l l) (s.units l) (eq-eqb l l refl)
@@ -42,7 +43,7 @@ module _ (s : Session) (l : ℕ) where
   pub fact_only : (m : ℕ) → (with_fact l s).units m ≡ true → (l ≡ m) ⊎ (s.units m ≡ true)
   fact_only m h = go (s.units l) (s.units (negated l)) h
     where
-      go : (b d : Bool) → (cond b s (cond d (record s { unsat = true }) (record s { units = λ m. eqb l m || s.units m }))).units m ≡ true → (l ≡ m) ⊎ (s.units m ≡ true)
+      go : (b d : Bool) → (session_if b s (session_if d (record s { unsat = true }) (record s { units = λ m. eqb l m || s.units m }))).units m ≡ true → (l ≡ m) ⊎ (s.units m ≡ true)
       go true d k = inr k
       go false true k = inr k
       go false false k = elim (or_cases (eqb l m) (s.units m) k) [ inl e ↦ inl (eqb-true l m e) | inr u ↦ inr u ]
@@ -50,7 +51,7 @@ module _ (s : Session) (l : ℕ) where
   pub fact_names : (v : ℕ) → (with_fact l s).solver_names v ≡ s.solver_names v
   fact_names v = go (s.units l) (s.units (negated l))
     where
-      go : (b d : Bool) → (cond b s (cond d (record s { unsat = true }) (record s { units = λ m. eqb l m || s.units m }))).solver_names v ≡ s.solver_names v
+      go : (b d : Bool) → (session_if b s (session_if d (record s { unsat = true }) (record s { units = λ m. eqb l m || s.units m }))).solver_names v ≡ s.solver_names v
       go true d = refl
       go false true = refl
       go false false = refl
@@ -58,7 +59,7 @@ module _ (s : Session) (l : ℕ) where
   pub fact_width : (with_fact l s).width ≡ s.width
   fact_width = go (s.units l) (s.units (negated l))
     where
-      go : (b d : Bool) → (cond b s (cond d (record s { unsat = true }) (record s { units = λ m. eqb l m || s.units m }))).width ≡ s.width
+      go : (b d : Bool) → (session_if b s (session_if d (record s { unsat = true }) (record s { units = λ m. eqb l m || s.units m }))).width ≡ s.width
       go true d = refl
       go false true = refl
       go false false = refl
@@ -66,7 +67,7 @@ module _ (s : Session) (l : ℕ) where
   pub fact_usable : (global : ℕ → ℕ) (c : List ℕ) → IsUsable s global c → IsUsable (with_fact l s) global c
   fact_usable global c h = go (s.units l) (s.units (negated l))
     where
-      go : (b d : Bool) → IsUsable (cond b s (cond d (record s { unsat = true }) (record s { units = λ m. eqb l m || s.units m }))) global c
+      go : (b d : Bool) → IsUsable (session_if b s (session_if d (record s { unsat = true }) (record s { units = λ m. eqb l m || s.units m }))) global c
       go true d = h
       go false true = record { live = record { once = h.live.once; counted = h.live.counted }; hash = h.hash }
       go false false = record { live = record { once = h.live.once; counted = h.live.counted }; hash = h.hash }

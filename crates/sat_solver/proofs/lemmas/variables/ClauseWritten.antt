@@ -13,8 +13,8 @@ use Rattle.sat_checker.proofs.lemmas.state.Forgetting.{mentions_set}
 use Rattle.sat_checker.proofs.lemmas.sets.Canonical.{canonical_among}
 use Rattle.sat_checker.specs.Stored.{Sample, Variable, unknown}
 use Rattle.sat_checker.specs.Contents.{more_if, same_side}
-use Rattle.sat_solver.specs.session.Session.{Session, May, MayAll, session_after, after, knowing_literals, with_fact, with_sorted, with_live}
-use Rattle.sat_solver.specs.session.Session as sessions
+use Rattle.sat_solver.specs.session.Session.{Session, May, MayAll, session_after, after, with_fact}
+use Rattle.sat_solver.proofs.lemmas.session.Changes.{knowing_literals, with_sorted, with_live_clause, session_if}
 use Rattle.sat_solver.proofs.lemmas.session.StepLemmas.{sessions_are_accepted}
 use Rattle.sat_solver.specs.variables.Variables.{data_at, user_of, solver_of, NamesMatchSteps, IsInNoNonUnitClause, checker_mode}
 use Rattle.sat_solver.specs.load.Literals.{user_literal, StandsFor, SameLiterals}
@@ -37,7 +37,7 @@ record SameNames (s t : Session) : Type 0 where
 fact_same : (l : ℕ) (s : Session) → SameNames s (with_fact l s)
 fact_same l s = go (s.units l) (s.units (negated l))
   where
-    go : (b d : Bool) → SameNames s (cond b s (cond d (record s { unsat = true }) (record s { units = λ m. eqb l m || s.units m })))
+    go : (b d : Bool) → SameNames s (session_if b s (session_if d (record s { unsat = true }) (record s { units = λ m. eqb l m || s.units m })))
     go true d = record { variables = refl; solver_names = refl; assumed = refl }
     go false true = record { variables = refl; solver_names = refl; assumed = refl }
     go false false = record { variables = refl; solver_names = refl; assumed = refl }
@@ -47,10 +47,10 @@ sorted_same [] s = record { variables = refl; solver_names = refl; assumed = ref
 sorted_same (l ∷ []) s = fact_same l s
 sorted_same (l ∷ m ∷ ls) s = record { variables = refl; solver_names = refl; assumed = refl }
 
-clause_same : (c : List ℕ) (s : Session) → SameNames s (sessions.with_live_clause false c s)
+clause_same : (c : List ℕ) (s : Session) → SameNames s (with_live_clause false c s)
 clause_same c s = go (is_tautology c)
   where
-    go : (b : Bool) → SameNames s (cond b s (with_sorted false (canonical c) s))
+    go : (b : Bool) → SameNames s (session_if b s (with_sorted false (canonical c) s))
     go true = record { variables = refl; solver_names = refl; assumed = refl }
     go false = sorted_same (canonical c) s
 
@@ -80,21 +80,21 @@ added_variables s c v h = go s.unsat
     known true e = known_still (s.variables v) (known_among s c v h e)
     known false e = refl
 
-    go : (b : Bool) → (cond b s (sessions.with_live_clause false c (knowing_literals c s))).variables v ≡ s.variables v
+    go : (b : Bool) → (session_if b s (with_live_clause false c (knowing_literals c s))).variables v ≡ s.variables v
     go true = refl
     go false = ap (λ f. f v) (clause_same c (knowing_literals c s)).variables ∙ known (is_among (map variable c) v) refl
 
 added_names : (s : Session) (c : List ℕ) → (after (AddClause c) s).solver_names ≡ s.solver_names
 added_names s c = go s.unsat
   where
-    go : (b : Bool) → (cond b s (sessions.with_live_clause false c (knowing_literals c s))).solver_names ≡ s.solver_names
+    go : (b : Bool) → (session_if b s (with_live_clause false c (knowing_literals c s))).solver_names ≡ s.solver_names
     go true = refl
     go false = (clause_same c (knowing_literals c s)).solver_names
 
 added_assumed : (s : Session) (c : List ℕ) → (after (AddClause c) s).assumed ≡ s.assumed
 added_assumed s c = go s.unsat
   where
-    go : (b : Bool) → (cond b s (sessions.with_live_clause false c (knowing_literals c s))).assumed ≡ s.assumed
+    go : (b : Bool) → (session_if b s (with_live_clause false c (knowing_literals c s))).assumed ≡ s.assumed
     go true = refl
     go false = (clause_same c (knowing_literals c s)).assumed
 
@@ -116,7 +116,7 @@ same_lists (x ∷ xs) (y ∷ ys) e = let h = and_left (eqb x y) (same_literals x
 fact_units : (l m : ℕ) (s : Session) → l ≢ m → (with_fact l s).units m ≡ s.units m
 fact_units l m s ne = go (s.units l) (s.units (negated l))
   where
-    go : (b d : Bool) → (cond b s (cond d (record s { unsat = true }) (record s { units = λ k. eqb l k || s.units k }))).units m ≡ s.units m
+    go : (b d : Bool) → (session_if b s (session_if d (record s { unsat = true }) (record s { units = λ k. eqb l k || s.units k }))).units m ≡ s.units m
     go true d = refl
     go false true = refl
     go false false = ap (λ b. b || s.units m) (ne_eqb l m ne)
@@ -129,11 +129,11 @@ sorted_units (l ∷ k ∷ ls) m s e = refl
 added_units : (s : Session) (c : List ℕ) (m : ℕ) → is_among c m ≡ false → (after (AddClause c) s).units m ≡ s.units m
 added_units s c m e = go s.unsat
   where
-    inner : (b : Bool) → (cond b (knowing_literals c s) (with_sorted false (canonical c) (knowing_literals c s))).units m ≡ s.units m
+    inner : (b : Bool) → (session_if b (knowing_literals c s) (with_sorted false (canonical c) (knowing_literals c s))).units m ≡ s.units m
     inner true = refl
     inner false = sorted_units (canonical c) m (knowing_literals c s) (canonical_among c m ∙ e)
 
-    go : (b : Bool) → (cond b s (sessions.with_live_clause false c (knowing_literals c s))).units m ≡ s.units m
+    go : (b : Bool) → (session_if b s (with_live_clause false c (knowing_literals c s))).units m ≡ s.units m
     go true = refl
     go false = inner (is_tautology c)
 
@@ -154,7 +154,7 @@ added_unused s c w e h r set lt = go s.unsat lt
     inner [] m q x = h r q x
     inner (l ∷ []) m q x = fact (s.units l) (s.units (negated l)) x
       where
-        fact : (b d : Bool) → 0 < (cond b (knowing_literals c s) (cond d (record (knowing_literals c s) { unsat = true }) (record (knowing_literals c s) { units = λ k. eqb l k || s.units k }))).live r q → mentions q w ≡ false
+        fact : (b d : Bool) → 0 < (session_if b (knowing_literals c s) (session_if d (record (knowing_literals c s) { unsat = true }) (record (knowing_literals c s) { units = λ k. eqb l k || s.units k }))).live r q → mentions q w ≡ false
         fact true d y = h r q y
         fact false true y = h r q y
         fact false false y = h r q y
@@ -164,11 +164,11 @@ added_unused s c w e h r set lt = go s.unsat lt
         more_live false t y = h r q y
         more_live true t y = ap (λ z. mentions z w) (sym (same_lists (l ∷ k ∷ ls) q (and_right (same_side false r) (same_literals (l ∷ k ∷ ls) q) t))) ∙ m
 
-    go : (b : Bool) → 0 < (cond b s (sessions.with_live_clause false c (knowing_literals c s))).live r set → mentions set w ≡ false
+    go : (b : Bool) → 0 < (session_if b s (with_live_clause false c (knowing_literals c s))).live r set → mentions set w ≡ false
     go true x = h r set x
     go false x = tautology (is_tautology c) x
       where
-        tautology : (b : Bool) → 0 < (cond b (knowing_literals c s) (with_sorted false (canonical c) (knowing_literals c s))).live r set → mentions set w ≡ false
+        tautology : (b : Bool) → 0 < (session_if b (knowing_literals c s) (with_sorted false (canonical c) (knowing_literals c s))).live r set → mentions set w ≡ false
         tautology true y = h r set y
         tautology false y = inner (canonical c) (mentions_set c w ∙ e) set y
 

@@ -1,5 +1,5 @@
 -- Steps of the search leave the names as they are.
-use Rattle.std.proofs.Common.{ℕ, ◌+◌, ◌-◌, ◌<◌, ◌≡◌, ◌≢◌, Bool, true, false, ◌||◌, ◌&&◌, cond, eqb, List, [], ◌∷◌, map, Option, Some, None, refl, sym, ◌∙◌, ap, arith}
+use Rattle.std.proofs.Common.{ℕ, ◌+◌, ◌-◌, ◌<◌, ◌≡◌, ◌≢◌, Bool, true, false, ◌||◌, ◌&&◌, eqb, List, [], ◌∷◌, map, Option, Some, None, refl, sym, ◌∙◌, ap, arith}
 use Rattle.std.proofs.lemmas.Bool.{eqb-true, eq-eqb, ne_eqb, true≢false}
 use Rattle.std.specs.List.{AllByRecursion}
 use Rattle.sat_base.specs.values.Literals.{variable, coded, negated}
@@ -8,8 +8,8 @@ use Rattle.sat_checker.specs.LiteralSets.{is_among, is_tautology, canonical, men
 use Rattle.sat_checker.proofs.lemmas.sets.Canonical.{canonical_among}
 use Rattle.sat_checker.proofs.lemmas.state.Forgetting.{mentions_set}
 use Rattle.sat_checker.specs.Contents.{more_if, less_if, same_side}
-use Rattle.sat_solver.specs.session.Session.{Session, May, MayAll, session_after, after, with_fact, with_facts, with_sorted, with_live, without_live, knowing_literals}
-use Rattle.sat_solver.specs.session.Session as sessions
+use Rattle.sat_solver.specs.session.Session.{Session, session_after, after, with_fact}
+use Rattle.sat_solver.proofs.lemmas.session.Changes.{with_facts, with_sorted, with_live, without_live, knowing_literals, with_live_clause, session_if}
 use Rattle.sat_solver.proofs.lemmas.session.StepLemmas.{sessions_are_accepted}
 use Rattle.sat_solver.specs.variables.Variables.{data_at, solver_of, AreTidy, NamesMatchSteps, IsInNoNonUnitClause}
 use Rattle.sat_checker.specs.matching.Bridge.{IsBridge}
@@ -53,7 +53,7 @@ differs n l v x b e f q = none_some (ap (solver_of n) (ap variable q ∙ coded_h
 leaves_fact : (n : Variables) (l x : ℕ) (s : Session) → solver_of n (variable l) ≡ Some x → Leaves n s (with_fact l s)
 leaves_fact n l x s e = go (s.units l) (s.units (negated l))
   where
-    go : (b d : Bool) → Leaves n s (cond b s (cond d (record s { unsat = true }) (record s { units = λ m. eqb l m || s.units m })))
+    go : (b d : Bool) → Leaves n s (session_if b s (session_if d (record s { unsat = true }) (record s { units = λ m. eqb l m || s.units m })))
     go true d = leaves_same n s
     go false true = record { variables = λ v. refl; solver_names = refl; assumed = refl; units = λ v f b. refl; unused = λ v f h. h }
     go false false = record { variables = λ v. refl; solver_names = refl; assumed = refl; units = λ v f b. ap (λ q. q || s.units (coded v b)) (ne_eqb l (coded v b) (differs n l v x b e f)); unused = λ v f h. h }
@@ -93,10 +93,10 @@ leaves_sorted n r (l ∷ []) c s h e = let i = has c h (sym (canonical_among c l
         at ih false t m = ih m
 leaves_sorted n r (l ∷ m ∷ ls) c s h e = leaves_live n r (l ∷ m ∷ ls) s (λ v f. ap (λ z. mentions z v) e ∙ mentions_set c v ∙ unmentioned n c v f h)
 
-leaves_clause : (n : Variables) (r : Bool) (c : List ℕ) (s : Session) → AreIndexed n c → Leaves n s (sessions.with_live_clause r c s)
+leaves_clause : (n : Variables) (r : Bool) (c : List ℕ) (s : Session) → AreIndexed n c → Leaves n s (with_live_clause r c s)
 leaves_clause n r c s h = go (is_tautology c)
   where
-    go : (b : Bool) → Leaves n s (cond b s (with_sorted r (canonical c) s))
+    go : (b : Bool) → Leaves n s (session_if b s (with_sorted r (canonical c) s))
     go true = leaves_same n s
     go false = leaves_sorted n r (canonical c) c s h refl
 
@@ -122,7 +122,7 @@ known_indexed n ls s tidy said = all_map (λ l. (x : ℕ) × (solver_of n (varia
 
 step_leaves : (n : Variables) (step : Step) (s : Session) → AreTidy n → NamesMatchSteps n s → IsOfSearch n step → Leaves n s (after step s)
 step_leaves n (AtClause r c hs) s tidy said h =
-    let l = leaves_both n s (knowing_literals c s) (sessions.with_live_clause r c (knowing_literals c s)) (leaves_known n c s (known_indexed n c s tidy said h)) (leaves_clause n r c (knowing_literals c s) h) in
+    let l = leaves_both n s (knowing_literals c s) (with_live_clause r c (knowing_literals c s)) (leaves_known n c s (known_indexed n c s tidy said h)) (leaves_clause n r c (knowing_literals c s) h) in
     record { variables = l.variables; solver_names = l.solver_names; assumed = l.assumed; units = l.units; unused = l.unused }
 step_leaves n (UnitClauses us) s tidy said h =
     let l = leaves_both n s (knowing_literals (map (λ u. u.0) us) s) (with_facts (map (λ u. u.0) us) (knowing_literals (map (λ u. u.0) us) s)) (leaves_known n (map (λ u. u.0) us) s (known_indexed n (map (λ u. u.0) us) s tidy said h)) (leaves_facts n (map (λ u. u.0) us) (knowing_literals (map (λ u. u.0) us) s) h) in
