@@ -1,5 +1,5 @@
 -- Steps of a search leave the assumptions, the solver names and the modes.
-use Rattle.std.proofs.Common.{ℕ, ◌≡◌, ◌∙◌, Bool, true, false, Option, List, [], ◌∷◌, ◌++◌, map, refl, ap, cond}
+use Rattle.std.proofs.Common.{ℕ, ◌≡◌, ◌∙◌, Bool, true, false, Option, List, [], ◌∷◌, ◌++◌, map, refl, ap, cond, eqb, ◌||◌}
 use Rattle.std.specs.List.{AllByRecursion}
 use Rattle.sat_base.specs.values.Literals.{variable, negated}
 use Rattle.sat_base.specs.steps.Steps.{Step, AtClause, UnitClauses, DeleteClause, Redundant, Simplified, Satisfied}
@@ -41,7 +41,11 @@ both true s x y e f = e
 both false s x y e f = record { asked = f.asked; names = f.names; modes = f.modes }
 
 fact : (l : ℕ) (s : Session) → Kept s (with_fact l s)
-fact l s = both (s.units l) s s _ (kept_refl s) (both (s.units (negated l)) s _ _ (record { asked = refl; names = refl; modes = λ v. refl }) (record { asked = refl; names = refl; modes = λ v. refl }))
+fact l s =
+    let opposed : Session = record s { unsat = true } in
+    let wider : Session = record s { units = λ m. eqb l m || s.units m } in
+    both (s.units l) s s (session_if (s.units (negated l)) opposed wider) (kept_refl s)
+    (both (s.units (negated l)) s opposed wider (record { asked = refl; names = refl; modes = λ v. refl }) (record { asked = refl; names = refl; modes = λ v. refl }))
 
 facts : (ls : List ℕ) (s : Session) → Kept s (with_facts ls s)
 facts [] s = kept_refl s
