@@ -449,7 +449,7 @@ impl<W: CountedWrite + Drop, P: ProofProcessor> Proof<W, P> {
         ensures width { OnOk result (IsAtWidth self.old → IsAtWidth self.new) }
         ensures target { target_of W.seen self.new ≡ target_of W.seen self.old }
         ensures fails { FailsOfCheckUnless (is_lost self.old) result self.new }
-        ensures told { OnOk result (AllStepsReported self.new) }
+        ensures reported { OnOk result (AllStepsReported self.new) }
     {
         self.made.take_delayed()?;
         Ok(())

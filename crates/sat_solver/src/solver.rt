@@ -42,7 +42,7 @@ pub struct Solver<W: CountedWrite + Drop, P: ProofProcessor = Nobody> {
     core: Core<W, P>,
     names: Variables,
     clock: Clock,
-    told: LastAnswers,
+    reported: LastAnswers,
     state: State,
     /// Whether a call failed. Then every later call fails.
     failed: bool,
@@ -87,7 +87,7 @@ impl<W: CountedWrite + Drop, P: ProofProcessor> Solver<W, P> {
                 },
                 rounds: 0,
             },
-            told: LastAnswers {
+            reported: LastAnswers {
                 model: Vec::new(alloc),
                 failed_core: Vec::new(alloc),
             },

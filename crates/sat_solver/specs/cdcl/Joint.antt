@@ -16,8 +16,8 @@ abbrev pub global_in : Search → ℕ → ℕ
 global_in c = global_of_index c.globals.items
 
 -- the indices that are assumed
-abbrev pub assumed_in : Search → List ℕ
-assumed_in c = variables_of_lits c.assumptions.lits.items
+abbrev pub assumed_indices : Search → List ℕ
+assumed_indices c = variables_of_lits c.assumptions.lits.items
 
 -- every index has a proof variable, and analysis may begin
 pub record IsFree (c : Search) : Type 0 where
@@ -38,7 +38,7 @@ pub record SameAssumedAndNames (s t : Session) : Type 0 where
 
 -- every index is that of its proof variable, or is idle
 abbrev pub AreNamedOrIdle : Session → Search → Type 0
-AreNamedOrIdle s c = (v : ℕ) → v < length c.parts.assignment.current → (s.solver_names (global_in c v) ≡ Some v) ⊎ IsIdle (assumed_in c) (state c.parts) c.parts.vsids v
+AreNamedOrIdle s c = (v : ℕ) → v < length c.parts.assignment.current → (s.solver_names (global_in c v) ≡ Some v) ⊎ IsIdle (assumed_indices c) (state c.parts) c.parts.vsids v
 
 -- the invariant of everything but parts and clauses
 pub record IsReadySearch (s : Session) (c : Search) : Type 0 where

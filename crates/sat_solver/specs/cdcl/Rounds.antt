@@ -14,7 +14,7 @@ use Rattle.sat_solver.specs.declared.schedule.Outcome.{Outcome}
 use Rattle.sat_solver.specs.declared.schedule.Outcome.TheVariants as outcomes
 use Rattle.sat_solver.specs.declared.context.Search.{Search}
 use Rattle.sat_solver.specs.cdcl.Going.{EmitsStepsOr}
-use Rattle.sat_solver.specs.cdcl.Joint.{assumed_in, IsSearch, SameVarsAndAssumptions}
+use Rattle.sat_solver.specs.cdcl.Joint.{assumed_indices, IsSearch, SameVarsAndAssumptions}
 use Rattle.sat_solver.specs.cdcl.Learning.{LastAdvances}
 use Rattle.sat_solver.specs.cdcl.Turns.{IsComplete, IsFailing}
 
@@ -22,7 +22,7 @@ use Rattle.sat_solver.specs.cdcl.Turns.{IsComplete, IsFailing}
 pub record RoundLearns (earlier steps : List Step) (s : Session) (c c' : Search) : Type 0 where
   pub search : IsSearch s c'
   pub moved : SameVarsAndAssumptions c c'
-  pub rises : TrailWordRisesFor (assumed_in c) c.parts c'.parts
+  pub rises : TrailWordRisesFor (assumed_indices c) c.parts c'.parts
   pub last : LastAdvances earlier steps
 
 -- an assumption failed

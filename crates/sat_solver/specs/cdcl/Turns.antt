@@ -15,7 +15,7 @@ use Rattle.sat_solver.specs.session.Fits.{SessionMatchesParts}
 use Rattle.sat_solver.specs.declared.cdcl.find_conflict.FoundConflict.{FoundConflict}
 use Rattle.sat_solver.specs.declared.cdcl.find_conflict.FoundConflict.TheVariants.{Falsified, Complete, Failed}
 use Rattle.sat_solver.specs.declared.context.Search.{Search}
-use Rattle.sat_solver.specs.cdcl.Joint.{global_in, assumed_in, IsReadySearch, IsSearch, SameVarsAndAssumptions}
+use Rattle.sat_solver.specs.cdcl.Joint.{global_in, assumed_indices, IsReadySearch, IsSearch, SameVarsAndAssumptions}
 
 -- all assumptions are true
 abbrev pub AllTrue : List ℕ → Parts → Type 0
@@ -79,10 +79,10 @@ TurnSays (Some stop) s c c' = StopSays stop s c'
 pub record TakesTurn (found : Option FoundConflict) (s : Session) (c c' : Search) : Type 0 where
   pub says : TurnSays found s c c'
   pub moved : SameVarsAndAssumptions c c'
-  pub word : TrailWordExtendsFor (assumed_in c) c.parts c'.parts
+  pub word : TrailWordExtendsFor (assumed_indices c) c.parts c'.parts
 
 -- the search stopped
 pub record StopsSearch (stop : FoundConflict) (s : Session) (c c' : Search) : Type 0 where
   pub says : StopSays stop s c'
   pub moved : SameVarsAndAssumptions c c'
-  pub word : TrailWordExtendsFor (assumed_in c) c.parts c'.parts
+  pub word : TrailWordExtendsFor (assumed_indices c) c.parts c'.parts

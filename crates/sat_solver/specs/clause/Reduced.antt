@@ -21,7 +21,7 @@ use Rattle.sat_solver.specs.declared.error.SolverError.{SolverError}
 use Rattle.sat_solver.specs.session.Fits.{is_redundant}
 use Rattle.sat_solver.specs.declared.context.Search.{Search}
 use Rattle.sat_solver.specs.cdcl.Going.{EmitsSteps}
-use Rattle.sat_solver.specs.cdcl.Joint.{assumed_in, IsSearch, SameVarsAndAssumptions}
+use Rattle.sat_solver.specs.cdcl.Joint.{assumed_indices, IsSearch, SameVarsAndAssumptions}
 
 -- a live long learned clause
 pub record IsLearnedLong (p : Parts) (o : ℕ) : Type 0 where
@@ -49,7 +49,7 @@ pub record DeletesIf (deleted : Bool) (o : ℕ) (s : Session) (c c' : Search) : 
 pub record ReductionEffect (s : Session) (c c' : Search) : Type 0 where
   pub search : IsSearch s c'
   pub moved : SameVarsAndAssumptions c c'
-  pub word : TrailWordExtendsFor (assumed_in c) c.parts c'.parts
+  pub word : TrailWordExtendsFor (assumed_indices c) c.parts c'.parts
 
 -- the same by proof steps, for this kind of change
 abbrev pub ReductionBySteps : {W L : Type 0} {G : Ghosts L} → (Changes : Parts → Parts → Type 0) → (W → Writer) → Result (Unit {0}) SolverError → Proof W L G → Proof W L G → Search → Search → Type 0

@@ -219,7 +219,7 @@ pub record FlushesAndNotifies {W L : Type 0} {G : Ghosts L} (seen : W → Writer
   pub asked : has_asked new ≡ has_asked old
   pub width : IsAtWidth old → IsAtWidth new
   pub target : Flushed (target_of seen old) (target_of seen new)
-  pub told : AllStepsReported new
+  pub reported : AllStepsReported new
 
 -- the result of flushing only the target
 abbrev pub FlushesTarget : {W L : Type 0} {G : Ghosts L} → (W → Writer) → Result (Unit {0}) ProofError → Proof W L G → Proof W L G → Type 0
@@ -267,7 +267,7 @@ pub record ClosesOne {W L : Type 0} {G : Ghosts L} (seen : W → Writer) (given 
   pub asked : has_asked new ≡ has_asked old
   pub takes : TakesAll (target_of seen old) (End ∷ []) (seen given)
   pub target : target_of seen new ≡ Closed
-  pub told : AllStepsReported new
+  pub reported : AllStepsReported new
 
 -- the result of closing a proof: an error is at the text of the last step, or at what was pending
 abbrev pub ClosesTarget : {W L : Type 0} {G : Ghosts L} → (W → Writer) → Result (Option W) ProofError → Proof W L G → Proof W L G → Type 0

@@ -16,7 +16,7 @@ use Rattle.sat_solver.specs.declared.schedule.Outcome.TheVariants as outcomes
 use Rattle.sat_solver.specs.declared.error.SolverError.{SolverError}
 use Rattle.sat_solver.specs.declared.context.Core.{Core}
 use Rattle.sat_solver.specs.declared.context.Search.{Search}
-use Rattle.sat_solver.specs.cdcl.Joint.{assumed_in, IsSearch, SameVarsAndAssumptions}
+use Rattle.sat_solver.specs.cdcl.Joint.{assumed_indices, IsSearch, SameVarsAndAssumptions}
 use Rattle.sat_solver.specs.cdcl.Ending.{RoundEnds}
 use Rattle.sat_solver.specs.clause.Reduced.{Reduces}
 use Rattle.sat_solver.specs.cdcl.Rounds.{RoundFails, RoundShows}
@@ -58,7 +58,7 @@ pub record CoreInvariant {W L : Type 0} {G : Ghosts L} (c : Core W L G) : Type 0
 
 -- the words of the trail since the ask began
 abbrev pub words_in : {W L : Type 0} {G : Ghosts L} → Core W L G → List Letter → Type 0
-words_in c w = Words (assumed_in c.search) c.search.parts w
+words_in c w = Words (assumed_indices c.search) c.search.parts w
 
 -- the number of variables
 abbrev pub values_in : {W L : Type 0} {G : Ghosts L} → Core W L G → ℕ

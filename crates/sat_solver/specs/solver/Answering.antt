@@ -61,7 +61,7 @@ ShowsModel seen r n a b = MatchResult r (λ _. Shown seen n a b) (λ e. BreaksOf
 pub record WritesFailedCore {W L : Type 0} {G : Ghosts L} (seen : W → Writer) (n : Variables) (a b : Core W L G) (core : List ℕ) : Type 0 where
   pub steps : List Step
   pub adds : EmitsChecked seen steps a.proof b.proof
-  pub told : CoreWasWritten steps (session_of b.proof) a.search b.search
+  pub reported : CoreWasWritten steps (session_of b.proof) a.search b.search
   pub joined : IsJoined n b
   pub config : b.config ≡ a.config
   pub named : core ≡ map (lit_over_names n) b.search.analysis.core

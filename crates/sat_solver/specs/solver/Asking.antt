@@ -18,7 +18,7 @@ use Rattle.sat_solver.specs.solver.Whole.{IsWholeOf, steps_in}
 
 -- these assumptions were accepted, but the list over names is not stored yet
 pub record AskedIn {W L : Type 0} {G : Ghosts L} (seen : W → Writer) (old new : Solver W L G) (user : List ℕ) : Type 0 where
-  pub whole : IsWholeOf new.core new.names new.asked user new.told.failed_core.items new.clock.restarts.scale new.state
+  pub whole : IsWholeOf new.core new.names new.asked user new.reported.failed_core.items new.clock.restarts.scale new.state
   pub does : (o : Outcome) → NamesEffect old.names new.names (steps_in old) (steps_in new) (bring_all (names_in user)) (due_for_asked o user)
   pub comes : OnlyAllowedSteps (MayTake (names_in user)) (steps_in old) (steps_in new)
   pub took : ComesBySteps seen old.core.proof new.core.proof

@@ -24,7 +24,7 @@ use Rattle.sat_solver.specs.declared.state.State.TheVariants as states
 use Rattle.sat_solver.specs.solver.Answering.{BreaksCall, FlushFails}
 use Rattle.sat_solver.specs.solver.Found.{SearchedBy}
 use Rattle.sat_solver.specs.solver.Whole.{SolverInvariant, steps_in, line_in}
-use Rattle.sat_solver.specs.solver.View.{IsInState, OnlyProofDiffers, answer_in, assumed_in, assumptions_in, core_told, has_failed, inside, is_used, known_names, parameters_in, proof_in, rounds_in, schedule_in, target_in, used_now}
+use Rattle.sat_solver.specs.solver.View.{IsInState, OnlyProofDiffers, answer_in, assumed_in, assumptions_in, reported_core, has_failed, inside, is_used, known_names, parameters_in, proof_in, rounds_in, schedule_in, target_in, used_now}
 
 -- the effect of a call: how it changes the judge's state, and which ordered steps it has made; other steps may be in between
 pub record CallEffect {W L : Type 0} {G : Ghosts L} (seen : W → Writer) (old new : Solver W L G) (judge : ScriptState → ScriptState) (due : ScriptState → List Expected) : Type 0 where
@@ -77,7 +77,7 @@ due_between_states before now line asked core = []
 
 -- the same for the solver after its answer
 abbrev pub due_for_answer : {W L : Type 0} {G : Ghosts L} → State → Solver W L G → List Expected
-due_for_answer before s = due_between_states before (answer_in s) (line_in s) (assumptions_in s) (core_told s)
+due_for_answer before s = due_between_states before (answer_in s) (line_in s) (assumptions_in s) (reported_core s)
 
 -- the number of rounds made: at least one for a new answer, all that are allowed if there is no answer, and an answer whenever 2^(2n+3)
 -- rounds are allowed
@@ -114,7 +114,7 @@ pub record AnswersAgain {W L : Type 0} {G : Ghosts L} (old new : Solver W L G) :
 -- target was flushed.
 pub record MakesRounds {W L : Type 0} {G : Ghosts L} (seen : W → Writer) (old new : Solver W L G) : Type 0 where
   pub behind : Proof W L G
-  pub searched : SearchedBy seen (answer_in new) (schedule_in old) (schedule_in new) (known_names old) (known_names new) (record (inside old) { proof = asking (proof_in old) }) (record (inside new) { proof = behind }) (core_told new)
+  pub searched : SearchedBy seen (answer_in new) (schedule_in old) (schedule_in new) (known_names old) (known_names new) (record (inside old) { proof = asking (proof_in old) }) (record (inside new) { proof = behind }) (reported_core new)
   pub flushes : FlushesAndNotifies seen behind (proof_in new)
 
 -- The steps of an ask: only such as may occur in one. Every round except the answering one derived a clause that advances; no other step
@@ -133,7 +133,7 @@ pub record Answered {W L : Type 0} {G : Ghosts L} (seen : W → Writer) (old new
   pub counts : Counts old new
   pub known : (answer_in old ≡ states.Unknown → ⊥) → AnswersAgain old new
   pub flushed : IsFlushed (target_in seen new)
-  pub told : AllStepsReported (proof_in new)
+  pub reported : AllStepsReported (proof_in new)
   pub steps : StepsOfAsk seen old new
 
 -- the answer that a state stands for; `Unknown` stands for none

@@ -14,7 +14,7 @@ use Rattle.sat_solver.specs.declared.solver.find.Clock.{Clock}
 use Rattle.sat_solver.specs.declared.state.State.{State}
 use Rattle.sat_solver.specs.declared.state.State.TheVariants as states
 use Rattle.sat_solver.specs.solver.Calls.{Refuses}
-use Rattle.sat_solver.specs.solver.View.{answer_in, assumed_in, has_failed, inside, is_used, known_names, parameters_in, proof_in, schedule_in, told_in}
+use Rattle.sat_solver.specs.solver.View.{answer_in, assumed_in, has_failed, inside, is_used, known_names, parameters_in, proof_in, schedule_in, reported_in}
 
 -- the search has the decays of the parameters, and nothing else changed
 pub record SetsDecays {W L : Type 0} {G : Ghosts L} (a b : Core W L G) : Type 0 where
@@ -38,7 +38,7 @@ pub record KeepsAllElse {W L : Type 0} {G : Ghosts L} (old new : Solver W L G) :
   pub names : known_names new ≡ known_names old
   pub state : answer_in new ≡ answer_in old
   pub assumed : assumed_in new ≡ assumed_in old
-  pub told : told_in new ≡ told_in old
+  pub reported : reported_in new ≡ reported_in old
   pub used : is_used new ≡ is_used old
 
 -- the parameters were updated, and nothing else that callers can observe

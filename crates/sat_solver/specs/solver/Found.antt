@@ -48,7 +48,7 @@ FindsAnswer seen (Some state) rounds n m a b core = FoundSays seen state rounds 
 
 -- the same, by the counts of rounds before and now, and by the reported core
 abbrev pub FindsBy : {W L : Type 0} {G : Ghosts L} → (W → Writer) → Option State → Clock → Clock → Variables → Variables → Core W L G → Core W L G → LastAnswers → Type 0
-FindsBy seen o before now n m a b told = FindsAnswer seen o (now.rounds - before.rounds) n m a b told.failed_core.items
+FindsBy seen o before now n m a b reported = FindsAnswer seen o (now.rounds - before.rounds) n m a b reported.failed_core.items
 
 -- the outcome of a search, before it is reported
 abbrev pub OutcomeHolds : {W L : Type 0} {G : Ghosts L} → Outcome → Variables → Core W L G → Type 0
@@ -74,10 +74,10 @@ state_found None = states.Unknown
 state_found (Some state) = state
 
 -- the last round's outcome was reported as this state, which is `Unknown` only if a clause was learned
-abbrev pub TellsLast : {W L : Type 0} {G : Ghosts L} → (W → Writer) → Option Outcome → State → Variables → Core W L G → Core W L G → List ℕ → Type 0
-TellsLast seen None states.Unknown n a b core = b ≡ a
-TellsLast seen None state n a b core = ⊥
-TellsLast seen (Some outcome) state n a b core = ReportSays seen (Some state) outcome n a b core
+abbrev pub ReportsLast : {W L : Type 0} {G : Ghosts L} → (W → Writer) → Option Outcome → State → Variables → Core W L G → Core W L G → List ℕ → Type 0
+ReportsLast seen None states.Unknown n a b core = b ≡ a
+ReportsLast seen None state n a b core = ⊥
+ReportsLast seen (Some outcome) state n a b core = ReportSays seen (Some state) outcome n a b core
 
 -- Rounds were made. A restart and a reduction came exactly before the rounds before which they are due, by the schedule and the parameters;
 -- the state represents the outcome of the last round.
@@ -85,4 +85,4 @@ pub record SearchedBy {W L : Type 0} {G : Ghosts L} (seen : W → Writer) (state
   pub outcome : Option Outcome
   pub found : Core W L G
   pub rounds : LastRoundAnswers Restarted (ReducedAt seen) (RoundOf seen) outcome a n before.restarts before.rounds found m now.restarts now.rounds
-  pub tells : TellsLast seen outcome state m found b core
+  pub reports : ReportsLast seen outcome state m found b core

@@ -23,7 +23,7 @@ use Rattle.sat_solver.specs.declared.solver.Solver.{Solver}
 use Rattle.sat_solver.specs.solver.Adding.{EndsNames}
 use Rattle.sat_solver.specs.solver.Calls.{CallEffect, Refuses}
 use Rattle.sat_solver.specs.solver.Whole.{SolverInvariant, steps_in}
-use Rattle.sat_solver.specs.solver.View.{IsInState, answer_in, assumed_in, assumptions_in, has_failed, is_used, known_names, parameters_in, proof_in, schedule_in, told_in}
+use Rattle.sat_solver.specs.solver.View.{IsInState, answer_in, assumed_in, assumptions_in, has_failed, is_used, known_names, parameters_in, proof_in, schedule_in, reported_in}
 
 -- an assumption has the name
 abbrev pub IsAsked : {W L : Type 0} {G : Ghosts L} → Solver W L G → ℕ → Type 0
@@ -51,7 +51,7 @@ pub record Renamed {W L : Type 0} {G : Ghosts L} (seen : W → Writer) (old new 
   pub comes : OnlyAllowedSteps May (steps_in old) (steps_in new)
   pub asked : has_asked (proof_in new) ≡ has_asked (proof_in old)
   pub assumed : assumed_in new ≡ assumed_in old
-  pub told : told_in new ≡ told_in old
+  pub reported : reported_in new ≡ reported_in old
   pub clock : schedule_in new ≡ schedule_in old
   pub state : answer_in new ≡ answer_in old
   pub values : (user : ℕ) → IsKeptOrFalse (name_value old user) (name_value new user)
@@ -102,7 +102,7 @@ pub record KeepsRest {W L : Type 0} {G : Ghosts L} (old new : Solver W L G) : Ty
   pub config : parameters_in new ≡ parameters_in old
   pub asked : has_asked (proof_in new) ≡ has_asked (proof_in old)
   pub assumed : assumed_in new ≡ assumed_in old
-  pub told : told_in new ≡ told_in old
+  pub reported : reported_in new ≡ reported_in old
   pub clock : schedule_in new ≡ schedule_in old
   pub state : answer_in new ≡ answer_in old
 

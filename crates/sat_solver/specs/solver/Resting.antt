@@ -12,7 +12,7 @@ use Rattle.sat_solver.specs.declared.state.State.{State}
 use Rattle.sat_solver.specs.declared.state.State.TheVariants as states
 use Rattle.sat_solver.specs.solver.Lines.{IsCoreOf}
 use Rattle.sat_solver.specs.solver.Whole.{IsSolver, steps_in, asked_in, line_in}
-use Rattle.sat_solver.specs.solver.View.{IsInState, answer_in, core_told, has_failed, known_names}
+use Rattle.sat_solver.specs.solver.View.{IsInState, answer_in, reported_core, has_failed, known_names}
 
 -- names and steps match some state of the judge
 abbrev pub MatchesSomeState : {W L : Type 0} {G : Ghosts L} → Solver W L G → Type 0
@@ -56,7 +56,7 @@ is_unsat states.Unsat = Unit {0}
 
 -- the failed core in this state: the reported one of an ask that failed under its assumptions, otherwise the empty list
 abbrev pub core_for : {W L : Type 0} {G : Ghosts L} → State → Solver W L G → List ℕ
-core_for states.UnsatUnderAssumptions s = (core_told s)
+core_for states.UnsatUnderAssumptions s = (reported_core s)
 core_for st s = []
 
 -- a failed core over names

@@ -21,7 +21,7 @@ pub record Settled {W L : Type 0} {G : Ghosts L} (seen : W → Writer) (old new 
   pub comes : OnlyAllowedSteps EndsAtUnsat (steps_in old) (steps_in new)
   pub took : ComesBySteps seen old.core.proof new.core.proof
   pub width : (steps_in new ≡ steps_in old → ⊥) → IsAtWidth new.core.proof
-  pub same : new ≡ record old { core = new.core; names = new.names; told = new.told; clock = new.clock; state = new.state }
+  pub same : new ≡ record old { core = new.core; names = new.names; reported = new.reported; clock = new.clock; state = new.state }
   pub users : new.names.global_from_user ≡ old.names.global_from_user
   pub config : new.core.config ≡ old.core.config
   pub counts : Counts old new

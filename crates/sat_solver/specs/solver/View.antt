@@ -46,12 +46,12 @@ abbrev pub known_names : {W L : Type 0} {G : Ghosts L} → Solver W L G → Vari
 known_names s = s.names
 
 -- the last answers: a model over variables, and a failed core
-abbrev pub told_in : {W L : Type 0} {G : Ghosts L} → Solver W L G → LastAnswers
-told_in s = s.told
+abbrev pub reported_in : {W L : Type 0} {G : Ghosts L} → Solver W L G → LastAnswers
+reported_in s = s.reported
 
 -- the last failed core, over names
-abbrev pub core_told : {W L : Type 0} {G : Ghosts L} → Solver W L G → List ℕ
-core_told s = s.told.failed_core.items
+abbrev pub reported_core : {W L : Type 0} {G : Ghosts L} → Solver W L G → List ℕ
+reported_core s = s.reported.failed_core.items
 
 -- the rounds of all asks, and when restarts are due
 abbrev pub schedule_in : {W L : Type 0} {G : Ghosts L} → Solver W L G → Clock

@@ -81,7 +81,7 @@ pub record IsWholeOf {W L : Type 0} {G : Ghosts L} (c : Core W L G) (n : Variabl
 
 -- the invariant, unless a call failed
 abbrev pub SolverInvariant : {W L : Type 0} {G : Ghosts L} → Solver W L G → Type 0
-SolverInvariant s = IsWholeOf s.core s.names s.asked s.assumed.items s.told.failed_core.items s.clock.restarts.scale s.state
+SolverInvariant s = IsWholeOf s.core s.names s.asked s.assumed.items s.reported.failed_core.items s.clock.restarts.scale s.state
 
 -- the clause buffer has more than 2^32-1 words, so that it can store no further clause
 abbrev pub HasFullStore : {W L : Type 0} {G : Ghosts L} → Solver W L G → Type 0

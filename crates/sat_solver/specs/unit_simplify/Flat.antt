@@ -15,7 +15,7 @@ use Rattle.sat_parts.specs.parts.Whole.{PartsInvariant}
 use Rattle.sat_solver.specs.session.Fits.{ArePaired}
 use Rattle.sat_solver.specs.session.Listed.{LeftParts}
 use Rattle.sat_solver.specs.cdcl.Going.{EmitsSteps}
-use Rattle.sat_solver.specs.cdcl.Joint.{assumed_in, global_in, IsSearch, SameVarsAndAssumptions}
+use Rattle.sat_solver.specs.cdcl.Joint.{assumed_indices, global_in, IsSearch, SameVarsAndAssumptions}
 use Rattle.sat_solver.specs.declared.context.Search.{Search}
 use Rattle.sat_solver.specs.unit_simplify.Looks.{IsOpenClause}
 
@@ -40,7 +40,7 @@ LeavesPairs s c l k = LeftParts c.parts s (global_in c) l k
 pub record IsStrengthened (s : Session) (c c' : Search) : Type 0 where
   pub search : IsSearch s c'
   pub moved : SameVarsAndAssumptions c c'
-  pub word : TrailWordExtendsFor (assumed_in c) c.parts c'.parts
+  pub word : TrailWordExtendsFor (assumed_indices c) c.parts c'.parts
   pub state : SameState c.parts c'.parts
   pub refs : c'.parts.db.refs ≡ c.parts.db.refs
 

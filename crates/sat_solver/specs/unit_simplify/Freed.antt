@@ -13,7 +13,7 @@ use Rattle.sat_solver.specs.session.Quiet.{ComesQuietly}
 use Rattle.sat_parts.specs.parts.Whole.{InNoClause}
 use Rattle.sat_parts.specs.parts.Frame.{SameClauses}
 use Rattle.sat_parts.specs.parts.Words.{TrailWordExtendsFor}
-use Rattle.sat_solver.specs.cdcl.Joint.{assumed_in, IsSearch, SameVarsAndAssumptions}
+use Rattle.sat_solver.specs.cdcl.Joint.{assumed_indices, IsSearch, SameVarsAndAssumptions}
 use Rattle.sat_solver.specs.declared.context.Search.{Search}
 use Rattle.sat_solver.specs.variables.Shared.{SharesIndices}
 use Rattle.sat_solver.specs.unit_simplify.Flat.{HasEmptyTrail}
@@ -59,7 +59,7 @@ pub record FreesSome (old new : Variables) (from to : List Step) (c c' : Search)
   pub flat : HasEmptyTrail c'.parts
   pub moved : SameVarsAndAssumptions c c'
   pub same : SameClauses c.parts c'.parts
-  pub word : TrailWordExtendsFor (assumed_in c) c.parts c'.parts
+  pub word : TrailWordExtendsFor (assumed_indices c) c.parts c'.parts
   pub asked : KeepsAsked old new (session_after from) (session_after to)
   pub unset : (v : ℕ) → value_of c.parts.assignment.current v ≡ None → value_of c'.parts.assignment.current v ≡ None
   pub fewer : (x v : ℕ) → global_at new x ≡ Some v → global_at old x ≡ Some v

@@ -16,7 +16,7 @@ use Rattle.sat_solver.specs.session.Quiet.{ComesQuietly}
 use Rattle.sat_parts.specs.parts.Words.{TrailWordExtendsFor}
 use Rattle.sat_solver.specs.cdcl.Faults.{IsKept, NamesLoss}
 use Rattle.sat_solver.specs.cdcl.Going.{IsFaultOr, EmitsUpToFault}
-use Rattle.sat_solver.specs.cdcl.Joint.{assumed_in, IsSearch, SameVarsAndAssumptions}
+use Rattle.sat_solver.specs.cdcl.Joint.{assumed_indices, IsSearch, SameVarsAndAssumptions}
 use Rattle.sat_solver.specs.cdcl.Turns.{IsStopped, IsPropagated}
 use Rattle.sat_solver.specs.declared.context.Search.{Search}
 use Rattle.sat_solver.specs.variables.Shared.{SharesIndices}
@@ -48,7 +48,7 @@ pub record PassesQuietly {W L : Type 0} {G : Ghosts L} (seen : W → Writer) (n 
   pub does : DoesNothing n n' (steps_of p) (steps_of p')
   pub asked : KeepsAsked n n' (session_of p) (session_of p')
   pub moved : SameVarsAndAssumptions c c'
-  pub word : TrailWordExtendsFor (assumed_in c) c.parts c'.parts
+  pub word : TrailWordExtendsFor (assumed_indices c) c.parts c'.parts
 
 -- the call failed for a reason that the input does not determine; `StoreFull` only if `full` holds
 pub record PassFailsOr {W L : Type 0} {G : Ghosts L} (full : Type 0) (seen : W → Writer) (e : SolverError) (p p' : Proof W L G) : Type 0 where
@@ -81,7 +81,7 @@ pub record FindsFalseClause {W L : Type 0} {G : Ghosts L} (n n' : Variables) (p 
   pub keeps : HasAllowedSteps p'
   pub stopped : IsStopped (session_of p') c' e
   pub moved : SameVarsAndAssumptions c c'
-  pub word : TrailWordExtendsFor (assumed_in c) c.parts c'.parts
+  pub word : TrailWordExtendsFor (assumed_indices c) c.parts c'.parts
 
 -- a round may continue from here, or a clause is already falsified
 abbrev pub BeginSays : {W L : Type 0} {G : Ghosts L} → (W → Writer) → Option Conflict → Variables → Variables → Proof W L G → Proof W L G → Search → Search → Type 0

@@ -215,7 +215,7 @@ impl<P: ProofProcessor> Made<P> {
         ensures taking { OnOk result (made_is_lost self.new ≡ made_is_lost self.old) }
         ensures width { OnOk result ((bits : ℕ) → LastWidthIs bits self.old → LastWidthIs bits self.new) }
         ensures fails { OkOrComplainsUnless (made_is_lost self.old) result self.new }
-        ensures told { OnOk result (MadeIsReported self.new) }
+        ensures reported { OnOk result (MadeIsReported self.new) }
     {
         match &mut self.own {
             None => Ok(()),

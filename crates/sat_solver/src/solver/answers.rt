@@ -60,7 +60,7 @@ impl<W: CountedWrite + Drop, P: ProofProcessor> Solver<W, P> {
         match self.state {
             State::Unknown => None,
             State::Sat => None,
-            State::UnsatUnderAssumptions => Some(&self.told.failed_core),
+            State::UnsatUnderAssumptions => Some(&self.reported.failed_core),
             State::Unsat => Some(&[]),
         }
     }

@@ -34,20 +34,20 @@ pub struct Clock {
 fn report<W: CountedWrite + Drop, P: ProofProcessor>(
     core: &mut Core<W, P>,
     names: &Variables,
-    told: &mut LastAnswers,
+    reported: &mut LastAnswers,
     outcome: Outcome,
 ) -> Result<Option<State>, Fault>
     requires { OutcomeHolds outcome names.now core.old }
-    ensures { ReportsOutcome W.seen result outcome names.now core.old core.new told.new.failed_core.items }
+    ensures { ReportsOutcome W.seen result outcome names.now core.old core.new reported.new.failed_core.items }
 {
     match outcome {
         Outcome::Learned => Ok(None),
         Outcome::Model => {
-            show_model(core, names, &mut told.model)?;
+            show_model(core, names, &mut reported.model)?;
             Ok(Some(State::Sat))
         }
         Outcome::Failed => {
-            fail_core(core, names, &mut told.failed_core)?;
+            fail_core(core, names, &mut reported.failed_core)?;
             Ok(Some(State::UnsatUnderAssumptions))
         }
         Outcome::Unsat => Ok(Some(State::Unsat)),
@@ -59,7 +59,7 @@ fn report<W: CountedWrite + Drop, P: ProofProcessor>(
 pub fn find_answer<W: CountedWrite + Drop, P: ProofProcessor>(
     core: &mut Core<W, P>,
     names: &mut Variables,
-    told: &mut LastAnswers,
+    reported: &mut LastAnswers,
     clock: &mut Clock,
 ) -> Result<Option<State>, Fault>
     requires joined { IsJoined names.old core.old }
@@ -72,9 +72,9 @@ pub fn find_answer<W: CountedWrite + Drop, P: ProofProcessor>(
     ensures answered { AnswersWithin result (values_in core.old)
         (round_allowance core.old.config.max_steps clock.old.rounds) }
     ensures finds { IfOk result (λ r. FindsBy W.seen r clock.old clock.new names.old names.new core.old core.new
-        told.new) }
+        reported.new) }
     ensures searched { IfOk result (λ r. SearchedBy W.seen (state_found r) clock.old clock.new names.old names.new
-        core.old core.new told.new.failed_core.items) }
+        core.old core.new reported.new.failed_core.items) }
     ensures breaks { IfErr result (λ e. BreaksOff W.seen e core.old core.new) }
 {
     let max_steps = core.config.max_steps;
@@ -87,6 +87,6 @@ pub fn find_answer<W: CountedWrite + Drop, P: ProofProcessor>(
     )?;
     match found {
         None => Ok(None),
-        Some(outcome) => report(core, names, told, outcome),
+        Some(outcome) => report(core, names, reported, outcome),
     }
 }

@@ -19,7 +19,7 @@ impl<W: CountedWrite + Drop, P: ProofProcessor> Solver<W, P> {
         requires whole { SolverInvariant self.old }
         ensures answers { AnswersOrBreaks W.seen result self.old self.new }
         ensures searched { OnOk result (self.old.state ≡ State.Unknown → SearchedBy W.seen self.new.state self.old.clock
-            self.new.clock self.old.names self.new.names self.old.core self.new.core self.new.told.failed_core.items) }
+            self.new.clock self.old.names self.new.names self.old.core self.new.core self.new.reported.failed_core.items) }
     {
         match self.state {
             State::Unknown => {}
@@ -30,7 +30,7 @@ impl<W: CountedWrite + Drop, P: ProofProcessor> Solver<W, P> {
         let found = find_answer(
             &mut self.core,
             &mut self.names,
-            &mut self.told,
+            &mut self.reported,
             &mut self.clock,
         )?;
         match found {

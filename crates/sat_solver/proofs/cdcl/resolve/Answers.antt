@@ -1,5 +1,5 @@
 use Rattle.sat_solver.specs.declared.schedule.Outcome.TheVariants.{Learned}
-use Rattle.sat_solver.specs.cdcl.Joint.{assumed_in}
+use Rattle.sat_solver.specs.cdcl.Joint.{assumed_indices}
 use Rattle.sat_solver.specs.proof.ProofView.{session_of}
 use Rattle.sat_solver.proofs.lemmas.cdcl.GoingLemmas.{goes_on}
 use Rattle.sat_solver.proofs.lemmas.cdcl.TurnLemmas.{ready_names}
@@ -11,4 +11,4 @@ refute-requires-clause-named g c = rw c.deref.ensures.value (ready_names (sessio
 pub returns-then-current_level-gt0 : goal.returns-then-current_level-gt0
 returns-then-current_level-gt0 g c =
     goes_on g.W.CountedWrite.seen c.in_ok-learn_from.field-0 Learned c.args.proof.now c.learn_from.new.proof _ _
-    (λ steps l. record { search = l.search; moved = l.moved; rises = l.rises (assumed_in c.args.search.now); last = l.last }) c.in_ok-learn_from.ensures.learned
+    (λ steps l. record { search = l.search; moved = l.moved; rises = l.rises (assumed_indices c.args.search.now); last = l.last }) c.in_ok-learn_from.ensures.learned

@@ -29,7 +29,7 @@ use Rattle.sat_solver.specs.declared.error.SolverError.TheVariants as errors
 use Rattle.sat_solver.specs.declared.context.Search.{Search}
 use Rattle.sat_solver.specs.assumptions.Core.{causes_hashes, AreFailed, WritesCoreStep}
 use Rattle.sat_solver.specs.cdcl.Going.{proof_fault}
-use Rattle.sat_solver.specs.cdcl.Joint.{global_in, IsFree, IsSearch, SameVarsAndAssumptions, assumed_in}
+use Rattle.sat_solver.specs.cdcl.Joint.{global_in, IsFree, IsSearch, SameVarsAndAssumptions, assumed_indices}
 use Rattle.sat_solver.specs.cdcl.Turns.{IsFailing}
 use Rattle.sat_solver.proofs.lemmas.cdcl.TurnLemmas.{ready_moved}
 use Rattle.sat_parts.proofs.lemmas.parts.WordSteps.{goes_refl}
@@ -128,7 +128,7 @@ module _ {W L : Type 0} {G : Ghosts L} (seen : W → Writer) (a b : Proof W L G)
           holds = rw parts search.stands.holds;
           fits = rw (parts, globals, adds.history) (parts_rests c.parts (session_of a) (global_in c) search.stands.fits (FailedAssumptions core hashes) tt);
         };
-        ready = ready_moved (session_of a) (session_of b) c c' search.ready (rw adds.history (record { assumed = refl; names = λ v. refl })) moved (rw parts (goes_refl (assumed_in c) (state c.parts) c.parts.vsids)) (rw (parts, assumptions) search.ready.placed) free;
+        ready = ready_moved (session_of a) (session_of b) c c' search.ready (rw adds.history (record { assumed = refl; names = λ v. refl })) moved (rw parts (goes_refl (assumed_indices c) (state c.parts) c.parts.vsids)) (rw (parts, assumptions) search.ready.placed) free;
       };
       moved = moved;
       same = parts;

@@ -20,7 +20,7 @@ use Rattle.sat_solver.proofs.lemmas.fits.QuietLemmas.{quiet_comes, comes_quiet}
 use Rattle.sat_parts.specs.parts.Words.{TrailWordExtendsFor}
 use Rattle.sat_parts.specs.parts.Full.{IsFull}
 use Rattle.sat_solver.specs.cdcl.Going.{EmitsStepsOr}
-use Rattle.sat_solver.specs.cdcl.Joint.{assumed_in, SameVarsAndAssumptions}
+use Rattle.sat_solver.specs.cdcl.Joint.{assumed_indices, SameVarsAndAssumptions}
 use Rattle.sat_solver.specs.cdcl.Rounds.{RoundSays}
 use Rattle.sat_solver.specs.cdcl.Ending.{RoundShares, EndsRound}
 use Rattle.sat_solver.specs.declared.context.Search.{Search}
@@ -43,7 +43,7 @@ record Reaches {W L : Type 0} {G : Ghosts L} (seen : W → Writer) (n m : Variab
   asked : KeepsAsked n m (session_of p) (session_of q)
   shares : SharesIndices m d
   moved : SameVarsAndAssumptions c d
-  word : TrailWordExtendsFor (assumed_in c) c.parts d.parts
+  word : TrailWordExtendsFor (assumed_indices c) c.parts d.parts
 
 shares_on : (o : Outcome) (earlier steps : List Step) (s : Session) (m : Variables) (d e : Search) → SharesIndices m d → RoundSays o earlier steps s d e → RoundShares o m e
 shares_on outcomes.Learned earlier steps s m d e h x = shares_moved m d e h x.moved

@@ -26,7 +26,7 @@ use Rattle.sat_parts.specs.parts.Learned.{IsPending}
 use Rattle.sat_parts.proofs.lemmas.parts.KeepLemmas.{keeps_enqueued}
 use Rattle.sat_solver.specs.declared.context.Search.{Search}
 use Rattle.sat_solver.specs.cdcl.Going.{is_searched}
-use Rattle.sat_solver.specs.cdcl.Joint.{global_in, IsFree, IsReadySearch, SameVarsAndAssumptions, assumed_in}
+use Rattle.sat_solver.specs.cdcl.Joint.{global_in, IsFree, IsReadySearch, SameVarsAndAssumptions, assumed_indices}
 use Rattle.sat_solver.specs.unit_simplify.Left.{SameSize}
 use Rattle.sat_solver.specs.cdcl.Learning.{LastAdvances, LearnsAndRises}
 use Rattle.sat_solver.proofs.lemmas.cdcl.AskedLemmas.{leaves_after}
@@ -73,7 +73,7 @@ pub learned_whole : (steps new : List Step) (step : Step) (c c' : Search) → Is
 learned_whole steps new step c c' ready s added stands rises size last globals lits placed free =
     let moved : SameVarsAndAssumptions c c' = record { globals = globals; lits = lits; size = size } in
     record {
-      search = record { stands = rw globals stands; ready = ready_moved (session_after steps) (session_after new) c c' ready (rw added (leaves_after (step ∷ []) steps (s, tt))) moved (rises (assumed_in c)).0 placed free };
+      search = record { stands = rw globals stands; ready = ready_moved (session_after steps) (session_after new) c c' ready (rw added (leaves_after (step ∷ []) steps (s, tt))) moved (rises (assumed_indices c)).0 placed free };
       moved = moved;
       rises = rises;
       last = last;

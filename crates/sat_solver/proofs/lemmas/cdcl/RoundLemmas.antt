@@ -10,7 +10,7 @@ use Rattle.sat_solver.proofs.lemmas.fits.QuietLemmas.{quiet_both}
 use Rattle.sat_solver.specs.declared.schedule.Outcome.{Outcome}
 use Rattle.sat_solver.specs.declared.schedule.Outcome.TheVariants as outcomes
 use Rattle.sat_solver.specs.declared.context.Search.{Search}
-use Rattle.sat_solver.specs.cdcl.Joint.{assumed_in, IsSearch, SameVarsAndAssumptions}
+use Rattle.sat_solver.specs.cdcl.Joint.{assumed_indices, IsSearch, SameVarsAndAssumptions}
 use Rattle.sat_solver.specs.cdcl.Learning.{LastAdvances}
 use Rattle.sat_solver.specs.cdcl.Rounds.{LastRefutes, RoundSays}
 use Rattle.sat_solver.proofs.lemmas.cdcl.TurnLemmas.{moved_trans}
@@ -39,11 +39,11 @@ refutes_later earlier xs ys s quiet l = record {
 }
 
 -- what is said of a later state behind an earlier one
-pub round_from : (outcome : Outcome) (earlier xs ys : List Step) (s : Session) (a b c : Search) → SameVarsAndAssumptions a b → TrailWordExtendsFor (assumed_in a) a.parts b.parts → AreQuiet xs → RoundSays outcome (xs ++ earlier) ys s b c → RoundSays outcome earlier (ys ++ xs) s a c
+pub round_from : (outcome : Outcome) (earlier xs ys : List Step) (s : Session) (a b c : Search) → SameVarsAndAssumptions a b → TrailWordExtendsFor (assumed_indices a) a.parts b.parts → AreQuiet xs → RoundSays outcome (xs ++ earlier) ys s b c → RoundSays outcome earlier (ys ++ xs) s a c
 round_from outcomes.Learned earlier xs ys s a b c moved word quiet r = record {
   search = r.search;
   moved = moved_trans a b c moved r.moved;
-  rises = rises_after (assumed_in a) a.parts b.parts c.parts word (rw moved.lits at r.rises);
+  rises = rises_after (assumed_indices a) a.parts b.parts c.parts word (rw moved.lits at r.rises);
   last = last_later earlier xs ys quiet r.last;
 }
 round_from outcomes.Model earlier xs ys s a b c moved word quiet r = (record { search = r.0.search; moved = moved_trans a b c moved r.0.moved; complete = r.0.complete }, quiet_both xs ys quiet r.1)

@@ -25,7 +25,7 @@ use Rattle.sat_solver.specs.declared.cdcl.find_conflict.FoundConflict.TheVariant
 use Rattle.sat_solver.specs.declared.context.Search.{Search}
 use Rattle.sat_solver.specs.cdcl.Going.{EmitsSteps}
 use Rattle.sat_solver.proofs.lemmas.cdcl.AskedLemmas.{leaves_after, kinds_of}
-use Rattle.sat_solver.specs.cdcl.Joint.{global_in, assumed_in, IsFree, IsReadySearch, IsSearch, SameVarsAndAssumptions, SameAssumedAndNames}
+use Rattle.sat_solver.specs.cdcl.Joint.{global_in, assumed_indices, IsFree, IsReadySearch, IsSearch, SameVarsAndAssumptions, SameAssumedAndNames}
 use Rattle.sat_solver.specs.unit_simplify.Left.{TakesUnitsOff}
 use Rattle.sat_solver.specs.cdcl.Turns.{GoesDeeper, IsPropagated, OpensLevelOrStops, TurnSays, TakesTurn, StopsSearch}
 use Rattle.sat_base.specs.values.Literals.{variable}
@@ -51,7 +51,7 @@ pub leaves_refl : (s : Session) → SameAssumedAndNames s s
 leaves_refl s = record { assumed = refl; names = λ v. refl }
 
 -- variables and assumptions are the same, and what was looked at of these stands
-pub ready_moved : (s s' : Session) (c c' : Search) → IsReadySearch s c → SameAssumedAndNames s s' → SameVarsAndAssumptions c c' → GoneAndIdleStay (assumed_in c) (state c.parts) c.parts.vsids (state c'.parts) c'.parts.vsids → ArePlaced c'.assumptions (state c'.parts) → IsFree c' → IsReadySearch s' c'
+pub ready_moved : (s s' : Session) (c c' : Search) → IsReadySearch s c → SameAssumedAndNames s s' → SameVarsAndAssumptions c c' → GoneAndIdleStay (assumed_indices c) (state c.parts) c.parts.vsids (state c'.parts) c'.parts.vsids → ArePlaced c'.assumptions (state c'.parts) → IsFree c' → IsReadySearch s' c'
 ready_moved s s' c c' r leaves moved goes placed free = record {
   free = free;
   placed = placed;
@@ -79,7 +79,7 @@ free_moved c c' f moved analysis flags = record {
 pub record Propagation (s : Session) (c d : Search) : Type 0 where
   pub whole : IsPropagated s d
   pub moved : SameVarsAndAssumptions c d
-  pub word : TrailWordExtendsFor (assumed_in c) c.parts d.parts
+  pub word : TrailWordExtendsFor (assumed_indices c) c.parts d.parts
   pub starts : d.parts.trail.starts ≡ c.parts.trail.starts
 
 module _ (s : Session) (c c' : Search) (search : IsSearch s c) (globals : c'.globals ≡ c.globals) (assumptions : c'.assumptions ≡ c.assumptions) (analysis : c'.analysis ≡ c.analysis) (flags : c'.flags ≡ c.flags)
@@ -90,7 +90,7 @@ module _ (s : Session) (c c' : Search) (search : IsSearch s c) (globals : c'.glo
   propagated_ready : IsReadySearch s c'
   propagated_ready =
       let a = search.ready.placed in
-      ready_moved s s c c' search.ready (leaves_refl s) propagated_moved (word (assumed_in c)).0
+      ready_moved s s c c' search.ready (leaves_refl s) propagated_moved (word (assumed_indices c)).0
       (rw assumptions (placed_kept c.assumptions.lits.items c.assumptions.below.items c.assumptions.place (length c.assumptions.below.items) (state c.parts) (state c'.parts) a (keeps (length c.assumptions.below.items)) (omega arith)
       (rw starts a.levels) (rw starts a.all)))
       (free_moved c c' search.ready.free propagated_moved analysis flags)
@@ -112,7 +112,7 @@ module _ (s : Session) (c c' : Search) (search : IsSearch s c) (globals : c'.glo
       ready = propagated_ready;
     };
     moved = propagated_moved;
-    word = word (assumed_in c);
+    word = word (assumed_indices c);
     starts = starts;
   }
 
@@ -125,28 +125,28 @@ module _ (s : Session) (c c' : Search) (search : IsSearch s c) (globals : c'.glo
       ready = propagated_ready;
     };
     moved = propagated_moved;
-    word = word (assumed_in c);
+    word = word (assumed_indices c);
   }
 
 -- A LEVEL BEGINS, OR NONE
 
 -- what is said of a later state behind an earlier one
-pub turned_from : (found : Option FoundConflict) (s : Session) (a b c : Search) → SameVarsAndAssumptions a b → TrailWordExtendsFor (assumed_in a) a.parts b.parts → length b.parts.trail.starts ≡ length a.parts.trail.starts → TakesTurn found s b c → TakesTurn found s a c
+pub turned_from : (found : Option FoundConflict) (s : Session) (a b c : Search) → SameVarsAndAssumptions a b → TrailWordExtendsFor (assumed_indices a) a.parts b.parts → length b.parts.trail.starts ≡ length a.parts.trail.starts → TakesTurn found s b c → TakesTurn found s a c
 turned_from found s a b c moved word starts t = record {
   says = later found t.says;
   moved = moved_trans a b c moved t.moved;
-  word = extends_after (assumed_in a) a.parts b.parts c.parts word (rw moved.lits at t.word);
+  word = extends_after (assumed_indices a) a.parts b.parts c.parts word (rw moved.lits at t.word);
 }
   where
     later : (f : Option FoundConflict) → TurnSays f s b c → TurnSays f s a c
     later None x = (x.0, x.1 ∙ ap (λ n. n + 1) starts)
     later (Some stop) x = x
 
-pub stopped_from : (stop : FoundConflict) (s : Session) (a b c : Search) → SameVarsAndAssumptions a b → TrailWordExtendsFor (assumed_in a) a.parts b.parts → TakesTurn (Some stop) s b c → StopsSearch stop s a c
+pub stopped_from : (stop : FoundConflict) (s : Session) (a b c : Search) → SameVarsAndAssumptions a b → TrailWordExtendsFor (assumed_indices a) a.parts b.parts → TakesTurn (Some stop) s b c → StopsSearch stop s a c
 stopped_from stop s a b c moved word t = record {
   says = t.says;
   moved = moved_trans a b c moved t.moved;
-  word = extends_after (assumed_in a) a.parts b.parts c.parts word (rw moved.lits at t.word);
+  word = extends_after (assumed_indices a) a.parts b.parts c.parts word (rw moved.lits at t.word);
 }
 
 module _ (s s' : Session) (c c' : Search) (mid : Parts) (propagated : IsPropagated s c) (leaves : SameAssumedAndNames s s') (settled : TakesUnitsOff c.parts mid s' (global_in c))
@@ -158,8 +158,8 @@ module _ (s s' : Session) (c c' : Search) (mid : Parts) (propagated : IsPropagat
     word = word;
   }
     where
-      word : TrailWordExtendsFor (assumed_in c) c.parts c'.parts
-      word = extends_after (assumed_in c) c.parts mid c'.parts (settled.word (assumed_in c)) d.word
+      word : TrailWordExtendsFor (assumed_indices c) c.parts c'.parts
+      word = extends_after (assumed_indices c) c.parts mid c'.parts (settled.word (assumed_indices c)) d.word
 
       moved : SameVarsAndAssumptions c c'
       moved = record { globals = globals; lits = d.lits; size = d.carries.size ∙ settled.size }

@@ -25,7 +25,7 @@ use Rattle.sat_parts.proofs.lemmas.parts.WordSteps.{extends_after, extends_refl}
 use Rattle.sat_solver.specs.session.Fits.{SessionMatchesParts}
 use Rattle.sat_solver.proofs.lemmas.fits.FramedParts.{fits_headed, fits_copied, fits_dropped_redundant}
 use Rattle.sat_solver.specs.declared.context.Search.{Search}
-use Rattle.sat_solver.specs.cdcl.Joint.{global_in, assumed_in, IsSearch, SameVarsAndAssumptions, SameAssumedAndNames}
+use Rattle.sat_solver.specs.cdcl.Joint.{global_in, assumed_indices, IsSearch, SameVarsAndAssumptions, SameAssumedAndNames}
 use Rattle.sat_solver.specs.unit_simplify.Left.{SameSize}
 use Rattle.sat_solver.specs.clause.Reduced.{IsLearnedLong, IsReason, DeletesIf, ReductionEffect}
 use Rattle.sat_solver.proofs.lemmas.cdcl.TurnLemmas.{moved_refl, moved_trans, ready_moved, free_moved, leaves_refl}
@@ -61,17 +61,17 @@ locals_learned p list perm live k lt =
 -- WHAT IS SEARCHED
 
 pub reduced_refl : (s : Session) (c : Search) → IsSearch s c → ReductionEffect s c c
-reduced_refl s c search = record { search = search; moved = moved_refl c; word = extends_refl c.parts (assumed_in c) }
+reduced_refl s c search = record { search = search; moved = moved_refl c; word = extends_refl c.parts (assumed_indices c) }
 
 pub reduced_trans : (s s' : Session) (a b c : Search) → ReductionEffect s a b → ReductionEffect s' b c → ReductionEffect s' a c
 reduced_trans s s' a b c x y = record {
   search = y.search;
   moved = moved_trans a b c x.moved y.moved;
-  word = extends_after (assumed_in a) a.parts b.parts c.parts x.word (rw x.moved.lits at y.word);
+  word = extends_after (assumed_indices a) a.parts b.parts c.parts x.word (rw x.moved.lits at y.word);
 }
 
 pub reduced_deleted : (b : Bool) (o : ℕ) (s : Session) (c c' : Search) → DeletesIf b o s c c' → ReductionEffect s c c'
-reduced_deleted b o s c c' d = record { search = d.search; moved = d.moved; word = d.word (assumed_in c) }
+reduced_deleted b o s c c' d = record { search = d.search; moved = d.moved; word = d.word (assumed_indices c) }
 
 module _ (s s' : Session) (c c' : Search) (search : IsSearch s c) (globals : c'.globals ≡ c.globals) (assumptions : c'.assumptions ≡ c.assumptions) (analysis : c'.analysis ≡ c.analysis) (flags : c'.flags ≡ c.flags) where
   pub still_moved : SameSize c.parts c'.parts → SameVarsAndAssumptions c c'
@@ -80,7 +80,7 @@ module _ (s s' : Session) (c c' : Search) (search : IsSearch s c) (globals : c'.
   pub still : SameAssumedAndNames s s' → PartsInvariant c'.parts → SessionMatchesParts c'.parts s' (global_in c) → SameSize c.parts c'.parts → TrailWordExtends c.parts c'.parts → ArePlaced c.assumptions (state c'.parts) → IsSearch s' c'
   still leaves holds fits size word placed = record {
     stands = record { holds = holds; fits = rw globals fits };
-    ready = ready_moved s s' c c' search.ready leaves (still_moved size) (word (assumed_in c)).0 (rw assumptions placed) (free_moved c c' search.ready.free (still_moved size) analysis flags);
+    ready = ready_moved s s' c c' search.ready leaves (still_moved size) (word (assumed_indices c)).0 (rw assumptions placed) (free_moved c c' search.ready.free (still_moved size) analysis flags);
   }
 
 module _ (s : Session) (c c' : Search) (search : IsSearch s c) (globals : c'.globals ≡ c.globals) (assumptions : c'.assumptions ≡ c.assumptions) (analysis : c'.analysis ≡ c.analysis) (flags : c'.flags ≡ c.flags) where
@@ -91,7 +91,7 @@ module _ (s : Session) (c c' : Search) (search : IsSearch s c) (globals : c'.glo
       record {
         search = still s s c c' search globals assumptions analysis flags (leaves_refl s) holds (fits_headed c.parts c'.parts s (global_in c) search.stands.fits h) size word (rw (same_state c.parts c'.parts h.same.0) search.ready.placed);
         moved = still_moved s s c c' search globals assumptions analysis flags size;
-        word = word (assumed_in c);
+        word = word (assumed_indices c);
       }
 
   -- clauses are at other places
@@ -103,7 +103,7 @@ module _ (s : Session) (c c' : Search) (search : IsSearch s c) (globals : c'.glo
         search = still s s c c' search globals assumptions analysis flags (leaves_refl s) holds (fits_copied c.parts c'.parts s (global_in c) search.stands.fits h) size word
             (placed_kept c.assumptions.lits.items c.assumptions.below.items c.assumptions.place (length c.assumptions.below.items) (state c.parts) (state c'.parts) a (h.keeps (length c.assumptions.below.items)) (omega arith) (rw h.trail a.levels) (rw h.trail a.all));
         moved = still_moved s s c c' search globals assumptions analysis flags size;
-        word = word (assumed_in c);
+        word = word (assumed_indices c);
       }
 
   -- nothing was deleted

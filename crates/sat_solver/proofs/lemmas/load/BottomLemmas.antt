@@ -16,7 +16,7 @@ use Rattle.sat_parts.specs.parts.Words.{TrailWordStays}
 use Rattle.sat_solver.proofs.lemmas.fits.AnswerParts.{parts_rests}
 use Rattle.sat_solver.proofs.lemmas.fits.LearnedLemmas.{fits_undone}
 use Rattle.sat_solver.specs.declared.context.Search.{Search}
-use Rattle.sat_solver.specs.cdcl.Joint.{global_in, assumed_in, SameVarsAndAssumptions}
+use Rattle.sat_solver.specs.cdcl.Joint.{global_in, assumed_indices, SameVarsAndAssumptions}
 use Rattle.sat_solver.proofs.lemmas.cdcl.TurnLemmas.{ready_moved, free_moved, leaves_refl}
 use Rattle.sat_solver.specs.load.Bottom.{AtBottom}
 use Rattle.sat_solver.specs.assumptions.Setting.{ReplacesAssumed}
@@ -38,7 +38,7 @@ at_bottom c p a bottom holds same carries stay placed lits =
       free = λ f. free_moved c c' f moved refl refl;
       search = λ s x. record {
         stands = record { holds = holds; fits = fits_undone c.parts p s (global_in c) same carries x.stands.fits };
-        ready = ready_moved s s c c' x.ready (leaves_refl s) moved (stay (assumed_in c)) placed (free_moved c c' x.ready.free moved refl refl);
+        ready = ready_moved s s c c' x.ready (leaves_refl s) moved (stay (assumed_indices c)) placed (free_moved c c' x.ready.free moved refl refl);
       };
     }
 

@@ -29,7 +29,7 @@ use Rattle.sat_solver.specs.variables.Variables.{says_unit}
 use Rattle.sat_solver.specs.variables.Search.{GivenApart, HasGiven}
 use Rattle.sat_solver.specs.declared.variables.solver_vars.Given.{Given}
 use Rattle.sat_solver.specs.declared.context.Search.{Search}
-use Rattle.sat_solver.specs.cdcl.Joint.{global_in, assumed_in, IsFree, IsSearch}
+use Rattle.sat_solver.specs.cdcl.Joint.{global_in, assumed_indices, IsFree, IsSearch}
 use Rattle.sat_solver.proofs.lemmas.cdcl.TurnLemmas.{ready_names}
 use Rattle.sat_solver.specs.load.Bottom.{AtBottom}
 use Rattle.sat_solver.specs.variables.Initialized.{GivesLit, IsVacant, AreVacant, TakesIndices, Renames, IsGivenTo, GivesNames, GivesSearchIndices}
@@ -191,7 +191,7 @@ module _ (c c1 c2 c3 : Search) (globals : List ℕ) (gs : List Given) (count : �
     small = x.ready.there
 
     -- what is past the variables is idle
-    past_idle : (v : ℕ) → n ≤ v → IsIdle (assumed_in c) (state c.parts) c.parts.vsids v
+    past_idle : (v : ℕ) → n ≤ v → IsIdle (assumed_indices c) (state c.parts) c.parts.vsids v
     past_idle v ge = (
       get_or_past c.parts.assignment.current v None ge,
       get_or_past c.parts.vsids.available v false (omega (arith, holds.below.queue)),
@@ -203,13 +203,13 @@ module _ (c c1 c2 c3 : Search) (globals : List ℕ) (gs : List Given) (count : �
         past_all (l ∷ ls) v below ge (zero, lt, e) = (let z : variable l < n = below 0 (omega arith) in let f : variable l ≡ v = e in omega arith)
         past_all (l ∷ ls) v below ge (suc i, lt, e) = past_all ls v (λ j less. below (suc j) (omega arith)) ge (i, omega arith, e)
 
-    idle3 : (v : ℕ) → (HasGiven gs v → ⊥) → IsIdle (assumed_in c) (state c.parts) c.parts.vsids v → IsIdle (assumed_in c) (state c3.parts) c3.parts.vsids v
+    idle3 : (v : ℕ) → (HasGiven gs v → ⊥) → IsIdle (assumed_indices c) (state c.parts) c.parts.vsids v → IsIdle (assumed_indices c) (state c3.parts) c3.parts.vsids v
     idle3 v out idle =
-        let one : IsIdle (assumed_in c) (state c1.parts) c1.parts.vsids v = (grown.values v ∙ idle.0, grown.picks v ∙ idle.1, idle.2) in
-        let two : IsIdle (assumed_in c) (state c2.parts) c2.parts.vsids v = (back.stay (assumed_in c)).idle v one in
+        let one : IsIdle (assumed_indices c) (state c1.parts) c1.parts.vsids v = (grown.values v ∙ idle.0, grown.picks v ∙ idle.1, idle.2) in
+        let two : IsIdle (assumed_indices c) (state c2.parts) c2.parts.vsids v = (back.stay (assumed_indices c)).idle v one in
         (takes.values v out ∙ two.0, takes.picks v out ∙ two.1, two.2)
 
-    used_or_idle : (v : ℕ) → (s.solver_names (global_in c v) ≡ Some v) ⊎ IsIdle (assumed_in c) (state c.parts) c.parts.vsids v
+    used_or_idle : (v : ℕ) → (s.solver_names (global_in c v) ≡ Some v) ⊎ IsIdle (assumed_indices c) (state c.parts) c.parts.vsids v
     used_or_idle v = elim (cases_lt v n) [ inl lt ↦ x.ready.used v lt | inr ge ↦ inr (past_idle v ge) ]
 
     assumed_named : (k : ℕ) → k < length c.assumptions.lits.items → s.solver_names (global_in c (variable (get_or c.assumptions.lits.items k 0))) ≡ Some (variable (get_or c.assumptions.lits.items k 0))

@@ -32,7 +32,7 @@ use Rattle.sat_solver.proofs.lemmas.fits.LearnedLemmas.{fits_undone}
 use Rattle.sat_solver.proofs.lemmas.fits.LoadedParts.{fits_loaded}
 use Rattle.sat_solver.specs.declared.context.Search.{Search}
 use Rattle.sat_solver.specs.declared.context.Scratch.{Scratch}
-use Rattle.sat_solver.specs.cdcl.Joint.{global_in, IsSearch, SameVarsAndAssumptions, SameAssumedAndNames, AreNamedOrIdle, assumed_in}
+use Rattle.sat_solver.specs.cdcl.Joint.{global_in, IsSearch, SameVarsAndAssumptions, SameAssumedAndNames, AreNamedOrIdle, assumed_indices}
 use Rattle.sat_solver.proofs.lemmas.cdcl.AskedLemmas.{asked_after, leaves_after}
 use Rattle.sat_solver.proofs.lemmas.cdcl.TurnLemmas.{free_moved, moved_trans}
 use Rattle.sat_solver.specs.load.Bottom.{AtBottom}
@@ -121,7 +121,7 @@ module _ (c : Search) (ls : List ℕ) (steps : List Step) (added : IsAdded steps
   none_some x e = cc
 
   -- what was idle and isn't of the clause stays so
-  idle2 : (r : Loaded) → LoadEffect r p1 p2 ms → (v : ℕ) → mentions ls v ≡ false → IsIdle (assumed_in c) (state c.parts) c.parts.vsids v → IsIdle (assumed_in c) (state p2) p2.vsids v
+  idle2 : (r : Loaded) → LoadEffect r p1 p2 ms → (v : ℕ) → mentions ls v ≡ false → IsIdle (assumed_indices c) (state c.parts) c.parts.vsids v → IsIdle (assumed_indices c) (state p2) p2.vsids v
   idle2 r says v out idle = (
     elim (open_or_true p2.assignment.current v) [
       | inl none ↦ none
@@ -146,7 +146,7 @@ module _ (c : Search) (ls : List ℕ) (steps : List Step) (added : IsAdded steps
         | inl own ↦ inl (rw m.globals (leaves.names (global_in c v) ∙ own))
         | inr idle ↦ elim (cases_Bool (mentions ls v)) [
           | inl i ↦ inl (rw m.globals (leaves.names (global_in c v) ∙ mention_named (global_in c) s.solver_names ls v added.named i))
-          | inr out ↦ inr (rw m.lits ((back.stay (assumed_in c)).idle v (idle2 r says v out idle)))
+          | inr out ↦ inr (rw m.lits ((back.stay (assumed_indices c)).idle v (idle2 r says v out idle)))
         ]
       ]
 

@@ -36,7 +36,7 @@ use Rattle.sat_solver.proofs.lemmas.unit_simplify.FreedLemmas.{asked_refl, asked
 use Rattle.sat_solver.proofs.lemmas.unit_simplify.PassesLemmas.{passes_goes, falls_goes, falls_later, falls_or}
 use Rattle.sat_solver.specs.declared.context.Search.{Search}
 use Rattle.sat_parts.specs.parts.Full.{IsFull}
-use Rattle.sat_solver.specs.cdcl.Joint.{assumed_in, SameVarsAndAssumptions, global_in, IsSearch}
+use Rattle.sat_solver.specs.cdcl.Joint.{assumed_indices, SameVarsAndAssumptions, global_in, IsSearch}
 use Rattle.sat_solver.specs.cdcl.Learning.{LastAdvances}
 use Rattle.sat_solver.specs.clause.Reduced.{ReductionEffect, Reduces, ReductionBySteps}
 use Rattle.sat_solver.specs.cdcl.Rounds.{RoundLearns, RoundSays}
@@ -76,11 +76,11 @@ allowed s a b xs ys e f may = subst (λ zs. MayAll (ys ++ zs)) e (subst MayAll f
 pub words_stay : (am : List ℕ) (p p' : Parts) → TrailWordStays p p' → (w : List Letter) → Words am p w → (v : List Letter) × Words am p' v
 words_stay am p p' stay w x = (_, record { gone = x.gone; distinct = x.distinct; each = λ k b. (stay am).gone _ (x.each k b); is = refl })
 
-words_moved : (p : Parts) (a b : Search) → SameVarsAndAssumptions a b → (v : List Letter) → Words (assumed_in a) p v → Words (assumed_in b) p v
+words_moved : (p : Parts) (a b : Search) → SameVarsAndAssumptions a b → (v : List Letter) → Words (assumed_indices a) p v → Words (assumed_indices b) p v
 words_moved p a b m v x = subst (λ ls. Words (variables_of_lits ls.items) p v) (sym m.lits) x
 
-pub core_word : {W L : Type 0} {G : Ghosts L} (c : Core W L G) → Words (assumed_in c.search) c.search.parts (trail_letters c.search.parts.trail)
-core_word c = word_begins (assumed_in c.search) c.search.parts
+pub core_word : {W L : Type 0} {G : Ghosts L} (c : Core W L G) → Words (assumed_indices c.search) c.search.parts (trail_letters c.search.parts.trail)
+core_word c = word_begins (assumed_indices c.search) c.search.parts
 
 -- decisions were undone
 pub search_undone : (s : Session) (c : Search) (p : Parts) → IsSearch s c → PartsInvariant p → SameClauses c.parts p → AddsNoUnit (state c.parts) (state p) → TrailWordStays c.parts p → ArePlaced c.assumptions (state p) → IsSearch s (record c { parts = p })
@@ -88,7 +88,7 @@ search_undone s c p h holds same carries stay placed =
     let moved : SameVarsAndAssumptions c (record c { parts = p }) = record { globals = refl; lits = refl; size = carries.size } in
     record {
       stands = record { holds = holds; fits = fits_undone c.parts p s (global_in c) same carries h.stands.fits };
-      ready = ready_moved s s c (record c { parts = p }) h.ready (leaves_refl s) moved (stay (assumed_in c)) placed (free_moved c (record c { parts = p }) h.ready.free moved refl refl);
+      ready = ready_moved s s c (record c { parts = p }) h.ready (leaves_refl s) moved (stay (assumed_indices c)) placed (free_moved c (record c { parts = p }) h.ready.free moved refl refl);
     }
 
 -- ROUNDS, ONE AFTER ANOTHER
@@ -203,7 +203,7 @@ module _ {W L : Type 0} {G : Ghosts L} (seen : W → Writer) where
     round_words o g = λ e w h.
         (let l : RoundLearns (steps_of a.proof) g.steps (session_of b.proof) a.search b.search = learns o g.steps e g.says in
         let y = l.rises.1 w h in
-        let fits : length y.0 ≤ length b.search.parts.assignment.current = word_fits (assumed_in a.search) (state b.search.parts) b.search.parts.vsids y.0 l.search.stands.holds.below.asks.agrees y.1.0 in
+        let fits : length y.0 ≤ length b.search.parts.assignment.current = word_fits (assumed_indices a.search) (state b.search.parts) b.search.parts.vsids y.0 l.search.stands.holds.below.asks.agrees y.1.0 in
         (y.0, (words_moved b.search.parts a.search b.search l.moved y.0 y.1.0, y.1.1, omega (arith, fits, l.moved.size))))
 
     pub round_goes : (o : Outcome) → Round (Ok o) → o ≡ outcomes.Learned → (s : Core W L G) (n : Variables) (k : ℕ) → ComesByRounds seen s n k a na → ComesByRounds seen s n (k + 1) b nb

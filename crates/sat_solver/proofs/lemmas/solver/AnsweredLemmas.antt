@@ -225,7 +225,7 @@ module _ {W L : Type 0} {G : Ghosts L} (seen : W → Writer) (n : Variables) (a 
       step = FailedAssumptions codes (causes_hashes a.search.parts b.search.analysis.used)
 
       history_of : WritesFailedCore seen n a b core → steps_of b.proof ≡ step ∷ steps_of a.proof
-      history_of f = f.adds.history ∙ ap (λ ss. ss ++ steps_of a.proof) f.told.is
+      history_of f = f.adds.history ∙ ap (λ ss. ss ++ steps_of a.proof) f.reported.is
 
       may : MayAll (step ∷ steps_of a.proof)
       may = subst MayAll (history_of f) f.joined.sound.keeps
@@ -234,4 +234,4 @@ module _ {W L : Type 0} {G : Ghosts L} (seen : W → Writer) (n : Variables) (a 
       stands = subst (NamesInvariant n) (history_of f) f.joined.stands
 
       spelt : SameSet (variable_of (steps_of a.proof)) (map user_literal (map (lit_over_names n) used)) codes
-      spelt = core_spelt n (steps_of a.proof) joined.stands a.search joined.shares asked order images used (λ k lt. subst (λ ls. Contains ls (get_or used k 0)) lits (f.told.failed.among k lt))
+      spelt = core_spelt n (steps_of a.proof) joined.stands a.search joined.shares asked order images used (λ k lt. subst (λ ls. Contains ls (get_or used k 0)) lits (f.reported.failed.among k lt))

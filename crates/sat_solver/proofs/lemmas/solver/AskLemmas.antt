@@ -50,12 +50,12 @@ module _ {W L : Type 0} {G : Ghosts L} (seen : W → Writer) (s : Solver W L G) 
     pub ask_whole : FlushesAndNotifies seen mid.core.proof q → IsSolver flushed
     ask_whole f _ = (settled_flushed seen used mid behind q f).whole
 
-    pub ask_answered : p ≡ asking_proof s.core.proof → (s.state ≡ states.Unknown → SearchedBy seen mid.state s.clock mid.clock s.names mid.names asking.core mid.core mid.told.failed_core.items) → FlushesAndNotifies seen mid.core.proof q → Answered seen s flushed
+    pub ask_answered : p ≡ asking_proof s.core.proof → (s.state ≡ states.Unknown → SearchedBy seen mid.state s.clock mid.clock s.names mid.names asking.core mid.core mid.reported.failed_core.items) → FlushesAndNotifies seen mid.core.proof q → Answered seen s flushed
     ask_answered same searched f =
-        answered seen s flushed (settled_flushed seen used mid behind q f) going (flushed_by seen mid.core.proof q f) f.told
+        answered seen s flushed (settled_flushed seen used mid behind q f) going (flushed_by seen mid.core.proof q f) f.reported
         (asked_flushed seen settled.took.0 p mid.core.proof q (ap (λ (x : Proof W L G). has_asked x) same) settled.took.1 f)
         (λ u. record {
           behind = mid.core.proof;
-          searched = subst (λ x. SearchedBy seen mid.state s.clock mid.clock s.names mid.names (record s.core { proof = x }) mid.core mid.told.failed_core.items) same (searched u);
+          searched = subst (λ x. SearchedBy seen mid.state s.clock mid.clock s.names mid.names (record s.core { proof = x }) mid.core mid.reported.failed_core.items) same (searched u);
           flushes = f;
         })

@@ -27,7 +27,7 @@ module _ {W L : Type 0} {G : Ghosts L} (seen : W → Writer) (old : Solver W L G
   begun = record old { core = record old.core { proof = p } }
 
   pub whole_begun : SolverInvariant old → SolverInvariant begun
-  whole_begun whole = whole_over old.core old.names old.asked old.assumed.items old.told.failed_core.items old.clock.restarts.scale old.state p whole adds.history taking
+  whole_begun whole = whole_over old.core old.names old.asked old.assumed.items old.reported.failed_core.items old.clock.restarts.scale old.state p whole adds.history taking
 
   pub rounds_begun : (now : ℕ) → RoundsOn old.names (steps_in begun) old.core.config.max_steps old.clock.rounds now → RoundsOn old.names (steps_in old) old.core.config.max_steps old.clock.rounds now
   rounds_begun now h = subst (λ ss. RoundsOn old.names ss old.core.config.max_steps old.clock.rounds now) adds.history h

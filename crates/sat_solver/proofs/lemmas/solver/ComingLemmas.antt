@@ -54,7 +54,7 @@ goes_of states.Unsat c n asked assumed core k h = absurd (k refl)
 
 module _ {W L : Type 0} {G : Ghosts L} (seen : W → Writer) (s : Solver W L G) (whole : SolverInvariant s) (apart : s.state ≡ states.Unsat → ⊥) where
   pub going_on : AskGoesOn s.core s.names s.asked
-  going_on = goes_of s.state s.core s.names s.asked s.assumed.items s.told.failed_core.items apart whole.says
+  going_on = goes_of s.state s.core s.names s.asked s.assumed.items s.reported.failed_core.items apart whole.says
 
   module _ (b : Core W L G) (n' : Variables) (user : List ℕ) (loading : Loading) where
     abbrev pub added : State → Solver W L G
@@ -177,7 +177,7 @@ module _ {W L : Type 0} {G : Ghosts L} (seen : W → Writer) (s : Solver W L G) 
 
 module _ {W L : Type 0} {G : Ghosts L} (seen : W → Writer) (s : Solver W L G) (whole : SolverInvariant s) (known : s.state ≡ states.Unsat) (p : Proof W L G) (n' : Variables) (user : List ℕ) (took : ComesByCheckedSteps seen s.core.proof p) where
   unsat : (session_of s.core.proof).unsat ≡ true
-  unsat = subst (λ st. StateSays st s.core s.names s.asked s.assumed.items s.told.failed_core.items) known whole.says
+  unsat = subst (λ st. StateSays st s.core s.names s.asked s.assumed.items s.reported.failed_core.items) known whole.says
 
   -- a clause was left out
   pub left_in : LeavesOut s.names n' (steps_in s) (steps_of p) user → AddClauseEffect seen s (record s { core = record s.core { proof = p }; names = n' }) user
@@ -192,7 +192,7 @@ module _ {W L : Type 0} {G : Ghosts L} (seen : W → Writer) (s : Solver W L G) 
       decays = whole.decays;
       taking = took.1.taking ∙ whole.taking;
       judged = judged_by l.does whole.judged;
-      says = subst (λ st. StateSays st (record s.core { proof = p }) n' s.asked s.assumed.items s.told.failed_core.items) (sym known) (l.unseen.search.unsat ∙ unsat);
+      says = subst (λ st. StateSays st (record s.core { proof = p }) n' s.asked s.assumed.items s.reported.failed_core.items) (sym known) (l.unseen.search.unsat ∙ unsat);
     };
     does = subst (λ st. NamesEffect s.names n' (steps_in s) (steps_of p) (with_added user) (due_for_clause st user)) (sym known) l.does;
     comes = comes_added (names_in user) (steps_in s) (steps_of p) (comes_due (names_in user) (steps_in s) (steps_of p) l.comes);
@@ -227,7 +227,7 @@ module _ {W L : Type 0} {G : Ghosts L} (seen : W → Writer) (s : Solver W L G) 
       decays = whole.decays;
       taking = took.1.taking ∙ whole.taking;
       judged = judged_by (a.does Unknown) whole.judged;
-      says = subst (λ st. StateSays st (record s.core { proof = p }) n' asked user s.told.failed_core.items) (sym known) (ap (λ ss. (session_after ss).unsat) a.written ∙ a.search.unsat ∙ unsat);
+      says = subst (λ st. StateSays st (record s.core { proof = p }) n' asked user s.reported.failed_core.items) (sym known) (ap (λ ss. (session_after ss).unsat) a.written ∙ a.search.unsat ∙ unsat);
     };
     does = a.does;
     comes = a.comes;
@@ -280,8 +280,8 @@ assumed_by {W} {L} {G} seen s mid new user going sampled room a clock same items
   sampled = sampled;
   room = room;
   did = λ o. record {
-    whole = subst (λ (x : Solver W L G). IsWholeOf x.core x.names x.asked new.assumed.items x.told.failed_core.items x.clock.restarts.scale x.state) (sym same)
-        (subst (λ ls. IsWholeOf mid.core mid.names mid.asked ls mid.told.failed_core.items mid.clock.restarts.scale mid.state) (sym items) a.whole);
+    whole = subst (λ (x : Solver W L G). IsWholeOf x.core x.names x.asked new.assumed.items x.reported.failed_core.items x.clock.restarts.scale x.state) (sym same)
+        (subst (λ ls. IsWholeOf mid.core mid.names mid.asked ls mid.reported.failed_core.items mid.clock.restarts.scale mid.state) (sym items) a.whole);
     going = going;
     failed = ap (λ (x : Solver W L G). x.failed) same ∙ a.failed ∙ going;
     used = ap (λ (x : Solver W L G). x.used) same ∙ a.used;

@@ -90,12 +90,12 @@ module _ {W L : Type 0} {G : Ghosts L} (seen : W → Writer) (s : Solver W L G) 
     closes = c;
     certificate = λ f from before none since. is_certificate f from (seen given) before (steps_of p) none keeps (since_closed seen f from before given s.core.proof p since c);
     derives = (drat_stands (steps_of p) keeps).0;
-    refutes = λ e. (drat_stands (steps_of p) keeps).1 (subst (λ st. StateSays st (record s.core { proof = p }) s.names s.asked s.assumed.items s.told.failed_core.items) e ended.says);
+    refutes = λ e. (drat_stands (steps_of p) keeps).1 (subst (λ st. StateSays st (record s.core { proof = p }) s.names s.asked s.assumed.items s.reported.failed_core.items) e ended.says);
     same = refl;
   }
     where
-      ended : IsWholeOf (record s.core { proof = p }) s.names s.asked s.assumed.items s.told.failed_core.items s.clock.restarts.scale s.state
-      ended = whole_ended s.core s.names s.asked s.assumed.items s.told.failed_core.items s.clock.restarts.scale s.state p whole c.history keeps c.taking
+      ended : IsWholeOf (record s.core { proof = p }) s.names s.asked s.assumed.items s.reported.failed_core.items s.clock.restarts.scale s.state
+      ended = whole_ended s.core s.names s.asked s.assumed.items s.reported.failed_core.items s.clock.restarts.scale s.state p whole c.history keeps c.taking
 
       may : MayAll (End ∷ steps_in s)
       may = subst MayAll c.history keeps
@@ -106,5 +106,5 @@ module _ {W L : Type 0} {G : Ghosts L} (seen : W → Writer) (s : Solver W L G) 
   closed_by (Some given) c = closed_one given c
 
   pub closed_whole : (o : Option W) → ClosesTarget seen (Ok o) s.core.proof p → SolverInvariant (record s { core = record s.core { proof = p } })
-  closed_whole None c = whole_over s.core s.names s.asked s.assumed.items s.told.failed_core.items s.clock.restarts.scale s.state p whole c.history c.taking
-  closed_whole (Some given) c = whole_ended s.core s.names s.asked s.assumed.items s.told.failed_core.items s.clock.restarts.scale s.state p whole c.history keeps c.taking
+  closed_whole None c = whole_over s.core s.names s.asked s.assumed.items s.reported.failed_core.items s.clock.restarts.scale s.state p whole c.history c.taking
+  closed_whole (Some given) c = whole_ended s.core s.names s.asked s.assumed.items s.reported.failed_core.items s.clock.restarts.scale s.state p whole c.history keeps c.taking

@@ -62,6 +62,6 @@ module _ {W L : Type 0} {G : Ghosts L} (seen : W → Writer) (n m : Variables) (
   pub searched_by : (before now : Clock) (outcome : Outcome) (r : Result (Option State) SolverError) (mid b : Core W L G) (core : List ℕ) →
       LastRoundAnswers Restarted (ReducedAt seen) (RoundOf seen) (Some outcome) a n before.restarts before.rounds mid m now.restarts now.rounds →
       ReportsOutcome seen r outcome m mid b core → IfOk r (λ o. SearchedBy seen (state_found o) before now n m a b core)
-  searched_by before now outcome (Ok (Some state)) mid b core rounds t = record { outcome = Some outcome; found = mid; rounds = rounds; tells = t }
+  searched_by before now outcome (Ok (Some state)) mid b core rounds t = record { outcome = Some outcome; found = mid; rounds = rounds; reports = t }
   searched_by before now outcome (Ok None) mid b core rounds t = absurd t
   searched_by before now outcome (Err x) mid b core rounds t = tt

@@ -18,7 +18,7 @@ use Rattle.sat_solver.specs.solver.Whole.{StateSays}
 pub parts_hold : {W L : Type 0} {G : Ghosts L} (s : Solver W L G) → GoesOnIn s → PartsInvariant s.core.search.parts
 parts_hold s h = go s.state refl (h.solver h.going).says
   where
-    go : (st : State) → s.state ≡ st → StateSays st s.core s.names s.asked s.assumed.items s.told.failed_core.items → PartsInvariant s.core.search.parts
+    go : (st : State) → s.state ≡ st → StateSays st s.core s.names s.asked s.assumed.items s.reported.failed_core.items → PartsInvariant s.core.search.parts
     go states.Unknown e x = x.joined.sound.search.stands.holds
     go states.Sat e x = x.0.joined.sound.search.stands.holds
     go states.UnsatUnderAssumptions e x = x.0.joined.sound.search.stands.holds

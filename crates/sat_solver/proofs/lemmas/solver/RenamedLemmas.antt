@@ -213,9 +213,9 @@ module _ {W L : Type 0} {G : Ghosts L} (s : Solver W L G) (whole : SolverInvaria
         each_true (c ∷ cs) h o t = (true_at c o.0.0 o.0.1 (named_from core o.0.0 h o.0.2) t.0, each_true cs h o.1 t.1)
 
     -- a failed core stays one
-    core_kept : HasCore s.core s.assumed.items s.told.failed_core.items → HasCore new s.assumed.items s.told.failed_core.items
+    core_kept : HasCore s.core s.assumed.items s.reported.failed_core.items → HasCore new s.assumed.items s.reported.failed_core.items
     core_kept h =
-        let core = s.told.failed_core.items in
+        let core = s.reported.failed_core.items in
         record {
           some = h.some;
           codes = h.codes;
@@ -224,14 +224,14 @@ module _ {W L : Type 0} {G : Ghosts L} (s : Solver W L G) (whole : SolverInvaria
           among = h.among;
         }
 
-    says : (st : State) → StateSays st s.core s.names s.asked s.assumed.items s.told.failed_core.items → StateSays st new n' s.asked s.assumed.items s.told.failed_core.items
+    says : (st : State) → StateSays st s.core s.names s.asked s.assumed.items s.reported.failed_core.items → StateSays st new n' s.asked s.assumed.items s.reported.failed_core.items
     says states.Unknown h = going h
     says states.Sat h = (going h.0, h.1)
     says states.UnsatUnderAssumptions h = (going h.0, core_kept h.1)
     says states.Unsat h = alike.unsat ∙ h
 
     -- all stands behind it
-    whole_renamed : HasScriptState n' (steps_of p) → is_lost p ≡ is_lost s.core.proof → IsWholeOf new n' s.asked s.assumed.items s.told.failed_core.items s.clock.restarts.scale s.state
+    whole_renamed : HasScriptState n' (steps_of p) → is_lost p ≡ is_lost s.core.proof → IsWholeOf new n' s.asked s.assumed.items s.reported.failed_core.items s.clock.restarts.scale s.state
     whole_renamed judged taking = record {
       stands = stands;
       images = images;
@@ -297,7 +297,7 @@ module _ {W L : Type 0} {G : Ghosts L} (seen : W → Writer) (s : Solver W L G) 
     comes = comes;
     asked = took.1.asked;
     assumed = refl;
-    told = refl;
+    reported = refl;
     clock = refl;
     state = refl;
     values = values_kept alike does.stands fresh units;
@@ -365,7 +365,7 @@ observed_all seen s whole going n' p users used opened all took = record {
   going = going;
   failed = going;
   used = opened;
-  same = record { config = refl; asked = took.1.asked; assumed = refl; told = refl; clock = refl; state = refl };
+  same = record { config = refl; asked = took.1.asked; assumed = refl; reported = refl; clock = refl; state = refl };
   observes = all.kept;
   all = all.all;
   values = λ v. ap (λ (b : Bool). Some b) (value_same seen s whole going n' p (alike_unseen s.names n' (steps_in s) (steps_of p) all.unseen) all.stands v (λ b. ap (λ f. f (coded v b)) all.unseen.search.units));

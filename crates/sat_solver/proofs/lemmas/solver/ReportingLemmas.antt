@@ -19,7 +19,7 @@ use Rattle.sat_solver.proofs.lemmas.fits.AnswerParts.{parts_rests}
 use Rattle.sat_solver.specs.declared.error.SolverError.TheVariants as errors
 use Rattle.sat_solver.specs.assumptions.Core.{WritesCoreStep}
 use Rattle.sat_solver.specs.cdcl.Going.{proof_fault}
-use Rattle.sat_solver.specs.cdcl.Joint.{assumed_in, global_in, IsSearch, SameVarsAndAssumptions}
+use Rattle.sat_solver.specs.cdcl.Joint.{assumed_indices, global_in, IsSearch, SameVarsAndAssumptions}
 use Rattle.sat_parts.specs.parts.Whole.{state}
 use Rattle.sat_parts.specs.parts.Words.{IsIdle}
 use Rattle.sat_solver.specs.declared.context.Search.{Search}
@@ -38,7 +38,7 @@ use Rattle.sat_solver.proofs.lemmas.solver.ShownLemmas.{model_only}
 pub search_rests : (s : Session) (c : Search) (step : Step) → IsSearch s c → ChangesNoClause step → (after step s).assumed ≡ s.assumed → (after step s).solver_names ≡ s.solver_names → IsSearch (after step s) c
 search_rests s c step search quiet assumed names = record {
   stands = record { holds = search.stands.holds; fits = parts_rests c.parts s (global_in c) search.stands.fits step quiet };
-  ready = record { free = search.ready.free; placed = search.ready.placed; there = search.ready.there; asked = assumed ∙ search.ready.asked; used = subst (λ (f : ℕ → Option ℕ). (v : ℕ) → v < length c.parts.assignment.current → (f (global_in c v) ≡ Some v) ⊎ IsIdle (assumed_in c) (state c.parts) c.parts.vsids v) (sym names) search.ready.used };
+  ready = record { free = search.ready.free; placed = search.ready.placed; there = search.ready.there; asked = assumed ∙ search.ready.asked; used = subst (λ (f : ℕ → Option ℕ). (v : ℕ) → v < length c.parts.assignment.current → (f (global_in c v) ≡ Some v) ⊎ IsIdle (assumed_indices c) (state c.parts) c.parts.vsids v) (sym names) search.ready.used };
 }
 
 pub each_live : (n : Variables) (values : List (Option Bool)) (count : ℕ) (ls : List ℕ) → ((l : ℕ) → is_among ls l ≡ true → is_among (model_to n values count) l ≡ true) → AllByRecursion (λ l. (data_at n (variable l)).deleted ≡ false) ls
@@ -65,11 +65,11 @@ shares_moved n c c' h moved = record {
 
 module _ {W L : Type 0} {G : Ghosts L} (seen : W → Writer) (n : Variables) (a : Core W L G) (joined : IsJoined n a) where
   module _ (proof : Proof W L G) where
-    abbrev pub told : Core W L G
-    told = record a { proof = proof }
+    abbrev pub reported : Core W L G
+    reported = record a { proof = proof }
 
     -- the step of a model was taken
-    pub model_shown : (ls : List ℕ) → ls ≡ model_of n a → EmitsChecked seen (Model ls ∷ []) a.proof proof → HasAllowedSteps proof → Shown seen n a told
+    pub model_shown : (ls : List ℕ) → ls ≡ model_of n a → EmitsChecked seen (Model ls ∷ []) a.proof proof → HasAllowedSteps proof → Shown seen n a reported
     model_shown ls e adds keeps =
         let adds_model : EmitsChecked seen (Model (model_of n a) ∷ []) a.proof proof = subst (λ xs. EmitsChecked seen (Model xs ∷ []) a.proof proof) e adds in
         let may : MayAll (Model (model_of n a) ∷ steps_of a.proof) = subst MayAll adds_model.history keeps in
@@ -109,7 +109,7 @@ module _ {W L : Type 0} {G : Ghosts L} (seen : W → Writer) (n : Variables) (a 
     core_failed core t e = record {
       steps = t.steps;
       adds = t.went;
-      told = t.ends;
+      reported = t.ends;
       config = refl;
       named = e;
       joined = record {

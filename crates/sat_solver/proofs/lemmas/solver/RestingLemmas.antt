@@ -29,15 +29,15 @@ module _ {W L : Type 0} {G : Ghosts L} (s : Solver W L G) (whole : SolverInvaria
       values : List (Option Bool)
       values = s.core.search.parts.assignment.current
 
-      says : StateSays states.Sat s.core s.names s.asked s.assumed.items s.told.failed_core.items
-      says = subst (λ st. StateSays st s.core s.names s.asked s.assumed.items s.told.failed_core.items) state whole.says
+      says : StateSays states.Sat s.core s.names s.asked s.assumed.items s.reported.failed_core.items
+      says = subst (λ st. StateSays st s.core s.names s.asked s.assumed.items s.reported.failed_core.items) state whole.says
 
   -- so is a core
-  pub core_rests : s.failed ≡ false → s.state ≡ states.UnsatUnderAssumptions → (core : List ℕ) → core ≡ s.told.failed_core.items → IsCore s core
-  core_rests going state core e = (record { going = going; unsat = rw state tt; core_is = e ∙ rw state refl; right = subst (IsRightCoreOf s) (sym e) (λ j live agree. core_of s.names (steps_in s) j live agree s.assumed.items s.told.failed_core.items says.1.codes says.1.none says.1.same says.1.among) })
+  pub core_rests : s.failed ≡ false → s.state ≡ states.UnsatUnderAssumptions → (core : List ℕ) → core ≡ s.reported.failed_core.items → IsCore s core
+  core_rests going state core e = (record { going = going; unsat = rw state tt; core_is = e ∙ rw state refl; right = subst (IsRightCoreOf s) (sym e) (λ j live agree. core_of s.names (steps_in s) j live agree s.assumed.items s.reported.failed_core.items says.1.codes says.1.none says.1.same says.1.among) })
     where
-      says : StateSays states.UnsatUnderAssumptions s.core s.names s.asked s.assumed.items s.told.failed_core.items
-      says = subst (λ st. StateSays st s.core s.names s.asked s.assumed.items s.told.failed_core.items) state whole.says
+      says : StateSays states.UnsatUnderAssumptions s.core s.names s.asked s.assumed.items s.reported.failed_core.items
+      says = subst (λ st. StateSays st s.core s.names s.asked s.assumed.items s.reported.failed_core.items) state whole.says
 
   -- and an empty one, where the clauses alone are unsatisfiable
   pub unsat_rests : s.failed ≡ false → s.state ≡ states.Unsat → (core : List ℕ) → core ≡ [] → IsCore s core
@@ -51,5 +51,5 @@ module _ {W L : Type 0} {G : Ghosts L} (s : Solver W L G) (whole : SolverInvaria
     });
   })
     where
-      says : StateSays states.Unsat s.core s.names s.asked s.assumed.items s.told.failed_core.items
-      says = subst (λ st. StateSays st s.core s.names s.asked s.assumed.items s.told.failed_core.items) state whole.says
+      says : StateSays states.Unsat s.core s.names s.asked s.assumed.items s.reported.failed_core.items
+      says = subst (λ st. StateSays st s.core s.names s.asked s.assumed.items s.reported.failed_core.items) state whole.says

@@ -108,13 +108,13 @@ module _ {W L : Type 0} {G : Ghosts L} (seen : W → Writer) (s : Solver W L G) 
     known = λ k. (adds_none seen s.core.proof, refl);
   }
     where
-      none : (st : State) → (st ≡ states.Unknown → ⊥) → NamesEffect s.names s.names (steps_in s) (steps_in s) (λ j. j) (λ j. due_between_states st st (line_in s) s.assumed.items s.told.failed_core.items)
+      none : (st : State) → (st ≡ states.Unknown → ⊥) → NamesEffect s.names s.names (steps_in s) (steps_in s) (λ j. j) (λ j. due_between_states st st (line_in s) s.assumed.items s.reported.failed_core.items)
       none states.Unknown n = absurd (n refl)
       none states.Sat n = does_none s.names (steps_in s) whole.stands
       none states.UnsatUnderAssumptions n = does_none s.names (steps_in s) whole.stands
       none states.Unsat n = does_none s.names (steps_in s) whole.stands
 
-  module _ (goes : AskGoesOn s.core s.names s.asked) (core : Core W L G) (m : Variables) (told : LastAnswers) (clock : Clock) (scale : clock.restarts.scale ≡ s.clock.restarts.scale) where
+  module _ (goes : AskGoesOn s.core s.names s.asked) (core : Core W L G) (m : Variables) (reported : LastAnswers) (clock : Clock) (scale : clock.restarts.scale ≡ s.clock.restarts.scale) where
     positive : 0 < clock.restarts.scale
     positive = subst (λ (k : ℕ). 0 < k) (sym scale) whole.positive
 
@@ -130,7 +130,7 @@ module _ {W L : Type 0} {G : Ghosts L} (seen : W → Writer) (s : Solver W L G) 
     kept_spelt {t} k = globals_kept s.names m s.assumed.items s.asked.globals.items whole.spelt k.users
 
     -- where there's no answer by now
-    pub settled_none : s.state ≡ states.Unknown → Counts s (record s { core = core; names = m; told = told; clock = clock }) → FoundNone seen (clock.rounds - s.clock.rounds) s.names m s.core core → Settled seen s (record s { core = core; names = m; told = told; clock = clock })
+    pub settled_none : s.state ≡ states.Unknown → Counts s (record s { core = core; names = m; reported = reported; clock = clock }) → FoundNone seen (clock.rounds - s.clock.rounds) s.names m s.core core → Settled seen s (record s { core = core; names = m; reported = reported; clock = clock })
     settled_none unknown counts found = record {
       whole = record {
         stands = found.joined.stands;
@@ -142,9 +142,9 @@ module _ {W L : Type 0} {G : Ghosts L} (seen : W → Writer) (s : Solver W L G) 
         decays = subst AreDecays (sym found.gone.config) whole.decays;
         taking = found.gone.adds.taking ∙ whole.taking;
         judged = judged_by found.gone.does whole.judged;
-        says = subst (λ st. StateSays st core m s.asked s.assumed.items told.failed_core.items) (sym unknown) (record { joined = found.joined; lits = ap (λ ls. ls.items) found.gone.moved.lits ∙ goes.lits });
+        says = subst (λ st. StateSays st core m s.asked s.assumed.items reported.failed_core.items) (sym unknown) (record { joined = found.joined; lits = ap (λ ls. ls.items) found.gone.moved.lits ∙ goes.lits });
       };
-      does = subst (λ st. NamesEffect s.names m (steps_in s) (steps_of core.proof) (λ j. j) (λ j. due_between_states st st (line_of_names m core) s.assumed.items told.failed_core.items)) (sym unknown) found.gone.does;
+      does = subst (λ st. NamesEffect s.names m (steps_in s) (steps_of core.proof) (λ j. j) (λ j. due_between_states st st (line_of_names m core) s.assumed.items reported.failed_core.items)) (sym unknown) found.gone.does;
       comes = comes_open (steps_in s) (steps_of core.proof) found.gone.steps found.gone.adds.history found.joined.sound.search.stands.fits.consistent;
       took = (found.gone.steps, gains_adds seen found.gone.steps s.core.proof core.proof found.gone.adds);
       width = gained_width seen s.core.proof core.proof (found.gone.steps, found.gone.adds);
@@ -158,10 +158,10 @@ module _ {W L : Type 0} {G : Ghosts L} (seen : W → Writer) (s : Solver W L G) 
 
     module _ (unknown : s.state ≡ states.Unknown) where
       abbrev pub new : State → Solver W L G
-      new st = record s { core = core; names = m; told = told; clock = clock; state = st }
+      new st = record s { core = core; names = m; reported = reported; clock = clock; state = st }
 
-      unknown_told : (st : State) → NamesEffect s.names m (steps_in s) (steps_of core.proof) (λ j. j) (λ j. due_between_states states.Unknown st (line_of_names m core) s.assumed.items told.failed_core.items) → NamesEffect s.names m (steps_in s) (steps_of core.proof) (λ j. j) (λ j. due_between_states s.state st (line_of_names m core) s.assumed.items told.failed_core.items)
-      unknown_told st d = subst (λ before. NamesEffect s.names m (steps_in s) (steps_of core.proof) (λ j. j) (λ j. due_between_states before st (line_of_names m core) s.assumed.items told.failed_core.items)) (sym unknown) d
+      unknown_told : (st : State) → NamesEffect s.names m (steps_in s) (steps_of core.proof) (λ j. j) (λ j. due_between_states states.Unknown st (line_of_names m core) s.assumed.items reported.failed_core.items) → NamesEffect s.names m (steps_in s) (steps_of core.proof) (λ j. j) (λ j. due_between_states s.state st (line_of_names m core) s.assumed.items reported.failed_core.items)
+      unknown_told st d = subst (λ before. NamesEffect s.names m (steps_in s) (steps_of core.proof) (λ j. j) (λ j. due_between_states before st (line_of_names m core) s.assumed.items reported.failed_core.items)) (sym unknown) d
 
       -- where a model was found
       pub settled_model : Counts s (new states.Sat) → FoundModel seen (clock.rounds - s.clock.rounds) s.names m s.core core → Settled seen s (new states.Sat)
@@ -219,14 +219,14 @@ module _ {W L : Type 0} {G : Ghosts L} (seen : W → Writer) (s : Solver W L G) 
           both : EmitsChecked seen (Model (model_of m found.mid) ∷ found.ended.steps) s.core.proof core.proof
           both = gains_more seen found.ended.steps (Model (model_of m found.mid) ∷ []) s.core.proof found.mid.proof core.proof found.ended.adds found.shown.adds
 
-          does : NamesEffect s.names m (steps_in s) (steps_of core.proof) (λ j. j) (λ j. due_between_states states.Unknown states.Sat (line_of_names m core) s.assumed.items told.failed_core.items)
-          does = does_both s.names m m (steps_in s) (steps_of found.mid.proof) (steps_of core.proof) (λ j. j) (λ j. j) (λ j. []) (λ j. due_between_states states.Unknown states.Sat (line_of_names m core) s.assumed.items told.failed_core.items)
+          does : NamesEffect s.names m (steps_in s) (steps_of core.proof) (λ j. j) (λ j. due_between_states states.Unknown states.Sat (line_of_names m core) s.assumed.items reported.failed_core.items)
+          does = does_both s.names m m (steps_in s) (steps_of found.mid.proof) (steps_of core.proof) (λ j. j) (λ j. j) (λ j. []) (λ j. due_between_states states.Unknown states.Sat (line_of_names m core) s.assumed.items reported.failed_core.items)
               found.ended.does
               (subst (λ c. NamesEffect m m (steps_of found.mid.proof) (steps_of core.proof) (λ j. j) (λ j. Shows (names_of (map user_literal (line_by c))) (map user_literal s.assumed.items) (map user_literal (line_by c)) ∷ [])) (sym found.shown.search)
               (does_shown seen m found.mid mid core found.shown s.assumed.items (subst (λ c. AllByRecursion (λ l. Among l (line_by c)) s.assumed.items) found.shown.search asked)))
 
       -- where assumptions were found that can't be true together
-      pub settled_core : Counts s (new states.UnsatUnderAssumptions) → FoundCore seen (clock.rounds - s.clock.rounds) s.names m s.core core told.failed_core.items → Settled seen s (new states.UnsatUnderAssumptions)
+      pub settled_core : Counts s (new states.UnsatUnderAssumptions) → FoundCore seen (clock.rounds - s.clock.rounds) s.names m s.core core reported.failed_core.items → Settled seen s (new states.UnsatUnderAssumptions)
       settled_core counts found = record {
         whole = record {
           stands = found.failed.joined.stands;
@@ -245,14 +245,14 @@ module _ {W L : Type 0} {G : Ghosts L} (seen : W → Writer) (s : Solver W L G) 
         };
         does = unknown_told states.UnsatUnderAssumptions does;
         comes = comes_both EndsAtUnsat (steps_in s) (steps_of found.mid.proof) (steps_of core.proof) found.ended.comes
-            (comes_one EndsAtUnsat (steps_of found.mid.proof) (steps_of core.proof) _ (found.failed.adds.history ∙ ap (λ ss. ss ++ steps_of found.mid.proof) found.failed.told.is) (λ u. absurd (true≢false (sym u ∙ found.ended.says.0.search.stands.fits.consistent))));
+            (comes_one EndsAtUnsat (steps_of found.mid.proof) (steps_of core.proof) _ (found.failed.adds.history ∙ ap (λ ss. ss ++ steps_of found.mid.proof) found.failed.reported.is) (λ u. absurd (true≢false (sym u ∙ found.ended.says.0.search.stands.fits.consistent))));
         took = (_, gains_adds seen _ s.core.proof core.proof both);
         width = gained_width seen s.core.proof core.proof (_, both);
         same = refl;
         users = found.ended.asked.users;
         config = found.failed.config ∙ found.ended.config;
         counts = counts;
-        times = then_still (steps_in s) (steps_of found.mid.proof) (steps_of core.proof) found.ended.steps _ _ found.ended.adds.history (found.failed.adds.history ∙ ap (λ ss. ss ++ steps_of found.mid.proof) found.failed.told.is) found.ended.times (record { quiet = refl; never = tt });
+        times = then_still (steps_in s) (steps_of found.mid.proof) (steps_of core.proof) found.ended.steps _ _ found.ended.adds.history (found.failed.adds.history ∙ ap (λ ss. ss ++ steps_of found.mid.proof) found.failed.reported.is) found.ended.times (record { quiet = refl; never = tt });
         known = λ k. absurd (k unknown);
       }
         where
@@ -264,9 +264,9 @@ module _ {W L : Type 0} {G : Ghosts L} (seen : W → Writer) (s : Solver W L G) 
 
           moved : SameVarsAndAssumptions s.core.search core.search
           moved = record {
-            globals = found.failed.told.moved.globals ∙ found.ended.says.0.moved.globals;
-            lits = found.failed.told.moved.lits ∙ found.ended.says.0.moved.lits;
-            size = found.failed.told.moved.size ∙ found.ended.says.0.moved.size;
+            globals = found.failed.reported.moved.globals ∙ found.ended.says.0.moved.globals;
+            lits = found.failed.reported.moved.lits ∙ found.ended.says.0.moved.lits;
+            size = found.failed.reported.moved.size ∙ found.ended.says.0.moved.size;
           }
 
           lits : found.mid.search.assumptions.lits.items ≡ s.asked.order.items
@@ -275,18 +275,18 @@ module _ {W L : Type 0} {G : Ghosts L} (seen : W → Writer) (s : Solver W L G) 
           both : EmitsChecked seen (found.failed.steps ++ found.ended.steps) s.core.proof core.proof
           both = gains_more seen found.ended.steps found.failed.steps s.core.proof found.mid.proof core.proof found.ended.adds found.failed.adds
 
-          does : NamesEffect s.names m (steps_in s) (steps_of core.proof) (λ j. j) (λ j. due_between_states states.Unknown states.UnsatUnderAssumptions (line_of_names m core) s.assumed.items told.failed_core.items)
-          does = does_both s.names m m (steps_in s) (steps_of found.mid.proof) (steps_of core.proof) (λ j. j) (λ j. j) (λ j. []) (λ j. due_between_states states.Unknown states.UnsatUnderAssumptions (line_of_names m core) s.assumed.items told.failed_core.items)
-              found.ended.does (does_failed seen m found.mid mid core told.failed_core.items found.failed s.assumed.items s.asked.order.items images lits)
+          does : NamesEffect s.names m (steps_in s) (steps_of core.proof) (λ j. j) (λ j. due_between_states states.Unknown states.UnsatUnderAssumptions (line_of_names m core) s.assumed.items reported.failed_core.items)
+          does = does_both s.names m m (steps_in s) (steps_of found.mid.proof) (steps_of core.proof) (λ j. j) (λ j. j) (λ j. []) (λ j. due_between_states states.Unknown states.UnsatUnderAssumptions (line_of_names m core) s.assumed.items reported.failed_core.items)
+              found.ended.does (does_failed seen m found.mid mid core reported.failed_core.items found.failed s.assumed.items s.asked.order.items images lits)
 
-          failed_is : (mid : Core W L G) → IsJoined m mid → mid.search.assumptions.lits.items ≡ s.asked.order.items → WritesFailedCore seen m mid core told.failed_core.items → HasCore core s.assumed.items told.failed_core.items
+          failed_is : (mid : Core W L G) → IsJoined m mid → mid.search.assumptions.lits.items ≡ s.asked.order.items → WritesFailedCore seen m mid core reported.failed_core.items → HasCore core s.assumed.items reported.failed_core.items
           failed_is mid joined lits f =
               let used = core.search.analysis.core in
               let codes = map (with_var (global_in mid.search)) used in
-              let history : steps_of core.proof ≡ FailedAssumptions codes (causes_hashes mid.search.parts core.search.analysis.used) ∷ steps_of mid.proof = f.adds.history ∙ ap (λ ss. ss ++ steps_of mid.proof) f.told.is in
-              let among : (k : ℕ) → k < length used → Contains s.asked.order.items (get_or used k 0) = λ k lt. subst (λ ls. Contains ls (get_or used k 0)) lits (f.told.failed.among k lt) in
+              let history : steps_of core.proof ≡ FailedAssumptions codes (causes_hashes mid.search.parts core.search.analysis.used) ∷ steps_of mid.proof = f.adds.history ∙ ap (λ ss. ss ++ steps_of mid.proof) f.reported.is in
+              let among : (k : ℕ) → k < length used → Contains s.asked.order.items (get_or used k 0) = λ k lt. subst (λ ls. Contains ls (get_or used k 0)) lits (f.reported.failed.among k lt) in
               record {
-                some = λ e. some_mapped (lit_over_names m) used f.told.failed.some (sym f.named ∙ e);
+                some = λ e. some_mapped (lit_over_names m) used f.reported.failed.some (sym f.named ∙ e);
                 codes = codes;
                 none = subst (λ ss. (a : Valuation) → Holds ss a → EachTrue a codes → ⊥) (sym history) (core_none (steps_of mid.proof) codes (causes_hashes mid.search.parts core.search.analysis.used) (subst MayAll history f.joined.sound.keeps));
                 same = subst (λ xs. SameSet (variable_of (steps_of core.proof)) (map user_literal xs) codes) (sym f.named)
@@ -376,7 +376,7 @@ module _ {W L : Type 0} {G : Ghosts L} (seen : W → Writer) (old mid : Solver W
   -- the answer was flushed
   pub settled_flushed : FlushesAndNotifies seen mid.core.proof p → Settled seen old (record mid { core = record mid.core { proof = p } })
   settled_flushed f = record {
-    whole = whole_over mid.core mid.names mid.asked mid.assumed.items mid.told.failed_core.items mid.clock.restarts.scale mid.state p settled.whole f.history f.taking;
+    whole = whole_over mid.core mid.names mid.asked mid.assumed.items mid.reported.failed_core.items mid.clock.restarts.scale mid.state p settled.whole f.history f.taking;
     does = subst (λ ss. NamesEffect old.names mid.names (steps_in old) ss (λ j. j) (λ j. due_for_answer old.state mid)) (sym f.history) settled.does;
     comes = subst (OnlyAllowedSteps EndsAtUnsat (steps_in old)) (sym f.history) settled.comes;
     took = (_, adds_more seen settled.took.0 [] old.core.proof mid.core.proof p settled.took.1 (flush_adds f));
@@ -403,9 +403,9 @@ module _ {W L : Type 0} {G : Ghosts L} (seen : W → Writer) (old mid : Solver W
       flush_checked checks.CounterEnd h = h
       flush_checked (checks.Processor cause) h = h
 
-module _ {W L : Type 0} {G : Ghosts L} (seen : W → Writer) (s : Solver W L G) (whole : SolverInvariant s) (unknown : s.state ≡ states.Unknown) (core : Core W L G) (m : Variables) (told : LastAnswers) (clock : Clock) (scale : clock.restarts.scale ≡ s.clock.restarts.scale) (on : CountsOn (values_in s.core) s.core.config.max_steps s.clock.rounds clock.rounds) where
+module _ {W L : Type 0} {G : Ghosts L} (seen : W → Writer) (s : Solver W L G) (whole : SolverInvariant s) (unknown : s.state ≡ states.Unknown) (core : Core W L G) (m : Variables) (reported : LastAnswers) (clock : Clock) (scale : clock.restarts.scale ≡ s.clock.restarts.scale) (on : CountsOn (values_in s.core) s.core.config.max_steps s.clock.rounds clock.rounds) where
   goes_on : AskGoesOn s.core s.names s.asked
-  goes_on = subst (λ st. StateSays st s.core s.names s.asked s.assumed.items s.told.failed_core.items) unknown whole.says
+  goes_on = subst (λ st. StateSays st s.core s.names s.asked s.assumed.items s.reported.failed_core.items) unknown whole.says
 
   -- no more variables than identities
   over_identities : (j : ScriptState) (live : Live) → NamesAgree s.names (steps_in s) j live → values_in s.core ≤ j.identity_count
@@ -425,17 +425,17 @@ module _ {W L : Type 0} {G : Ghosts L} (seen : W → Writer) (s : Solver W L G) 
   }
 
   -- an answer was found
-  pub settled_some : s.clock.rounds < clock.rounds → (st : State) → FoundSays seen st (clock.rounds - s.clock.rounds) s.names m s.core core told.failed_core.items → Settled seen s (record s { core = core; names = m; told = told; clock = clock; state = st })
+  pub settled_some : s.clock.rounds < clock.rounds → (st : State) → FoundSays seen st (clock.rounds - s.clock.rounds) s.names m s.core core reported.failed_core.items → Settled seen s (record s { core = core; names = m; reported = reported; clock = clock; state = st })
   settled_some round states.Unknown found = absurd found
-  settled_some round states.Sat found = settled_model seen s whole goes_on core m told clock scale unknown (record { on = rounds_on; round = λ u k. round; spent = λ u. absurd (apart_sat u); answered = λ j live a fits u. apart_sat u }) found
-  settled_some round states.UnsatUnderAssumptions found = settled_core seen s whole goes_on core m told clock scale unknown (record { on = rounds_on; round = λ u k. round; spent = λ u. absurd (apart_core u); answered = λ j live a fits u. apart_core u }) found
-  settled_some round states.Unsat found = settled_unsat seen s whole goes_on core m told clock scale unknown (record { on = rounds_on; round = λ u k. round; spent = λ u. absurd (apart_unsat u); answered = λ j live a fits u. apart_unsat u }) found
+  settled_some round states.Sat found = settled_model seen s whole goes_on core m reported clock scale unknown (record { on = rounds_on; round = λ u k. round; spent = λ u. absurd (apart_sat u); answered = λ j live a fits u. apart_sat u }) found
+  settled_some round states.UnsatUnderAssumptions found = settled_core seen s whole goes_on core m reported clock scale unknown (record { on = rounds_on; round = λ u k. round; spent = λ u. absurd (apart_core u); answered = λ j live a fits u. apart_core u }) found
+  settled_some round states.Unsat found = settled_unsat seen s whole goes_on core m reported clock scale unknown (record { on = rounds_on; round = λ u k. round; spent = λ u. absurd (apart_unsat u); answered = λ j live a fits u. apart_unsat u }) found
 
   -- or none by now
   pub settled_without : clock.rounds ≡ s.clock.rounds + round_allowance s.core.config.max_steps s.clock.rounds →
       ((n : ℕ) → values_in s.core ≤ n → 2 ^ (2 * n + 3) ≤ round_allowance s.core.config.max_steps s.clock.rounds → ⊥) →
-      FoundNone seen (clock.rounds - s.clock.rounds) s.names m s.core core → Settled seen s (record s { core = core; names = m; told = told; clock = clock })
-  settled_without spent answered found = settled_none seen s whole goes_on core m told clock scale unknown (record { on = rounds_on; round = λ u k. absurd (k unknown); spent = λ u. spent; answered = λ j live a fits u. answered j.identity_count (over_identities j live a) fits }) found
+      FoundNone seen (clock.rounds - s.clock.rounds) s.names m s.core core → Settled seen s (record s { core = core; names = m; reported = reported; clock = clock })
+  settled_without spent answered found = settled_none seen s whole goes_on core m reported clock scale unknown (record { on = rounds_on; round = λ u k. absurd (k unknown); spent = λ u. spent; answered = λ j live a fits u. answered j.identity_count (over_identities j live a) fits }) found
 
 -- a target was flushed
 pub flushed_by : {W L : Type 0} {G : Ghosts L} (seen : W → Writer) (p q : Proof W L G) → FlushesAndNotifies seen p q → IsFlushed (target_of seen q)
@@ -448,7 +448,7 @@ flushed_by seen p q f = go (target_of seen p) (target_of seen q) f.target
 
 -- CALLS
 
-module _ {W L : Type 0} {G : Ghosts L} (seen : W → Writer) (s new : Solver W L G) (settled : Settled seen (record s { used = true }) new) (going : s.failed ≡ false) (flushed : IsFlushed (target_of seen new.core.proof)) (told : AllStepsReported new.core.proof) (asked : NotesAsk seen new.core.proof) (rounds : s.state ≡ states.Unknown → MakesRounds seen s new) where
+module _ {W L : Type 0} {G : Ghosts L} (seen : W → Writer) (s new : Solver W L G) (settled : Settled seen (record s { used = true }) new) (going : s.failed ≡ false) (flushed : IsFlushed (target_of seen new.core.proof)) (reported : AllStepsReported new.core.proof) (asked : NotesAsk seen new.core.proof) (rounds : s.state ≡ states.Unknown → MakesRounds seen s new) where
   -- an ask was looked at
   pub answered : Answered seen s new
   answered = record {
@@ -456,7 +456,7 @@ module _ {W L : Type 0} {G : Ghosts L} (seen : W → Writer) (s new : Solver W L
     assumed = ap (λ (x : Solver W L G). x.assumed) settled.same;
     counts = record { on = settled.counts.on; round = settled.counts.round; spent = settled.counts.spent; answered = settled.counts.answered };
     flushed = flushed;
-    told = told;
+    reported = reported;
     steps = record { comes = settled.comes; times = settled.times; users = settled.users; asked = asked; rounds = rounds };
     known = λ k. let h = settled.known k in record { steps = h.0.history; same = h.1 };
   }

@@ -8,7 +8,7 @@ use Rattle.sat_solver.specs.declared.proof.Proof.{Proof}
 use Rattle.sat_solver.specs.declared.variables.Variables.{Variables}
 use Rattle.sat_solver.specs.declared.error.SolverError.{SolverError}
 use Rattle.sat_solver.specs.cdcl.Going.{EmitsSteps}
-use Rattle.sat_solver.specs.cdcl.Joint.{assumed_in, global_in, IsSearch, SameVarsAndAssumptions, SameAssumedAndNames}
+use Rattle.sat_solver.specs.cdcl.Joint.{assumed_indices, global_in, IsSearch, SameVarsAndAssumptions, SameAssumedAndNames}
 use Rattle.sat_solver.specs.unit_simplify.Left.{TakesUnitsOff}
 use Rattle.sat_solver.specs.cdcl.Turns.{IsPropagated}
 use Rattle.sat_solver.specs.declared.context.Search.{Search}
@@ -31,7 +31,7 @@ module _ (s t : Session) (c d : Search) (propagated : IsPropagated s c) (leaves 
   pub settled_search : IsSearch t d
   settled_search = record {
     stands = record { holds = settled.stands.holds; fits = rw globals settled.stands.fits };
-    ready = ready_moved s t c d propagated.ready leaves settled_moved (settled.word (assumed_in c)).0 (rw assumptions (settled.placed c.assumptions propagated.ready.placed)) (free_moved c d propagated.ready.free settled_moved analysis flags);
+    ready = ready_moved s t c d propagated.ready leaves settled_moved (settled.word (assumed_indices c)).0 (rw assumptions (settled.placed c.assumptions propagated.ready.placed)) (free_moved c d propagated.ready.free settled_moved analysis flags);
   }
 
 module _ {W L : Type 0} {G : Ghosts L} (seen : W → Writer) (n : Variables) (p q : Proof W L G) (c d : Search) (may : MaySettle n p c) (g : EmitsSteps {A = Unit {0}} seen (Ok tt) p q (λ _ _. TakesUnitsOff c.parts d.parts (session_of q) (global_in c)))
@@ -46,7 +46,7 @@ module _ {W L : Type 0} {G : Ghosts L} (seen : W → Writer) (n : Variables) (p 
   settled_passes =
       passes_goes seen tt n p q c d (λ _ _. TakesUnitsOff c.parts d.parts (session_of q) (global_in c)) may.stands may.shares g
       (settled_search (session_of p) (session_of q) c d may.propagated leaves g.ends globals assumptions analysis flags)
-      (settled_moved (session_of p) (session_of q) c d may.propagated leaves g.ends globals assumptions analysis flags) (g.ends.word (assumed_in c))
+      (settled_moved (session_of p) (session_of q) c d may.propagated leaves g.ends globals assumptions analysis flags) (g.ends.word (assumed_indices c))
 
   -- and then simplification
   pub settled_simplified : (r : Result (Unit {0}) SolverError) (n' : Variables) (z : Proof W L G) (e : Search) → Simplifies seen r n n' q z d e → Simplifies seen r n n' p z c e

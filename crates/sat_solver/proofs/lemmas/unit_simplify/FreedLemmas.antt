@@ -43,7 +43,7 @@ use Rattle.sat_solver.specs.variables.Variables.{AreTidy, solver_of, global_at, 
 use Rattle.sat_solver.specs.declared.variables.Variables.{Variables}
 use Rattle.sat_solver.proofs.lemmas.variables.Doing.{does_none, does_both}
 use Rattle.sat_solver.specs.declared.context.Search.{Search}
-use Rattle.sat_solver.specs.cdcl.Joint.{global_in, assumed_in, IsSearch, SameVarsAndAssumptions}
+use Rattle.sat_solver.specs.cdcl.Joint.{global_in, assumed_indices, IsSearch, SameVarsAndAssumptions}
 use Rattle.sat_parts.proofs.lemmas.parts.WordSteps.{extends_refl, extends_after}
 use Rattle.sat_solver.proofs.lemmas.cdcl.TurnLemmas.{free_moved, moved_refl, moved_trans, ready_names}
 use Rattle.sat_solver.specs.variables.Shared.{SharesIndices}
@@ -197,11 +197,11 @@ module _ (s : Session) (c : Search) (v x : ℕ) (search : IsSearch s c) (flat : 
     abbrev c' : Search
     c' = record c { parts = p }
 
-    not_assumed : Contains (assumed_in c) x → ⊥
+    not_assumed : Contains (assumed_indices c) x → ⊥
     not_assumed k = true≢false (sym (subst (λ w. mentions (map (with_var (global_in c)) c.assumptions.lits.items) w ≡ true) at (assumed_mention (global_in c) c.assumptions.lits.items x k)) ∙ ap (λ ls. mentions ls v) (sym search.ready.asked) ∙ free)
 
-    pub freed_word : TrailWordExtendsFor (assumed_in c) c.parts p
-    freed_word = word (assumed_in c) not_assumed
+    pub freed_word : TrailWordExtendsFor (assumed_indices c) c.parts p
+    freed_word = word (assumed_indices c) not_assumed
 
     pub freed_moved : SameVarsAndAssumptions c c'
     freed_moved = record { globals = refl; lits = refl; size = freed_word.0.size }
@@ -253,7 +253,7 @@ module _ (s : Session) (c : Search) (v x : ℕ) (search : IsSearch s c) (flat : 
         unit_true_in : (l : ℕ) → IsUnitLit (state c.parts) l → IsTrueLit c.parts.assignment.current l
         unit_true_in l u = (unit_true (state c.parts) l search.stands.holds.below.asks.agrees u).0
 
-    idle_x : IsIdle (assumed_in c) (state p) p.vsids x
+    idle_x : IsIdle (assumed_indices c) (state p) p.vsids x
     idle_x = (none, ap (λ q. may_pick q x) freed.queue ∙ get_or-set_same c.parts.vsids.available x false false (omega (arith, room, search.stands.holds.below.queue)), not_assumed)
 
     pub freed_search : IsSearch t c'
@@ -262,11 +262,11 @@ module _ (s : Session) (c : Search) (v x : ℕ) (search : IsSearch s c) (flat : 
       ready = record {
         free = free_moved c c' search.ready.free freed_moved refl refl;
         placed = placed_some c.assumptions.lits.items c.assumptions.below.items c.assumptions.place (state c.parts) (state p) flat.bottom freed_flat.bottom
-            (λ k lt h z. freed.bottom (get_or c.assumptions.lits.items k 0) (λ q. not_assumed (subst (λ w. Contains (assumed_in c) w) q (contains_at c.assumptions.lits.items k lt))) h z) search.ready.placed;
+            (λ k lt h z. freed.bottom (get_or c.assumptions.lits.items k 0) (λ q. not_assumed (subst (λ w. Contains (assumed_indices c) w) q (contains_at c.assumptions.lits.items k lt))) h z) search.ready.placed;
         there = rw freed_moved.size search.ready.there;
         asked = loses.assumed ∙ search.ready.asked;
         used = λ w lt. elim (cases_eq w x) [
-          | inl e ↦ inr (subst (λ z. IsIdle (assumed_in c) (state p) p.vsids z) (sym e) idle_x)
+          | inl e ↦ inr (subst (λ z. IsIdle (assumed_indices c) (state p) p.vsids z) (sym e) idle_x)
           | inr n ↦ elim (search.ready.used w (subst (λ k. w < k) freed_moved.size lt)) [
             | inl e ↦ inl (stays w e n)
             | inr idle ↦ inr (freed_word.0.idle w idle)
@@ -397,7 +397,7 @@ frees_none n steps c h = record {
   flat = h.flat;
   moved = moved_refl c;
   same = (refl, refl, refl);
-  word = extends_refl c.parts (assumed_in c);
+  word = extends_refl c.parts (assumed_indices c);
   asked = asked_refl n (session_after steps);
   unset = λ v e. e;
   fewer = λ x v e. e;
@@ -412,7 +412,7 @@ frees_both a b d from mids to c1 c2 c3 x y = record {
   flat = y.flat;
   moved = moved_trans c1 c2 c3 x.moved y.moved;
   same = (y.same.0 ∙ x.same.0, y.same.1 ∙ x.same.1, y.same.2 ∙ x.same.2);
-  word = extends_after (assumed_in c1) c1.parts c2.parts c3.parts x.word (rw x.moved.lits at y.word);
+  word = extends_after (assumed_indices c1) c1.parts c2.parts c3.parts x.word (rw x.moved.lits at y.word);
   asked = asked_trans a b d (session_after from) (session_after mids) (session_after to) x.asked y.asked;
   unset = λ v e. y.unset v (x.unset v e);
   fewer = λ i v e. x.fewer i v (y.fewer i v e);

@@ -21,19 +21,19 @@ use Rattle.sat_solver.proofs.lemmas.fits.RemovedParts.{parts_removal_begins, par
 use Rattle.sat_parts.proofs.lemmas.parts.WordSteps.{extends_refl, extends_after}
 use Rattle.sat_solver.specs.declared.context.Search.{Search}
 use Rattle.sat_solver.specs.declared.context.Scratch.{Scratch}
-use Rattle.sat_solver.specs.cdcl.Joint.{assumed_in, global_in, IsSearch, SameAssumedAndNames}
+use Rattle.sat_solver.specs.cdcl.Joint.{assumed_indices, global_in, IsSearch, SameAssumedAndNames}
 use Rattle.sat_solver.proofs.lemmas.cdcl.TurnLemmas.{moved_refl, moved_trans}
 use Rattle.sat_solver.proofs.lemmas.clause.ReducingLemmas.{still, still_moved}
 use Rattle.sat_solver.specs.unit_simplify.Flat.{HasEmptyTrail, MayRemove, LeavesPairs, IsStrengthened}
 
 pub lighter_refl : (s : Session) (c : Search) → IsSearch s c → IsStrengthened s c c
-lighter_refl s c h = record { search = h; moved = moved_refl c; word = extends_refl c.parts (assumed_in c); state = (refl, refl, refl); refs = refl }
+lighter_refl s c h = record { search = h; moved = moved_refl c; word = extends_refl c.parts (assumed_indices c); state = (refl, refl, refl); refs = refl }
 
 pub lighter_trans : (s t : Session) (a b c : Search) → IsStrengthened s a b → IsStrengthened t b c → IsStrengthened t a c
 lighter_trans s t a b c x y = record {
   search = y.search;
   moved = moved_trans a b c x.moved y.moved;
-  word = extends_after (assumed_in a) a.parts b.parts c.parts x.word (rw x.moved.lits at y.word);
+  word = extends_after (assumed_indices a) a.parts b.parts c.parts x.word (rw x.moved.lits at y.word);
   state = (y.state.0 ∙ x.state.0, y.state.1 ∙ x.state.1, y.state.2 ∙ x.state.2);
   refs = y.refs ∙ x.refs;
 }
@@ -101,7 +101,7 @@ pairs_removed s s' c c' h flat leaves left globals assumptions analysis flags ho
     record {
       search = still s s' c c' h globals assumptions analysis flags leaves holds (fits_removed c.parts c'.parts s' (global_in c) h.stands.holds h.stands.fits.paired flat.bottom flat.empty left r) size word (rw (same_state c.parts c'.parts r.state) h.ready.placed);
       moved = still_moved s s' c c' h globals assumptions analysis flags size;
-      word = word (assumed_in c);
+      word = word (assumed_indices c);
       state = r.state;
       refs = ap (λ d. d.refs) r.db;
     }

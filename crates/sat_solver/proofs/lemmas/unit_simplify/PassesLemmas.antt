@@ -31,7 +31,7 @@ use Rattle.sat_parts.specs.parts.Frame.{SameClauses}
 use Rattle.sat_parts.specs.parts.Words.{TrailWordExtendsFor}
 use Rattle.sat_parts.proofs.lemmas.parts.WordSteps.{extends_refl, extends_after}
 use Rattle.sat_solver.specs.cdcl.Going.{EmitsSteps, EmitsStepsWith}
-use Rattle.sat_solver.specs.cdcl.Joint.{assumed_in, IsSearch, SameVarsAndAssumptions}
+use Rattle.sat_solver.specs.cdcl.Joint.{assumed_indices, IsSearch, SameVarsAndAssumptions}
 use Rattle.sat_solver.specs.declared.context.Search.{Search}
 use Rattle.sat_solver.proofs.lemmas.cdcl.TurnLemmas.{moved_refl, moved_trans}
 use Rattle.sat_solver.specs.variables.Shared.{SharesIndices}
@@ -54,7 +54,7 @@ module _ {W L : Type 0} {G : Ghosts L} (seen : W → Writer) where
     does = does_none n (steps_of p) h.stands;
     asked = asked_refl n (session_of p);
     moved = moved_refl c;
-    word = extends_refl c.parts (assumed_in c);
+    word = extends_refl c.parts (assumed_indices c);
   }
 
   pub passes_trans : (a b d : Variables) (p q r : Proof W L G) (x y z : Search) → PassesQuietly seen a b p q x y → PassesQuietly seen b d q r y z → PassesQuietly seen a d p r x z
@@ -65,11 +65,11 @@ module _ {W L : Type 0} {G : Ghosts L} (seen : W → Writer) where
     does = does_both a b d (steps_of p) (steps_of q) (steps_of r) (λ j. j) (λ j. j) (λ j. []) (λ j. []) one.does two.does;
     asked = asked_trans a b d (session_of p) (session_of q) (session_of r) one.asked two.asked;
     moved = moved_trans x y z one.moved two.moved;
-    word = extends_after (assumed_in x) x.parts y.parts z.parts one.word (rw one.moved.lits at two.word);
+    word = extends_after (assumed_indices x) x.parts y.parts z.parts one.word (rw one.moved.lits at two.word);
   }
 
   -- what changed before without a step
-  pub passes_behind : (a b : Variables) (p q : Proof W L G) (x y z : Search) → SameVarsAndAssumptions x y → TrailWordExtendsFor (assumed_in x) x.parts y.parts → PassesQuietly seen a b p q y z → PassesQuietly seen a b p q x z
+  pub passes_behind : (a b : Variables) (p q : Proof W L G) (x y z : Search) → SameVarsAndAssumptions x y → TrailWordExtendsFor (assumed_indices x) x.parts y.parts → PassesQuietly seen a b p q y z → PassesQuietly seen a b p q x z
   passes_behind a b p q x y z moved word h = record {
     together = h.together;
     took = h.took;
@@ -77,11 +77,11 @@ module _ {W L : Type 0} {G : Ghosts L} (seen : W → Writer) where
     does = h.does;
     asked = h.asked;
     moved = moved_trans x y z moved h.moved;
-    word = extends_after (assumed_in x) x.parts y.parts z.parts word (rw moved.lits at h.word);
+    word = extends_after (assumed_indices x) x.parts y.parts z.parts word (rw moved.lits at h.word);
   }
 
   -- steps of a search
-  pub passes_goes : {A : Type 0} (v : A) (n : Variables) (p q : Proof W L G) (c d : Search) (P : A → List Step → Type 0) → NamesInvariant n (steps_of p) → SharesIndices n c → EmitsSteps seen (Ok v) p q P → IsSearch (session_of q) d → SameVarsAndAssumptions c d → TrailWordExtendsFor (assumed_in c) c.parts d.parts → PassesQuietly seen n n p q c d
+  pub passes_goes : {A : Type 0} (v : A) (n : Variables) (p q : Proof W L G) (c d : Search) (P : A → List Step → Type 0) → NamesInvariant n (steps_of p) → SharesIndices n c → EmitsSteps seen (Ok v) p q P → IsSearch (session_of q) d → SameVarsAndAssumptions c d → TrailWordExtendsFor (assumed_indices c) c.parts d.parts → PassesQuietly seen n n p q c d
   passes_goes v n p q c d P stands shares g search moved word =
       let may : MayAll (g.steps ++ steps_of p) = subst MayAll g.went.history g.keeps in
       let does : DoesNothing n n (steps_of p) (steps_of q) = subst (DoesNothing n n (steps_of p)) (sym g.went.history) (nothing_behind n (steps_of p) g.steps stands may g.searched) in

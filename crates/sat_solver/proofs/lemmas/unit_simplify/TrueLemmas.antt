@@ -17,7 +17,7 @@ use Rattle.sat_solver.proofs.lemmas.fits.FramedParts.{bottom_unit, same_state, f
 use Rattle.sat_parts.proofs.lemmas.clause.OrderLemmas.{shuffled_eq}
 use Rattle.sat_solver.specs.declared.context.Search.{Search}
 use Rattle.sat_solver.specs.declared.context.Scratch.{Scratch}
-use Rattle.sat_solver.specs.cdcl.Joint.{assumed_in, global_in, IsSearch, SameAssumedAndNames}
+use Rattle.sat_solver.specs.cdcl.Joint.{assumed_indices, global_in, IsSearch, SameAssumedAndNames}
 use Rattle.sat_solver.proofs.lemmas.clause.ReducingLemmas.{still, still_moved}
 use Rattle.sat_solver.specs.unit_simplify.Cuts.{deleted_step}
 use Rattle.sat_solver.specs.unit_simplify.Flat.{HasEmptyTrail, IsStrengthened}
@@ -31,7 +31,7 @@ lighter_by s t c c' h globals assumptions analysis flags leaves holds fits same 
     record {
       search = still s t c c' h globals assumptions analysis flags leaves holds fits size word (rw (same_state c.parts c'.parts same) h.ready.placed);
       moved = still_moved s t c c' h globals assumptions analysis flags size;
-      word = word (assumed_in c);
+      word = word (assumed_indices c);
       state = same;
       refs = refs;
     }

@@ -6,7 +6,7 @@ use Rattle.sat_parts.specs.parts.Whole.{HoldsBelow}
 use Rattle.sat_solver.specs.proof.ProofView.{session_of}
 use Rattle.sat_solver.specs.session.Naming.{global_of_index}
 use Rattle.sat_solver.specs.cdcl.Going.{EmitsSteps}
-use Rattle.sat_solver.specs.cdcl.Joint.{assumed_in}
+use Rattle.sat_solver.specs.cdcl.Joint.{assumed_indices}
 use Rattle.sat_solver.specs.unit_simplify.Left.{TakesUnitsOff}
 use Rattle.sat_solver.specs.unit_simplify.Passes.{MaySettle, IsSimplifiedPass}
 use Rattle.sat_solver.specs.declared.context.Search.{Search}
@@ -74,7 +74,7 @@ returns-in-Err g c =
       keeps = c.requires.together.keeps;
       stopped = (falsified_whole s c.args.search.now d search refl refl refl refl x.starts x.moved x.carries x.word x.keeps c.in-Err.conflict both.0 both.1 x.units x.base).says;
       moved = propagated_moved s c.args.search.now d search refl refl refl refl x.starts x.moved x.carries x.word x.keeps;
-      word = x.word (assumed_in c.args.search.now);
+      word = x.word (assumed_indices c.args.search.now);
     }
 
 pub returns-in_err-settle : goal.returns-in_err-settle

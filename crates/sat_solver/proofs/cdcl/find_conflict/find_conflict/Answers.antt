@@ -6,7 +6,7 @@ use Rattle.sat_parts.specs.parts.Whole.{HoldsBelow}
 use Rattle.sat_parts.proofs.lemmas.parts.WordSteps.{extends_refl, extends_after}
 use Rattle.sat_solver.specs.proof.ProofView.{session_of}
 use Rattle.sat_solver.specs.cdcl.Going.{EmitsSteps}
-use Rattle.sat_solver.specs.cdcl.Joint.{assumed_in}
+use Rattle.sat_solver.specs.cdcl.Joint.{assumed_indices}
 use Rattle.sat_solver.specs.cdcl.Turns.{TakesTurn, StopsSearch}
 use Rattle.sat_solver.specs.declared.context.Search.{Search}
 use Rattle.sat_solver.specs.declared.cdcl.find_conflict.FoundConflict.TheVariants.{Falsified}
@@ -21,7 +21,7 @@ turns-init g c = record {
   came = goes_none g.W.CountedWrite.seen tt c.args.proof.now _ c.requires.keeps tt;
   search = c.requires.search;
   moved = moved_refl c.args.search.now;
-  word = extends_refl c.args.search.now.parts (assumed_in c.args.search.now);
+  word = extends_refl c.args.search.now.parts (assumed_indices c.args.search.now);
 }
 
 pub settle-requires : goal.settle-requires
@@ -101,7 +101,7 @@ turns-preserved g c =
       came = goes_then g.W.CountedWrite.seen tt (Ok tt) c.args.proof.now c.turns.proof c.settle.new.proof _ _ _ i.came c.in_ok-settle.ensures (λ xs ys y a b. tt);
       search = t.says.0;
       moved = moved_trans c.args.search.now c.turns.search e i.moved t.moved;
-      word = extends_after (assumed_in c.args.search.now) c.args.search.now.parts c.turns.search.parts e.parts i.word (rw i.moved.lits at t.word);
+      word = extends_after (assumed_indices c.args.search.now) c.args.search.now.parts c.turns.search.parts e.parts i.word (rw i.moved.lits at t.word);
     }
 
 pub turns-smaller : goal.turns-smaller

@@ -8,5 +8,5 @@ pub returns-clause-solver : goal.returns-clause-solver
 returns-clause-solver g c = λ e.
     let s = c.args.self.now in
     rw c.unwrap_or-self.ensures
-    (whole_configured c.args.update.now s.core s.names s.asked s.assumed.items s.told.failed_core.items s.clock.restarts.scale c.in_ok-apply.ensures.ok.0 s.state c.hand_on.new.core
+    (whole_configured c.args.update.now s.core s.names s.asked s.assumed.items s.reported.failed_core.items s.clock.restarts.scale c.in_ok-apply.ensures.ok.0 s.state c.hand_on.new.core
     (subst (λ (cfg : SolverConfig). PassesToSearch s.state (record s.core { config = cfg }) c.hand_on.new.core) c.in_ok-apply.ensures.ok.1 c.hand_on.ensures) (c.requires c.if-self.false))

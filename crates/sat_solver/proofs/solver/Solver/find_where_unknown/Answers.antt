@@ -37,34 +37,34 @@ none_some o st e f = cc
 pub returns-in-Some-clause-answers : goal.returns-in-Some-clause-answers
 returns-in-Some-clause-answers g c =
     let s = c.args.self.now in
-    settled_some g.W.CountedWrite.seen s c.requires.whole c.in-Unknown.is c.find_answer.new.core c.find_answer.new.names c.find_answer.new.told c.find_answer.new.clock c.in_ok-found.ensures.scale c.in_ok-found.ensures.counts (c.in_ok-found.ensures.round (λ e. none_some c.in_ok-found.found c.in-Some.state e c.in-Some.is)) c.in-Some.state
-    (subst (λ (o : Option State). FindsAnswer g.W.CountedWrite.seen o (c.find_answer.new.clock.rounds - s.clock.rounds) s.names c.find_answer.new.names s.core c.find_answer.new.core c.find_answer.new.told.failed_core.items) c.in-Some.is c.in_ok-found.ensures.finds)
+    settled_some g.W.CountedWrite.seen s c.requires.whole c.in-Unknown.is c.find_answer.new.core c.find_answer.new.names c.find_answer.new.reported c.find_answer.new.clock c.in_ok-found.ensures.scale c.in_ok-found.ensures.counts (c.in_ok-found.ensures.round (λ e. none_some c.in_ok-found.found c.in-Some.state e c.in-Some.is)) c.in-Some.state
+    (subst (λ (o : Option State). FindsAnswer g.W.CountedWrite.seen o (c.find_answer.new.clock.rounds - s.clock.rounds) s.names c.find_answer.new.names s.core c.find_answer.new.core c.find_answer.new.reported.failed_core.items) c.in-Some.is c.in_ok-found.ensures.finds)
 
 pub returns-in-None-clause-answers : goal.returns-in-None-clause-answers
 returns-in-None-clause-answers g c =
     let s = c.args.self.now in
-    settled_without g.W.CountedWrite.seen s c.requires.whole c.in-Unknown.is c.find_answer.new.core c.find_answer.new.names c.find_answer.new.told c.find_answer.new.clock c.in_ok-found.ensures.scale c.in_ok-found.ensures.counts
+    settled_without g.W.CountedWrite.seen s c.requires.whole c.in-Unknown.is c.find_answer.new.core c.find_answer.new.names c.find_answer.new.reported c.find_answer.new.clock c.in_ok-found.ensures.scale c.in_ok-found.ensures.counts
     (c.in_ok-found.ensures.interrupted c.in-None.is) (λ n le fits. c.in_ok-found.ensures.answered n le fits c.in-None.is)
-    (subst (λ (o : Option State). FindsAnswer g.W.CountedWrite.seen o (c.find_answer.new.clock.rounds - s.clock.rounds) s.names c.find_answer.new.names s.core c.find_answer.new.core c.find_answer.new.told.failed_core.items) c.in-None.is c.in_ok-found.ensures.finds)
+    (subst (λ (o : Option State). FindsAnswer g.W.CountedWrite.seen o (c.find_answer.new.clock.rounds - s.clock.rounds) s.names c.find_answer.new.names s.core c.find_answer.new.core c.find_answer.new.reported.failed_core.items) c.in-None.is c.in_ok-found.ensures.finds)
 
 pub returns-in-Some-clause-searched : goal.returns-in-Some-clause-searched
 returns-in-Some-clause-searched g c = λ u.
     let s = c.args.self.now in
     let now = c.find_answer.new in
-    subst (λ (o : Option State). SearchedBy g.W.CountedWrite.seen (state_found o) s.clock now.clock s.names now.names s.core now.core now.told.failed_core.items) c.in-Some.is c.in_ok-found.ensures.searched
+    subst (λ (o : Option State). SearchedBy g.W.CountedWrite.seen (state_found o) s.clock now.clock s.names now.names s.core now.core now.reported.failed_core.items) c.in-Some.is c.in_ok-found.ensures.searched
 
 pub returns-in-None-clause-searched : goal.returns-in-None-clause-searched
 returns-in-None-clause-searched g c = λ u.
     let s = c.args.self.now in
     let now = c.find_answer.new in
-    subst (λ st. SearchedBy g.W.CountedWrite.seen st s.clock now.clock s.names now.names s.core now.core now.told.failed_core.items) (sym u)
-    (subst (λ (o : Option State). SearchedBy g.W.CountedWrite.seen (state_found o) s.clock now.clock s.names now.names s.core now.core now.told.failed_core.items) c.in-None.is c.in_ok-found.ensures.searched)
+    subst (λ st. SearchedBy g.W.CountedWrite.seen st s.clock now.clock s.names now.names s.core now.core now.reported.failed_core.items) (sym u)
+    (subst (λ (o : Option State). SearchedBy g.W.CountedWrite.seen (state_found o) s.clock now.clock s.names now.names s.core now.core now.reported.failed_core.items) c.in-None.is c.in_ok-found.ensures.searched)
 
 pub returns-in_err-found-clause-answers : goal.returns-in_err-found-clause-answers
 returns-in_err-found-clause-answers g c =
     let p = err_from_is_err_and c.from_residual.result c.from_residual.ensures.1 in
     rw (p.1, p.2) (
       c.in_err-found.ensures.breaks,
-      rounds_on g.W.CountedWrite.seen c.args.self.now c.requires.whole c.in-Unknown.is c.find_answer.new.core c.find_answer.new.names c.find_answer.new.told c.find_answer.new.clock c.in_err-found.ensures.scale c.in_err-found.ensures.counts,
+      rounds_on g.W.CountedWrite.seen c.args.self.now c.requires.whole c.in-Unknown.is c.find_answer.new.core c.find_answer.new.names c.find_answer.new.reported c.find_answer.new.clock c.in_err-found.ensures.scale c.in_err-found.ensures.counts,
       λ n. absurd (n c.in-Unknown.is),
     )

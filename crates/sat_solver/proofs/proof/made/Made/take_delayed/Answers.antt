@@ -21,8 +21,8 @@ keep_cause-requires g c =
     let m = c.args.self.now in
     told_cause g.P.ProofProcessor.takes m.lost m.own m.roll.items m.history.steps m.fed c.in-Some.own c.in-Some.is c.take_delayed.new.self c.in-Err.error c.if-self.false c.in-Err.ensures.takes
 
-pub returns-in-Ok-clause-told : goal.returns-in-Ok-clause-told
-returns-in-Ok-clause-told g c =
+pub returns-in-Ok-clause-reported : goal.returns-in-Ok-clause-reported
+returns-in-Ok-clause-reported g c =
     let m = c.args.self.now in
     (c.if-self.false, told_settled g.P.ProofProcessor.takes m.lost m.own m.roll.items m.history.steps m.fed c.in-Some.own c.in-Some.is c.take_delayed.new.self c.if-self.false c.in-Ok.ensures.takes)
 
