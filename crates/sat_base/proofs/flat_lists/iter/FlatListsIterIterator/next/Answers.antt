@@ -16,12 +16,3 @@ slice_bounds-list-end g c =
     let h = subst (λ (es : List ℕ). AreEnds s.start es s.items.now) c.in_ok-end.ensures.cases.0 c.self.invariant in
     let e = AreEnds-le c.in_ok-end.end.now c.in_ok-end.ends.now s.items.now h.1 in
     omega (arith, h.0, e)
-
-pub invariant_of-self : goal.invariant_of-self
-invariant_of-self g c =
-    let s = c.self.inside in
-    let h = subst (λ (es : List ℕ). AreEnds s.start es s.items.now) c.in_ok-end.ensures.cases.0 c.self.invariant in
-    h.1
-
-pub returns-clause-steps : goal.returns-clause-steps
-returns-clause-steps g c = let s = c.self.inside in sym c.self.view_is ∙ ap (λ (es : List ℕ). pieces s.start es s.items.now) c.in_ok-end.ensures.cases.0
