@@ -3,11 +3,12 @@
 //! The tests see a parser and a formula through functions that ensure nothing, and keep few values: that is cheap to
 //! prove.
 ghost use Rattle.std.specs.Prelude.{◌≡◌, ◌<◌, ℕ, List, IfOk, length};
-ghost use Rattle.sat_base.specs.device.Device.{GaveEnough, GaveFront};
+ghost use Rattle.sat_base.specs.device.Device.{GaveFront};
 ghost use Rattle.sat_base.specs.dimacs.Parsing.{IsWholeText};
 ghost use Rattle.sat_base.specs.text.Tokenizing.{held};
 ghost use Rattle.sat_base.specs.dimacs.Dimacs.{dimacs};
 
+use crate::caller::clause_count;
 use crate::devices::{by_one, without_end};
 use crate::formula::is_printed;
 use sat_base::{
@@ -207,15 +208,6 @@ fn is_parsed(alloc: Global, text: &[u8], clauses: &[i64], highest: usize) -> boo
         Ok(formula) => formula.var_count() == highest && has(alloc, &formula, clauses),
         Err(_) => false,
     }
-}
-
-/// How many clauses a formula's text has.
-fn clause_count<R: CountedRead>(alloc: Global, reader: &mut R) -> Result<usize, DimacsError>
-    ensures { IfOk result (λ count. GaveEnough (R.seen reader.old) (R.seen reader.new)
-        (λ text. count ≡ length (dimacs text).clauses)) }
-{
-    let formula = DimacsParser::parse(alloc, reader)?;
-    Ok(formula.len())
 }
 
 #[test]
