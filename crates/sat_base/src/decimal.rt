@@ -61,7 +61,7 @@ fn write_long(bytes: &mut [u8], len: usize, number: u64) -> usize
 }
 
 /// Writes a number in decimal, without leading zeros, after the first `len` bytes. Returns the position after its last
-/// digit. Most numbers are short, so those below 10,000 take no loop.
+/// digit. Most numbers are short, so those below 10,000 are written without a loop.
 #[inline(always)]
 pub fn write_decimal(bytes: &mut [u8], len: usize, number: u64) -> usize
     requires { len + length (decimal number) ≤ length bytes.old }

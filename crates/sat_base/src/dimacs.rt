@@ -168,7 +168,7 @@ impl DimacsParser {
         reader.read_counted(room)
     }
 
-    /// Feeds the next bytes of a text of which all clauses are wanted or none.
+    /// Feeds the next bytes of a text that is parsed completely or not at all.
     fn feed_or_find_fault(&mut self, piece: &[u8]) -> Result<(), DimacsError>
         ensures fed { OnOk result (FeedsPiece (Ok tt) piece.now self.old self.new) }
         ensures sound { OnOk result (IsSoundSoFar self.new) }

@@ -1,4 +1,4 @@
-//! Lists of lists in one piece of memory: their items one after another, and the end of every list.
+//! Lists of lists in one buffer: their items one after another, and the end of every list.
 #![tactic(auto, using(crate::proofs::lemmas::values::FlatLemmas::flat))]
 
 ghost use Rattle.std.specs.Prelude.{◌≡◌, ◌≤◌, ◌<◌, ◌↔◌, ◌++◌, ◌∷◌, [], List, IsTrue, length, slice_index};
@@ -81,7 +81,7 @@ impl<T: Copy> FlatLists<T> {
         Ok(())
     }
 
-    /// Removes all lists. Their memory is kept.
+    /// Removes all lists. Has no effect on the allocated memory.
     pub fn clear(&mut self)
         ensures { self.new ≡ [] }
     {

@@ -7,6 +7,7 @@ use crate::Lit;
 /// The hash of a clause: the exclusive or of the hashes of its literals, in any order.
 pub type ClauseHash = u64;
 
+/// The odd constant by which a literal is multiplied: 2^64 divided by the golden ratio.
 const MULTIPLIER: u64 = 0x9e37_79b9_7f4a_7c15;
 
 /// Returns the hash of a literal: its code plus one, times a constant, modulo 2^64.

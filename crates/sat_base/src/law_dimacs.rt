@@ -1,4 +1,4 @@
-//! Laws of formulas' texts, for proofs alone.
+//! Laws of formulas' texts, only for proofs.
 ghost use Rattle.sat_base.specs.dimacs.DimacsRows.{CleanRows, FaultRows, HeaderRows, PartRows};
 ghost use Rattle.sat_base.specs.dimacs.DimacsSpelling.{OneFormula, CleanIfSpelled};
 ghost use Rattle.sat_base.specs.dimacs.WrittenDimacs.{WrittenIsRead};

@@ -21,7 +21,7 @@ pub fn order_of_literals(l: Lit, m: Lit) -> Ordering
     l.cmp(&m)
 }
 
-/// What a hasher makes of a single value.
+/// Returns the hash of a single value.
 fn fed<T: Hash>(value: &T) -> u64
     ensures { result ≡ sip.finish (fold sip.write sip.initial (T.hash_input value.now)) }
 {

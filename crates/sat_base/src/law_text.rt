@@ -1,4 +1,4 @@
-//! Laws of what a text means, for proofs alone.
+//! Laws of what a text means, only for proofs.
 ghost use Rattle.sat_base.specs.script.ScriptSpelling.{OneReading, ReadIfSpelled};
 ghost use Rattle.sat_base.specs.script.ScriptRows.{ReadRows, MalformedRows};
 

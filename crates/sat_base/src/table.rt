@@ -8,13 +8,13 @@ use std::collections::BTreeMap;
 /// The number of places that may always be near.
 const FEW: usize = 1 << 18;
 
-/// The number of places more that may be near for every place that room was made for.
+/// The number of further places that may be near for every place for which room was made.
 const MORE: usize = 8;
 
 /// A table from places to values, most of which may be missing.
 ///
 /// Near places are in a list, others in a tree. The length of the list is limited by a multiple of the number of places
-/// that room was made for, or by the owner. So memory follows how much was read, whatever numbers were read. A place in
+/// for which room was made, or by the owner. So memory follows how much was read, whatever numbers were read. A place in
 /// the list costs as much as in a `Vec`.
 #[derive(Drop)]
 pub struct Table<T> {

@@ -361,7 +361,7 @@ impl Tokenizer {
         }
     }
 
-    /// Returns a copy, which takes other bytes than this one.
+    /// Returns a copy, which can receive other bytes than this one.
     pub(crate) fn copied(&self) -> Tokenizer
         ensures { result ≡ self.now }
     {

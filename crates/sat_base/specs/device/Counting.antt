@@ -20,7 +20,7 @@ after_read bytes t = record (after_call t) { given = t.given ++ bytes }
 abbrev pub after_end : Tally → Tally
 after_end t = record (after_call t) { ended = true }
 
--- a write that took these bytes
+-- a write that accepted these bytes
 abbrev pub after_write : List ℕ → Tally → Tally
 after_write bytes t = record (after_call t) { taken = t.taken ++ bytes }
 
@@ -38,7 +38,7 @@ after_failure t = record (after_call t) { failures = t.failures + 1; failed = tr
 abbrev pub device_of : {D : Type 0} → Counted D → D
 device_of c = c.device
 
--- as a reader, whose bytes may be known
+-- the device as a reader, whose bytes may be known
 abbrev pub reader_of : {D : Type 0} → (D → Option (List ℕ)) → Counted D → Reader
 reader_of remaining c = record {
   to_come = remaining c.device;
@@ -50,7 +50,7 @@ reader_of remaining c = record {
   loans = [];
 }
 
--- and as a writer
+-- the device as a writer
 abbrev pub writer_of : {D : Type 0} → (D → Option (List ℕ)) → Counted D → Writer
 writer_of contents c = record {
   contents = contents c.device;

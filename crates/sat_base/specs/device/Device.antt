@@ -1,53 +1,53 @@
--- What contracts see of the calls of a device: which failed, which bytes a reader gave, and which a writer took.
+-- What contracts see of the calls of a device: which failed, which bytes a reader gave, and which a writer accepted.
 use Rattle.std.specs.Prelude.{Bool, true, false, Option, ◌≡◌, ℕ, ◌+◌, ◌^◌, ◌≤◌, ◌<◌, ◌⊎◌, List, [], ◌∷◌, length, ◌++◌, take, Result, MatchResult, if◌then◌else◌, ◌&&◌, nat_eq, nat_lt, is_ok}
 use Rattle.std.specs.Io.KnownBytes.{Consumes, IsAtEnd, ReadConsumes, Appends, WriteAppends, Keeps}
 
 -- what contracts see of a reader
 pub record Reader : Type 0 where
   pub to_come : Option (List ℕ)  -- the bytes still to come, if they are known
-  pub given : List ℕ  -- all bytes that it gave, to whomever
+  pub given : List ℕ  -- all bytes that it has given, to any caller
   pub ended : Bool  -- the last read gave nothing though there was room
   pub failed : Bool  -- the last call failed
   pub failures : ℕ
   pub calls : ℕ
-  pub loans : List ℕ  -- by which borrows it is lent, the last one first
+  pub loans : List ℕ  -- the borrows through which it is lent, the latest first
 
--- and of a writer
+-- what contracts see of a writer
 pub record Writer : Type 0 where
   pub contents : Option (List ℕ)  -- what it holds, if that is known
-  pub taken : List ℕ  -- all bytes that it took, whoever wrote them
+  pub taken : List ℕ  -- all bytes that it has accepted, from any caller
   pub flushed : Bool  -- the last call was a flush that did not fail
   pub failed : Bool  -- the last call failed
   pub failures : ℕ
-  pub calls : ℕ  -- a flush is one, too
-  pub flushes : ℕ  -- how many of them were flushes that did not fail
-  pub loans : List ℕ  -- by which borrows it is lent, the last one first
+  pub calls : ℕ  -- a flush is also a call
+  pub flushes : ℕ  -- the number of flushes that did not fail
+  pub loans : List ℕ  -- the borrows through which it is lent, the latest first
 
--- lent once more
+-- the reader, lent once more
 abbrev pub lent_reader : ℕ → Reader → Reader
 lent_reader name r = record r { loans = name ∷ r.loans }
 
--- the same of a writer
+-- the writer, lent once more
 abbrev pub lent_writer : ℕ → Writer → Writer
 lent_writer name w = record w { loans = name ∷ w.loans }
 
 -- ONE CALL
 
--- each `Err` is one failed call
+-- every `Err` is one failed call
 abbrev pub CountsErr : {T E : Type 0} → Result T E → ℕ → ℕ → Bool → Type 0
 CountsErr r old new failed = MatchResult r (λ _. (new ≡ old) × (failed ≡ false)) (λ _. (new ≡ old + 1) × (failed ≡ true))
 
--- a write that takes nothing of a piece that is not empty
+-- whether a write accepts no byte of a piece that is not empty
 abbrev pub takes_none : ℕ → List ℕ → Bool
 takes_none n piece = nat_eq n 0 && nat_lt 0 (length piece)
 
--- is a failed call, too
+-- such a write is a failed call, and so is every `Err`
 abbrev pub CountsWrite : {E : Type 0} → Result ℕ E → List ℕ → ℕ → ℕ → Bool → Type 0
 CountsWrite r piece old new failed = MatchResult r
     (λ n. (new ≡ (if takes_none n piece then old + 1 else old)) × (failed ≡ takes_none n piece))
     (λ _. (new ≡ old + 1) × (failed ≡ true))
 
--- a call appends the first bytes of the piece to those before, and a failed one appends none
+-- a call appends the first bytes of the piece to those before it; a failed call appends none
 abbrev pub AppendsFront : {E : Type 0} → Result ℕ E → List ℕ → List ℕ → List ℕ → Type 0
 AppendsFront r piece old new = MatchResult r (λ n. new ≡ old ++ take n piece) (λ _. new ≡ old)
 
@@ -96,7 +96,7 @@ pub record GaveFront (old new : Reader) (text : List ℕ) : Type 0 where
   pub told : Consumes old.to_come new.to_come text
   pub loans : new.loans ≡ old.loans
 
--- No read is made for nothing: there were at most as many as bytes were given, and one more.
+-- There were at most as many reads as bytes given, and one more.
 abbrev pub FewReads : Reader → Reader → Type 0
 FewReads old new = new.calls + length old.given ≤ old.calls + length new.given + 1
 
@@ -128,19 +128,19 @@ pub record GaveEnough (old new : Reader) (P : List ℕ → Type 0) : Type 0 wher
   pub few : FewReads old new
   pub holds : (rest : List ℕ) → CanFollow old new rest → P (text ++ rest)
 
--- what was given only grew, and no read was made for nothing
+-- the reader gave more bytes, possibly none, in few reads
 abbrev pub GaveMore : Reader → Reader → Type 0
 GaveMore old new = (text : List ℕ) × GaveFront old new text × FewReads old new
 
--- a reader is read at most so often
+-- the largest number of reads of one reader
 abbrev pub most_reads : ℕ
 most_reads = 2 ^ 48
 
--- in pieces of at most this number of bytes
+-- the largest number of bytes of one read
 abbrev pub piece_size : ℕ
 piece_size = 4096
 
--- one call failed, the last
+-- one call failed, and it was the last
 abbrev pub LastCallFails : Reader → Reader → Type 0
 LastCallFails old new = (new.failures ≡ old.failures + 1) × (new.failed ≡ true)
 
@@ -148,13 +148,13 @@ LastCallFails old new = (new.failures ≡ old.failures + 1) × (new.failed ≡ t
 abbrev pub ReadsAreExhausted : Reader → Reader → Type 0
 ReadsAreExhausted old new = (new.failures ≡ old.failures) × (new.calls ≡ old.calls + most_reads)
 
--- why a text could not be read: one read failed, which was the last, or 2^48 were made and none did; none was made for nothing
+-- Why a text could not be read: only the last read failed, or none failed and 2^48 were made.
 abbrev pub ReadFails : Reader → Reader → Type 0
 ReadFails old new = (LastCallFails old new ⊎ ReadsAreExhausted old new) × FewReads old new
 
--- WHAT A WRITER TOOK
+-- WHAT A WRITER ACCEPTED
 
--- it took this text, and no call failed; each but the flushes took some of it
+-- It accepted this text, and no call failed. Every write accepted at least one byte.
 pub record WriterTakes (old new : Writer) (text : List ℕ) : Type 0 where
   pub taken : new.taken ≡ old.taken ++ text
   pub told : Appends old.contents new.contents text
@@ -163,7 +163,7 @@ pub record WriterTakes (old new : Writer) (text : List ℕ) : Type 0 where
   pub few : new.calls + old.flushes ≤ old.calls + new.flushes + length text
   pub loans : new.loans ≡ old.loans
 
--- it took a prefix of this text, and then one call failed, the last; each but this one and the flushes took some of it
+-- It accepted a prefix of this text, and only the last call failed. Every write before it accepted at least one byte.
 pub record WriterBreaks (old new : Writer) (text : List ℕ) : Type 0 where
   pub front : List ℕ
   pub behind : List ℕ
@@ -176,6 +176,6 @@ pub record WriterBreaks (old new : Writer) (text : List ℕ) : Type 0 where
   pub few : new.calls + old.flushes ≤ old.calls + new.flushes + length front + 1
   pub loans : new.loans ≡ old.loans
 
--- a text was written, or a prefix of it
+-- a text was written; or a call failed, and a prefix was written
 abbrev pub WritesText : {E : Type 0} → List ℕ → Result (Unit {0}) E → Writer → Writer → Type 0
 WritesText text r old new = MatchResult r (λ _. WriterTakes old new text) (λ _. WriterBreaks old new text)

@@ -1,8 +1,8 @@
--- How far a reader was read whose bytes are fed to somebody.
+-- Reads whose bytes are fed to a receiver.
 use Rattle.std.specs.Prelude.{◌≡◌, ℕ, ◌+◌, ◌≤◌, List, length}
 use Rattle.sat_base.specs.device.Device.{Reader, GaveFront}
 
--- it was read so often, gave some bytes each time, and these were fed
+-- this number of reads was made, every one gave at least one byte, and all these bytes were fed
 pub record FeedsReads (old new : Reader) (times : ℕ) (WasFed : List ℕ → Type 0) : Type 0 where
   pub text : List ℕ
   pub front : GaveFront old new text

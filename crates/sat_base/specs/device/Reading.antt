@@ -1,4 +1,4 @@
--- What it is to read a value in a format, from a reader whose bytes are read ahead of need.
+-- Reading a value in a format, from a reader that is read ahead.
 use Rattle.std.specs.Prelude.{◌≡◌, ℕ, true, length, ◌+◌, ◌*◌, ◌<◌, ◌≤◌, ◌⊎◌, List, [], ◌∷◌, ◌++◌, Option, None, Some, Result, Ok, Err, nat_eq, if◌then◌else◌}
 use Rattle.std.specs.Io.KnownBytes.{Consumes, IsAtEnd, prepend_known}
 use Rattle.sat_base.specs.declared.device.ahead.Ahead.{Ahead}
@@ -11,12 +11,12 @@ use Rattle.sat_base.specs.steps.Formats.{Format, BeginsText, IsProperFront}
 use Rattle.sat_base.specs.steps.Steps.{Step}
 use Rattle.sat_base.specs.steps.StepText.{tag_of, SpellsFields, SpellsStep}
 
--- a reader, and what was read of it ahead of need
+-- a reader, and the bytes that were read ahead
 pub record Source : Type 0 where
   pub reader : Reader
-  pub waiting : List ℕ  -- the last bytes that it gave, read and not yet taken
+  pub waiting : List ℕ  -- the last bytes that it gave, read and not yet consumed
   pub reads : ℕ  -- the reads by this reader of steps
-  pub names : List ℕ  -- by which borrows it is held
+  pub names : List ℕ  -- the borrows that hold it
 
 -- the bytes still to come, if they are known
 abbrev pub to_come : Source → Option (List ℕ)
@@ -26,7 +26,7 @@ to_come s = prepend_known s.waiting s.reader.to_come
 abbrev pub unread : Reader → Source
 unread r = record { reader = r; waiting = []; reads = 0; names = [] }
 
--- a reader as contracts see it, and what was read of it ahead; who holds them is left out
+-- a reader as contracts see it, and the bytes read ahead, without the borrows that hold them
 abbrev pub source : {R : Type 0} → (R → Reader) → R → Ahead → Source
 source seen r a = record { reader = seen r; waiting = waiting a; reads = a.reads; names = [] }
 
@@ -42,8 +42,8 @@ source_of seen i = with_borrows (i.reader.ghost_name ∷ i.ahead.ghost_name ∷ 
 abbrev pub AtEnd : Source → Type 0
 AtEnd s = (0 < s.reads) × (s.reader.ended ≡ true)
 
--- These bytes were taken, and no call failed. The pending bytes and those given since are those taken and those pending now. A read gave at
--- most 4,096 bytes, and there were at most as many reads as bytes given, but for so many. Where there were no more, none found the end.
+-- These bytes were consumed, and no call failed. The bytes that were pending and those given since are those consumed and those pending
+-- now. A read gave at most 4,096 bytes. There were at most `more` reads more than bytes given; if `more` is 0, none found the end.
 pub record ConsumesWithReads (more : ℕ) (old new : Source) (text : List ℕ) : Type 0 where
   pub fresh : List ℕ
   pub gave : new.reader.given ≡ old.reader.given ++ fresh
@@ -57,30 +57,30 @@ pub record ConsumesWithReads (more : ℕ) (old new : Source) (text : List ℕ) :
   pub names : new.names ≡ old.names
   pub going : more ≡ 0 → AtEnd new → AtEnd old
 
--- no read was made for nothing
+-- the same, with at most one read for every byte given
 abbrev pub ConsumesBytes : Source → Source → List ℕ → Type 0
 ConsumesBytes old new text = ConsumesWithReads 0 old new text
 
--- all bytes are taken: the last read found the reader at its end, and none is pending
+-- all bytes are consumed: the last read found the end of the reader, and none is pending
 pub record AllTaken (s : Source) : Type 0 where
   pub read : 0 < s.reads
   pub ended : s.reader.ended ≡ true
   pub waiting : s.waiting ≡ []
   pub over : IsAtEnd (to_come s)
 
--- these bytes were taken, and then one read found the end
+-- these bytes were consumed, and then one read found the end
 abbrev pub ConsumesToEnd : Source → Source → List ℕ → Type 0
 ConsumesToEnd old new text = ConsumesWithReads 1 old new text × AllTaken new
 
--- one call failed, the last; or none did, and 2^48 were made
+-- one call failed, and it was the last
 abbrev pub LastReadFails : Source → Source → Type 0
 LastReadFails old new = (new.reader.failures ≡ old.reader.failures + 1) × (new.reader.failed ≡ true)
 
--- no read failed, and as many were made as may be
+-- no read failed, and the largest number of them was made
 abbrev pub SourceReadsAreExhausted : Source → Source → Type 0
 SourceReadsAreExhausted old new = (new.reader.failures ≡ old.reader.failures) × (most_reads ≤ new.reads)
 
--- These bytes were taken, which were all that was given, and then one read failed, the last, or there were 2^48 of them and none did.
+-- These bytes were consumed, which were all that was given. Only the last read failed, or none failed and 2^48 were made.
 pub record ConsumesAndFails (old new : Source) (text : List ℕ) : Type 0 where
   pub fresh : List ℕ
   pub gave : new.reader.given ≡ old.reader.given ++ fresh
@@ -98,13 +98,13 @@ pub record ConsumesAndFails (old new : Source) (text : List ℕ) : Type 0 where
 abbrev pub none_given : ℕ → ℕ
 none_given n = if nat_eq n 0 then 1 else 0
 
--- another piece was read, of this number of bytes: none only at the end
+-- the next bytes were read, this number of them; 0 only at the end
 abbrev pub Refills : Result (Unit {0}) StepError → ℕ → Source → Source → Type 0
 Refills (Ok u) n old new = ConsumesWithReads (none_given n) old new [] × (n ≡ 0 → AllTaken new)
 Refills (Err errors.Read) n old new = ConsumesAndFails old new []
 Refills (Err e) n old new = ⊥
 
--- whoever holds them
+-- the same, whatever borrows hold them
 abbrev pub RefillsAlone : {R : Type 0} → (R → Reader) → Result (Unit {0}) StepError → R → Ahead → R → Ahead → Type 0
 RefillsAlone seen result r a s b =
     (names : List ℕ) → Refills result b.end (with_borrows names (source seen r a)) (with_borrows names (source seen s b))
@@ -116,15 +116,15 @@ NextByte (Ok None) old new = ConsumesToEnd old new []
 NextByte (Err errors.Read) old new = ConsumesAndFails old new []
 NextByte (Err e) old new = ⊥
 
--- the next byte of a text that is not whole
+-- the next byte of a text that is not complete
 abbrev pub ByteWithin : Result ℕ StepError → Source → Source → Type 0
 ByteWithin (Ok byte) old new = ConsumesBytes old new (byte ∷ [])
 ByteWithin (Err errors.Cut) old new = ConsumesToEnd old new []
 ByteWithin (Err errors.Read) old new = ConsumesAndFails old new []
 ByteWithin (Err e) old new = ⊥
 
--- A value's text was taken; or a prefix of one, and the bytes have ended or cannot be read; or such a prefix and a byte after which no text
--- can follow. Memory runs out where the bytes so far are a prefix of a text, or all of it.
+-- What was consumed: on `Ok` the text of the value; on `Cut` and `Read` a prefix of a text, and then the bytes ended or could not be read;
+-- on `BadByte` such a prefix, and a byte with which no text continues; on `OutOfMemory` a prefix of a text, or all of it.
 abbrev pub ReadsValue : {A : Type 0} → Format A → Result A StepError → Source → Source → Type 0
 ReadsValue F (Ok x) old new = (text : List ℕ) × ConsumesBytes old new text × F x text
 ReadsValue F (Err errors.Cut) old new = (text : List ℕ) × ConsumesToEnd old new text × IsProperFront F text
@@ -139,12 +139,12 @@ ReadsValue F (Err errors.HasFailed) old new = ⊥
 abbrev pub ReadsFromInput : {A R : Type 0} → Format A → Result A StepError → (R → Reader) → Input R → Input R → Type 0
 ReadsFromInput F r seen old new = ReadsValue F r (source_of seen old) (source_of seen new)
 
--- what was read, if the value was put elsewhere
+-- the result with the value that was read, if that is stored elsewhere
 abbrev pub giving : {A : Type 0} → A → Result (Unit {0}) StepError → Result A StepError
 giving x (Ok u) = Ok x
 giving x (Err e) = Err e
 
--- the same answer, with what f makes of the value
+-- the same result, with `f` applied to the value
 abbrev pub valued : {A B : Type 0} → (A → B) → Result A StepError → Result B StepError
 valued f (Ok x) = Ok (f x)
 valued f (Err e) = Err e
@@ -153,8 +153,8 @@ valued f (Err e) = Err e
 abbrev pub Behind : ℕ → Format Step
 Behind tag step bytes = (tag_of step ≡ tag) × SpellsFields step bytes
 
--- The answers of a reader of steps: as for any format, and `Ends` if the bytes end between steps, so that `Cut` is one within a
--- step. Memory runs out within a step or at its end: the bytes so far are a prefix of its text, or all of it.
+-- The results of a reader of steps are those of any format, with `Ends` if the bytes end between steps: `Cut` is an end within a step.
+-- Memory runs out within a step or at its end, so the bytes so far are a prefix of its text, or all of it.
 abbrev pub AnswersStepRead : Result Step StepError → Source → Source → Type 0
 AnswersStepRead (Ok step) old new = (text : List ℕ) × ConsumesBytes old new text × SpellsStep step text
 AnswersStepRead (Err errors.Ends) old new = ConsumesToEnd old new []

@@ -7,7 +7,7 @@ use Rattle.sat_base.specs.device.Waiting.{waiting}
 use Rattle.sat_base.specs.steps.Formats.{Format, Items}
 use Rattle.sat_base.specs.steps.Numbers.{IsBelow}
 
--- the text of a number below the limit was taken, and no read was made
+-- the text of a number below the limit was consumed, without a read
 abbrev pub TakesNumber : ℕ → ℕ → Ahead → Ahead → Type 0
 TakesNumber limit n old new = (text : List ℕ) × IsBelow limit n text × (waiting old ≡ text ++ waiting new) × (new.reads ≡ old.reads)
 
@@ -19,7 +19,7 @@ from at a = drop at (take a.end a.piece)
 abbrev pub StandsBetween : ℕ → ℕ → ℕ → ℕ → Ahead → Type 0
 StandsBetween limit n at behind a = (text : List ℕ) × IsBelow limit n text × (from at a ≡ text ++ from behind a)
 
--- At most `most` items were taken, without a read; or memory ran out, and nothing changed.
+-- At most `most` items were consumed, without a read; or memory ran out, and nothing changed.
 abbrev pub TakesItems : Format ℕ → ℕ → Result ℕ StepError → List ℕ → List ℕ → Ahead → Ahead → Type 0
 TakesItems F most (Ok n) before now old new =
     (n ≤ most) × (xs : List ℕ) × (text : List ℕ) × (length xs ≡ n) × (now ≡ before ++ xs) × Items F xs text × (waiting old ≡ text ++ waiting new) × (new.reads ≡ old.reads)

@@ -7,7 +7,7 @@ use Rattle.sat_base.specs.declared.device.pending.Pending.{Pending}
 abbrev pub waiting_in : {N : ℕ} → Pending N → List ℕ
 waiting_in p = take p.len p.bytes
 
--- the bytes read and not yet taken
+-- the bytes read and not yet consumed
 abbrev pub waiting : Ahead → List ℕ
 waiting a = drop a.at (take a.end a.piece)
 

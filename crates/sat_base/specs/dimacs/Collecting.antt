@@ -18,12 +18,12 @@ token_of (code.Letter b) = Letter b
 token_of (code.Header v c) = Header v c
 token_of code.Wrong = Wrong
 
--- a clause has begun with its first literal
+-- the clause in hand with these literals, or none if there are no literals
 abbrev pub hand_of : List ℕ → Hand
 hand_of [] = None
 hand_of (l ∷ ls) = Some (l ∷ ls)
 
--- what is in hand
+-- the clause in hand
 abbrev pub hand_in : Clauses → Hand
 hand_in clauses = hand_of clauses.hand.items
 
@@ -34,15 +34,15 @@ header_behind (Letter b) header = header
 header_behind (Header v c) header = Some (v, c)
 header_behind Wrong header = header
 
--- the clauses are as they were
+-- the clauses did not change
 abbrev pub SameClausesAndCount : Clauses → Clauses → Type 0
 SameClausesAndCount old new = (new.formula ≡ old.formula) × (new.count ≡ old.count)
 
--- so is the header
+-- neither the clauses nor the header changed
 abbrev pub SameClausesAndHeader : Clauses → Clauses → Type 0
 SameClausesAndHeader old new = SameClausesAndCount old new × (new.header ≡ old.header)
 
--- a turn that is no fault was taken
+-- the effect of a turn that is no fault
 abbrev pub TakesTokenTurn : Turn → Clauses → Clauses → Type 0
 TakesTokenTurn (GoesOn hand) old new = SameClausesAndCount old new × (hand_in new ≡ hand)
 TakesTokenTurn (Ends clause) old new = (new.formula ≡ with_formula_clause clause old.formula) × (new.count ≡ held (old.count + 1)) × (hand_in new ≡ None)
@@ -55,18 +55,18 @@ is_literal (Letter b) = false
 is_literal (Header v c) = false
 is_literal Wrong = false
 
--- memory is taken for literals and for clauses
+-- the token may need memory: it is a literal, or it ends a clause
 abbrev pub NeedsRoom : Token → Type 0
 NeedsRoom t = (is_literal t ≡ true) ⊎ ((hand : Hand) (n : ℕ) → turn hand n t ≡ Ends (literals_in hand))
 
--- what a token is answered by, on whichever line it stands
+-- the result for a token, whatever its line
 abbrev pub CollectsToken : Result (Unit {0}) Refusal → Clauses → Token → Clauses → Type 0
 CollectsToken (Ok u) old t new = ((n : ℕ) → TakesTokenTurn (turn (hand_in old) n t) old new) × (new.header ≡ header_behind t old.header)
 CollectsToken (Err refusal.Malformed) old t new = SameClausesAndHeader old new × ((n : ℕ) → turn (hand_in old) n t ≡ Fails (Malformed n))
 CollectsToken (Err refusal.Limit) old t new = SameClausesAndHeader old new × ((n : ℕ) → turn (hand_in old) n t ≡ Fails (Limit n))
 CollectsToken (Err refusal.OutOfMemory) old t new = SameClausesAndHeader old new × NeedsRoom t
 
--- whether a clause has begun
+-- the flag says whether a clause is in hand
 abbrev pub IsInside : Bool → Hand → Type 0
 IsInside false hand = hand ≡ None
 IsInside true hand = (ls : List ℕ) × (hand ≡ Some ls)

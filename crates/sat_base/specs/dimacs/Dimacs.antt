@@ -9,16 +9,16 @@ pub data Ending : Type 0 where
   Malformed : ℕ → Ending
   Limit : ℕ → Ending
 
--- what a text says of a formula
+-- the meaning of a formula's text
 pub record Dimacs : Type 0 where
   pub clauses : List (List ℕ)  -- in order, over codes of literals
   pub ending : Ending
 
--- the literals of the clause in hand, if one has begun
+-- the literals so far of the clause in hand, or `None` between clauses
 abbrev pub Hand : Type 0
 Hand = Option (List ℕ)
 
--- what a token makes of it: it goes on, a clause ends, or the text does
+-- the effect of a token: the text continues, a clause ends, or the text ends with a fault
 pub data Turn : Type 0 where
   GoesOn : Hand → Turn
   Ends : List ℕ → Turn
@@ -46,22 +46,22 @@ abbrev pub at_end : Hand → ℕ → Ending
 at_end None last = Clean
 at_end (Some ls) last = Malformed last
 
--- a turn, and then what more says
+-- a turn, and then `more` for the tokens after it
 abbrev pub behind_turn : Turn → (Hand → Dimacs) → Dimacs
 behind_turn (GoesOn hand) more = more hand
 behind_turn (Ends clause) more = record { clauses = clause ∷ (more None).clauses; ending = (more None).ending }
 behind_turn (Fails ending) more = record { clauses = []; ending = ending }
 
--- what tokens say, after what is in hand, the last line being this one
+-- the clauses that tokens add to what is in hand; `last` is the last line
 unfoldable pub clauses_of : Hand → ℕ → List (ℕ × Token) → Dimacs
 clauses_of hand last [] = record { clauses = []; ending = at_end hand last }
 clauses_of hand last (t ∷ ts) = behind_turn (turn hand t.0 t.1) (λ h. clauses_of h last ts)
 
--- what a scan says, after what is in hand
+-- the clauses that a scan adds to what is in hand
 abbrev pub dimacs_of : Hand → Scan → Dimacs
 dimacs_of hand s = clauses_of hand s.last s.tokens
 
--- what a text says
+-- the meaning of a text
 unfoldable pub dimacs : List ℕ → Dimacs
 dimacs text = dimacs_of None (scan text)
 
@@ -70,11 +70,11 @@ abbrev pub has_blank : List ℕ → Bool
 has_blank [] = false
 has_blank (b ∷ bs) = is_blank b || has_blank bs
 
--- a text up to its last blank, so that each word in it has ended
+-- a text up to its last blank, so that every word in it has ended
 abbrev pub up_to_last_blank : List ℕ → List ℕ
 up_to_last_blank [] = []
 up_to_last_blank (b ∷ bs) = if has_blank (b ∷ bs) then b ∷ up_to_last_blank bs else []
 
--- the text has these clauses, and ends so
+-- the text has these clauses and this ending
 abbrev pub IsDimacs : List ℕ → List (List ℕ) → Ending → Type 0
 IsDimacs text clauses end = dimacs text ≡ record { clauses = clauses; ending = end }

@@ -47,7 +47,7 @@ pub record HeaderRows : Type 0 where
   pub no_LF : HasHeader (codes "p cnf 07 99999999999999999999") 7 99999999999999999999
   pub none : dimacs_header (codes "1 0\n") ≡ None
 
--- fronts of texts: up to the last blank, and up to the last LF
+-- prefixes of texts: up to the last blank, and up to the last LF
 pub record PartRows : Type 0 where
   pub to_the_blank : up_to_last_blank (codes "1 0\n23") ≡ codes "1 0\n"
   pub to_a_blank_alone : up_to_last_blank (codes "1 0 2") ≡ codes "1 0 "

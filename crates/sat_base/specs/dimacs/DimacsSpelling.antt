@@ -1,4 +1,4 @@
--- How the clauses of a formula are spelled, which says again when a text reads cleanly.
+-- How the clauses of a formula are spelled: a second definition of the texts that read cleanly.
 use Rattle.std.specs.Prelude.{◌≡◌, ℕ, ◌+◌, ◌<◌, ◌↔◌, ◌⊎◌, List, [], ◌∷◌, ◌++◌, map, not}
 use Rattle.std.specs.List.{AllByRecursion}
 use Rattle.sat_base.specs.values.Literals.{var_limit, variable, is_positive}
@@ -30,7 +30,7 @@ abbrev pub SpellsFormula : List (List ℕ) → List Token → Type 0
 SpellsFormula cs ts = SpellsClauses cs ts
     ⊎ ((vars : ℕ) × (clauses : ℕ) × (rest : List Token) × (ts ≡ Header vars clauses ∷ rest) × SpellsClauses cs rest)
 
--- each text has one list of clauses, and one end
+-- every text has one list of clauses and one ending
 pub record OneFormula : Type 0 where
   pub some : (text : List ℕ) → (cs : List (List ℕ)) × (end : Ending) × IsDimacs text cs end
   pub one : (text : List ℕ) (cs ds : List (List ℕ)) (d e : Ending)

@@ -7,12 +7,12 @@ use Rattle.sat_base.specs.values.Formulas.{Formula}
 abbrev pub number_text : ℕ → List ℕ
 number_text l = (if is_positive l then [] else codes "-") ++ decimal (variable l + 1)
 
--- each number and a space, then `0` and LF
+-- every number followed by a space, then `0` and LF
 abbrev pub clause_line : List ℕ → List ℕ
 clause_line [] = codes "0\n"
 clause_line (l ∷ ls) = number_text l ++ (codes " " ++ clause_line ls)
 
--- a line for each clause, in order
+-- a line for every clause, in order
 abbrev pub clause_lines : List (List ℕ) → List ℕ
 clause_lines [] = []
 clause_lines (c ∷ cs) = clause_line c ++ clause_lines cs
@@ -21,5 +21,6 @@ clause_lines (c ∷ cs) = clause_line c ++ clause_lines cs
 abbrev pub header_line : ℕ → ℕ → List ℕ
 header_line v c = codes "p cnf " ++ (decimal v ++ (codes " " ++ (decimal c ++ codes "\n")))
 
+-- the header, and then the clauses
 unfoldable pub dimacs_text : Formula → List ℕ
 dimacs_text f = header_line f.var_count (length f.clauses) ++ clause_lines f.clauses

@@ -1,4 +1,4 @@
--- Faults of formulas' texts, sought without memory.
+-- Faults of formulas' texts, found without allocating.
 use Rattle.std.specs.Prelude.{◌≡◌, ◌⊎◌, ℕ, List, ◌++◌, None, Result, Ok, Err}
 use Rattle.sat_base.specs.declared.text.Tokenizer.{Tokenizer}
 use Rattle.sat_base.specs.declared.dimacs.error.DimacsError.{DimacsError}
@@ -12,9 +12,9 @@ use Rattle.sat_base.specs.dimacs.Dimacs.{Hand, Malformed, Limit, Fails, turn}
 use Rattle.sat_base.specs.dimacs.Parsing.{NoFault, unless_fault, whole_lines, IsSoundText, HasFaultOn}
 use Rattle.sat_base.specs.dimacs.ParserPlaces.{HaveTakenTokens}
 
--- a tokenizer that has taken this text, which has no fault so far
+-- a tokenizer that has received this text, which has no fault so far
 pub record HasTakenSoundly (text : List ℕ) (machine : Tokenizer) : Type 0 where
-  pub before : List (ℕ × Token)  -- the tokens taken
+  pub before : List (ℕ × Token)  -- the tokens so far
   pub all : List (List ℕ)  -- their clauses
   pub hand : Hand
   pub left_of : List ℕ → Scan  -- what is still to be read, whatever bytes come
@@ -31,14 +31,14 @@ JudgesToken (Err (errors.Malformed l)) line t = (l ≡ line) × ((hand : Hand) (
 JudgesToken (Err (errors.Limit l)) line t = (l ≡ line) × ((hand : Hand) (n : ℕ) → turn hand n t ≡ Fails (Limit n))
 JudgesToken (Err e) line t = ⊥
 
--- a text has no fault so far, or is at fault however it goes on
+-- a text has no fault so far, or has this one however it continues
 abbrev pub FindsFault : Result (Unit {0}) DimacsError → List ℕ → Tokenizer → Type 0
 FindsFault (Ok u) text machine = HasTakenSoundly text machine
 FindsFault (Err (errors.Malformed line)) text machine = HasFaultOn line Malformed text
 FindsFault (Err (errors.Limit line)) text machine = HasFaultOn line Limit text
 FindsFault (Err e) text machine = ⊥
 
--- what a lack of memory is reported as, at the end of this text
+-- the error that is returned if memory runs out at the end of this text
 abbrev pub OutOfMemoryOrFault : DimacsError → List ℕ → Type 0
 OutOfMemoryOrFault errors.OutOfMemory text = IsSoundText text
 OutOfMemoryOrFault (errors.Malformed line) text = HasFaultOn line Malformed text

@@ -16,28 +16,28 @@ use Rattle.sat_base.specs.dimacs.Parsing.{Progress, NoFault, clauses_read, lines
 abbrev pub progress_of : Parser → Progress
 progress_of p = record { fed = p.history.fed; taken = p.history.taken; stopped = p.stopped; ended = p.ended }
 
--- the answer of a call that a parser is lent to, with what the call leaves of it
+-- the result of a call that a parser is lent to, with the parser after the call
 abbrev pub with_parser : {E : Type 0} → Progress → Result (Unit {0}) E → Result Progress E
 with_parser p (Ok u) = Ok p
 with_parser p (Err e) = Err e
 
--- the clauses taken and those that were not yet
+-- the clauses taken and those not yet taken
 abbrev pub all_in : Parser → List (List ℕ)
 all_in p = p.history.taken ++ p.clauses.formula.clauses
 
--- these clauses, and then what more says
+-- these clauses before the others
 abbrev pub onto_clauses : List (List ℕ) → Dimacs → Dimacs
 onto_clauses cs d = record { clauses = cs ++ d.clauses; ending = d.ending }
 
--- Tokens have been taken: what they and any others say is these clauses, and then what the others say after what is in hand.
+-- The tokens so far have these clauses and leave this in hand: so the clauses of any continuation come after them.
 pub record HaveTakenTokens (before : List (ℕ × Token)) (all : List (List ℕ)) (hand : Hand) : Type 0 where
   pub says : (last : ℕ) (ts : List (ℕ × Token)) → clauses_of None last (before ++ ts) ≡ onto_clauses all (clauses_of hand last ts)
   pub sound : (ts : List (ℕ × Token)) → NoFault hand ts → NoFault None (before ++ ts)
 
--- a parser that may go on
+-- a parser that has not stopped
 pub record IsGoingParser (p : Parser) : Type 0 where
   pub ended : p.ended ≡ false
-  pub before : List (ℕ × Token)  -- the tokens taken
+  pub before : List (ℕ × Token)  -- the tokens so far
   pub left_of : List ℕ → Scan  -- what is still to be read, whatever bytes come
   pub stands : StandsBefore p.tokenizer left_of
   pub scans : (rest : List ℕ) → scan (p.history.fed ++ rest) ≡ onto before (left_of rest)
@@ -47,7 +47,7 @@ pub record IsGoingParser (p : Parser) : Type 0 where
   pub quiet : is_blank (last_byte p.history.fed) ≡ true → HoldsNoWord (left_of [])
   pub right : RightAhead left_of
 
--- what is so of every parser
+-- the invariant of every parser
 pub record IsParser (p : Parser) : Type 0 where
   pub clauses : clauses_read (progress_of p) ≡ all_in p
   pub count : p.clauses.count ≡ held (length (all_in p))
@@ -55,7 +55,7 @@ pub record IsParser (p : Parser) : Type 0 where
   pub header : p.clauses.header ≡ held_numbers (dimacs_header (lines_read (progress_of p)))
   pub goes : p.stopped ≡ false → IsGoingParser p
 
--- the end of the text after its last word: within a clause it is malformed
+-- the result of the end of the text after its last word: within a clause it is malformed
 abbrev pub EndsClean : Result (Unit {0}) DimacsError → Parser → Type 0
 EndsClean (Ok u) p = hand_in p.clauses ≡ None
 EndsClean (Err (errors.Malformed line)) p =

@@ -1,4 +1,4 @@
--- What a parser of formulas' texts makes of the bytes that it is fed.
+-- What a parser of formulas' texts does with the bytes that it is fed.
 use Rattle.std.specs.Borrow.{MutBor}
 use Rattle.std.specs.Io.KnownBytes.{IsAtEnd}
 use Rattle.std.specs.List.{FoldsTo, concat}
@@ -16,16 +16,16 @@ use Rattle.sat_base.specs.declared.dimacs.error.DimacsError.TheVariants as error
 
 -- what a caller knows of a parser
 pub record Progress : Type 0 where
-  pub fed : List ℕ  -- the bytes that were taken
-  pub taken : List (List ℕ)  -- the clauses that were taken
-  pub stopped : Bool  -- nothing more is taken
+  pub fed : List ℕ  -- the bytes that it accepted
+  pub taken : List (List ℕ)  -- the clauses that were taken from it
+  pub stopped : Bool  -- it accepts no more bytes
   pub ended : Bool  -- the text has ended: it was finished, or has a fault
 
--- of a new parser: no byte was taken
+-- a new parser's: no byte was accepted
 abbrev pub no_progress : Progress
 no_progress = record { fed = []; taken = []; stopped = false; ended = false }
 
--- with more bytes taken
+-- with more bytes accepted
 abbrev pub with_fed : List ℕ → Progress → Progress
 with_fed bytes p = record p { fed = p.fed ++ bytes }
 
@@ -68,44 +68,44 @@ abbrev pub held_numbers : Option (ℕ × ℕ) → Option (ℕ × ℕ)
 held_numbers None = None
 held_numbers (Some h) = Some (held h.0, held h.1)
 
--- however the text goes on, it has the clauses read and ends so
+-- however the text continues, it has the clauses read and this ending
 abbrev pub EndsAt : Ending → Progress → Type 0
 EndsAt ending p = (rest : List ℕ) → dimacs (p.fed ++ rest) ≡ record { clauses = clauses_read p; ending = ending }
 
--- a turn that is no fault, and then more that is none
+-- the turn is no fault, and `more` holds of what is in hand after it
 abbrev pub unless_fault : Turn → (Hand → Type 0) → Type 0
 unless_fault (GoesOn hand) more = more hand
 unless_fault (Ends clause) more = more None
 unless_fault (Fails ending) more = ⊥
 
--- no token is at fault, after what is in hand
+-- no token is a fault, after what is in hand
 abbrev pub NoFault : Hand → List (ℕ × Token) → Type 0
 NoFault hand [] = Unit {0}
 NoFault hand (t ∷ ts) = unless_fault (turn hand t.0 t.1) (λ h. NoFault h ts)
 
--- no line of a text that has ended has a fault, and the text can go on without a wrong word
+-- no complete line of a text has a fault, and the text can continue without a wrong word
 pub record IsSoundText (text : List ℕ) : Type 0 where
   pub lines : NoFault None (tokens (whole_lines text))
   pub words : RightAhead (λ rest. scan (text ++ rest))
 
--- no ended line of the bytes taken has a fault, and they can go on without a wrong word
+-- the same of the bytes that a parser has accepted
 abbrev pub IsSoundSoFar : Progress → Type 0
 IsSoundSoFar p = IsSoundText p.fed
 
--- none of what was given, nor at its end, if that was found
+-- the same of what a reader gave, which also ends cleanly if its end was found
 abbrev pub GaveSound : Reader → Reader → Type 0
 GaveSound old new = (text : List ℕ) × GaveFront old new text × IsSoundText text
     × (old.calls < new.calls → new.ended ≡ true → (dimacs text).ending ≡ Clean)
 
--- after a line that ends it, a text goes on for less than a piece
+-- after a line that ends the text, there are fewer bytes than one read can give
 abbrev pub EndsInLastPiece : List ℕ → Type 0
 EndsInLastPiece text = (front rest : List ℕ) → text ≡ front ++ rest → HasEnded front → length rest < piece_size
 
--- so does what was given: no piece was read after that line
+-- the same of the bytes given: nothing was read after that line
 abbrev pub StopsReading : Reader → Reader → Type 0
 StopsReading old new = (text : List ℕ) × GaveFront old new text × EndsInLastPiece text
 
--- a prefix of the piece was taken, up to and with a fault
+-- a prefix of the piece was accepted, up to and including a fault
 pub record EndsAtFault (ending : Ending) (piece : List ℕ) (old new : Progress) : Type 0 where
   pub front : List ℕ
   pub behind : List ℕ
@@ -117,7 +117,7 @@ pub record EndsAtFault (ending : Ending) (piece : List ℕ) (old new : Progress)
 abbrev pub last_byte : List ℕ → ℕ
 last_byte text = get_or text (length text - 1) 10
 
--- the last word of the whole text is a number, and this text ends with the last byte of it
+-- the last word of the complete text is a number, and this text ends with the last byte of it
 pub record EndsNumber (text whole : List ℕ) : Type 0 where
   pub in_word : is_blank (last_byte text) ≡ false
   pub before : List (ℕ × Token)
@@ -125,7 +125,7 @@ pub record EndsNumber (text whole : List ℕ) : Type 0 where
   pub value : ℕ
   pub number : tokens whole ≡ before ++ ((scan whole).last, Number negative value) ∷ []
 
--- after this text the byte is a blank that ends a number, and up to there no word is at fault
+-- after this text the byte is a blank that ends a number, and no word up to there is a fault
 pub record GoesWell (text : List ℕ) (byte : ℕ) : Type 0 where
   pub blank : is_blank byte ≡ true
   pub number : EndsNumber text (text ++ byte ∷ [])
@@ -137,7 +137,7 @@ pub record EndsWell (text : List ℕ) : Type 0 where
   pub clean : (dimacs text).ending ≡ Clean
   pub goes_on : HasEnded text → ⊥
 
--- a prefix of the piece was taken, and there was no memory at the next byte
+-- a prefix of the piece was accepted, and memory ran out at the next byte
 pub record FallsShort (piece : List ℕ) (old new : Progress) : Type 0 where
   pub front : List ℕ
   pub byte : ℕ
@@ -146,16 +146,16 @@ pub record FallsShort (piece : List ℕ) (old new : Progress) : Type 0 where
   pub progress : new ≡ cut_short (with_fed front old)
   pub well : GoesWell (old.fed ++ front) byte
 
--- a text has a fault on this line, however it goes on
+-- a text has a fault on this line, however it continues
 abbrev pub HasFaultOn : ℕ → (ℕ → Ending) → List ℕ → Type 0
 HasFaultOn line ending text = (n : ℕ) × (line ≡ held n) × ((rest : List ℕ) → (dimacs (text ++ rest)).ending ≡ ending n)
 
--- whether a line that begins with `%` has ended the text of a parser that goes on
+-- whether a line that begins with `%` has ended the text of a parser that has not stopped
 abbrev pub SaysEnded : Bool → Progress → Type 0
 SaysEnded true p = (p.stopped ≡ false) × HasEnded p.fed
 SaysEnded false p = (p.stopped ≡ true) ⊎ (HasEnded p.fed → ⊥)
 
--- what a piece is answered by
+-- the result of `feed` for a piece
 abbrev pub FeedsPiece : Result (Unit {0}) DimacsError → List ℕ → Progress → Progress → Type 0
 FeedsPiece (Ok u) piece old new = (old.stopped ≡ false) × (new ≡ with_fed piece old)
 FeedsPiece (Err (errors.Malformed line)) piece old new =
@@ -165,7 +165,7 @@ FeedsPiece (Err errors.OutOfMemory) piece old new = (old.stopped ≡ false) × F
 FeedsPiece (Err errors.HasFailed) piece old new = (old.stopped ≡ true) × (new ≡ old)
 FeedsPiece (Err errors.Read) piece old new = ⊥
 
--- what the end of the text is answered by
+-- the result of `finish`
 abbrev pub Finishes : Result (Unit {0}) DimacsError → Progress → Progress → Type 0
 Finishes (Ok u) old new = (old.stopped ≡ false) × (new ≡ at_its_end old) × ((dimacs old.fed).ending ≡ Clean)
 Finishes (Err (errors.Malformed line)) old new = (old.stopped ≡ false) × (new ≡ at_its_end old) × (n : ℕ) × (line ≡ held n)
@@ -176,7 +176,7 @@ Finishes (Err errors.OutOfMemory) old new = (old.stopped ≡ false) × (new ≡ 
 Finishes (Err errors.HasFailed) old new = (old.stopped ≡ true) × (new ≡ old)
 Finishes (Err errors.Read) old new = ⊥
 
--- The piece is refused: it has a fault, however the text goes on; or there was no memory within it, and it has no fault.
+-- The piece is refused: it has a fault, however the text continues; or memory ran out within it, and it has no fault.
 abbrev pub RefusesPiece : DimacsError → List ℕ → Progress → Type 0
 RefusesPiece (errors.Malformed line) piece old = HasFaultOn line Malformed (old.fed ++ piece)
 RefusesPiece (errors.Limit line) piece old = HasFaultOn line Limit (old.fed ++ piece)
@@ -184,12 +184,12 @@ RefusesPiece errors.OutOfMemory piece old = ((new : Progress) × FallsShort piec
 RefusesPiece errors.HasFailed piece old = old.stopped ≡ true
 RefusesPiece errors.Read piece old = ⊥
 
--- there was no memory where a number of the text ends and no word up to there is at fault
+-- memory ran out where a number of the text ends, and no word up to there is a fault
 abbrev pub ParsesShort : List ℕ → Type 0
 ParsesShort text = ((front : List ℕ) × (byte : ℕ) × (behind : List ℕ) × (text ≡ front ++ byte ∷ behind) × GoesWell front byte)
     ⊎ EndsWell text
 
--- what a whole text is answered by
+-- the result of parsing a complete text
 abbrev pub Parses : Result Formula DimacsError → List ℕ → Type 0
 Parses (Ok f) text = IsDimacs text f.clauses Clean × (f.var_count ≡ vars_of f.clauses)
 Parses (Err (errors.Malformed line)) text = (n : ℕ) × (line ≡ held n) × ((dimacs text).ending ≡ Malformed n)
@@ -202,14 +202,14 @@ Parses (Err errors.HasFailed) text = ⊥
 abbrev pub Calls : Type 0 → Type 0 → Type 1
 Calls F E = F → MutBor Progress → Result (Unit {0}) E → MutBor Progress → F → Type 0
 
--- calls with these parsers, one after another, leave all but the clauses taken
+-- calls with these parsers, one after another, change only which clauses were taken
 abbrev pub KeepsEach : {F E : Type 0} → Calls F E → F → List (MutBor Progress) → Type 0
 KeepsEach calls f [] = Unit {0}
 KeepsEach {F} {E} calls f (p ∷ ps) =
     (answer : Result (Unit {0}) E) (q : MutBor Progress) (g : F) → calls f p answer q g
     → (q.now ≡ record p.now { taken = q.now.taken }) × KeepsEach calls g ps
 
--- each call of the closure, now and later, leaves all but the clauses taken, as `take_formula` does
+-- every call of the closure, now and later, changes only which clauses were taken, as `take_formula` does
 abbrev pub KeepsText : {F E : Type 0} → Calls F E → F → Type 0
 KeepsText calls f = (ps : List (MutBor Progress)) → KeepsEach calls f ps
 
@@ -217,32 +217,32 @@ KeepsText calls f = (ps : List (MutBor Progress)) → KeepsEach calls f ps
 abbrev pub HasReadCleanly : Progress → List ℕ → Type 0
 HasReadCleanly p text = (p.fed ≡ text) × (p.stopped ≡ true) × (p.ended ≡ true) × ((dimacs text).ending ≡ Clean)
 
--- A text is all that is looked at, whatever follows: it ends where its reader does, or at a line that ends formulas.
+-- Nothing after this text can change its meaning: it ends where its reader does, or at a line that begins with `%`.
 abbrev pub IsWholeText : Reader → Reader → List ℕ → Type 0
 IsWholeText old new text = (rest : List ℕ) → CanFollow old new rest
     → (dimacs (text ++ rest) ≡ dimacs text) × (dimacs_header (text ++ rest) ≡ dimacs_header text)
 
--- what was given is answered by, where a caller sees each piece's clauses
+-- the result of `parse_incremental` for what the reader gave
 abbrev pub ParsesInParts : {E : Type 0} → Reader → Reader → Result Progress (IncrementalError E) → Type 0
 ParsesInParts old new (Ok p) = (text : List ℕ) × GaveFront old new text × HasReadCleanly p text × IsWholeText old new text
 ParsesInParts old new (Err (parts.Dimacs e)) = GaveEnough old new (Parses (Err e))
 ParsesInParts old new (Err (parts.Caller e)) = Unit {0}
 
--- the closure has the parser, and answers; both may change
+-- the closure is called with the parser, and returns this result; both may change
 abbrev pub Visits : {F E : Type 0} → Calls F E → F × Progress → Result (Unit {0}) E → F × Progress → Type 0
 Visits calls s answer t = (p : MutBor Progress) × (q : MutBor Progress) × (p.now ≡ s.1) × (q.now ≡ t.1) × calls s.0 p answer q t.0
 
--- a piece is taken, and then the closure has the parser
+-- a piece is accepted, and then the closure is called
 abbrev pub FeedsAndVisits : {F E : Type 0} → Calls F E → F × Progress → List ℕ → F × Progress → Type 0
 FeedsAndVisits calls s piece t = (0 < length piece) × (fed : Progress) × FeedsPiece (Ok tt) piece s.1 fed × IsSoundSoFar fed
     × Visits calls (s.0, fed) (Ok tt) t
 
--- an answer to a last piece, or to the end of the text
+-- the result for the last piece, or for the end of the text
 abbrev pub AnswersLastPiece : Result (Unit {0}) DimacsError → List ℕ → Reader × Reader → Progress → Progress → Type 0
 AnswersLastPiece answer piece reader old new =
     ((0 < length piece) × FeedsPiece answer piece old new) ⊎ ((piece ≡ []) × IsWholeText reader.0 reader.1 old.fed × Finishes answer old new)
 
--- what comes after the pieces that were taken and seen: the closure has the parser once more, unless a read has failed
+-- what follows the pieces after which the closure returned `Ok`: the closure is called once more, unless a read failed
 abbrev pub LastVisit : {F E : Type 0} → Calls F E → List ℕ → Reader × Reader → Result Progress (IncrementalError E) → F × Progress
     → Type 0
 LastVisit {F} calls piece reader (Ok p) s = (piece ≡ []) × IsWholeText reader.0 reader.1 s.1.fed × (mid : Progress) × (f : F)
@@ -252,7 +252,8 @@ LastVisit {F} calls piece reader (Err (parts.Dimacs e)) s = ((e ≡ errors.Read)
 LastVisit {F} calls piece reader (Err (parts.Caller e)) s = (answer : Result (Unit {0}) DimacsError) × (mid : Progress)
     × (t : F × Progress) × AnswersLastPiece answer piece reader s.1 mid × Visits calls (s.0, mid) (Err e) t
 
--- The closure had the parser after each piece that the reader gave, and after the end of the text. Each read gave one of them, but one.
+-- The closure was called after every piece that the reader gave, and after the end of the text. Every read gave one of `pieces`, except at
+-- most one.
 pub record VisitsAll {F E : Type 0} (calls : Calls F E) (f : F) (old new : Reader) (result : Result Progress (IncrementalError E)) : Type 0 where
   pub pieces : List (List ℕ)
   pub last : List ℕ

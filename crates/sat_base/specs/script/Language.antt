@@ -19,12 +19,12 @@ command_of OfHide ls = Hide (names_of ls)
 command_of OfWitness ls = Witness (names_of ls)
 command_of OfSample ls = Sample (names_of ls)
 
--- what is in hand between two tokens: nothing, or the literals or names so far of a command
+-- what is in hand between two tokens: nothing, or a command with its literals or names so far
 pub data CommandHand : Type 0 where
   Nothing : CommandHand
   Within : Kind → List Literal → CommandHand
 
--- what a token makes of it: it goes on, it ends as a command, or the text is malformed
+-- the effect of a token: the text continues, a command ends, or the text is malformed
 pub data CommandTurn : Type 0 where
   GoesOn : CommandHand → CommandTurn
   Ends : Command → CommandTurn
@@ -66,7 +66,7 @@ abbrev pub with_letter : CommandHand → ℕ → CommandTurn
 with_letter Nothing b = beginning (kind_of_letter b)
 with_letter (Within kind ls) b = Fails
 
--- what a token makes of what is in hand, whatever its line
+-- the effect of a token, whatever its line
 abbrev pub command_turn : CommandHand → Token → CommandTurn
 command_turn hand (Number negative value) =
     if nat_eq value 0 then Ends (command_in hand) else turn_with_literal hand (record { name = value; positive = not negative })
@@ -87,7 +87,7 @@ abbrev pub command_at_end : CommandHand → ScriptEnding
 command_at_end Nothing = Clean
 command_at_end (Within kind ls) = Malformed
 
--- a turn, and then what more says; malformed text ends the reading
+-- a turn, and then `more` for the tokens after it; malformed text ends the reading
 abbrev pub behind_command_turn : CommandTurn → (CommandHand → Reading) → Reading
 behind_command_turn (GoesOn hand) more = more hand
 behind_command_turn (Ends command) more = onto_commands (command ∷ []) (more Nothing)
@@ -114,6 +114,6 @@ with_ask due r = if due && (is_clean r.1 && not (has_ask r.0)) then (r.0 ++ Ask 
 unfoldable pub reading : List ℕ → Reading
 reading text = with_ask (is_some (dimacs_header text)) (written text)
 
--- the text has these commands, and ends so
+-- the text has these commands and this ending
 abbrev pub IsScript : List ℕ → List Command → ScriptEnding → Type 0
 IsScript text commands end = reading text ≡ (commands, end)

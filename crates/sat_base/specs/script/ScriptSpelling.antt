@@ -1,4 +1,4 @@
--- How the commands of a script are spelled, which says again what a text reads as.
+-- How the commands of a script are spelled: a second definition of what a text reads as.
 use Rattle.std.specs.Prelude.{◌≡◌, ℕ, ◌<◌, ◌↔◌, ◌⊎◌, true, List, [], ◌∷◌, ◌++◌, map, not, if◌then◌else◌}
 use Rattle.std.specs.List.{AllByRecursion}
 use Rattle.sat_base.specs.text.Text.{Token, Number, Letter, Header, Wrong, tokens}
@@ -44,28 +44,28 @@ SpellsCommands [] ts = ts ≡ []
 SpellsCommands (c ∷ cs) ts = (front : List Token) × (rest : List Token) × SpellsCommand c front × SpellsCommands cs rest
     × (ts ≡ front ++ rest)
 
--- there is something, and no command
+-- there are tokens, and none of their prefixes is a command
 pub record BeginsNone (ts : List Token) : Type 0 where
   pub some : ts ≡ [] → ⊥
   pub none : (c : Command) (front rest : List Token) → SpellsCommand c front → ts ≡ front ++ rest → ⊥
 
--- commands, and then the end or what is no command
+-- commands, and then the end or tokens that begin with no command
 abbrev pub SpellsTo : List Command → ScriptEnding → List Token → Type 0
 SpellsTo cs Clean ts = SpellsCommands cs ts
 SpellsTo cs Malformed ts = (front : List Token) × (rest : List Token) × SpellsCommands cs front × BeginsNone rest × (ts ≡ front ++ rest)
 
--- one ask more, under no literals, where the end is clean and there is none
+-- with an ask under no literals at the end, if the ending is clean and there is no ask
 abbrev pub asked : List Command → ScriptEnding → List Command
 asked cs Clean = if has_ask cs then cs else cs ++ Ask [] ∷ []
 asked cs Malformed = cs
 
--- A script is commands and an end. A header may precede them, and is asked then where they do not ask.
+-- A script is commands and an ending. A header may precede them, and then it counts as an ask if there is no other.
 abbrev pub SpellsScript : List Command → ScriptEnding → List Token → Type 0
 SpellsScript cs end ts = (((vars : ℕ) (clauses : ℕ) (rest : List Token) → ts ≡ Header vars clauses ∷ rest → ⊥) × SpellsTo cs end ts)
     ⊎ ((vars : ℕ) × (clauses : ℕ) × (rest : List Token) × (spelled : List Command)
     × (ts ≡ Header vars clauses ∷ rest) × SpellsTo spelled end rest × (cs ≡ asked spelled end))
 
--- each text has one list of commands, and one end
+-- every text has one list of commands and one ending
 pub record OneReading : Type 0 where
   pub some : (text : List ℕ) → (cs : List Command) × (end : ScriptEnding) × IsScript text cs end
   pub one : (text : List ℕ) (cs ds : List Command) (d e : ScriptEnding)

@@ -21,7 +21,7 @@ pub record Named : Type 0 where
 pub record ScriptState : Type 0 where
   pub first_unused : ℕ  -- the first name never used
   pub in_use : List Named  -- by increasing name
-  pub modes : List NameMode  -- of each identity, in order
+  pub modes : List NameMode  -- of every identity, in order
   pub identity_count : ℕ
   pub clauses : List (List ℕ)  -- accepted, the newest first; a literal is twice its identity, and one more if negated
 
@@ -66,7 +66,7 @@ new_names name j =
     then (if is_some (identity_of j name) then [] else name ∷ [])
     else names_from (name + 1 - j.first_unused) j.first_unused
 
--- the change `f` for each of these names, from left to right
+-- the change `f` for every one of these names, from left to right
 abbrev pub for_each : (ℕ → ScriptState → ScriptState) → List ℕ → ScriptState → ScriptState
 for_each f [] j = j
 for_each f (name ∷ names) j = for_each f names (f name j)
@@ -92,7 +92,7 @@ with_mode mode name j = record j { modes = set j.modes (unwrap_or (identity_of j
 abbrev pub with_clause : List Literal → ScriptState → ScriptState
 with_clause ls j = record j { clauses = map (over j) ls ∷ j.clauses }
 
--- The state after an accepted command: each of its names is introduced, and then hidden, or its variable gets a mode.
+-- The state after an accepted command: every name of it is introduced, and then hidden, or its variable gets a mode.
 abbrev pub accepted : Command → ScriptState → ScriptState
 accepted (Clause ls) j = with_clause ls (for_each bring_in (names_of ls) j)
 accepted (Ask ls) j = for_each bring_in (names_of ls) j
@@ -115,7 +115,7 @@ abbrev pub has_witness : ScriptState → Option ℕ → Bool
 has_witness j None = false
 has_witness j (Some identity) = is_witness (get_or j.modes identity Sampled)
 
--- The leftmost name that is past the limit, or a witness where none may be, decides. A name that is not in use is no witness.
+-- The leftmost name that is past the limit, or a witness if none is allowed, decides. A name that is not in use is no witness.
 abbrev pub first_refusal : Bool → ScriptState → List ℕ → Option Refusal
 first_refusal may_witness j [] = None
 first_refusal may_witness j (name ∷ names) =
@@ -147,7 +147,7 @@ accepted_of j (command ∷ commands) =
 
 -- A right model of an ask, j being the state after the ask's names were introduced.
 pub record IsRightModel (j : ScriptState) (ask line : List Literal) : Type 0 where
-  -- one literal for each name in use, in increasing order
+  -- one literal for every name in use, in increasing order
   pub names : names_of line ≡ map (λ n. n.name) j.in_use
   -- some valuation that agrees with them satisfies the accepted clauses and the ask
   pub valuation : Valuation
@@ -155,7 +155,7 @@ pub record IsRightModel (j : ScriptState) (ask line : List Literal) : Type 0 whe
   pub clauses : EachHolds valuation j.clauses
   pub asked : EachTrue valuation (map (over j) ask)
 
--- A right core of an ask: some of its literals, in order and without repeats, that cannot all be true where the accepted clauses hold. It
+-- A right core of an ask: some of its literals, in order and without repeats, that cannot all be true if the accepted clauses hold. It
 -- need not be minimal.
 pub record IsRightCore (j : ScriptState) (ask core : List Literal) : Type 0 where
   pub order : InOrder core
@@ -165,19 +165,19 @@ pub record IsRightCore (j : ScriptState) (ask core : List Literal) : Type 0 wher
 
 -- Words that laws and the crates above use of the same states:
 
--- a new variable under each of these names, from left to right
+-- a new variable under every one of these names, from left to right
 abbrev pub with_names : List ℕ → ScriptState → ScriptState
 with_names names j = for_each with_name names j
 
--- introduces each of these names, from left to right
+-- introduces these names, from left to right
 abbrev pub bring_all : List ℕ → ScriptState → ScriptState
 bring_all names j = for_each bring_in names j
 
--- introduces each of these names, and hides it
+-- introduces these names, and hides every one
 abbrev pub hide_all : List ℕ → ScriptState → ScriptState
 hide_all names j = for_each (λ name i. without_name name (bring_in name i)) names j
 
--- introduces each of these names, and sets the mode of its variable
+-- introduces these names, and sets the modes of their variables
 abbrev pub set_all : NameMode → List ℕ → ScriptState → ScriptState
 set_all mode names j = for_each (λ name i. with_mode mode name (bring_in name i)) names j
 

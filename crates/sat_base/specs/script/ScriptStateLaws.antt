@@ -1,4 +1,4 @@
--- What every script keeps of the judge's state.
+-- What every script preserves of the judge's state.
 use Rattle.std.specs.Prelude.{ℕ, ◌+◌, ◌≤◌, ◌<◌, ◌≡◌, ◌↔◌, false, Some, List, [], ◌∷◌, length, map, nat_lt, if◌then◌else◌}
 use Rattle.std.specs.List.{AllByRecursion}
 use Rattle.sat_base.specs.values.Literals.{var_limit, variable}
@@ -6,12 +6,13 @@ use Rattle.sat_base.specs.values.Clauses.{Valuation, literal_true, EachHolds}
 use Rattle.sat_base.specs.script.Script.{Literal, Command, Among}
 use Rattle.sat_base.specs.script.ScriptState.{ScriptState, Named, identity_of, over, after_script, start}
 
--- each name once, increasing
+-- every name once, increasing
 abbrev pub NamesIncrease : List Named → Type 0
 NamesIncrease [] = Unit {0}
 NamesIncrease (n ∷ ns) = AllByRecursion (λ m. n.name < m.name) ns × NamesIncrease ns
 
--- names in use rise below the first never used, at most one past the limit; just the identities given have modes, and no others occur
+-- Names in use increase and are below the first never used, which is at most one past the limit. Exactly the identities given out have
+-- modes, and no others occur.
 pub record ScriptStateInvariant (j : ScriptState) : Type 0 where
   pub limit : j.first_unused ≤ var_limit + 1
   pub order : NamesIncrease j.in_use
@@ -20,8 +21,7 @@ pub record ScriptStateInvariant (j : ScriptState) : Type 0 where
   pub modes : length j.modes ≡ j.identity_count
   pub clauses : AllByRecursion (AllByRecursion (λ l. variable l < j.identity_count)) j.clauses
 
--- After every script names increase, are below the first never used and within the limit; each identity has a mode; names in use and
--- clauses speak of identities given out.
+-- the invariant holds after every script
 abbrev pub ScriptStateInvariantHolds : Type 0
 ScriptStateInvariantHolds = (commands : List Command) → ScriptStateInvariant (after_script commands start)
 
@@ -29,7 +29,7 @@ ScriptStateInvariantHolds = (commands : List Command) → ScriptStateInvariant (
 abbrev pub only_below : ℕ → Valuation → Valuation
 only_below n a = λ v. if nat_lt v n then a v else false
 
--- what a valuation says of identities that aren't given out is of no matter: those that are true may be taken as finitely many
+-- The values of identities that are not given out do not matter, so finitely many true ones suffice.
 abbrev pub GivenIdentitiesSuffice : Type 0
 GivenIdentitiesSuffice =
     (commands : List Command) (a : Valuation)
@@ -37,7 +37,7 @@ GivenIdentitiesSuffice =
     (EachHolds a j.clauses ↔ EachHolds (only_below j.identity_count a) j.clauses)
     × ((l : Literal) (i : ℕ) → identity_of j l.name ≡ Some i → literal_true (only_below j.identity_count a) (over j l) ≡ literal_true a (over j l))
 
--- each number is below those after it
+-- every number is below those after it
 abbrev pub Increase : List ℕ → Type 0
 Increase [] = Unit {0}
 Increase (x ∷ xs) = AllByRecursion (λ y. x < y) xs × Increase xs

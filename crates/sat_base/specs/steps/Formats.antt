@@ -5,11 +5,11 @@ use Rattle.std.specs.Prelude.{◌≡◌, ℕ, List, [], ◌∷◌, ◌++◌, len
 abbrev pub Format : Type 0 → Type 1
 Format A = A → List ℕ → Type 0
 
--- the bytes begin a text
+-- the bytes are a prefix of a text, or all of it
 abbrev pub BeginsText : {A : Type 0} → Format A → List ℕ → Type 0
 BeginsText {A} F bytes = (x : A) × (more : List ℕ) × F x (bytes ++ more)
 
--- the bytes begin a text that goes on
+-- the bytes are a prefix of a text, but not all of it
 abbrev pub IsProperFront : {A : Type 0} → Format A → List ℕ → Type 0
 IsProperFront {A} F bytes = (x : A) × (b : ℕ) × (more : List ℕ) × F x (bytes ++ b ∷ more)
 
@@ -43,6 +43,6 @@ Times {A} F n xs bytes = (length xs ≡ n) × Items F xs bytes
 abbrev pub ListOf : {A : Type 0} → Format ℕ → Format A → Format (List A)
 ListOf {A} C F xs bytes = (a : List ℕ) × (b : List ℕ) × C (length xs) a × Items F xs b × (bytes ≡ a ++ b)
 
--- no text begins another, and each text has one value
+-- no text is a prefix of another, and every text has one value
 abbrev pub IsUniquelyDecodable : {A : Type 0} → Format A → Type 0
 IsUniquelyDecodable {A} F = (x y : A) (a b s t : List ℕ) → F x a → F y b → a ++ s ≡ b ++ t → (a ≡ b) × (x ≡ y)

@@ -1,4 +1,4 @@
--- Formats, each with the bytes that are written for a value.
+-- Formats, with the bytes that are written for a value.
 use Rattle.std.specs.Prelude.{ℕ, Bool, Option, List, Result, ◌++◌}
 use Rattle.sat_base.specs.declared.device.output.Output.{Output}
 use Rattle.sat_base.specs.device.Device.{Writer}
@@ -8,7 +8,7 @@ use Rattle.sat_base.specs.steps.Steps.{Deletion, Step}
 use Rattle.sat_base.specs.steps.StepText.{IsVariable, IsOptionalVariable, IsLiteral, IsHash, IsFlag, IsWidth, IsDeletion, AreLiterals, AreHashes, AreHashedLiterals, SpellsFields, SpellsStep}
 use Rattle.sat_base.specs.steps.StepBytes.{number_bytes, optional_bytes, flag_bytes, deletion_bytes, list_bytes, units_bytes, fields_bytes, step_bytes}
 
--- a format, and the bytes that are written for each value
+-- a format, and the bytes that are written for every value
 pub record Spelling (A : Type 0) : Type 1 where
   pub format : Format A
   pub bytes : A → List ℕ

@@ -3,7 +3,7 @@ use Rattle.std.specs.Prelude.{ℕ, suc, zero, ◌+◌, ◌/◌, ◌%◌, Bool, t
 use Rattle.sat_base.specs.steps.Steps.{Deletion, Redundant, Simplified, Satisfied, Step, SolverVarName, UserVarName, DeleteVar, ChangeSamplingMode, AddClause, AtClause, UnitClauses, DeleteClause, ChangeHashBits, Model, Assumptions, FailedAssumptions, End}
 use Rattle.sat_base.specs.steps.StepText.{tag_of}
 
--- a number in groups of seven bits, low group first, of which at most this number go on
+-- a number in groups of seven bits, low group first; at most this number of groups have a successor
 unfoldable pub groups : ℕ → ℕ → List ℕ
 groups zero n = n ∷ []
 groups (suc k) n = if nat_lt n 128 then n ∷ [] else (n % 128 + 128) ∷ groups k (n / 128)
@@ -12,7 +12,7 @@ groups (suc k) n = if nat_lt n 128 then n ∷ [] else (n % 128 + 128) ∷ groups
 abbrev pub number_bytes : ℕ → List ℕ
 number_bytes n = groups 9 n
 
--- 0 for none, else one more than the index
+-- 0 for `None`, else one more than the index
 abbrev pub optional_bytes : Option ℕ → List ℕ
 optional_bytes None = number_bytes 0
 optional_bytes (Some v) = number_bytes (v + 1)
@@ -38,7 +38,7 @@ abbrev pub pairs_bytes : List (ℕ × ℕ) → List ℕ
 pairs_bytes [] = []
 pairs_bytes (p ∷ ps) = (number_bytes p.0 ++ number_bytes p.1) ++ pairs_bytes ps
 
--- a count, and then this number of
+-- a count, and then this number of literals or hashes
 abbrev pub list_bytes : List ℕ → List ℕ
 list_bytes ns = number_bytes (length ns) ++ numbers_bytes ns
 
@@ -66,7 +66,7 @@ fields_bytes End = []
 abbrev pub step_bytes : Step → List ℕ
 step_bytes step = tag_of step ∷ fields_bytes step
 
--- the items of a step's lists, of which a unit is two
+-- the number of items in a step's lists; a unit counts as two
 abbrev pub items_in : Step → ℕ
 items_in (SolverVarName global solver) = 0
 items_in (UserVarName global user) = 0

@@ -9,23 +9,23 @@ use Rattle.sat_base.specs.device.Reading.{Source, AnswersStepRead, source}
 use Rattle.sat_base.specs.steps.Steps.{Step}
 use Rattle.sat_base.specs.steps.Kinds.{step_with}
 
--- its reader, with what was read ahead
+-- its reader, with the bytes read ahead
 abbrev pub reader_source : {R : Type 0} → (R → Reader) → StepReader R Buffers → Source
 reader_source seen s = source seen s.reader.now s.buffers.ahead
 
--- whether it answers nothing else any more
+-- whether it only returns `HasFailed` from now on
 abbrev pub has_reader_failed : {R : Type 0} → StepReader R Buffers → Bool
 has_reader_failed s = s.buffers.failed
 
--- by which borrow it holds its reader
+-- the borrow through which it holds its reader
 abbrev pub reader_name : {R : Type 0} → StepReader R Buffers → ℕ
 reader_name s = s.reader.ghost_name
 
--- the step that was read last
+-- the last step that was read
 abbrev pub step_in : {R : Type 0} → StepReader R Buffers → Step
 step_in s = step_with s.buffers.kind s.buffers.lists.literals.items s.buffers.lists.hashes.items s.buffers.lists.units.items
 
--- whether the error stops a reader of steps: all do but the end of the bytes between steps
+-- whether the error stops a reader of steps: every error does but `Ends`
 abbrev pub is_stop : StepError → Bool
 is_stop errors.Ends = false
 is_stop errors.Cut = true
@@ -34,7 +34,7 @@ is_stop errors.Read = true
 is_stop errors.OutOfMemory = true
 is_stop errors.HasFailed = true
 
--- whether the error says that an earlier answer stopped the reader
+-- whether the error says that an earlier error stopped the reader
 abbrev pub is_repeat : StepError → Bool
 is_repeat errors.HasFailed = true
 is_repeat errors.Ends = false
@@ -43,17 +43,17 @@ is_repeat errors.BadByte = false
 is_repeat errors.Read = false
 is_repeat errors.OutOfMemory = false
 
--- the answer stops the reader
+-- whether the result stops the reader
 abbrev pub stopped : Result Step StepError → Bool
 stopped (Ok step) = false
 stopped (Err e) = is_stop e
 
--- the answer says that it was stopped
+-- whether the result says that the reader was stopped before
 abbrev pub repeated : Result Step StepError → Bool
 repeated (Ok step) = false
 repeated (Err e) = is_repeat e
 
--- once stopped it does nothing
+-- the result of a call, which changes nothing if the reader was stopped before
 abbrev pub AnswersUnlessFailed : Result Step StepError → Source → Source → Type 0
 AnswersUnlessFailed (Ok step) old new = AnswersStepRead (Ok step) old new
 AnswersUnlessFailed (Err errors.Ends) old new = AnswersStepRead (Err errors.Ends) old new
@@ -63,7 +63,7 @@ AnswersUnlessFailed (Err errors.Read) old new = AnswersStepRead (Err errors.Read
 AnswersUnlessFailed (Err errors.OutOfMemory) old new = AnswersStepRead (Err errors.OutOfMemory) old new
 AnswersUnlessFailed (Err errors.HasFailed) old new = new ≡ old
 
--- A call of `advance`. `HasFailed` comes exactly if an earlier answer stopped it.
+-- A call of `advance`. It returns `HasFailed` exactly if an earlier error stopped the reader.
 pub record Next {R : Type 0} (seen : R → Reader) (old new : StepReader R Buffers) (result : Result Step StepError) : Type 0 where
   pub same : reader_name new ≡ reader_name old
   pub answer : AnswersUnlessFailed result (reader_source seen old) (reader_source seen new)

@@ -9,7 +9,7 @@ use Rattle.sat_base.specs.steps.Steps.{Deletion, Redundant, Simplified, Satisfie
 abbrev pub IsVariable : Format ℕ
 IsVariable = IsBelow var_limit
 
--- 0 for none, else one more than the index
+-- 0 for `None`, else one more than the index
 abbrev pub IsOptionalVariable : Format (Option ℕ)
 IsOptionalVariable None bytes = IsBelow (var_limit + 1) 0 bytes
 IsOptionalVariable (Some v) bytes = IsBelow (var_limit + 1) (v + 1) bytes

@@ -33,7 +33,7 @@ stage_behind Format w = with_value Vars (digits 0 w)
 stage_behind (Vars v) w = with_value (Both v) (digits 0 w)
 stage_behind (Both v c) w = None
 
--- what a header line says that ends there
+-- the token of a header line that ends at this stage
 abbrev pub stage_end : Stage → Token
 stage_end (Both v c) = Header v c
 stage_end stage = Wrong
@@ -43,13 +43,13 @@ abbrev pub behind_word : Option Stage → (Stage → Token) → Token
 behind_word None more = Wrong
 behind_word (Some stage) more = more stage
 
--- what the words that are left of a header line make of it
+-- the token of a header line, from its remaining words
 unfoldable pub stage_token : Stage → List (List ℕ) → Token
 stage_token stage [] = stage_end stage
 stage_token stage (w ∷ ws) = behind_word (stage_behind stage w) (λ s. stage_token s ws)
 
--- At the start of a line, after blanks at its start, or in a comment, where a header may still come or not; between words, or in
--- a word of these bytes; between words of a header line, in such a word, or in one that is not allowed there; after `%`.
+-- At the start of a line, after blanks at its start, or in a comment, each with whether a header may still come; between words, or in a
+-- word of these bytes; between words of a header line, in such a word, or in one that is not allowed there; after `%`.
 pub data Position : Type 0 where
   Fresh : Bool → Position
   Leading : Bool → Position
@@ -61,7 +61,7 @@ pub data Position : Type 0 where
   Spoilt : Position
   Over : Position
 
--- all bytes are no blanks
+-- none of these bytes is a blank
 abbrev pub HasNoBlank : List ℕ → Type 0
 HasNoBlank [] = Unit {0}
 HasNoBlank (b ∷ bs) = (is_blank b ≡ false) × HasNoBlank bs
@@ -72,7 +72,7 @@ IsPosition (Within x w) = HasNoBlank (x ∷ w)
 IsPosition (HeaderWithin stage x w) = HasNoBlank (x ∷ w)
 IsPosition spot = Unit {0}
 
--- the tokens that are still to come, from a spot after n ended lines
+-- the tokens that are still to come, from a position after n ended lines
 abbrev pub tokens_left : Position → ℕ → List (List ℕ) → List (ℕ × Token)
 tokens_left (Fresh may) n ls = tokens_of may n ls
 tokens_left (Leading may) n ls = tokens_of may n (first_line ls ∷ later_lines ls)
@@ -85,7 +85,7 @@ tokens_left (HeaderWithin stage x w) n ls =
 tokens_left Spoilt n ls = (n + 1, Wrong) ∷ tokens_of false (n + 1) (later_lines ls)
 tokens_left Over n ls = []
 
--- the last line, from a spot after n ended lines
+-- the last line, from a position after n ended lines
 abbrev pub last_left : Position → ℕ → List (List ℕ) → ℕ
 last_left (Fresh may) n ls = last_line n ls
 last_left (Leading may) n ls = last_line n (first_line ls ∷ later_lines ls)
@@ -111,12 +111,12 @@ may_behind (Leading may) = may
 may_behind (Comment may) = may
 may_behind spot = false
 
--- the spot after LF; nothing goes on after `%`
+-- the position after LF; after `%` it stays
 abbrev pub behind_LF : Position → Position
 behind_LF Over = Over
 behind_LF spot = Fresh (may_behind spot)
 
--- how many lines have ended after LF, where n had ended before it; after `%` LF ends none
+-- the number of ended lines after LF, if n had ended before it; after `%` LF ends none
 abbrev pub lines_behind : Position → ℕ → ℕ
 lines_behind Over n = n
 lines_behind spot n = n + 1
@@ -126,7 +126,7 @@ abbrev pub behind_header_word : Option Stage → Position
 behind_header_word None = Comment false
 behind_header_word (Some stage) = HeaderBetween stage
 
--- the spot after a blank that ends no line
+-- the position after a blank that ends no line
 abbrev pub behind_blank : Position → Position
 behind_blank (Fresh may) = Leading may
 behind_blank (Leading may) = Leading may
@@ -143,7 +143,7 @@ abbrev pub spoils : Option Stage → ℕ → List (ℕ × Token)
 spoils None n = (n + 1, Wrong) ∷ []
 spoils (Some stage) n = []
 
--- what such a blank ends
+-- the token that such a blank ends, if there is one
 abbrev pub ended_by_blank : Position → ℕ → List (ℕ × Token)
 ended_by_blank (Within x w) n = (n + 1, token (x ∷ w)) ∷ []
 ended_by_blank (HeaderWithin stage x w) n = spoils (stage_behind stage (x ∷ w)) n

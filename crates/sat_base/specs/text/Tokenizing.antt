@@ -1,4 +1,4 @@
--- Where a tokenizer is in a text, and what a byte makes of it.
+-- Where a tokenizer is in a text, and the effect of a byte.
 use Rattle.std.specs.Prelude.{◌≡◌, ℕ, ◌+◌, ◌*◌, ◌-◌, ◌^◌, ◌⊎◌, min, List, [], ◌∷◌, ◌++◌, Bool, true, false, Option, Some, None}
 use Rattle.sat_base.specs.declared.text.Place.{Place}
 use Rattle.sat_base.specs.declared.text.Place.TheVariants as at
@@ -31,11 +31,11 @@ grown value digit = held (10 * value + (digit - 48))
 abbrev pub SpellsHeld : List ℕ → ℕ → Type 0
 SpellsHeld ds value = (m : ℕ) × (digits 0 ds ≡ Some m) × (value ≡ held m)
 
--- a word that begins so is wrong
+-- every word that begins with these bytes is wrong
 abbrev pub BeginsWrong : List ℕ → Type 0
 BeginsWrong w = (more : List ℕ) → token (w ++ more) ≡ Wrong
 
--- a word that begins so is not allowed there in a header line
+-- no word that begins with these bytes is allowed at this stage of a header line
 abbrev pub BeginsSpoilt : Stage → List ℕ → Type 0
 BeginsSpoilt s w = (more : List ℕ) → stage_behind s (w ++ more) ≡ None
 
@@ -46,7 +46,7 @@ IsStage stage.Format s = s ≡ Format
 IsStage (stage.Vars vars) s = (v : ℕ) × (vars ≡ held v) × (s ≡ Vars v)
 IsStage (stage.Both vars clauses) s = (v : ℕ) × (c : ℕ) × (vars ≡ held v) × (clauses ≡ held c) × (s ≡ Both v c)
 
--- the spots that a place in a header line can be
+-- the positions that a place in a header line can be
 abbrev pub IsAtHeader : HeaderPlace → Position → Type 0
 IsAtHeader (header.Between ended) spot = (s : Stage) × IsStage ended s × (spot ≡ HeaderBetween s)
 IsAtHeader header.P spot = spot ≡ HeaderWithin Begun 112 []
@@ -59,7 +59,7 @@ IsAtHeader (header.Clauses vars value) spot =
     (v : ℕ) × (x : ℕ) × (w : List ℕ) × (vars ≡ held v)
     × HasNoBlank (x ∷ w) × SpellsHeld (x ∷ w) value × (spot ≡ HeaderWithin (Vars v) x w)
 
--- the spots that a place can be, with the bytes of the word in hand and the numbers of the header, of any size
+-- the positions that a place can be, with the bytes of the word in hand and the numbers of the header, of any size
 abbrev pub IsAt : Place → Position → Type 0
 IsAt (at.Fresh may) spot = spot ≡ Fresh may
 IsAt (at.Leading may) spot = spot ≡ Leading may
@@ -76,15 +76,15 @@ IsAt (at.Header place) spot = IsAtHeader place spot
 IsAt at.Spoilt spot = spot ≡ Spoilt
 IsAt at.Over spot = spot ≡ Over
 
--- a byte leads from a spot to a spot
+-- a byte leads from one position to another
 abbrev pub MovesPosition : Position → ℕ → Position → Type 0
 MovesPosition old byte new = (n : ℕ) (rest : List ℕ) → left old n (byte ∷ rest) ≡ left new n rest
 
--- a byte that is no blank leads from a place to a place
+-- a byte that is no blank leads from one place to another
 abbrev pub MovesPlace : Place → ℕ → Place → Type 0
 MovesPlace old byte new = (spot : Position) → IsAt old spot → (next : Position) × IsAt new next × MovesPosition spot byte next
 
--- bytes lead from a place to a place
+-- bytes lead from one place to another
 abbrev pub MovesBy : Place → List ℕ → Place → Type 0
 MovesBy old bytes new = (spot : Position) → IsAt old spot
     → (next : Position) × IsAt new next × ((n : ℕ) (rest : List ℕ) → left spot n (bytes ++ rest) ≡ left next n rest)
@@ -96,7 +96,7 @@ BeginsWord (at.Leading may) = Unit {0}
 BeginsWord at.Between = Unit {0}
 BeginsWord place = ⊥
 
--- so in a header line, unless the word in hand is then not allowed there
+-- the same in a header line, or `None` if the word in hand is then not allowed
 abbrev pub MovesHeader : HeaderPlace → ℕ → Option HeaderPlace → Type 0
 MovesHeader old byte None = (spot : Position) → IsAtHeader old spot → MovesPosition spot byte Spoilt
 MovesHeader old byte (Some new) = (spot : Position) → IsAtHeader old spot → (next : Position) × IsAtHeader new next × MovesPosition spot byte next
@@ -105,12 +105,12 @@ MovesHeader old byte (Some new) = (spot : Position) → IsAtHeader old spot → 
 abbrev pub Began : ℕ → Place → Type 0
 Began byte place = IsAt place (Within byte [])
 
--- so in a header line after the words of a stage
+-- the same in a header line after the words of a stage
 abbrev pub BeganHeader : CodeStage → ℕ → Option HeaderPlace → Type 0
 BeganHeader ended byte None = (s : Stage) → IsStage ended s → BeginsSpoilt s (byte ∷ [])
 BeganHeader ended byte (Some place) = (s : Stage) → IsStage ended s → IsAtHeader place (HeaderWithin s byte [])
 
--- what is in hand when the line ends, or where a blank ends the word
+-- the token in hand when a line or a word ends, if there is one
 abbrev pub IsHeldToken : Option CodeToken → (ℕ → List (ℕ × Token)) → Type 0
 IsHeldToken None tokens = (n : ℕ) → tokens n ≡ []
 IsHeldToken (Some t) tokens = (given : Token) × (t ≡ held_token given) × ((n : ℕ) → tokens n ≡ (n + 1, given) ∷ [])
@@ -119,11 +119,11 @@ IsHeldToken (Some t) tokens = (given : Token) × (t ≡ held_token given) × ((n
 abbrev pub SaysInHand : Option CodeToken → Place → Type 0
 SaysInHand given place = (spot : Position) → IsAt place spot → IsHeldToken given (in_hand spot)
 
--- where a blank inside a line comes at this place, it ends this token, or none
+-- a blank within a line ends this token at this place, or none
 abbrev pub SaysAtBlank : Option CodeToken → Place → Type 0
 SaysAtBlank given place = (spot : Position) → IsAt place spot → IsHeldToken given (ended_by_blank spot)
 
--- the words of a header line that have ended where the one in hand does
+-- the words of a header line that have ended when the one in hand ends
 abbrev pub ended_stage : Position → Option Stage
 ended_stage (HeaderBetween s) = Some s
 ended_stage (HeaderWithin s x w) = stage_behind s (x ∷ w)
@@ -163,24 +163,24 @@ unfoldable pub StandsBefore : Tokenizer → (List ℕ → Scan) → Type 0
 StandsBefore machine left_of = (spot : Position) × (n : ℕ) × IsAt machine.place spot × (machine.lines ≡ held n)
     × ((rest : List ℕ) → left_of rest ≡ left spot n rest)
 
--- what a byte gives: the token that it ended, on the line of this byte, or none
+-- the token that a byte ended, on the line of this byte, or none
 abbrev pub GivesToken : Option CodeToken → ℕ → (List ℕ → Scan) → (List ℕ → Scan) → Type 0
 GivesToken None byte old new = (rest : List ℕ) → old (byte ∷ rest) ≡ new rest
 GivesToken (Some t) byte old new = (given : Token) × (t ≡ held_token given)
     × ((rest : List ℕ) → old (byte ∷ rest) ≡ onto (((new []).last, given) ∷ []) (new rest))
 
--- what is still to be read after this byte is what is before the machine then, after the token that the byte gives
+-- A byte is received: what was to be read before it is the token that it ended, and then what is to be read after it.
 abbrev pub TakesByte : Tokenizer → ℕ → Option CodeToken → Tokenizer → Type 0
 TakesByte old byte given new = (before : List ℕ → Scan) → StandsBefore old before
     → (after : List ℕ → Scan) × StandsBefore new after × GivesToken given byte before after
 
--- so it is with several bytes, of which only the last may end a token
+-- the same for several bytes, of which only the last may end a token
 abbrev pub GivesBehind : Option CodeToken → List ℕ → (List ℕ → Scan) → (List ℕ → Scan) → Type 0
 GivesBehind None bytes old new = (rest : List ℕ) → old (bytes ++ rest) ≡ new rest
 GivesBehind (Some t) bytes old new = (given : Token) × (t ≡ held_token given)
     × ((rest : List ℕ) → old (bytes ++ rest) ≡ onto (((new []).last, given) ∷ []) (new rest))
 
--- what is still to be read after these bytes is what is before the machine then, as with one byte
+-- several bytes are received, of which only the last may end a token
 abbrev pub TakesFront : Tokenizer → List ℕ → Option CodeToken → Tokenizer → Type 0
 TakesFront old bytes given new = (before : List ℕ → Scan) → StandsBefore old before
     → (after : List ℕ → Scan) × StandsBefore new after × GivesBehind given bytes before after
@@ -196,7 +196,7 @@ IsOfHeader Wrong = Unit {0}
 abbrev pub HoldsNoWord : Scan → Type 0
 HoldsNoWord s = (s.tokens ≡ []) ⊎ ((line : ℕ) × (t : Token) × IsOfHeader t × (s.tokens ≡ (line, t) ∷ []))
 
--- what is left when the text ends: the token in hand, on the last line, or none
+-- what remains when the text ends: the token in hand, on the last line, or none
 abbrev pub GivesLast : Option CodeToken → Scan → Type 0
 GivesLast None rest = rest.tokens ≡ []
 GivesLast (Some t) rest = (given : Token) × (t ≡ held_token given) × (rest.tokens ≡ (rest.last, given) ∷ [])

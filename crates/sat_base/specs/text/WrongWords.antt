@@ -1,9 +1,9 @@
--- Where a text cannot go on without a wrong word.
+-- Whether a text can continue without a wrong word.
 use Rattle.std.specs.Prelude.{◌≡◌, ℕ, List, [], ◌∷◌}
 use Rattle.std.specs.List.{AllByRecursion}
 use Rattle.sat_base.specs.text.Text.{Token, Wrong, Scan}
 
--- no word of these is wrong, and no header line
+-- no word or header line of these is wrong
 abbrev pub HaveNoWrongWord : List (ℕ × Token) → Type 0
 HaveNoWrongWord ts = AllByRecursion (λ t. t.1 ≡ Wrong → ⊥) ts
 
@@ -11,6 +11,6 @@ HaveNoWrongWord ts = AllByRecursion (λ t. t.1 ≡ Wrong → ⊥) ts
 abbrev pub WrongAhead : (List ℕ → Scan) → Type 0
 WrongAhead left_of = (rest : List ℕ) → (more : List (ℕ × Token)) × ((left_of rest).tokens ≡ ((left_of []).last, Wrong) ∷ more)
 
--- some bytes may follow, and then the end, so that nothing more is wrong
+-- some continuation has no wrong word
 abbrev pub RightAhead : (List ℕ → Scan) → Type 0
 RightAhead left_of = (rest : List ℕ) × HaveNoWrongWord (left_of rest).tokens

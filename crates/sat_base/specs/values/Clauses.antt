@@ -20,10 +20,10 @@ clause_true a (l ∷ ls) = literal_true a l || clause_true a ls
 abbrev pub flipped : ℕ → Valuation → Valuation
 flipped v a = λ x. if x == v then not (a x) else a x
 
--- each of these literals is true in the valuation
+-- all of these literals are true in the valuation
 abbrev pub EachTrue : Valuation → List ℕ → Type 0
 EachTrue a = AllByRecursion (λ l. literal_true a l ≡ true)
 
--- the valuation satisfies each of these clauses
+-- the valuation satisfies all of these clauses
 abbrev pub EachHolds : Valuation → List (List ℕ) → Type 0
 EachHolds a = AllByRecursion (λ c. clause_true a c ≡ true)

@@ -1,7 +1,7 @@
--- Lists in one piece of memory: their items one after another, and the end of every list.
+-- Lists in one buffer: their items one after another, and the end of every list.
 use Rattle.std.specs.Prelude.{ℕ, ◌≡◌, ◌≤◌, List, [], ◌∷◌, length, slice_range}
 
--- the pieces that end at these places, the first of which begins here
+-- the parts of a list that end at these places; the first part begins at `from`
 abbrev pub pieces : {A : Type 0} → ℕ → List ℕ → List A → List (List A)
 pieces from [] xs = []
 pieces from (end ∷ ends) xs = slice_range xs from end ∷ pieces end ends xs

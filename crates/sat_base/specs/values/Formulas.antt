@@ -2,21 +2,21 @@
 use Rattle.std.specs.Prelude.{ℕ, ◌+◌, max, List, [], ◌∷◌, ◌++◌}
 use Rattle.sat_base.specs.values.Literals.{variable}
 
--- clauses in the order of their adding, and the number of variables, which may be more than they have
+-- clauses in the order in which they were added, and the number of variables, which may exceed those that occur
 pub record Formula : Type 0 where
   pub var_count : ℕ
   pub clauses : List (List ℕ)
 
--- the formula before its first clause and its first variable
+-- the formula without clauses and variables
 abbrev pub no_formula : Formula
 no_formula = record { var_count = 0; clauses = [] }
 
--- one more than the index of the highest variable of a clause, 0 for the clause of no literals
+-- one more than the index of the highest variable of a clause, or 0 for the empty clause
 abbrev pub vars_in : List ℕ → ℕ
 vars_in [] = 0
 vars_in (l ∷ ls) = max (variable l + 1) (vars_in ls)
 
--- with the variables of more clauses
+-- one more than the index of the highest variable of these clauses, or 0 if there is none
 abbrev pub vars_of : List (List ℕ) → ℕ
 vars_of [] = 0
 vars_of (c ∷ cs) = max (vars_in c) (vars_of cs)

@@ -6,10 +6,10 @@ use Rattle.sat_base.specs.values.Literals.{var_limit, variable, is_positive}
 abbrev pub numeral : ℕ → ℤ
 numeral l = if is_positive l then pos (variable l + 1) else negsuc (variable l)
 
--- 0 and the numbers past the limit are no literal
+-- 0 and the numbers past the limit are not literals
 abbrev pub IsNoNumeral : ℤ → Type 0
 IsNoNumeral n = (n ≡ pos 0) ⊎ (pos var_limit <ℤ n) ⊎ (n <ℤ negsuc (var_limit - 1))
 
--- so are those below 1, of a variable
+-- numbers below 1 and past the limit are not variables
 abbrev pub IsNoVariable : ℤ → Type 0
 IsNoVariable n = (n <ℤ pos 1) ⊎ (pos var_limit <ℤ n)

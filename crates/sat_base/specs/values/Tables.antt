@@ -1,11 +1,11 @@
--- What a table has at each place.
+-- The values of a table.
 use Rattle.std.specs.Prelude.{ℕ, ◌≡◌, ◌<◌, ◌==◌, ◌⊎◌, Option, Some, None, length, slice_index_or, if◌then◌else◌, nat_lt}
 use Rattle.std.specs.Option.{IsSome}
 use Rattle.std.specs.Ordering.{nat_cmp}
 use Rattle.std.specs.BTreeMap.{get}
 use Rattle.sat_base.specs.declared.table.Table.{Table}
 
--- how many places have their values in the list
+-- the number of places whose values are in the list
 abbrev pub near_count : {T : Type 0} → Table T → ℕ
 near_count t = length t.near.items
 
@@ -14,22 +14,22 @@ abbrev pub value_or : {T : Type 0} → Option T → T → T
 value_or (Some x) y = x
 value_or None y = y
 
--- near places have their values in the list, others in the tree, or they are missing and have this one
+-- the value at a place: near ones are in the list, others in the tree; missing ones have the default
 abbrev pub value_at : {T : Type 0} → T → Table T → ℕ → T
 value_at missing t v = if nat_lt v (near_count t) then slice_index_or t.near.items v missing else value_or (get nat_cmp t.far v) missing
 
--- the value there can be set without memory
+-- the value at this place can be set without allocating
 abbrev pub HasPlaceFor : {T : Type 0} → Table T → ℕ → Type 0
 HasPlaceFor t v = (v < near_count t) ⊎ IsSome (get nat_cmp t.far v)
 
--- what had room has it still
+-- every place that had room still has it
 abbrev pub KeepsRoom : {T : Type 0} → (old new : Table T) → Type 0
 KeepsRoom old new = (v : ℕ) → HasPlaceFor old v → HasPlaceFor new v
 
--- each place has the value that it had
+-- no value changed
 abbrev pub KeepsValues : {T : Type 0} → T → (old new : Table T) → Type 0
 KeepsValues missing old new = (v : ℕ) → value_at missing new v ≡ value_at missing old v
 
--- this place has this value, each other one the value that it had
+-- this place has this value, and no other value changed
 abbrev pub SetsValue : {T : Type 0} → T → (old new : Table T) → (place : ℕ) → T → Type 0
 SetsValue missing old new place value = (v : ℕ) → value_at missing new v ≡ (if v == place then value else value_at missing old v)

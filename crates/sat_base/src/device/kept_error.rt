@@ -1,4 +1,4 @@
-//! A writer's error, which is kept aside until it is returned.
+//! A writer's error, which is stored until it is returned.
 ghost use Rattle.std.specs.Prelude.{◌≡◌, is_ok};
 
 use std::io;

@@ -1,4 +1,4 @@
-//! What only contracts see of a device's calls. It takes no memory, and its functions do nothing at run time.
+//! What only contracts see of a device's calls. It has no bytes, and its functions do nothing at run time.
 ghost use Rattle.std.specs.Prelude.{ℕ, Bool, List};
 ghost use Rattle.std.specs.Borrow.{ftrue};
 
@@ -17,7 +17,7 @@ pub(crate) struct Tally {
     /// A flush that didn't fail.
     pub ghost flushed: { Bool },
     pub ghost failed: { Bool },
-    /// How many calls were flushes that didn't fail.
+    /// The number of flushes that didn't fail.
     pub ghost flushes: { ℕ },
 }
 

@@ -1,4 +1,4 @@
-//! Faults of a formula's text, found without memory.
+//! Faults of a formula's text, found without allocating.
 ghost use Rattle.std.specs.Prelude.{◌≡◌, ◌++◌, ◌∷◌, [], ℕ, List};
 ghost use Rattle.sat_base.specs.dimacs.Collecting.{token_of};
 ghost use Rattle.sat_base.specs.dimacs.Faults.{FindsFault, HasTakenSoundly, JudgesToken, OutOfMemoryOrFault};
@@ -24,7 +24,7 @@ fn judge_token(token: Token, line: u64) -> Result<(), DimacsError>
     }
 }
 
-/// Takes the next byte of a text, and reports the fault of the word that it ends or makes wrong.
+/// Receives the next byte of a text, and reports the fault of the word that it ends or makes wrong.
 fn take_byte(tokenizer: &mut Tokenizer, byte: u8) -> Result<(), DimacsError>
     ensures { (text : List ℕ) → HasTakenSoundly text tokenizer.old
         → FindsFault result (text ++ byte ∷ []) tokenizer.new }
@@ -40,7 +40,7 @@ fn take_byte(tokenizer: &mut Tokenizer, byte: u8) -> Result<(), DimacsError>
     judge_token(token, tokenizer.line())
 }
 
-/// Takes the next bytes of a text, and reports their first fault.
+/// Receives the next bytes of a text, and reports their first fault.
 fn take_bytes(tokenizer: &mut Tokenizer, bytes: &[u8]) -> Result<(), DimacsError>
     ensures { (text : List ℕ) → HasTakenSoundly text tokenizer.old
         → FindsFault result (text ++ bytes.now) tokenizer.new }

@@ -1,4 +1,4 @@
-//! What only contracts see of a parser's calls. It takes no memory, and its functions do nothing at run time.
+//! What only contracts see of a parser's calls. It has no bytes, and its functions do nothing at run time.
 ghost use Rattle.std.specs.Prelude.{◌≡◌, ◌++◌, ◌∷◌, [], ℕ, List};
 ghost use Rattle.std.specs.Borrow.{ftrue};
 

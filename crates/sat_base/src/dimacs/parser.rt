@@ -1,4 +1,4 @@
-//! The parser of formulas behind `DimacsParser`.
+//! The parser of formulas inside `DimacsParser`.
 ghost use Rattle.std.specs.Prelude.{◌≡◌, ◌++◌, ◌∷◌, [], ℕ, List, true, false, Ok, OnOk, IfErr};
 ghost use Rattle.sat_base.specs.text.Text.{Scan};
 ghost use Rattle.sat_base.specs.text.Tokenizing.{held, StandsBefore};
@@ -14,6 +14,7 @@ use super::history::History;
 use crate::{CnfFormula, Tokenizer};
 use std::alloc::Global;
 
+/// A parser: it receives the bytes of a text, and holds the clauses read so far.
 #[derive(Drop)]
 pub(crate) struct Parser {
     pub(crate) alloc: Global,
@@ -105,7 +106,7 @@ impl Parser {
         Ok(())
     }
 
-    /// Feeds the next bytes of a text of which all clauses are wanted or none. So if memory runs out within them, their
+    /// Feeds the next bytes of a text that is parsed completely or not at all. So if memory runs out within them, their
     /// later faults are reported instead.
     pub(crate) fn feed_or_find_fault(&mut self, piece: &[u8]) -> Result<(), DimacsError>
         requires { IsParser self.old }
@@ -157,7 +158,7 @@ impl Parser {
         let Some(token) = self.tokenizer.finish() else {
             return self.end();
         };
-        // Behind a literal the text ends inside a clause, whatever memory there is.
+        // After a literal the text ends inside a clause, whatever memory there is.
         if is_literal(token) {
             self.stopped = true;
             self.ended = true;

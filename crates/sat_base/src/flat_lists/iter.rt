@@ -1,4 +1,4 @@
-//! An iterator over lists that are in one piece of memory.
+//! An iterator over lists in one buffer.
 #![tactic(auto, using(crate::proofs::lemmas::values::FlatLemmas::flat))]
 
 ghost use Rattle.std.specs.Prelude.{◌≡◌, length};

@@ -22,7 +22,7 @@ use crate::{ClauseHash, CountedRead, CountedWrite, Lit, StepError};
 const LARGEST_CODE: u64 = 2 * MAX_COUNT as u64 - 1;
 
 impl Ahead {
-    /// Takes at most `most` literals that are complete among the buffered bytes, and returns how many.
+    /// Consumes at most `most` literals that are complete among the buffered bytes, and returns how many.
     fn take_literals(&mut self, most: u64, lits: &mut Vec<Lit>) -> Result<u64, StepError>
         ensures { TakesItems IsLiteral most result lits.old.items lits.new.items self.old self.new }
     {
@@ -44,7 +44,7 @@ impl Ahead {
         Ok(taken)
     }
 
-    /// Takes at most `most` hashes that are complete among the buffered bytes, and returns how many.
+    /// Consumes at most `most` hashes that are complete among the buffered bytes, and returns how many.
     fn take_hashes(&mut self, most: u64, hashes: &mut Vec<ClauseHash>) -> Result<u64, StepError>
         ensures { TakesItems IsHash most result hashes.old.items hashes.new.items self.old self.new }
     {

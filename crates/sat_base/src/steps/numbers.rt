@@ -130,7 +130,7 @@ impl Ahead {
         self.number_at(from, largest)
     }
 
-    /// Takes a number, if it is complete among the buffered bytes, has at most eight bytes and is at most `largest`.
+    /// Consumes a number, if it is complete among the buffered bytes, has at most eight bytes and is at most `largest`.
     #[inline(always)] // each number that stands alone goes through it
     pub(crate) fn take_number(&mut self, largest: u64) -> Option<u64>
         ensures some { (number : ℕ) → result ≡ Some number → TakesNumber (largest + 1) number self.old self.new }

@@ -138,7 +138,7 @@ impl<'r, R: CountedRead> StepReader<'r, R, Buffers> {
         tag(self.buffers.kind)
     }
 
-    /// Returns the step that `advance` has read, after an `Ok`. After an error it means nothing.
+    /// Returns the step that `advance` has read, after an `Ok`. After an error it is unspecified.
     pub fn step(&self) -> ProofStep<'_>
         ensures { step_of result ≡ step_in self.now }
     {

@@ -7,6 +7,7 @@ use crate::steps::kind::Kind;
 use crate::{ClauseHash, Lit, ProofStep};
 use std::alloc::Global;
 
+/// The lists of a step.
 #[derive(Drop)]
 pub(crate) struct Lists {
     pub(crate) literals: Vec<Lit>,
