@@ -11,3 +11,15 @@ pub enum State {
     /// The clauses alone are unsatisfiable.
     Unsat,
 }
+
+impl Default for State {
+    ghost use Rattle.std.specs.Prelude.{◌≡◌};
+    ghost use Rattle.sat_solver.specs.declared.state.State.TheVariants.{Unknown};
+
+    ghost is_default = { λ s. s ≡ Unknown };
+
+    /// Returns the state of a solver that has no answer yet.
+    fn default() -> State {
+        State::Unknown
+    }
+}
