@@ -27,7 +27,7 @@ pub enum SolverError {
     /// A clause or an assumption has a name of mode witness.
     #[error("a clause or an assumption has a witness variable")]
     WitnessVariable,
-    /// The mode of a name that is assumed cannot change.
+    /// A name that is assumed cannot be hidden or change its mode.
     #[error("an assumed variable can't change its mode")]
     AssumedVariable,
     /// A proof must begin before the first clause, name, assumption and `solve`.
@@ -39,13 +39,14 @@ pub enum SolverError {
     /// The clause buffer has more than 2^32-1 words.
     #[error("the store of clauses is full")]
     StoreFull,
-    /// All 2^28 variables are in use, or a number in a formula's text is above that limit.
+    /// There are too few variables for the names that would be introduced (at most 2^28 are in use), or a number in a
+    /// formula's text is above that limit.
     #[error("a variable is past the limit")]
     VariableLimit,
     /// The solver's own checker has used its last id, or counted a clause as often as it can.
     #[error("a counter is at its end")]
     CounterEnd,
-    /// An earlier call failed.
+    /// An earlier call returned an error that is not recoverable.
     #[error("the solver has failed before")]
     HasFailed,
     /// The formula's reader failed, or was called 2^48 times.

@@ -3,7 +3,7 @@
 /// Counts of a solver. They saturate at 2^64-1.
 #[derive(Clone, Copy, Debug, Drop, PartialEq, Eq)]
 pub struct Progress {
-    /// Rounds of search so far, over all calls of `solve`.
+    /// Rounds of search so far, over all calls of `solve`. A round ends in a conflict or an answer.
     pub conflicts: u64,
     /// Restarts so far.
     pub restarts: u64,

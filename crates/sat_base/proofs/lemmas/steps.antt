@@ -6,7 +6,6 @@ pub mod ListBytes
 pub mod NumberBytes
 pub mod Numbers
 pub mod NumbersAhead
-pub mod OneOrTwo
 pub mod OneSpelling
 pub mod StepReads
 pub mod TagForms

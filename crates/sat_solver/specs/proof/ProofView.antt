@@ -96,7 +96,7 @@ HasCause (Check fault) p = Unit {0}
 abbrev pub without_complaint : {W L : Type 0} {G : Ghosts L} → Proof W L G → Proof W L G
 without_complaint p = record p { made = mades.cleared_complaint p.made }
 
--- the listeners are returned, after what they have heard of all steps, each once and in order
+-- the listeners are returned, in order; each has heard a prefix of the announcements, possibly not all
 abbrev pub HandsBackListeners : {W L : Type 0} {G : Ghosts L} → Proof W L G → (given : List L) → Type 0
 HandsBackListeners p given = mades.MadeHandsBack p.made given
 

@@ -29,7 +29,8 @@ impl<W: CountedWrite + Drop, P: ProofProcessor> Solver<W, P> {
     /// Returns a model: a literal for every name in use, in increasing order; or `None`.
     ///
     /// There is a model only after a `solve` that returned true, with no clause and no assumptions since. Names
-    /// introduced since are false. `OutOfMemory` changes nothing.
+    /// introduced since are false, except those of `observe_internal_vars`, which have the values of their variables.
+    /// `OutOfMemory` changes nothing.
     pub fn model(&self, alloc: Global) -> Result<Option<Vec<Lit>>, SolverError>
         requires { IsSolver self.now }
         ensures model { IfOk result (λ o. MatchOption o (HasNone self.now) (λ lits. IsModel self.now lits.items)) }
@@ -48,8 +49,9 @@ impl<W: CountedWrite + Drop, P: ProofProcessor> Solver<W, P> {
 
     /// Returns assumptions that contradict the clauses, or `None`.
     ///
-    /// There are some only after a `solve` that returned false, with no clause and no assumptions since. The list is
-    /// empty once the clauses alone are known to be unsatisfiable. Returns `None` after a failed call.
+    /// There are some after a `solve` that returned false, until a clause or assumptions are accepted. Once the clauses
+    /// alone are known to be unsatisfiable, even without a `solve`, it is always the empty list. Returns `None` after a
+    /// failed call.
     pub fn failed_core(&self) -> Option<&[Lit]>
         requires { IsSolver self.now }
         ensures { MatchOption result (HasNoCore self.now) (λ core. IsCore self.now core.now) }

@@ -1,4 +1,4 @@
-//! Assumptions of the next ask.
+//! Assumptions of later asks.
 ghost use Rattle.std.specs.Prelude.{◌≡◌, true, false, OnOk, IfErr, IsErrOf};
 ghost use Rattle.sat_solver.specs.variables.VariableRoom.{HasVariablesFor, users_in};
 ghost use Rattle.sat_solver.specs.cdcl.Going.{IsFault};
@@ -57,8 +57,9 @@ impl<W: CountedWrite + Drop, P: ProofProcessor> Solver<W, P> {
 
     /// Replaces the assumptions, whose names are introduced from left to right.
     ///
-    /// Errors: `NotInDrat` if DRAT lines are written; `WitnessVariable` if a name is of mode witness; `VariableLimit`
-    /// if there is no variable for a name that would be introduced.
+    /// They hold for every later `solve`, until the next `assume`. Errors: `NotInDrat` if DRAT lines are written;
+    /// `WitnessVariable` if a name is of mode witness; `VariableLimit` if there is no variable for a name that would
+    /// be introduced.
     pub fn assume(&mut self, lits: &[Lit]) -> Result<(), SolverError>
         requires { IsSolver self.old }
         ensures solver { IsSolver self.new }

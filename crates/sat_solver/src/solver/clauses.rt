@@ -66,7 +66,8 @@ impl<W: CountedWrite + Drop, P: ProofProcessor> Solver<W, P> {
 
     /// Adds a clause, whose names are introduced from left to right.
     ///
-    /// It may come after asks, and discards the answer. Once the clauses alone are known to be unsatisfiable, only its
+    /// A hidden name gets a new variable, and a name never used comes with all lower ones never used. The clause may
+    /// come after asks, and discards the answer. Once the clauses alone are known to be unsatisfiable, only its
     /// names are introduced. Errors: `NotInDrat` after the first `solve` if DRAT lines are written; `WitnessVariable`
     /// if a name is of mode witness; `VariableLimit` if there is no variable for a name that would be introduced.
     pub fn add_clause(&mut self, lits: &[Lit]) -> Result<(), SolverError>

@@ -59,7 +59,7 @@ impl<W: CountedWrite + Drop, P: ProofProcessor> Solver<W, P> {
         Ok(())
     }
 
-    /// Adds the clauses that the parser has completed so far, after it reported `result`.
+    /// Adds the clauses that the parser has completed so far, after it reported `answer`.
     fn add_read(
         &mut self,
         parser: &mut DimacsParser,
@@ -114,7 +114,7 @@ impl<W: CountedWrite + Drop, P: ProofProcessor> Solver<W, P> {
     ///
     /// Clauses before an error, or before a clause that is refused, remain. If the text cannot be read, the solver can
     /// still be used: the error is `Malformed`, `VariableLimit` for a number above the limit, or `Read`. The header's
-    /// variable count introduces no name.
+    /// numbers are ignored; its variable count introduces no name.
     pub fn add_dimacs_cnf<R: CountedRead>(&mut self, reader: &mut R) -> Result<(), SolverError>
         requires { IsSolver self.old }
         ensures solver { IsSolver self.new }

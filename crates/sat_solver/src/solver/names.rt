@@ -37,7 +37,7 @@ fn is_used(used: bool, users: &[Var]) -> bool
 }
 
 impl<W: CountedWrite + Drop, P: ProofProcessor> Solver<W, P> {
-    /// Hides a name, which is introduced first if it is new.
+    /// Hides a name, which is introduced first if it is not in use.
     ///
     /// Its variable remains in the clauses, and the name may be given to a new variable. A variable without an index,
     /// which is in no clause, is deleted at once. The answer is unchanged. Errors: `AssumedVariable` if the name is
@@ -86,11 +86,10 @@ impl<W: CountedWrite + Drop, P: ProofProcessor> Solver<W, P> {
         }
     }
 
-    /// Sets the mode of a name to witness, and introduces the name if it is new: no clause and no assumption
-    /// may have it.
+    /// Sets the mode of a name to witness, after introducing the name if it is not in use.
     ///
-    /// The answer is unchanged. Errors: `AssumedVariable` if the name is assumed, even if it has this mode already;
-    /// `VariableLimit` as for `hide_var`.
+    /// From then on, no clause and no assumption with it is accepted. The answer is unchanged. Errors:
+    /// `AssumedVariable` if the name is assumed, even if it has this mode already; `VariableLimit` as for `hide_var`.
     pub fn witness_var(&mut self, user: Var) -> Result<(), SolverError>
         requires { IsSolver self.old }
         ensures solver { IsSolver self.new }
@@ -99,7 +98,7 @@ impl<W: CountedWrite + Drop, P: ProofProcessor> Solver<W, P> {
         self.set_mode(user, false)
     }
 
-    /// Sets the mode of a name to sample, as new names have it, and introduces the name if it is new.
+    /// Sets the mode of a name to sample, as new names have it, after introducing the name if it is not in use.
     ///
     /// The answer is unchanged. Errors: `AssumedVariable` if the name is assumed, even if it has this mode already;
     /// `VariableLimit` as for `hide_var`.

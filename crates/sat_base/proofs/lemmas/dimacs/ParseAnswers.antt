@@ -24,6 +24,3 @@ refused_no_stop r d e piece p h k s f l = both_ways p.stopped s (subst (λ (z : 
 
 pub read_is_no_stop : {T X : Type 0} → ◌≡◌ {A = Result T DimacsError} (Err errors.Read) (Err errors.HasFailed) → X
 read_is_no_stop h = absurd cc
-
-pub read_is_no_want : {T X : Type 0} → ◌≡◌ {A = Result T DimacsError} (Err errors.Read) (Err errors.OutOfMemory) → X
-read_is_no_want h = absurd cc

@@ -87,9 +87,6 @@ front_joined old new pieces piece f = subst (GaveFront old new) (joined_more pie
 pub front_alone : (old new : Reader) (pieces : List (List ℕ)) → GaveFront old new (concat pieces) → GaveFront old new (concat pieces ++ [])
 front_alone old new pieces f = subst (GaveFront old new) (sym (append-nil (concat pieces))) f
 
-pub front_all : (old new : Reader) (pieces : List (List ℕ)) → GaveAll old new (concat pieces) → GaveFront old new (concat pieces ++ [])
-front_all old new pieces g = front_alone old new pieces (record { gave = g.gave; told = g.told; loans = g.loans })
-
 -- a text is whole where its reader is at its end
 pub whole_at_end : (a c : Reader) (text : List ℕ) → a.calls < c.calls → c.ended ≡ true → IsWholeText a c text
 whole_at_end a c text called e rest f =

@@ -1,17 +1,9 @@
 -- Writing a formula's text, part by part.
 use Rattle.std.proofs.Common.{◌≡◌, ℕ, ◌+◌, ◌/◌, ◌%◌, ◌^◌, ◌<◌, ◌≤◌, List, [], ◌∷◌, ◌++◌, length, drop, get_or, suc, decimal, codes, Bool, true, false, if◌then◌else◌, sym, ap, ◌∙◌, arith}
 use Rattle.std.proofs.lemmas.List.{drop_all}
-use Rattle.std.proofs.lemmas.Fmt.{decimal_digit, decimal_step}
 use Rattle.std.proofs.Math.Seq.{drop-cons}
 use Rattle.sat_base.specs.values.Literals.{is_positive, variable}
 use Rattle.sat_base.specs.dimacs.DimacsText.{number_text, clause_line}
-
--- NUMBERS
-pub one_digit : (n x : ℕ) → n < 10 → x ≡ 48 + n → x ∷ [] ≡ decimal n
-one_digit n x h e = ap (λ (k : ℕ). k ∷ []) e ∙ sym (decimal_digit n h)
-
-pub last_digit : (n x : ℕ) → 10 ≤ n → n < 2 ^ 64 → x ≡ 48 + n % 10 → decimal (n / 10) ++ x ∷ [] ≡ decimal n
-last_digit n x h fits e = ap (λ (k : ℕ). decimal (n / 10) ++ k ∷ []) e ∙ sym (decimal_step n h fits)
 
 -- THE LITERALS OF A CLAUSE
 pub next_literal : (ls : List ℕ) (i x d : ℕ) → i < length ls → x ≡ get_or ls i d → clause_line (drop i ls) ≡ number_text x ++ (32 ∷ clause_line (drop (i + 1) ls))
@@ -23,8 +15,5 @@ pub last_literal : (ls : List ℕ) (i : ℕ) → length ls ≤ i → clause_line
 last_literal ls i h = ap clause_line (drop_all i ls h)
 
 -- A LITERAL
-pub positive_text : (l : ℕ) (b : Bool) → b ≡ is_positive l → b ≡ true → decimal (variable l + 1) ≡ number_text l
-positive_text l b e f = ap (λ (t : Bool). (if t then [] else codes "-") ++ decimal (variable l + 1)) (sym f ∙ e)
-
 pub negative_text : (l : ℕ) (b : Bool) → b ≡ is_positive l → b ≡ false → 45 ∷ decimal (variable l + 1) ≡ number_text l
 negative_text l b e f = ap (λ (t : Bool). (if t then [] else codes "-") ++ decimal (variable l + 1)) (sym f ∙ e)

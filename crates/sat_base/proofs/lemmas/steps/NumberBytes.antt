@@ -150,7 +150,3 @@ writes_last F x text a b c (Err e) p f w = sends_last a b c text (Err e) p w
 pub sends_of : {A E : Type 0} (F : Format A) (x : A) (text : List ℕ) (a b : Sink) (r : Result (Unit {0}) E) → Writes F x text r a b → SendsText text r a b
 sends_of F x text a b (Ok u) w = w.0
 sends_of F x text a b (Err e) w = w
-
-pub spelt_of : {A E : Type 0} (F : Format A) (x : A) (text : List ℕ) (a b : Sink) (r : Result (Unit {0}) E) → Writes F x text r a b → OnOk r (F x text)
-spelt_of F x text a b (Ok u) w = w.1
-spelt_of F x text a b (Err e) w = tt

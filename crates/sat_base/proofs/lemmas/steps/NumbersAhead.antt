@@ -59,10 +59,6 @@ stands_between limit m n at after behind a e s =
     let g : after ≡ behind = ap (λ (p : Option (ℕ × ℕ)). (told p).1) e in
     subst (λ (k : ℕ). StandsBetween limit k at behind a) f (subst (λ (k : ℕ). StandsBetween limit m at k a) g s)
 
--- the same below another limit
-pub stands_below : (limit more n at behind : ℕ) (a : Ahead) → n < more → StandsBetween limit n at behind a → StandsBetween more n at behind a
-stands_below limit more n at behind a h s = (s.0, (s.1.0, h), s.2)
-
 -- a last group behind those that were looked at
 pub stands_last : (limit value place b n at next behind : ℕ) (a : Ahead) (rest : List ℕ) → LookedAt value place (from at a) rest → rest ≡ b ∷ from next a → b < 128 → (0 < b) ⊎ (place ≤ 1) → value + place * b ≡ n → n < limit → next ≡ behind
     → StandsBetween limit n at behind a

@@ -22,9 +22,6 @@ pub record Taken (F : Format ℕ) (n : ℕ) (before now whole rest : List ℕ) :
   pub spelt : Items F items text
   pub split : whole ≡ text ++ rest
 
-pub taken_none : (F : Format ℕ) (before whole : List ℕ) → Taken F 0 before before whole whole
-taken_none F before whole = record { items = []; text = []; count = refl; behind = sym (append-nil before); spelt = refl; split = refl }
-
 items_more : (F : Format ℕ) (xs : List ℕ) (x : ℕ) (s t : List ℕ) → Items F xs s → F x t → Items F (xs ++ x ∷ []) (s ++ t)
 items_more F [] x s t i f = (t, [], f, refl, ap (λ (z : List ℕ). z ++ t) i ∙ sym (append-nil t))
 items_more F (y ∷ xs) x s t i f = (i.0, i.1 ++ t, i.2, items_more F xs x i.1 t i.3 f, ap (λ (z : List ℕ). z ++ t) i.4 ∙ append_assoc i.0 i.1 t)

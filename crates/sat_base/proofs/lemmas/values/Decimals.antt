@@ -39,7 +39,3 @@ four_length n h l = more_length n (omega arith) (omega arith) ∙ ap (λ ds. len
 
 pub few_digits : (n : ℕ) → n < 2 ^ 64 → length (decimal n) ≤ 20
 few_digits n h = length-decimal-le 20 n (omega arith) (omega arith) h
-
--- written first
-pub first_digits : (n end : ℕ) (old now : List ℕ) → take end now ≡ take 0 old ++ decimal n → take end now ≡ decimal n
-first_digits n end old now e = e

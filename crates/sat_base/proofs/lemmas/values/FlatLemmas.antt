@@ -38,14 +38,6 @@ piece_at from (e ∷ es) xs (suc i) inside = piece_at e es xs i (omega arith)
 pub place_inside : {A : Type 0} (ends ds : List ℕ) (xs : List A) (lists : List (List A)) (i : ℕ) → ds ≡ ends → pieces 0 ends xs ≡ lists → i < length lists → (i < length ends) × (i ≤ length ds)
 place_inside ends ds xs lists i e v h = let k = ap length e in let l = ap length v in let n = length-pieces 0 ends xs in (omega arith, omega arith)
 
-pub below_len : (i n : ℕ) (ends ds : List ℕ) → i < length ends → ds ≡ ends → length ds ≡ n → i < n
-below_len i n ends ds h e k = let l = ap length e in omega arith
-
--- what lies between the ends is the list at the place
-pub piece_read : {A : Type 0} (ends ds : List ℕ) (xs ys : List A) (lists : List (List A)) (i start end : ℕ) → ds ≡ ends → ys ≡ xs → pieces 0 ends xs ≡ lists → i < length ends
-    → start ≡ slice_index (0 ∷ ds) i → end ≡ get_or ends i end → take (end - start) (drop start ys) ≡ get_or lists i []
-piece_read ends ds xs ys lists i start end e f v h s t = grind (arith, common_steps, piece_at)
-
 last_piece : {A : Type 0} (xs c : List A) (from : ℕ) → length xs ≡ from → between from (length (xs ++ c)) (xs ++ c) ≡ c
 last_piece xs c from e =
     let k : length c ≤ length (xs ++ c) - from = omega (arith, length-append xs c) in

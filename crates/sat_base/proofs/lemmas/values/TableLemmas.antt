@@ -21,12 +21,6 @@ has_room {T} missing t v h = near (ltb v (near_count t)) refl h
     near true e h = inl (ltb-true v (near_count t) e)
     near false e h = inr (there (get nat_cmp t.far v) h)
 
--- all is missing behind the list where the tree is empty
-pub none_far : {T : Type 0} (missing : T) (t : Table T) (v : ℕ) → near_count t ≤ v → btree_map_len t.far ≡ 0 → missing ≡ value_at missing t v
-none_far missing t v far none =
-    sym (ap (λ b. cond b (slice_index_or t.near.items v missing) (value_or (get nat_cmp t.far v) missing)) (le-ltb v (near_count t) far)
-    ∙ ap (λ es. value_or (lookup (is_at (nat_cmp v)) es) missing) (nil_from_length t.far.entries none))
-
 -- a value that is read, by equal names
 pub value_read : {T X : Type 0} (f : T → X) (t : Table T) (m n r : T) (p q : ℕ) → r ≡ value_at m t p → m ≡ n → p ≡ q → f r ≡ f (value_at n t q)
 value_read f t m n r p q e d h = ap f e ∙ ap (λ k. f (value_at k t p)) d ∙ ap (λ v. f (value_at n t v)) h

@@ -2,7 +2,7 @@ use Rattle.std.proofs.Common.{◌≡◌, ◌≤◌, ◌<◌, ℕ, List, ◌∷�
 use Rattle.std.specs.List.{slice_index}
 use Rattle.std.proofs.lemmas.Grind.{common_steps}
 use Rattle.sat_base.specs.values.Flat.{AreEnds}
-use Rattle.sat_base.proofs.lemmas.values.FlatLemmas.{start_below, end_below, place_inside, below_len, piece_read}
+use Rattle.sat_base.proofs.lemmas.values.FlatLemmas.{start_below, end_below, place_inside}
 use Rattle.sat_base.proofs.flat_lists.FlatLists.get.Goals as goal
 
 pub slice_bounds-result-count : goal.slice_bounds-result-count

@@ -3,9 +3,9 @@ use Rattle.sat_base.specs.steps.StepBytes.{step_bytes}
 use Rattle.sat_base.specs.steps.StepViews.{step_of}
 use Rattle.sat_base.specs.steps.StepText.{SpellsStep}
 use Rattle.sat_base.specs.device.Waiting.{waiting_in}
-use Rattle.sat_base.proofs.lemmas.device.KeptErrors.{puts_alike, ok_alike}
+use Rattle.sat_base.proofs.lemmas.device.KeptErrors.{puts_alike}
 use Rattle.sat_base.proofs.lemmas.device.Sending.{lent_out}
-use Rattle.sat_base.proofs.lemmas.steps.NumberBytes.{sends_of, spelt_of}
+use Rattle.sat_base.proofs.lemmas.steps.NumberBytes.{sends_of}
 use Rattle.sat_base.proofs.steps.writer.write_step.Goals as goal
 
 pub returns-clause-puts : goal.returns-clause-puts
