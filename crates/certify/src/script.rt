@@ -9,6 +9,7 @@ pub(crate) mod stream;
 pub use reader::ScriptReader;
 use sat_base::Lit;
 
+/// The kind of a command.
 #[derive(Clone, Copy, Debug, Drop, PartialEq, Eq)]
 pub enum CommandKind {
     /// A clause of the literals; without literals it is false.

@@ -43,7 +43,7 @@ pub enum Why {
 }
 
 impl Why {
-    /// Returns the variant's name, which is printed for a no.
+    /// Returns the variant's name, which is printed for a `No`.
     pub fn word(self) -> &'static str
         ensures { result.now ≡ why_text self }
     {

@@ -28,7 +28,7 @@ second_line (Sat line) = v_line line
 second_line (Unsat core) = f_line core
 second_line Unknown = []
 
--- is there one?
+-- whether there is one
 abbrev pub HasLine : AnswerKind → Type 0
 HasLine kind.Unknown = ⊥
 HasLine k = Unit {0}
@@ -39,7 +39,7 @@ IsHead kind.Sat head = head ≡ 118 ∷ 32 ∷ []
 IsHead kind.Unsat head = head ≡ 102 ∷ 32 ∷ []
 IsHead kind.Unknown head = ⊥
 
--- a model's literals stand by variable, those of a core by their codes
+-- a model's literals are in the order of variables, those of a core in the order of codes
 abbrev pub literal_place : AnswerKind → ℕ → ℕ
 literal_place kind.Sat l = variable l
 literal_place k l = l
@@ -49,7 +49,7 @@ abbrev pub digits_so_far : ℕ → List ℕ
 digits_so_far zero = []
 digits_so_far (suc n) = decimal (suc n)
 
--- no name goes on with this byte
+-- no name continues with this byte
 abbrev pub NoNameDigit : ℕ → ℕ → Type 0
 NoNameDigit name byte = (n : ℕ) (more : List ℕ) → IsName n → decimal n ≡ digits_so_far name ++ (byte ∷ more) → ⊥
 
@@ -73,7 +73,7 @@ StartsNoLiteral bytes = (more : List ℕ) → NoLiteral (bytes ++ more)
 abbrev pub BeginWithWordsOf : List ℕ → List ℕ → Type 0
 BeginWithWordsOf text bytes = (front : List ℕ) × (tail : List ℕ) × ((text ≡ front ++ (48 ∷ 10 ∷ [])) × (bytes ≡ front ++ tail))
 
--- memory is wanted for a literal that was read: with it and those before it the line is in form so far
+-- memory is needed for a literal that was read: with it and those before it the line is in form so far
 abbrev pub WantsRoom : AnswerKind → (List Literal → List ℕ) → List ℕ → Type 0
 WantsRoom k text bytes = HasLine k
     × ((ls : List Literal) × (l : Literal) × (IsInForm (outcome_of k (ls ++ (l ∷ []))) × BeginWithWordsOf (text (ls ++ (l ∷ []))) bytes))
@@ -105,11 +105,11 @@ StartsNoLiterals k bytes = (ls : List Literal) (more : List ℕ) → IsInForm (o
 abbrev pub StartsNoKind : List ℕ → Type 0
 StartsNoKind bytes = (k : AnswerKind) (more : List ℕ) → first_answer_line k ≡ bytes ++ more → ⊥
 
--- the bytes are no front of a second line in form
+-- the bytes are no prefix of a second line in form
 abbrev pub StartsNoLine : AnswerKind → List ℕ → Type 0
 StartsNoLine k bytes = (ls : List Literal) (more : List ℕ) → IsInForm (outcome_of k ls) → second_line (outcome_of k ls) ≡ bytes ++ more → ⊥
 
--- the bytes are over where a line of an answer is due
+-- the bytes end where a line of an answer is expected
 abbrev pub IsCutShort : List ℕ → Type 0
 IsCutShort bytes = (bytes ≡ []) ⊎ ((bytes ≡ s_satisfiable) ⊎ (bytes ≡ s_unsatisfiable))
 
@@ -123,7 +123,7 @@ NoOutcome bytes Missing = IsCutShort bytes × BeginsNoOutcome bytes
 NoOutcome bytes Text = (IsCutShort bytes → ⊥) × BeginsNoOutcome bytes
 NoOutcome bytes OutOfMemory = (k : AnswerKind) × (rest : List ℕ) × ((bytes ≡ first_answer_line k ++ rest) × NoLine k rest OutOfMemory)
 
--- what is read: a literal and the space behind it
+-- the bytes begin with a literal and the space after it
 abbrev pub BeginsWithLiteral : List ℕ → ℕ → List ℕ → Type 0
 BeginsWithLiteral bytes l rest = IsName (named_literal l).name × (bytes ≡ word_of (named_literal l) ++ (32 ∷ rest))
 

@@ -63,7 +63,7 @@ piece k (Some refusal) command outcomes = refused_line k refusal
 piece k None (Ask ls) (o ∷ os) = outcome_text o
 piece k None command outcomes = []
 
--- the outcomes for the commands behind this one
+-- the outcomes for the commands after this one
 abbrev pub outcomes_left : Option Refusal → Command → List Outcome → List Outcome
 outcomes_left None (Ask ls) (o ∷ os) = os
 outcomes_left refusal command outcomes = outcomes

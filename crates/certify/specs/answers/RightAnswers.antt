@@ -1,4 +1,4 @@
--- When answers are right, over all valuations. No trail, hash or step stands in it.
+-- When answers are right, over all valuations. It mentions no trail, hash or step.
 use Rattle.std.specs.Prelude.{List, [], ◌∷◌}
 use Rattle.sat_base.specs.script.Script.{Literal, Command, Clause, Ask, Hide, Witness, Sample}
 use Rattle.sat_base.specs.script.ScriptState.{ScriptState, IsRightModel, IsRightCore, accepted, start, accepted_of}

@@ -1,5 +1,5 @@
--- What a certificate's steps bring, up to the next ordered one, and what becomes of what is expected of that. The names are beside what
--- confirming sees.
+-- The steps of a certificate up to the next ordered one, and whether that one is what is expected. The variables of names are an argument of
+-- their own.
 use Rattle.std.specs.Prelude.{◌≡◌, true, false, Option, Some, None, Result, Ok, Err, List, [], ◌∷◌}
 use Rattle.sat_base.specs.script.Script.{Literal}
 use Rattle.sat_base.specs.steps.Steps.{Step}
@@ -18,7 +18,7 @@ use Rattle.certify.specs.declared.confirm.stop.Stop.TheVariants as stop
 use Rattle.certify.specs.declared.confirm.variables.NamedVars.{NamedVars}
 use Rattle.certify.specs.declared.verdict.Why.{Why}
 
--- the checker was fed these steps, behind which the names stand for these variables
+-- the checker was fed these steps, after which the names stand for these variables
 pub record CheckerIsAt (checker : Kernel) (names : NamedVars) (earlier : List Step) : Type 0 where
   pub taken : HasTaken checker earlier
   pub stand : StandFor names earlier
@@ -37,25 +37,25 @@ pub record UnsatIsRecorded (names : NamedVars) (old : View) (earlier : List Step
   pub closed : (ready_after later).unsat ≡ true
   pub skips : SkipsUnordered earlier old.rest later new.rest
 
--- a step that nobody expects was taken
+-- an unordered step was accepted
 pub record StepWasPassed (names : NamedVars) (old : View) (earlier : List Step) (new : View) : Type 0 where
   pub later : List Step
   pub stands : CheckerIsAt new.checker names later
   pub skips : SkipsUnordered earlier old.rest later new.rest
 
--- what came where an ordered step is awaited, or that none can come
+-- what was found while an ordered step is awaited, or why none can follow
 abbrev pub AwaitsNext : NamedVars → View → View → Result Awaited Why → Type 0
 AwaitsNext names old new (Ok awaited.Step) = (earlier : List Step) → CheckerIsAt old.checker names earlier → StepIsReady names old earlier new
 AwaitsNext names old new (Ok awaited.Cut) = (earlier : List Step) → CheckerIsAt old.checker names earlier → UnsatIsRecorded names old earlier new
 AwaitsNext names old new (Err why) = (earlier : List Step) → CheckerIsAt old.checker names earlier → MeetsNothing earlier old.rest
 
--- what one more step brought
+-- what one more step led to
 abbrev pub StepsOnce : NamedVars → View → View → Result (Option Awaited) Why → Type 0
 StepsOnce names old new (Ok None) = (earlier : List Step) → CheckerIsAt old.checker names earlier → StepWasPassed names old earlier new
 StepsOnce names old new (Ok (Some a)) = AwaitsNext names old new (Ok a)
 StepsOnce names old new (Err why) = AwaitsNext names old new (Err why)
 
--- only steps that nobody expects were taken
+-- only unordered steps were accepted
 abbrev pub PassesUnordered : NamedVars → View → View → Result (Unit {0}) Why → Type 0
 PassesUnordered names old new r = (earlier : List Step) → CheckerIsAt old.checker names earlier → StepWasPassed names old earlier new
 

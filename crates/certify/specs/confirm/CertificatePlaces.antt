@@ -1,4 +1,4 @@
--- What confirming knows as it goes along a certificate.
+-- What is known of a certificate between two of its places.
 use Rattle.std.specs.Prelude.{ℕ, List, ◌∷◌, ◌++◌}
 use Rattle.sat_base.specs.steps.Steps.{Step}
 use Rattle.sat_checker.specs.Accepts.{Accepts, ready_after}
@@ -6,26 +6,26 @@ use Rattle.sat_checker.specs.matching.Expected.{Expected, Fits}
 use Rattle.certify.specs.confirm.LeftToMatch.{CertificateMeets}
 use Rattle.sat_checker.specs.matching.ProofChecking.{checker_rules}
 
--- what is left of the certificate meets what is expected
+-- the rest of the certificate meets what is expected
 abbrev pub CanMeet : List Step → List Expected → List ℕ → Type 0
 CanMeet earlier es certificate = CertificateMeets checker_rules earlier es certificate
 
--- Between two places of the certificate just these are met: whatever is expected behind them, all is met from the one exactly if the rest
--- is met from the other.
+-- Exactly these are met between two places: whatever is expected after them, all is met from the first place exactly if the rest is met from
+-- the second.
 pub record MeetsExactly (earlier : List Step) (certificate : List ℕ) (pending : List Expected) (later : List Step) (rest : List ℕ) : Type 0 where
   pub on : (es : List Expected) → CanMeet earlier (pending ++ es) certificate → CanMeet later es rest
   pub back : (es : List Expected) → CanMeet later es rest → CanMeet earlier (pending ++ es) certificate
 
--- nothing that begins with these is met
+-- no list that begins with these is met
 pub record MeetsNoneOf (earlier : List Step) (certificate : List ℕ) (pending : List Expected) : Type 0 where
   pub none : (es : List Expected) → CanMeet earlier (pending ++ es) certificate → ⊥
 
--- between two places there are only steps that nobody expects
+-- there are only unordered steps between two places
 pub record SkipsUnordered (earlier : List Step) (certificate : List ℕ) (later : List Step) (rest : List ℕ) : Type 0 where
   pub on : (e : Expected) (es : List Expected) → CanMeet earlier (e ∷ es) certificate → CanMeet later (e ∷ es) rest
   pub back : (e : Expected) (es : List Expected) → CanMeet later (e ∷ es) rest → CanMeet earlier (e ∷ es) certificate
 
--- whatever is expected isn't met
+-- nothing is met, whatever is expected
 pub record MeetsNothing (earlier : List Step) (certificate : List ℕ) : Type 0 where
   pub none : (e : Expected) (es : List Expected) → CanMeet earlier (e ∷ es) certificate → ⊥
 

@@ -20,7 +20,7 @@ use Rattle.certify.specs.declared.verdict.Why.{Why}
 abbrev pub Due : Type 0
 Due = Outcome → List Literal → Expected
 
--- what is expected, from variables and codes as confirming keeps them
+-- what is expected, from the variables and codes that the code holds
 abbrev pub due_of : CodeExpected → Due
 due_of (code.NewName v) = λ o ask. NewName (v + 1)
 due_of (code.NoName v) = λ o ask. NoName (v + 1)
@@ -31,7 +31,7 @@ due_of (code.Core core) = λ o ask. Fails ask (named_literals core.now)
 due_of code.Close = λ o ask. Closes
 due_of code.End = λ o ask. Finish
 
--- the checker took these steps, behind which the names have the variables that are known
+-- the names have the variables that are known after these steps, which the checker accepted
 pub record AreKnown (known : Known) (earlier : List Step) : Type 0 where
   pub stands : HasAccepted (kernel_of known.checker.now) earlier
   pub goes_on : kernel_has_failed (kernel_of known.checker.now) ≡ false

@@ -1,4 +1,4 @@
--- How a script is confirmed that is read as its commands are wanted, whatever would follow in the three texts.
+-- How a script is confirmed while it is read, whatever would follow in the three texts.
 use Rattle.std.specs.Prelude.{ℕ, ◌+◌, ◌-◌, ◌^◌, ◌<◌, ◌≡◌, min, true, false, List, Result, Ok, Err}
 use Rattle.sat_base.specs.declared.steps.reader.Buffers.{Buffers}
 use Rattle.sat_base.specs.declared.steps.reader.StepReader.{StepReader}
@@ -21,7 +21,7 @@ use Rattle.certify.specs.declared.verdict.ConfirmFault.TheVariants as fault
 use Rattle.certify.specs.declared.verdict.Verdict.{Verdict}
 use Rattle.certify.specs.declared.verdict.Verdict.TheVariants.{Yes, No}
 
--- Where confirming stands: script, answers and certificate as they are read, the number of the next command, and the names.
+-- The state between two commands: script, answers and certificate as they are read, the number of the next command, and the names.
 pub record ConfirmPlace : Type 0 where
   pub script : Source
   pub answers : Source
@@ -33,7 +33,7 @@ pub record ConfirmPlace : Type 0 where
 abbrev pub script_source : {S : Type 0} → (S → Reader) → S → Confirmation → Source
 script_source seen script c = source_in seen script c.script.ahead
 
--- the same, from the three readers and what confirming keeps
+-- the same, from the three readers and the state of the code
 abbrev pub confirm_place : {S A C : Type 0} → (S → Reader) → (A → Reader) → (C → Reader) → S → A → StepReader C Buffers → Confirmation → ConfirmPlace
 confirm_place script_seen seen steps_seen script answers steps c = record {
   script = script_source script_seen script c;
@@ -43,7 +43,7 @@ confirm_place script_seen seen steps_seen script answers steps c = record {
   table = table_of c.session.matching;
 }
 
--- Between two of these commands were confirmed; behind them the reader of scripts stands where `left` says what is left.
+-- These commands were confirmed between two places. After them, `left` says what the reader of scripts has still to read.
 pub record ConfirmsThrough (text : List ℕ → Reading) (old new : ConfirmPlace) (reader : ScriptReader) : Type 0 where
   pub left : List ℕ → Reading
   pub means : ReaderMeans reader left
@@ -53,7 +53,7 @@ pub record ConfirmsThrough (text : List ℕ → Reading) (old new : ConfirmPlace
   pub joins : (total : List ℕ) → Covers new.script total → Joins ⊥ true (Ok tt) old.answers new.answers old.certificate new.certificate
       (Through old.number (text (rest_in total old.script)) old.table new.number (left (rest_in total new.script)) new.table)
 
--- what is said of the whole script, which is this
+-- what is said of this complete script
 abbrev pub JoinsWhole : Result (Unit {0}) Stop → Reading → ConfirmPlace → ConfirmPlace → Type 0
 JoinsWhole r script old new = Joins ⊥ false r old.answers new.answers old.certificate new.certificate
     (λ before behind u v. ConfirmsLast old.number script old.table before u)
@@ -80,7 +80,7 @@ ConfirmsScript text (Err stop.TooMany) old new = TakesSome false old.script new.
     × ((total : List ℕ) → Covers new.script total → 2 ^ 64 < old.number + numbers (text (rest_in total old.script)))
     × Unsaid old new
 
--- what is said behind so many asks, which are held at 2^64-1
+-- what is returned after `asks` asks, whose number saturates at 2^64-1
 abbrev pub said_by : Result (Unit {0}) Stop → ℕ → Result Verdict ConfirmFault
 said_by (Ok x) asks = Ok Yes
 said_by (Err (stop.No why)) asks = Ok (No (min (asks + 1) (2 ^ 64 - 1)) why)

@@ -1,4 +1,4 @@
--- What a command makes of the answers and the certificate that are left.
+-- How a command is confirmed by the rest of the answers and of the certificate.
 use Rattle.std.specs.Prelude.{ℕ, ◌+◌, ◌≡◌, None, Result, Ok, Err, List, [], ◌∷◌, ◌++◌}
 use Rattle.sat_base.specs.script.Script.{Literal, Command, Ask, ScriptEnding, names_of}
 use Rattle.sat_base.specs.script.ScriptState.{ScriptState, after_command, refusal_of}
@@ -22,11 +22,11 @@ pub record Table : Type 0 where
   pub names : Names
   pub variables : NamedVars
 
--- the same, from what matching a certificate keeps
+-- the same, from the code's state
 abbrev pub table_of : Matching → Table
 table_of m = record { names = m.names; variables = m.certificate.names }
 
--- names and modes are the judge's, and the checker took these steps, behind which the names stand for their variables
+-- names and modes are those of the script state, and the checker accepted these steps, after which the names stand for their variables
 pub record HoldsAt (t : Table) (u : View) (j : ScriptState) (earlier : List Step) : Type 0 where
   pub judged : NamesHaveState t.names j
   pub kept : ScriptStateInvariant j
@@ -36,7 +36,7 @@ pub record HoldsAt (t : Table) (u : View) (j : ScriptState) (earlier : List Step
 abbrev pub ToConfirm : ScriptState → ℕ → List Step → List Command → ScriptEnding → List ℕ → List ℕ → Type 0
 ToConfirm j n earlier commands ending answers certificate = Left checker_rules j n earlier [] commands ending answers certificate
 
--- Command n is confirmed: what was to be confirmed is so exactly if the rest is.
+-- Command n is confirmed: the script from here is confirmed exactly if the commands after it are.
 pub record Confirmed (before behind : List ℕ) (old new : View) (j : ScriptState) (earlier : List Step) (n : ℕ)
     (command : Command) (t : Table) : Type 0 where
   pub later : List Step
@@ -46,7 +46,7 @@ pub record Confirmed (before behind : List ℕ) (old new : View) (j : ScriptStat
   pub back : (commands : List Command) (ending : ScriptEnding) → ToConfirm (after_command command j) (n + 1) later commands ending behind new.rest
       → ToConfirm j n earlier (command ∷ commands) ending before old.rest
 
--- it is, or can't be
+-- command n is confirmed, or can't be
 abbrev pub ConfirmsNext : ℕ → Command → Table → Table → List ℕ → List ℕ → View → View → Result (Unit {0}) Why → Type 0
 ConfirmsNext n command t next before behind old new (Ok x) =
     (j : ScriptState) (earlier : List Step) → HoldsAt t old j earlier → Confirmed before behind old new j earlier n command next
@@ -60,7 +60,7 @@ pub record MeetsCommandNames (kind : Kind) (ls : List Literal) (t next : Table) 
   pub met : (j : ScriptState) → NamesHaveState t.names j → MeetsAll (naming_all kind (names_of ls) j) t.variables next.variables old new (Ok tt)
   pub changes : Changes t.names next.names (taken_by kind (names_of ls))
 
--- what a command of this kind adds or asks behind its names is met, or can't be
+-- what a command of this kind adds or asks after its names is met, or can't be
 abbrev pub MeetsContent : Kind → List Literal → NamedVars → NamedVars → View → View → Result (Unit {0}) Why → Type 0
 MeetsContent OfClause ls before after old new r = MeetsAll (Adds ls ∷ []) before after old new r
 MeetsContent OfAsk ls before after old new r = MeetsDue (λ o ask. Opens ls o) before after old new r
@@ -68,12 +68,12 @@ MeetsContent OfHide ls before after old new r = MeetsAll [] before after old new
 MeetsContent OfWitness ls before after old new r = MeetsAll [] before after old new r
 MeetsContent OfSample ls before after old new r = MeetsAll [] before after old new r
 
--- behind its names a command is confirmed, or can't be
+-- the rest of a command after its names is confirmed, or can't be
 abbrev pub ConfirmsContent : ℕ → Kind → List Literal → Table → Table → List ℕ → List ℕ → View → View → Result (Unit {0}) Why → Type 0
 ConfirmsContent n kind ls named next before behind old new r =
     (t : Table) (u : View) → MeetsCommandNames kind ls t named u old → ConfirmsNext n (command_of kind ls) t next before behind u new r
 
--- behind its assumptions an ask is confirmed by its answer, or can't be
+-- an ask is confirmed by its answer after its assumptions, or can't be
 abbrev pub ConfirmsAnswer : ℕ → List Literal → Table → Table → List ℕ → List ℕ → View → View → Result (Unit {0}) Why → Type 0
 ConfirmsAnswer n ask asked next before behind old new r =
     (t named : Table) (u v : View) → MeetsCommandNames OfAsk ask t named u v → named.names ≡ asked.names
@@ -85,19 +85,19 @@ abbrev pub MeetsShown : Names → List Literal → Outcome → NamedVars → Nam
 MeetsShown names ask o before after old new r =
     (j : ScriptState) → NamesHaveState names j → NamesIncrease j.in_use → MeetsAll (showing j ask o) before after old new r
 
--- and then its end; or they can't be
+-- the same with the end of the ask
 abbrev pub MeetsOutcome : Names → List Literal → Outcome → NamedVars → NamedVars → View → View → Result (Unit {0}) Why → Type 0
 MeetsOutcome names ask o before after old new r =
     (j : ScriptState) → NamesHaveState names j → NamesIncrease j.in_use → MeetsAll (showing j ask o ++ Closes ∷ []) before after old new r
 
--- What is left of the script is confirmed, from command n on, or can't be.
+-- The rest of the script is confirmed from command n on, or can't be.
 abbrev pub ConfirmsLast : ℕ → Reading → Table → List ℕ → View → Result (Unit {0}) Why → Type 0
 ConfirmsLast n script t before old (Ok x) =
     (j : ScriptState) (earlier : List Step) → HoldsAt t old j earlier → ToConfirm j n earlier script.0 script.1 before old.rest
 ConfirmsLast n script t before old (Err why) =
     (j : ScriptState) (earlier : List Step) → HoldsAt t old j earlier → ToConfirm j n earlier script.0 script.1 before old.rest → ⊥
 
--- So far: from one command on the script was confirmed up to another, and what was to be confirmed is so exactly if the rest is.
+-- The script was confirmed from one command up to another: it is confirmed completely exactly if the rest is.
 pub record IsThrough (old new : View) (j : ScriptState) (earlier : List Step) (n : ℕ) (script : Reading) (before : List ℕ)
     (m : ℕ) (left : Reading) (next : Table) (behind : List ℕ) : Type 0 where
   pub judge : ScriptState
@@ -106,7 +106,7 @@ pub record IsThrough (old new : View) (j : ScriptState) (earlier : List Step) (n
   pub on : ToConfirm j n earlier script.0 script.1 before old.rest → ToConfirm judge m later left.0 left.1 behind new.rest
   pub back : ToConfirm judge m later left.0 left.1 behind new.rest → ToConfirm j n earlier script.0 script.1 before old.rest
 
--- so for each state of the judge, and steps, for which the table stands
+-- the same for every script state and all steps for which the table holds
 abbrev pub Through : ℕ → Reading → Table → ℕ → Reading → Table → List ℕ → List ℕ → View → View → Result (Unit {0}) Why → Type 0
 Through n script t m left next before behind old new r =
     (j : ScriptState) (earlier : List Step) → HoldsAt t old j earlier → IsThrough old new j earlier n script before m left next behind

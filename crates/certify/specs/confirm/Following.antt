@@ -1,4 +1,4 @@
--- What names stand for behind one step more.
+-- What names stand for after one more step.
 use Rattle.std.specs.Prelude.{ℕ, ◌≤◌, ◌≡◌, true, false, Some, List, ◌∷◌}
 use Rattle.sat_base.specs.values.Literals.{var_limit}
 use Rattle.sat_base.specs.script.Script.{Literal}
@@ -11,7 +11,7 @@ use Rattle.certify.specs.confirm.Comparing.{Due}
 use Rattle.certify.specs.confirm.Variables.{variable_in}
 use Rattle.certify.specs.declared.confirm.variables.NamedVars.{NamedVars}
 
--- behind accepted steps these are the variables of the names: no two names have one, and each is known
+-- after accepted steps these are the variables of the names: no two names share one, and every one is known
 pub record StandFor (variables : NamedVars) (earlier : List Step) : Type 0 where
   pub accepted : Accepted checker_rules earlier
   pub named : variable_of earlier ≡ variable_in variables
@@ -19,12 +19,12 @@ pub record StandFor (variables : NamedVars) (earlier : List Step) : Type 0 where
   pub known : (m v : ℕ) → variable_of earlier m ≡ Some v → checker_rules.knows earlier v ≡ true
   pub few : (name v : ℕ) → variable_of earlier name ≡ Some v → name ≤ var_limit
 
--- behind an accepted step that is what is expected
+-- after an accepted step that is what is expected
 abbrev pub NamesFollow : Due → NamedVars → Step → NamedVars → Type 0
 NamesFollow due old step new = (earlier : List Step) (o : Outcome) (ask : List Literal) → StandFor old earlier
     → Fits (checker_rules.knows earlier) earlier (due o ask) step → Accepts (ready_after earlier) step → StandFor new (step ∷ earlier)
 
--- steps that nobody expects change nothing
+-- unordered steps change no variable of a name
 abbrev pub OthersPass : Type 0
 OthersPass = (variables : NamedVars) (earlier : List Step) (step : Step) → StandFor variables earlier
     → is_ordered step ≡ false → Accepts (ready_after earlier) step → StandFor variables (step ∷ earlier)

@@ -28,13 +28,13 @@ use Rattle.certify.specs.declared.verdict.Why.TheVariants.{AnswerMissing, Answer
 abbrev pub HasNoLf : List ℕ → Type 0
 HasNoLf = AllByRecursion (λ byte. byte ≡ 10 → ⊥)
 
--- one is the last
+-- an LF is the last byte, and the only LF
 pub record IsOneLine (text : List ℕ) : Type 0 where
   pub front : List ℕ
   pub none : HasNoLf front
   pub whole : text ≡ front ++ 10 ∷ []
 
--- so many bytes are a line, or all are and have no LF
+-- the first `n` bytes are a line, or all of them are and have no LF
 abbrev pub GoesUpToLine : Bool → List ℕ → ℕ → Type 0
 GoesUpToLine true bytes count = (count ≤ length bytes) × IsOneLine (take count bytes)
 GoesUpToLine false bytes count = (count ≡ length bytes) × HasNoLf bytes
@@ -44,13 +44,13 @@ abbrev pub EndsPart : Bool → List ℕ → List ℕ → Type 0
 EndsPart true text left = IsOneLine text
 EndsPart false text left = HasNoLf text × (left ≡ [])
 
--- bytes that waited were moved to the line in hand
+-- bytes that were read ahead were moved to the line being read
 abbrev pub MovesFront : {E : Type 0} → Result Bool E → LastPiece → LastPiece → List ℕ → List ℕ → Type 0
 MovesFront (Ok whole) old new before after = (text : List ℕ) × (waiting_bytes old ≡ text ++ waiting_bytes new) × (new.reads ≡ old.reads)
     × (after ≡ before ++ text) × EndsPart whole text (waiting_bytes new)
 MovesFront (Err e) old new before after = new ≡ old
 
--- the lines that may stand where one is read
+-- the lines that are expected next
 abbrev pub IsWantedLine : Wanted → List ℕ → List ℕ → Type 0
 IsWantedLine wanted.Due due line = line ≡ due
 IsWantedLine wanted.First due line = (k : AnswerKind) × (line ≡ first_answer_line k)
@@ -69,7 +69,7 @@ IsWrong P bytes = StartsNone P bytes × (bytes ≡ [] → ⊥)
 abbrev pub IsNextLine : (List ℕ → Type 0) → Source → Source → List ℕ → Type 0
 IsNextLine P a b line = (ConsumesBytes a b line × IsOneLine line) ⊎ ((ConsumesToEnd a b line × HasNoLf line) ⊎ ((ConsumesBytes a b line × HasNoLf line) × IsWrong P line))
 
--- so it is, or the reader failed, or memory was wanted
+-- the same, or the reader failed, or memory ran out
 abbrev pub ReadsLineOfKind : (List ℕ → Type 0) → Result (Unit {0}) ReadError → Source → Source → List ℕ → Type 0
 ReadsLineOfKind P (Ok x) a b line = IsNextLine P a b line
 ReadsLineOfKind P (Err errors.Failed) a b line = FaultsAhead a b
@@ -90,23 +90,23 @@ NextLine P (Err stop.TooMany) a b line = ⊥
 abbrev pub answers_source : {A : Type 0} → (A → Reader) → A → Answers → Source
 answers_source seen answers s = source_in seen answers s.lines.ahead
 
--- the line was taken, or isn't there
+-- the expected line was read, or another text is there
 abbrev pub TakesDueLine : List ℕ → List ℕ → List ℕ → Result (Unit {0}) Why → Type 0
 TakesDueLine old new line (Ok x) = old ≡ line ++ new
 TakesDueLine old new line (Err why) = (tail : List ℕ) → old ≡ line ++ tail → ⊥
 
--- what a call answers where no answer was read
+-- what a call returns if no answer was read
 abbrev pub stop_after : AnswerFault → Stop
 stop_after unread.Missing = stop.No AnswerMissing
 stop_after unread.Text = stop.No AnswerText
 stop_after unread.OutOfMemory = stop.OutOfMemory
 
--- the first line of an answer was read, or no answer stands there
+-- the first line of an answer was read, or the bytes begin with none
 abbrev pub ReadsFirst : List ℕ → List ℕ → Result AnswerKind Why → Type 0
 ReadsFirst before behind (Ok kind) = before ≡ first_answer_line kind ++ behind
 ReadsFirst before behind (Err why) = (o : Outcome) (tail : List ℕ) → before ≡ outcome_text o ++ tail → ⊥
 
--- so the second one of an answer of this kind, or none stands there
+-- the same of the second line of an answer of this kind
 abbrev pub ReadsSecond : AnswerKind → List Literal → List ℕ → List ℕ → Result (Unit {0}) Why → Type 0
 ReadsSecond kind line before behind (Ok x) = (before ≡ second_line (outcome_of kind line) ++ behind) × IsInForm (outcome_of kind line)
 ReadsSecond kind line before behind (Err why) =

@@ -17,7 +17,7 @@ OneEach (Ask ls ∷ commands) [] = ⊥
 OneEach (Ask ls ∷ commands) (o ∷ os) = OneEach commands os
 OneEach (command ∷ commands) outcomes = OneEach commands outcomes
 
--- a core stands by name, positive first, without repeats
+-- a core is sorted by name, of one name the positive literal first, without repeats
 abbrev pub InForm : Outcome → Type 0
 InForm (Sat line) = Unit {0}
 InForm (Unsat core) = InOrder core
@@ -30,7 +30,7 @@ MayBeUnmet (Shows names ask line) = ⊥
 MayBeUnmet (Fails ask core) = core ≡ []
 MayBeUnmet e = Unit {0}
 
--- behind the earlier steps, these steps are accepted in turn and the ordered ones are what is expected
+-- after the earlier steps, these steps are accepted in turn, and the ordered ones are those that are expected
 pub data Meets (k : CheckerRules) : List Step → List Step → List Expected → Type 0 where
   met : {earlier : List Step} → k.unsat earlier ≡ false → Meets k earlier [] []
   cut : {earlier : List Step} {es : List Expected} → k.unsat earlier ≡ true → AllByRecursion MayBeUnmet es → Meets k earlier [] es
@@ -47,8 +47,8 @@ pub record StepsMatch (k : CheckerRules) (commands : List Command) (outcomes : L
   pub in_form : AllByRecursion InForm outcomes
   pub meets : Meets k [] steps (expected start (accepted_of start commands) outcomes)
 
--- How a script is read is a definition of its own: here are its commands and how it ends. Nothing is said of what stands in the
--- certificate behind the steps.
+-- How a script is read is a definition of its own: here are its commands and how it ends. Nothing is said of the bytes after the steps in the
+-- certificate.
 pub record MatchesCommands (k : CheckerRules) (commands : List Command) (ending : ScriptEnding) (answers certificate : List ℕ) : Type 0 where
   pub outcomes : List Outcome
   pub steps : List Step

@@ -1,4 +1,4 @@
--- What the names of a command make of a certificate.
+-- The steps that the names of a command call for.
 use Rattle.std.specs.Prelude.{ℕ, ◌≡◌, Result, Ok, Err, List, [], ◌∷◌, ◌++◌, map}
 use Rattle.sat_base.specs.script.Script.{Hide, Witness, Sample}
 use Rattle.sat_base.specs.script.ScriptState.{ScriptState, Sampled, Witnessed, new_names, bring_all, accepted}
@@ -13,7 +13,7 @@ use Rattle.certify.specs.declared.judge.names.Names.{Names}
 use Rattle.certify.specs.declared.confirm.variables.NamedVars.{NamedVars}
 use Rattle.certify.specs.declared.verdict.Why.{Why}
 
--- just what is pending is met
+-- exactly what is pending was met
 pub record GoesOnTo (pending : List Expected) (after : NamedVars) (old : View) (earlier : List Step) (new : View) : Type 0 where
   pub later : List Step
   pub stands : CheckerIsAt new.checker after later
@@ -24,7 +24,7 @@ abbrev pub MeetsAll : List Expected → NamedVars → NamedVars → View → Vie
 MeetsAll pending before after old new (Ok x) = (earlier : List Step) → CheckerIsAt old.checker before earlier → GoesOnTo pending after old earlier new
 MeetsAll pending before after old new (Err why) = (earlier : List Step) → CheckerIsAt old.checker before earlier → MeetsNoneOf earlier old.rest pending
 
--- a name is hidden behind those that come in with it
+-- a name is hidden after those that are introduced with it
 abbrev pub hidden_by : Kind → ℕ → List Expected
 hidden_by OfClause name = []
 hidden_by OfAsk name = []
@@ -49,7 +49,7 @@ naming_all kind (name ∷ names) j = expected_naming kind name j ++ naming_all k
 abbrev pub MeetsNames : Kind → List ℕ → Names → NamedVars → NamedVars → View → View → Result (Unit {0}) Why → Type 0
 MeetsNames kind list names before after old new r = (j : ScriptState) → NamesHaveState names j → MeetsAll (naming_all kind list j) before after old new r
 
--- what a command makes of all its names
+-- the state after the names of a command
 abbrev pub taken_by : Kind → List ℕ → ScriptState → ScriptState
 taken_by kind [] j = j
 taken_by kind (name ∷ names) j = taken_by kind names (taken kind name j)

@@ -1,14 +1,14 @@
--- Steps that are read from the front of bytes.
+-- Steps that are read from the beginning of bytes.
 use Rattle.std.specs.Prelude.{ℕ, ◌≡◌, List, ◌++◌}
 use Rattle.sat_base.specs.steps.Steps.{Step}
 use Rattle.sat_base.specs.steps.StepText.{SpellsStep}
 
--- where a certificate was read to: the step that was read last, and the bytes behind it
+-- how far a certificate was read: the last step, and the bytes after it
 pub record CertificatePlace : Type 0 where
   pub step : Step
   pub rest : List ℕ
 
--- a step was read from the front of the bytes
+-- a step was read from the beginning of the bytes
 pub record ReadsStep (old new : CertificatePlace) : Type 0 where
   pub text : List ℕ
   pub spelt : SpellsStep new.step text

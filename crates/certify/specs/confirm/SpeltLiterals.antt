@@ -20,7 +20,7 @@ AreSpelt names (l ∷ ls) (c ∷ cs) = Spells names l c × AreSpelt names ls cs
 abbrev pub AnswersWhether : Bool → Type 0 → Type 0
 AnswersWhether answer IsSo = MatchBool answer IsSo (IsSo → ⊥)
 
--- each literal of the ask stands in the line
+-- every literal of the ask is in the line
 abbrev pub HasEach : List Literal → List Literal → Type 0
 HasEach line ask = AllByRecursion (λ l. Among l line) ask
 

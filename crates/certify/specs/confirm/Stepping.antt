@@ -1,4 +1,4 @@
--- What a certificate's steps bring, up to the next ordered one.
+-- The steps of a certificate up to the next ordered one.
 use Rattle.std.specs.Prelude.{ℕ, ◌==◌, ◌||◌, Bool, true, false, Option, Some, None, Result, Ok, Err}
 use Rattle.certify.specs.confirm.ReadSteps.{ReadsStep, BeginsNoStep}
 use Rattle.certify.specs.confirm.Views.{View, certificate_place}
@@ -10,17 +10,17 @@ use Rattle.certify.specs.declared.verdict.Why.{Why}
 abbrev pub is_ordered_tag : ℕ → Bool
 is_ordered_tag tag = tag == 2 || tag == 5 || tag == 10 || tag == 11 || tag == 12 || tag == 13
 
--- whether the checker was fed what was read by then
+-- whether the checker was fed what was read so far
 abbrev pub is_fed : Awaited → Bool
 is_fed awaited.Step = false
 is_fed awaited.Cut = true
 
--- the same while an ordered step is still looked for, which is None: one that isn't ordered is fed at once
+-- the same before an ordered step was found (`None`): every other step is fed at once
 abbrev pub is_fed_so_far : Option Awaited → Bool
 is_fed_so_far None = true
 is_fed_so_far (Some a) = is_fed a
 
--- a step was read, or none stands there
+-- a step was read, or the bytes begin with none
 abbrev pub ReadsOne : View → View → Result (Unit {0}) Why → Type 0
 ReadsOne old new (Ok x) = ReadsStep (certificate_place old) (certificate_place new)
 ReadsOne old new (Err why) = BeginsNoStep old.rest

@@ -1,4 +1,4 @@
--- What a call that reads answers, or answers and a certificate, makes of them, whatever would follow in either.
+-- What calls return that read answers, or answers and a certificate, whatever would follow in either.
 use Rattle.std.specs.Prelude.{ℕ, Bool, false, List, Result, Ok, Err}
 use Rattle.sat_base.specs.device.Reading.{Source}
 use Rattle.sat_base.specs.declared.device.whole.ReadError.{ReadError}
@@ -10,17 +10,17 @@ use Rattle.certify.specs.declared.confirm.stop.Stop.TheVariants as stop
 use Rattle.certify.specs.declared.confirm.stop.Stop.{Stop}
 use Rattle.certify.specs.declared.verdict.Why.{Why}
 
--- what a call answers where a text can't be read
+-- what a call returns if a text can't be read
 abbrev pub answers_stop : ReadError → Stop
 answers_stop errors.Failed = stop.AnswersRead
 answers_stop errors.OutOfMemory = stop.OutOfMemory
 
--- and where that text is the script
+-- the same if that text is the script
 abbrev pub script_stop : ReadError → Stop
 script_stop errors.Failed = stop.ScriptRead
 script_stop errors.OutOfMemory = stop.OutOfMemory
 
--- What a call answers that reads answers alone; P says what an answer makes of what was and is left of them.
+-- The result of a call that reads only answers: P says what it means for the answers left before and after.
 abbrev pub Replies : {A : Type 0} → Bool → Result A Stop → Source → Source → (List ℕ → List ℕ → Result A Why → Type 0) → Type 0
 Replies goes (Ok x) a b P = TakesSome goes a b × ((total : List ℕ) → Covers b total → P (rest_in total a) (rest_in total b) (Ok x))
 Replies goes (Err (stop.No why)) a b P =
@@ -32,11 +32,11 @@ Replies goes (Err stop.CounterEnd) a b P = ⊥
 Replies goes (Err stop.ScriptRead) a b P = ⊥
 Replies goes (Err stop.TooMany) a b P = ⊥
 
--- whatever it is
+-- says nothing
 abbrev pub Any : {A : Type 0} → View → View → Result A Why → Type 0
 Any old new r = Unit {0}
 
--- What a call answers that reads both; P says the same of both. M is so where the commands are too many.
+-- The result of a call that reads both: P says what it means for what is left of both. M holds if there are too many commands.
 abbrev pub Joins : {A : Type 0} → Type 0 → Bool → Result A Stop → Source → Source → Stream → Stream
     → (List ℕ → List ℕ → View → View → Result A Why → Type 0) → Type 0
 Joins M goes (Ok x) a b s t P = TakesSome goes a b

@@ -1,4 +1,4 @@
--- A certificate that is read step by step: what confirming makes of it, whatever would follow.
+-- A certificate that is read step by step, whatever would follow.
 use Rattle.std.specs.Prelude.{◌≡◌, ◌+◌, ◌-◌, ◌*◌, ◌≤◌, ℕ, Bool, true, false, List, [], ◌++◌, drop, length, Result, Ok, Err, OnOk}
 use Rattle.std.specs.Io.KnownBytes.{IsAtEnd}
 use Rattle.sat_base.specs.declared.steps.error.StepError.{StepError}
@@ -17,17 +17,17 @@ use Rattle.certify.specs.declared.confirm.stop.Stop.TheVariants as stop
 use Rattle.certify.specs.declared.verdict.Why.{Why}
 use Rattle.certify.specs.declared.verdict.Why.TheVariants.{CertificateEnds, StepRefused}
 
--- what its steps are read from, and what else confirming sees
+-- what its steps are read from, the checker, and the last step
 pub record Stream : Type 0 where
   pub source : Source
   pub checker : Kernel
   pub step : Step
 
--- the same, from a reader of steps and the checker that takes them
+-- the same, from a reader of steps and the checker that is fed them
 abbrev pub stream_of : {R : Type 0} → (R → Reader) → StepReader R Buffers → Kernel → Stream
 stream_of seen r checker = record { source = reader_source seen r; checker = checker; step = step_in r }
 
--- a reader of steps that goes on: it hasn't failed, and isn't at its end
+-- a reader of steps that can be read further: it has not failed, and is not at its end
 pub record StepsGoOn {R : Type 0} (seen : R → Reader) (r : StepReader R Buffers) : Type 0 where
   pub well : has_reader_failed r ≡ false
   pub open_yet : AtEnd (reader_source seen r) → ⊥
@@ -41,7 +41,7 @@ SameLoan old new = reader_name new ≡ reader_name old
 abbrev pub IsReadFew : {R : Type 0} → (R → Reader) → StepReader R Buffers → Type 0
 IsReadFew seen r = (reader_source seen r).reads ≤ most_reads
 
--- it goes on where no call failed
+-- it can be read further unless a call failed
 abbrev pub StepsGoOnIf : {R T E : Type 0} → Result T E → (R → Reader) → StepReader R Buffers → Type 0
 StepsGoOnIf result seen r = OnOk result (StepsGoOn seen r)
 
@@ -53,7 +53,7 @@ most_bytes_left s = piece_size * (most_reads - s.reads) + length s.waiting
 abbrev pub rest_in : List ℕ → Source → List ℕ
 rest_in total s = s.waiting ++ drop (length s.reader.given) total
 
--- what confirming sees then
+-- the state of the certificate, if these are all its bytes
 abbrev pub seen_in : List ℕ → Stream → View
 seen_in total s = record { checker = s.checker; step = s.step; rest = rest_in total s.source }
 
@@ -63,7 +63,7 @@ pub record Covers (s : Source) (total : List ℕ) : Type 0 where
   pub whole : total ≡ s.reader.given ++ later
   pub none : AtEnd s → later ≡ []
 
--- whatever would follow, this is so of what confirming saw and sees
+-- whatever would follow, P holds of the states of the certificate before and after
 abbrev pub HoldsWhateverFollows : Stream → Stream → (View → View → Type 0) → Type 0
 HoldsWhateverFollows old new P = (total : List ℕ) → Covers new.source total → P (seen_in total old) (seen_in total new)
 
@@ -75,12 +75,13 @@ TakesStreamBytes old new = (text : List ℕ) × ConsumesBytes old.source new.sou
 abbrev pub TakesBytesOrEnds : Stream → Stream → Type 0
 TakesBytesOrEnds old new = ((text : List ℕ) × ConsumesWithReads 1 old.source new.source text) × (AtEnd new.source → IsAtEnd new.source.reader.to_come)
 
--- A call goes on: this is so of what confirming saw and sees, and the checker was fed the steps between them, but for the last one
--- where that is still to be fed.
+-- A call succeeded: P holds of the states before and after, and the checker was fed the steps between them, except for the last one if that is
+-- still to be fed.
 abbrev pub GoesOnWith : Bool → Stream → Stream → (View → View → Type 0) → Type 0
 GoesOnWith fed old new P = TakesStreamBytes old new × HoldsWhateverFollows old new P × HoldsWhateverFollows old new (walks_if fed)
 
--- It stops, by no other text; P says what a no makes of what confirming saw and sees. Whatever stopped it, the checker took the looks of what it was fed.
+-- A call stopped, whatever would follow. P says what a `No` means for the states before and after. Whatever the cause, the looks are those of
+-- the steps that the checker was fed.
 abbrev pub StopsWith : Stop → Stream → Stream → (View → View → Why → Type 0) → Type 0
 StopsWith (stop.No why) old new P = TakesBytesOrEnds old new × HoldsWhateverFollows old new (λ a b. P a b why) × HoldsWhateverFollows old new FeedsSomeSteps
 StopsWith stop.CertificateRead old new P = ((text : List ℕ) × ConsumesAndFails old.source new.source text) × HoldsWhateverFollows old new FeedsSomeSteps
@@ -90,16 +91,16 @@ StopsWith stop.ScriptRead old new P = ⊥
 StopsWith stop.AnswersRead old new P = ⊥
 StopsWith stop.TooMany old new P = ⊥
 
--- What a call answers: it goes on, or it stops; P says what an answer makes of what confirming saw and sees.
+-- What a call returns: it succeeds or it stops. P says what the result means for the states before and after.
 abbrev pub GoesOrStops : {A : Type 0} → (A → Bool) → Result A Stop → Stream → Stream → (View → View → Result A Why → Type 0) → Type 0
 GoesOrStops fed (Ok x) old new P = GoesOnWith (fed x) old new (λ a b. P a b (Ok x))
 GoesOrStops fed (Err e) old new P = StopsWith e old new (λ a b why. P a b (Err why))
 
--- where the checker is fed each step that is read
+-- the same if the checker is fed every step that is read
 abbrev pub Confirms : {A : Type 0} → Result A Stop → Stream → Stream → (View → View → Result A Why → Type 0) → Type 0
 Confirms r old new P = GoesOrStops (λ x. true) r old new P
 
--- what a call answers that reads nothing: P says what it makes of what it was given
+-- the result of a call that reads nothing: P says what it means
 abbrev pub SaysAlone : {A : Type 0} → Result A Stop → (Result A Why → Type 0) → Type 0
 SaysAlone (Ok x) P = P (Ok x)
 SaysAlone (Err (stop.No why)) P = P (Err why)
@@ -110,7 +111,7 @@ SaysAlone (Err stop.ScriptRead) P = ⊥
 SaysAlone (Err stop.AnswersRead) P = ⊥
 SaysAlone (Err stop.TooMany) P = ⊥
 
--- what a call answers where no step was read
+-- what a call returns if no step was read
 abbrev pub stop_of : StepError → Stop
 stop_of errors.Ends = stop.No CertificateEnds
 stop_of errors.Cut = stop.No CertificateEnds

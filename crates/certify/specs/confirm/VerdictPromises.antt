@@ -48,8 +48,8 @@ pub record AreRightAnswers (script answers : List ℕ) : Type 0 where
 abbrev pub IsSoundVerdict : Reader × Reader → Reader × Reader → Verdict → Type 0
 IsSoundVerdict script answers v = v ≡ Yes → GaveTextWith script (λ s. GaveTextWith answers (AreRightAnswers s))
 
--- The reader gave a text of n bytes, and steps from its front lead from one count of looks up to the other, whatever would follow: with
--- at most 16 (n + 1)^2 looks.
+-- The reader gave a text of n bytes, and steps from its beginning lead from one count of looks to the other, whatever would follow. There are at
+-- most 16 (n + 1)^2 looks.
 pub record TakesLooks (old new : Reader) (from to : ℕ) : Type 0 where
   pub text : List ℕ
   pub front : GaveFront old new text

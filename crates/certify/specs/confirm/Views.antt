@@ -4,12 +4,12 @@ use Rattle.sat_base.specs.steps.Steps.{Step}
 use Rattle.certify.specs.confirm.ReadSteps.{CertificatePlace}
 use Rattle.sat_checker.specs.declared.kernel.Kernel.{Kernel}
 
--- a certificate as far as its steps were accepted
+-- How far a certificate was read, and the checker that its steps were fed to.
 pub record View : Type 0 where
   pub checker : Kernel  -- what the steps are fed to
   pub step : Step  -- the step that was read last
   pub rest : List ℕ  -- the bytes still to come
 
--- where it was read to
+-- how far it was read
 abbrev pub certificate_place : View → CertificatePlace
 certificate_place v = record { step = v.step; rest = v.rest }

@@ -10,8 +10,8 @@ use Rattle.sat_checker.specs.declared.kernel.Kernel.{Kernel}
 use Rattle.certify.specs.confirm.Feeding.{HasTaken}
 use Rattle.certify.specs.confirm.Views.{View}
 
--- From one count of looks another can be reached by steps from the front of the bytes: each is accepted behind the earlier ones, the
--- last perhaps not.
+-- One count of looks leads to another by steps from the beginning of the bytes: every one is accepted after the earlier ones, the last
+-- perhaps not.
 pub data LooksReach : List Step → List ℕ → ℕ → ℕ → Type 0 where
   same_looks : {earlier : List Step} {bytes : List ℕ} {looks : ℕ} → LooksReach earlier bytes looks looks
   looks_tried : {earlier : List Step} {bytes : List ℕ} {from to : ℕ} (step : Step) (text rest : List ℕ)
@@ -22,8 +22,8 @@ pub data LooksReach : List Step → List ℕ → ℕ → ℕ → Type 0 where
       → between ≤ from + most_looks (ready_after earlier) step → LooksReach (step ∷ earlier) rest between to
       → LooksReach earlier bytes from to
 
--- Behind steps from the front of the bytes, each accepted behind the earlier ones, a number is past 64 bits: as a pending unit conflict
--- is settled, or by the next step.
+-- After steps from the beginning of the bytes, each accepted after the earlier ones, a number does not fit into 64 bits: when a pending unit
+-- conflict is settled, or at the next step.
 pub data ReachesCounterEnd : List Step → List ℕ → Type 0 where
   spent_settling : {earlier : List Step} {bytes : List ℕ} → IsSpent (ready_after earlier) → ReachesCounterEnd earlier bytes
   spent_trying : {earlier : List Step} {bytes : List ℕ} (step : Step) (text rest : List ℕ)
@@ -32,14 +32,15 @@ pub data ReachesCounterEnd : List Step → List ℕ → Type 0 where
       → bytes ≡ text ++ rest → SpellsStep step text → Accepts (ready_after earlier) step → ReachesCounterEnd (step ∷ earlier) rest
       → ReachesCounterEnd earlier bytes
 
--- The checker was fed steps from the front of the bytes, and these are left: what can be reached from there can be from the beginning.
+-- The checker was fed steps from the beginning of the bytes, and these are left: what can be reached from there can be reached from the
+-- beginning.
 pub record IsFedFront (old : Kernel) (bytes : List ℕ) (new : Kernel) (rest : List ℕ) (earlier : List Step) : Type 0 where
   pub later : List Step
   pub taken : HasTaken new later
   pub reaches : (looks : ℕ) → LooksReach later rest (kernel_looks new) looks → LooksReach earlier bytes (kernel_looks old) looks
   pub spends : ReachesCounterEnd later rest → ReachesCounterEnd earlier bytes
 
--- it was fed all steps between two views
+-- it was fed all steps between two states
 abbrev pub FeedsAllSteps : View → View → Type 0
 FeedsAllSteps old new = (earlier : List Step) → HasTaken old.checker earlier → IsFedFront old.checker old.rest new.checker new.rest earlier
 
@@ -53,7 +54,7 @@ abbrev pub walks_if : Bool → View → View → Type 0
 walks_if true old new = FeedsAllSteps old new
 walks_if false old new = WalksBefore old new
 
--- it was fed some steps, the last of which it perhaps didn't take
+-- it was fed some steps, the last of which it perhaps didn't accept
 abbrev pub FeedsSomeSteps : View → View → Type 0
 FeedsSomeSteps old new = (earlier : List Step) → HasTaken old.checker earlier → LooksReach earlier old.rest (kernel_looks old.checker) (kernel_looks new.checker)
 

@@ -1,4 +1,4 @@
--- How a fold of names and modes stands for the judge's state.
+-- How a table of names and modes stands for a script state.
 use Rattle.std.specs.Prelude.{ℕ, suc, zero, ◌+◌, ◌≤◌, ◌<◌, ◌≡◌, Bool, true, false, Option, Some, None, List, [], ◌∷◌, ◌++◌, length, get_or, if◌then◌else◌}
 use Rattle.std.specs.List.{AllByRecursion}
 use Rattle.sat_base.specs.values.Literals.{var_limit}
@@ -44,7 +44,7 @@ states_of names = first_states names.states names.used
 abbrev pub UnusedAreUnlisted : Names → Type 0
 UnusedAreUnlisted names = (v : ℕ) → names.used ≤ v → value_at state.Sampled names.states v ≡ state.Sampled
 
--- names and modes are the judge's, who was asked of names within the limit alone
+-- names and modes are those of the script state; all names are within the limit
 pub record NamesHaveState (names : Names) (j : ScriptState) : Type 0 where
   pub first : j.first_unused ≡ names.used + 1
   pub limit : j.first_unused ≤ var_limit + 1
@@ -55,7 +55,7 @@ pub record NamesHaveState (names : Names) (j : ScriptState) : Type 0 where
   pub modes : length j.modes ≡ j.identity_count
   pub apart : (m n i : ℕ) → identity_of j m ≡ Some i → identity_of j n ≡ Some i → m ≡ n
 
--- is a name of this state out of use?
+-- whether a name in this state is not in use
 abbrev pub is_hidden : NameState → Bool
 is_hidden state.Hidden = true
 is_hidden state.Sampled = false
@@ -74,7 +74,7 @@ used_in states = used_from 1 states
 abbrev pub ListsUsed : Names → List ℕ → Type 0
 ListsUsed names codes = names_of (named_literals codes) ≡ used_in (states_of names)
 
--- the judge's refusal, whose names are counted from 1
+-- the refusal, with names counted from 1
 abbrev pub refusal_in : CodeRefusal → Refusal
 refusal_in code.Limit = PastLimit
 refusal_in (code.Witness v) = WitnessName (v + 1)
@@ -93,7 +93,7 @@ abbrev pub limit_refusal : Bool → Option CodeRefusal
 limit_refusal false = None
 limit_refusal true = Some code.Limit
 
--- is a name of this state in use, with mode witness?
+-- whether a name in this state is in use, with mode witness
 abbrev pub is_witnessed : NameState → Bool
 is_witnessed state.Hidden = false
 is_witnessed state.Sampled = false
@@ -121,15 +121,15 @@ changed_state OfHide name j = without_name name j
 changed_state OfWitness name j = with_mode Witnessed name j
 changed_state OfSample name j = with_mode Sampled name j
 
--- so behind bringing it in
+-- the same after the name was introduced
 abbrev pub taken : Kind → ℕ → ScriptState → ScriptState
 taken kind name j = changed_state kind name (bring_in name j)
 
--- a change of the judge's state
+-- a change of the script state
 abbrev pub Changes : Names → Names → (ScriptState → ScriptState) → Type 0
 Changes old new change = (j : ScriptState) → NamesHaveState old j → NamesHaveState new (change j)
 
--- does a command of this kind only bring names in?
+-- whether a command of this kind only introduces names
 abbrev pub is_of_literals : Kind → Bool
 is_of_literals OfClause = true
 is_of_literals OfAsk = true
@@ -137,7 +137,7 @@ is_of_literals OfHide = false
 is_of_literals OfWitness = false
 is_of_literals OfSample = false
 
--- none of these names comes in, and a command of this kind does no more with them
+-- none of these names is introduced, and a command of this kind does no more with them
 pub record BringsNothing (kind : Kind) (list : List ℕ) (names : Names) : Type 0 where
   pub of_literals : is_of_literals kind ≡ true
   pub known : (j : ScriptState) → NamesHaveState names j → AllByRecursion (λ name. new_names name j ≡ []) list

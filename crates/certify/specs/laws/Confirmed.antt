@@ -13,7 +13,7 @@ use Rattle.certify.specs.confirm.Matches.{Matches}
 use Rattle.certify.specs.run.Certifies.{Certifies}
 
 -- However a script is read: right outcomes, as they are answered, and accepted steps that certify them match it. Of the steps the
--- newest stands first; the certificate is their text.
+-- newest comes first; the certificate is their text.
 abbrev pub CertifiedMatches : Type 0
 CertifiedMatches =
     (reading : List ℕ → List Command × ScriptEnding) (script certificate : List ℕ) (outcomes : List Outcome) (steps : List Step) (counts : List ℕ)

@@ -1,4 +1,4 @@
--- The whole promise in one statement: a script is run, what was written is confirmed, and so are any answers with any certificate.
+-- The complete promise in one statement: a script is run, what was written is confirmed, and so are any answers with any certificate.
 use Rattle.std.specs.Prelude.{ℕ, ◌+◌, ◌*◌, ◌^◌, ◌≤◌, ◌≡◌, ◌↔◌, List, ◌++◌, length}
 use Rattle.sat_base.specs.device.Device.{Reader, GaveFront, CanFollow}
 use Rattle.sat_base.specs.script.Language.{reading}
@@ -10,7 +10,7 @@ use Rattle.certify.specs.declared.summary.Summary.{Summary}
 use Rattle.certify.specs.declared.verdict.Verdict.{Verdict}
 use Rattle.certify.specs.declared.verdict.Verdict.TheVariants.{Yes}
 
--- what a reader gave between two moments is a front of this text, of which the rest could follow
+-- what a reader gave between two moments is a prefix of this text, of which the rest could follow
 pub record CanBe (r : Reader × Reader) (text : List ℕ) : Type 0 where
   pub given : List ℕ
   pub rest : List ℕ
@@ -32,15 +32,15 @@ pub record VerdictSays (script answers certificate : List ℕ) (v : Verdict) : T
   pub exact : (v ≡ Yes) ↔ Matches checker_rules reading script answers certificate
   pub sound : v ≡ Yes → AreRightAnswers script answers
 
--- so many looks at most, for so many bytes
+-- the most looks for texts of these lengths
 abbrev pub most_looks_over : List ℕ → List ℕ → List ℕ → ℕ
 most_looks_over script answers certificate = 16 * (length script + length answers + length certificate + 1) ^ 2
 
--- A script was run, and these answers and this certificate were written. They were confirmed, and so were others, with so many looks.
+-- A script was run, and these answers and this certificate were written. They were confirmed, and so were others, and the looks were counted.
 pub record Certified (script : List ℕ) (budget : ℕ) (claimed shown : List ℕ) (summary : Summary) (answers certificate : List ℕ)
     (own other : Verdict) (before after : ℕ) : Type 0 where
-  -- one answer for each accepted ask: a right model, a right core, or unknown, once its rounds are exhausted, of which each stands in the
-  -- certificate, and never with 2^(2n+3) left at its start
+  -- one answer for each accepted ask: a right model, a right core, or unknown, once its rounds are exhausted. Every round is in the
+  -- certificate. Never unknown with 2^(2n+3) left at its start
   pub answered : CertificateGuarantee script budget summary answers certificate
   -- what a run wrote is confirmed
   pub confirmed : own ≡ Yes

@@ -23,9 +23,10 @@ EachTookRounds budget before (a ∷ asks) (o ∷ outcomes) (taken ∷ rounds) =
     TookRounds a.state.identity_count (rounds_allowed budget before) taken o × EachTookRounds budget (before + taken) asks outcomes rounds
 EachTookRounds budget before asks outcomes rounds = ⊥
 
--- A script was run, and wrote these answers and this certificate. The summary reports these rounds, one number for each ask. `own` is the
--- verdict on what was written, and `other` the verdict on the answers `claimed` with the certificate `shown`, whoever made them. The count of
--- looks was `before`, and is `after`.
+-- A script was run, and wrote these answers and this certificate. `rounds` are the numbers that the summary reports, one for each ask: that the
+-- search made them is not said here, only that the certificate has a byte for each (`in_certificate`). What each round derived is the clause
+-- `backed` of `run`. `own` is the verdict on what was written, and `other` the verdict on the answers `claimed` with the certificate `shown`,
+-- whoever made them. The count of looks was `before`, and is `after`.
 pub record Headline (script : List ℕ) (budget : ℕ) (rounds answers certificate : List ℕ) (own : Verdict)
     (claimed shown : List ℕ) (other : Verdict) (before after : ℕ) : Type 0 where
   -- one answer for each accepted ask: a right model, a right core, or unknown

@@ -1,4 +1,4 @@
--- What becomes of the certificate of a finished run where its hint text is wanted.
+-- The hint text of a finished run's certificate.
 use Rattle.std.specs.Prelude.{ℕ, ◌≡◌, Bool, Some, List, ◌++◌, Result, Ok, Err}
 use Rattle.sat_base.specs.device.Device.{Reader, Writer, WriterTakes}
 use Rattle.sat_base.specs.steps.Steps.{Step}
@@ -26,7 +26,7 @@ HasHints (Err Read) steps old new = Unit {0}
 HasHints (Err Write) steps old new = Unit {0}
 HasHints (Err OutOfMemory) steps old new = Unit {0}
 
--- that is what `convert` answers to the certificate of any finished run, where its reader tells the bytes, whatever stands behind them
+-- that is what `convert` returns for the certificate of any finished run, if the bytes are known, whatever follows them
 abbrev pub RunsHaveHints : Type 0
 RunsHaveHints = (budget : ℕ) (summary : Summary) (text answered certified more : List ℕ) (result : Result (Unit {0}) HintError) (from to : Reader) (old new : Writer)
     → (b : CertificateGuarantee text budget summary answered certified) → from.to_come ≡ Some (certified ++ more)

@@ -34,7 +34,7 @@ TautologyChangesNothing =
 abbrev pub AskBindsNothing : Type 0
 AskBindsNothing = (j : ScriptState) (ls : List Literal) → (accepted (Ask ls) j).clauses ≡ j.clauses
 
--- of an ask, only the names that it brings in count for what comes behind it
+-- of an ask, only the names that it introduces count for what follows
 abbrev pub AskLeavesNames : Type 0
 AskLeavesNames = (j : ScriptState) (ls ks : List Literal) → names_of ls ≡ names_of ks → accepted (Ask ls) j ≡ accepted (Ask ks) j
 

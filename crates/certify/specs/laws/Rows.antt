@@ -59,7 +59,7 @@ TwoUnitsRight = AnswersAreRight two_unit_commands (Unsat [] ∷ [])
 abbrev pub hidden_and_back : List Command
 hidden_and_back = Clause (pos 1 ∷ []) ∷ Hide (1 ∷ []) ∷ Clause (neg 1 ∷ []) ∷ Ask [] ∷ []
 
--- the judge's state behind it: two clauses, each over an identity of its own
+-- the script state after it: two clauses, each over an identity of its own
 abbrev pub HiddenAndBackState : Type 0
 HiddenAndBackState = after_script hidden_and_back start ≡ record {
   first_unused = 2;
@@ -116,13 +116,13 @@ ClauseAndAskSteps = StepsMatch checker_rules clause_and_ask (Sat (neg 1 ∷ pos 
 abbrev pub TwoUnitsSteps : Type 0
 TwoUnitsSteps = StepsMatch checker_rules two_unit_commands (Unsat [] ∷ []) (UserVarName 0 (Some 0) ∷ AddClause (0 ∷ []) ∷ AddClause (1 ∷ []) ∷ [])
 
--- The same as bytes: name steps, clause, assumptions, model, assumptions, end. What stands behind is of no matter.
+-- The same as bytes: name steps, clause, assumptions, model, assumptions, end. The bytes after that do not matter.
 abbrev pub ClauseAndAskMatches : Type 0
 ClauseAndAskMatches = (rest : List ℕ)
     → MatchesCommands checker_rules clause_and_ask Clean clause_and_ask_text
     (2 ∷ 0 ∷ 1 ∷ 2 ∷ 1 ∷ 2 ∷ 5 ∷ 2 ∷ 0 ∷ 2 ∷ 11 ∷ 0 ∷ 10 ∷ 2 ∷ 1 ∷ 2 ∷ 11 ∷ 0 ∷ 13 ∷ rest)
 
--- the same as bytes, with the answers `s UNSATISFIABLE`, `f 0`: what the certificate has behind the second clause is of no matter
+-- the same as bytes, with the answers `s UNSATISFIABLE`, `f 0`: the bytes of the certificate after the second clause do not matter
 abbrev pub TwoUnitsMatches : Type 0
 TwoUnitsMatches = (rest : List ℕ)
     → MatchesCommands checker_rules two_unit_commands Clean
@@ -146,7 +146,7 @@ NameOnOldVariable = (accepts : List Step → Step → Bool) (unsat : List Step �
     ∷ UserVarName 0 (Some 0) ∷ AddClause (1 ∷ []) ∷ End ∷ [])
     → ⊥
 
--- `1 0`, `a 0`: no answers match with `End` alone
+-- `1 0`, `a 0`: no answers match with only `End`
 abbrev pub EndAloneMatches : Type 0
 EndAloneMatches = (outcomes : List Outcome) → StepsMatch checker_rules (Clause (pos 1 ∷ []) ∷ Ask [] ∷ []) outcomes (End ∷ []) → ⊥
 
@@ -210,13 +210,13 @@ EarlyUncertified = (counts : List ℕ) → Certifies checker_rules
     ∷ UserVarName 1 (Some 1) ∷ AddClause (0 ∷ []) ∷ UserVarName 0 (Some 0) ∷ [])
     None [] (expected start chain_and_ask (Unsat [] ∷ [])) counts → ⊥
 
--- `1 0`, `-1 0`, `a 1 0` with a core that isn't empty, whether its step stands or not
+-- `1 0`, `-1 0`, `a 1 0` with a core that isn't empty, whether its step is there or not
 abbrev pub CoreUncertified : Type 0
 CoreUncertified = (shown : List Step) (counts : List ℕ)
     → Certifies checker_rules (shown ++ Assumptions (0 ∷ []) ∷ AddClause (1 ∷ []) ∷ AddClause (0 ∷ []) ∷ UserVarName 0 (Some 0) ∷ []) None []
     (expected start (Clause (pos 1 ∷ []) ∷ Clause (neg 1 ∷ []) ∷ Ask (pos 1 ∷ []) ∷ []) (Unsat (pos 1 ∷ []) ∷ [])) counts → ⊥
 
--- `1 0`, `a 0` with `End` alone
+-- `1 0`, `a 0` with only `End`
 abbrev pub EndAloneUncertified : Type 0
 EndAloneUncertified = (outcomes : List Outcome) (counts : List ℕ)
     → Certifies checker_rules (End ∷ []) None [] (expected start (Clause (pos 1 ∷ []) ∷ Ask [] ∷ []) outcomes) counts → ⊥
@@ -231,6 +231,6 @@ abbrev pub ModelUncertified : Type 0
 ModelUncertified = (counts : List ℕ)
     → Certifies checker_rules (End ∷ Assumptions [] ∷ Assumptions [] ∷ []) None [] (expected start (Ask [] ∷ []) (Sat [] ∷ [])) counts → ⊥
 
--- an empty script with a step behind `End`
+-- an empty script with a step after `End`
 abbrev pub BehindEndUncertified : Type 0
 BehindEndUncertified = (step : Step) (counts : List ℕ) → Certifies checker_rules (step ∷ End ∷ []) None [] (expected start [] []) counts → ⊥

@@ -1,4 +1,4 @@
--- What the words of a call ask for, and which status what it did has.
+-- What the words of a call ask for, and the status of what it did.
 use Rattle.std.specs.Prelude.{ℕ, ◌≡◌, ◌≤◌, ◌<◌, ◌⊎◌, true, Option, MatchOption, List, [], ◌∷◌, length, codes, Result, IfOk}
 use Rattle.std.specs.Str.{all_ascii_digits}
 use Rattle.std.specs.Str.Parse.{digits_value}
@@ -64,7 +64,7 @@ pub record TellsUsage (words : List (List ℕ)) (status : ℕ) : Type 0 where
   pub told : IsMisuse words → status ≡ 2
   pub only : status ≡ 2 → IsMisuse words ⊎ MayOverlap words
 
--- a run over these files, with at most so many rounds for each ask
+-- a run over these files, with at most `budget` rounds for each ask
 abbrev pub running : RunFiles → ℕ → Request
 running files budget = Run files.script.now files.answers.now files.certificate.now budget
 
@@ -79,7 +79,7 @@ request_of (call.Check hints) = Check hints.now
 abbrev pub IsCallOf : List (List ℕ) → Option Call → Type 0
 IsCallOf words answer = MatchOption answer (AsksNothing words) (λ c. AsksFor words (request_of c))
 
--- the call is this request, which keeps its input, or there is none and it doesn't
+-- the call is this request, which preserves its input, or there is none and it doesn't
 abbrev pub AllowsRequest : Option Call → Request → Type 0
 AllowsRequest answer request = MatchOption answer (KeepsInput request → ⊥) (λ c. (request_of c ≡ request) × KeepsInput request)
 

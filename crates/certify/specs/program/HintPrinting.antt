@@ -39,18 +39,18 @@ abbrev pub hint_verdict_text : HintVerdict → List ℕ
 hint_verdict_text (Proved empty cores lines) = proved_text empty cores lines
 hint_verdict_text (Bad line cause) = bad_text line cause
 
--- is the hint text a derivation?
+-- whether the hint text is a derivation
 abbrev pub is_proved : HintVerdict → Bool
 is_proved (Proved empty cores lines) = true
 is_proved (Bad line cause) = false
 
--- What the text is that a reader gave, whatever would follow, was printed. The status is 0 exactly where it is proved.
+-- The verdict on the text that a reader gave was printed, whatever would follow. The status is 0 exactly if it is proved.
 pub record PrintsHintVerdict (status : ℕ) (input : Reader × Reader) (output : Writer × Writer) : Type 0 where
   pub verdict : HintVerdict
   pub judges : GaveEnough input.0 input.1 (Judges verdict)
   pub printed : PrintsLine status (hint_verdict_text verdict) (is_proved verdict ≡ true) output.0 output.1
 
--- the status behind an answer of `convert`: the faults have another one
+-- the status for a result of `convert`: faults have another one
 abbrev pub status_behind : Result (Unit {0}) HintError → Option ℕ
 status_behind (Ok x) = Some 0
 status_behind (Err (error.Refused e)) = Some 1

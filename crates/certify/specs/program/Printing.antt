@@ -67,7 +67,7 @@ fault_text (fault.Run f) = run_fault_text f
 fault_text (fault.Confirm f) = confirm_fault_text f
 fault_text (fault.Hints f) = hints_fault_text f
 
--- the ask and the cause of a no, with LF
+-- the ask and the cause of a `No`, with LF
 abbrev pub no_text : ℕ → Why → List ℕ
 no_text ask why = decimal ask ++ 32 ∷ [] ++ why_text why ++ 10 ∷ []
 
@@ -85,12 +85,12 @@ yes_or_no_text (No ask why) = codes "no " ++ no_text ask why
 abbrev pub SaysExactly : Verdict → List ℕ → List ℕ → List ℕ → Type 0
 SaysExactly v script answers certificate = (v ≡ Yes) ↔ Matches checker_rules reading script answers certificate
 
--- does a fault of form end the script?
+-- whether the script is malformed
 abbrev pub is_malformed : ScriptEnding → Bool
 is_malformed Clean = false
 is_malformed Malformed = true
 
--- a run with all rounds allowed answers a text so: each answer is right, and none is unknown unless all rounds were exhausted
+-- the answers of a run with all rounds allowed: each is right, and none is unknown unless all rounds were exhausted
 abbrev pub IsAnswered : List ℕ → List ℕ → Type 0
 IsAnswered text answers = (summary : Summary) × AnswersRightly text most_rounds summary answers
 
@@ -100,7 +100,7 @@ pub record IsWritten (text : List ℕ) (w : Written) : Type 0 where
   pub answered : IsAnswered text w.answers.items
   pub matches : Matches checker_rules reading text w.answers.items w.certificate.items
 
--- Right answers to a text were printed, and behind them that they are confirmed. The status is 0 exactly where the text isn't malformed.
+-- Right answers to a text were printed, and after them `c confirmed`. The status is 0 exactly if the text isn't malformed.
 pub record Prints (status : ℕ) (text : List ℕ) (old new : Writer) : Type 0 where
   pub answers : List ℕ
   pub answered : IsAnswered text answers
@@ -125,7 +125,7 @@ pub record PrintsPrefix (text : List ℕ) (old new : Writer) : Type 0 where
 abbrev pub PrintsAtMost : Reader × Reader → Writer × Writer → Type 0
 PrintsAtMost input output = TookBytes output.0 output.1 [] ⊎ GaveEnough input.0 input.1 (λ text. PrintsPrefix text output.0 output.1)
 
--- A line was printed. The status is 0 exactly where this is so.
+-- A line was printed. The status is 0 exactly if IsSo holds.
 pub record PrintsLine (status : ℕ) (line : List ℕ) (IsSo : Type 0) (old new : Writer) : Type 0 where
   pub printed : WriterTakes old new line
   pub flushed : new.flushed ≡ true
@@ -137,7 +137,7 @@ pub record PrintsYesOrNo (status : ℕ) (script answers certificate : Reader × 
   pub exact : Exact script answers certificate verdict
   pub printed : PrintsLine status (yes_or_no_text verdict) (verdict ≡ Yes) output.0 output.1
 
--- The answers to the text that a reader gave were written, and their certificate. The status is 0 exactly where it isn't malformed.
+-- The answers to the text that a reader gave were written, and their certificate. The status is 0 exactly if it isn't malformed.
 pub record Ran (status budget : ℕ) (script : Reader × Reader) (answers certificate : Writer × Writer) : Type 0 where
   pub summary : Summary
   pub backed : TookCertificate budget summary script answers certificate

@@ -43,7 +43,7 @@ abbrev pub DerivesAdvancing : Stored → Step → Type 0
 DerivesAdvancing f (AtClause redundant clause hashes) = AdvancesStored f clause
 DerivesAdvancing f step = ⊥
 
--- exactly so many of these steps are derived clauses that advance, each behind the steps before it
+-- exactly `count` of these steps are derived clauses that advance, each after the steps before it
 abbrev pub AdvanceTimesStored : (earlier steps : List Step) → ℕ → Type 0
 AdvanceTimesStored earlier [] k = k ≡ 0
 AdvanceTimesStored earlier (step ∷ steps) k = (AdvanceTimesStored earlier steps k × (DerivesAdvancing (ready_after (steps ++ earlier)) step → ⊥))

@@ -1,4 +1,4 @@
--- How an ask is looked into, before its answer is written.
+-- How an ask is answered, before its answer is written.
 use Rattle.std.specs.Prelude.{ℕ, ◌≡◌, List}
 use Rattle.sat_base.specs.device.Device.{Writer}
 use Rattle.sat_solver.specs.solver.Adding.{ReplacesAssumptions}

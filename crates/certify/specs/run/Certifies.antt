@@ -18,7 +18,7 @@ MayLack (Adds ls) = Unit {0}
 MayLack (Fails ask core) = core ≡ []
 MayLack e = ⊥
 
--- Once unsat is recorded, no model stands and no core. How an ask is opened and closed is spoken of apart.
+-- Once unsat is recorded, there is no step for a model or a core. How an ask is opened and closed is stated apart.
 abbrev pub MayStand : Bool → Expected → Type 0
 MayStand unsat (Shows names ask line) = unsat ≡ false
 MayStand unsat (Fails ask core) = unsat ≡ false
@@ -32,7 +32,7 @@ pub record IsKnown (o : Outcome) (n : ℕ) : Type 0 where
   pub rounds : n ≡ 0
 
 -- From the earlier steps up to all, these are what is expected, in order and content, among others. Behind the last that is expected
--- there is none. The asks took so many rounds. At first the ask of this outcome is open, or none is.
+-- there is none. `counts` are the rounds of the asks. At first the ask of this outcome is open, or none is.
 pub data Certifies (k : CheckerRules) (all : List Step) : Option Outcome → List Step → List Expected → List ℕ → Type 0 where
   complete : Certifies k all None all [] []
   left_out : {current : Option Outcome} {earlier : List Step} {e : Expected} {es : List Expected} {counts : List ℕ}

@@ -31,13 +31,13 @@ pub record ClosedBy {C : Type 0} (seen : C → Writer) (s : Solver C) (given : C
   pub takes : TakesAll (target_of seen (proof_in s)) (End ∷ []) (seen given)
   pub may : MayAll (End ∷ steps_in s)
 
--- behind more steps, the writer is given back as it is
+-- after more steps, the writer is returned as it is
 pub record GivenBack {C : Type 0} (seen : C → Writer) (Goes : (C → Writer) → Proof C → Proof C → Type 0) (s : Solver C) (given : C) : Type 0 where
   pub proof : Proof C
   pub goes : Goes seen (proof_in s) proof
   pub gives : GivesWriter (target_of seen proof) (Some (seen given))
 
--- Where its certificate was opened before any step, and it has come from there, also to a fault: the writer that is given back took a front
+-- Where its certificate was opened before any step, and it has come from there, also to a fault: the writer that is returned took a prefix
 -- of the text of accepted steps.
 pub record GivesFront {C : Type 0} (seen : C → Writer) (s : Solver C) (given : C) : Type 0 where
   pub front : (opened : Solver C) (from : Writer) → target_of seen (proof_in opened) ≡ Open Varisat uncounted (empty_sink from)
@@ -65,7 +65,7 @@ pub record SumsUp {C : Type 0} (at : Option ℕ) (s : RunState C) (summary : Sum
   pub ends : summary.malformed ≡ at
   pub asks : summary.asks ≡ s.asks
 
--- A run whose script was served so ends so: behind a fault nothing more is written.
+-- A run whose script was served so ends so: after a fault nothing more is written.
 abbrev pub EndsRun : {C : Type 0} → (C → Writer) → Result (Option ℕ) RunFault → Result Summary RunFault → RunState C → C → Writer → Writer → Type 0
 EndsRun seen (Ok at) (Ok summary) s given before after = FinishesRun seen (Ok tt) s.solver given before after × SumsUp at s summary
 EndsRun seen (Ok at) (Err e) s given before after = FinishesRun seen (Err e) s.solver given before after

@@ -49,7 +49,7 @@ pub record SpendsWithinBudget (budget before : ℕ) (report : AskReport) : Type 
   pub within : report.steps ≤ rounds_allowed budget before
   pub unknown : report.answer ≡ kind.Unknown → report.steps ≡ rounds_allowed budget before
 
--- Where n identities were given out once its names came in, it takes fewer than 2^(2n+3) rounds, so it has an answer if as many are left.
+-- If n identities were given out once its names were introduced, it takes fewer than 2^(2n+3) rounds, so it has an answer if as many are left.
 pub record IsBounded (n budget before : ℕ) (report : AskReport) : Type 0 where
   pub few : report.steps < 2 ^ (2 * n + 3)
   pub answered : 2 ^ (2 * n + 3) ≤ rounds_allowed budget before → report.answer ≡ kind.Unknown → ⊥
@@ -67,7 +67,7 @@ identities_given j (Sample names ∷ commands) = identities_given (accepted (Sam
 abbrev pub rounds_of_asks : List AskReport → List ℕ
 rounds_of_asks reports = map (λ r. r.steps) reports
 
--- each ask's rounds, over so many identities, the earlier ones having taken these before
+-- the rounds of every ask, given the number of identities at each, and the rounds of the asks before these
 abbrev pub AreWithinBudget : (budget before : ℕ) → (given : List ℕ) → List AskReport → Type 0
 AreWithinBudget budget before [] [] = Unit {0}
 AreWithinBudget budget before [] (report ∷ reports) = ⊥
@@ -88,8 +88,8 @@ pub record AnswersRightly (text : List ℕ) (budget : ℕ) (summary : Summary) (
   pub spent : AreWithinBudget budget 0 (identities_given start (accepted_of start (reading text).0)) summary.asks.items
 
 -- What its certificate is to the answers: it spells steps, the oldest first, which are, in order, those of the accepted commands and of
--- these outcomes, which took the steps that the summary reports. Each is accepted in its turn. The list has the newest first.
--- Beside them it has such as the solver makes for commands and asks, in their places, and widths for their hashes.
+-- these outcomes, which took the rounds that the summary reports. Each is accepted in its turn. The list has the newest first.
+-- Besides them it has those that the solver makes for commands and asks, in their places, and widths for their hashes.
 pub record CertificateGuarantee (text : List ℕ) (budget : ℕ) (summary : Summary) (answered certified : List ℕ) : Type 0 where
   pub is_answered : AnswersRightly text budget summary answered
   pub steps : List Step
@@ -102,9 +102,9 @@ pub record CertificateGuarantee (text : List ℕ) (budget : ℕ) (summary : Summ
   pub follows : ServesCommands start [] made (accepted_of start (reading text).0) is_answered.outcomes (rounds_of_asks summary.asks.items)
   pub counting : Counting
   pub cuts : TruncatesHashes uncounted (End ∷ made) steps counting
-  -- each step that an ask took has derived a clause that advances, but for the one that answered, and no other clause of the ask does
+  -- every round of an ask derived a clause that advances, except the one that answered, and no other clause of the ask advances
   pub learns : EachLearns steps 0 is_answered.outcomes (rounds_of_asks summary.asks.items)
-  -- where no accepted command hides a name, no variable is deleted
+  -- if no accepted command hides a name, no variable is deleted
   pub keeps : AllByRecursion HidesNothing (accepted_of start (reading text).0) → has_delete_var steps ≡ false
 
 -- WHAT THREE DEVICES SHOW OF IT

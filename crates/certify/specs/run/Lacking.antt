@@ -8,8 +8,8 @@ use Rattle.sat_base.specs.values.Literals.{var_limit}
 use Rattle.sat_checker.specs.SortedSets.{NoRepeats}
 use Rattle.sat_checker.specs.matching.ProofChecking.{checker_rules}
 
--- So many proof variables are in use after these steps, as a checker knows them, that with the names that are introduced they are more than
--- there are.
+-- The proof variables in use after these steps, as a checker knows them, and the names that are introduced are together more than the
+-- limit.
 pub record LacksVariables (steps : List Step) (introduced : ℕ) : Type 0 where
   pub in_use : List ℕ
   pub once : NoRepeats in_use

@@ -1,4 +1,4 @@
--- Where asks stand in a certificate, and how often a clause that advances is derived there. Lists of steps have the newest first.
+-- Where asks are in a certificate, and how many clauses that advance are derived there. Lists of steps have the newest first.
 use Rattle.std.specs.Prelude.{ℕ, ◌+◌, ◌*◌, ◌≡◌, List, [], ◌∷◌, ◌++◌}
 use Rattle.sat_base.specs.steps.Steps.{Step, Assumptions}
 use Rattle.sat_checker.specs.matching.Expected.{Outcome, Unknown}

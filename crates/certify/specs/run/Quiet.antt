@@ -1,4 +1,4 @@
--- A run's solver, to whose own checker nobody listens.
+-- A run's solver, whose own checker has no listener.
 use Rattle.sat_checker.specs.contracts.processing.NobodyProofProcessor.TheImpl.{ghosts}
 use Rattle.sat_checker.specs.declared.processing.Nobody.{Nobody}
 use Rattle.sat_solver.specs.declared.proof.Proof as proofs
@@ -8,6 +8,6 @@ use Rattle.sat_solver.specs.declared.solver.Solver as solvers
 abbrev pub Solver : Type 0 → Type 0
 Solver C = solvers.Solver C Nobody ghosts
 
--- what it keeps of its steps, and where their text goes
+-- its proof: the steps, and where their text is written
 abbrev pub Proof : Type 0 → Type 0
 Proof C = proofs.Proof C Nobody ghosts

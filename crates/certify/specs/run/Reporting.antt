@@ -1,4 +1,4 @@
--- What a run tells of what its solver found.
+-- What a run reports of what its solver found.
 use Rattle.sat_checker.specs.LiteralSets.{canonical}
 use Rattle.sat_checker.specs.matching.Expected.{Outcome, Sat, Unsat, Unknown}
 use Rattle.sat_solver.specs.solver.Resting.{IsRightLine, IsRightCoreOf, core_for}
@@ -14,7 +14,7 @@ outcome_for kind.Sat s = Sat (named_literals (line_in s))
 outcome_for kind.Unsat s = Unsat (named_literals (canonical (core_for s.state s)))
 outcome_for kind.Unknown s = Unknown
 
--- and it is right, whatever the judge's state is that the solver agrees with
+-- and it is right, in every script state that the solver agrees with
 abbrev pub IsReportedRight : {C : Type 0} → Answer → Solver C → Type 0
 IsReportedRight kind.Sat s = IsRightLine s (line_in s)
 IsReportedRight kind.Unsat s = IsRightCoreOf s (core_for s.state s)

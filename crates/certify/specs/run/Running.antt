@@ -28,7 +28,7 @@ pub record Finished (budget : ℕ) (summary : Summary) (script : Reader × Reade
   pub answers_flushed : answers.1.flushed ≡ true
   pub certificate_flushed : certificate.1.flushed ≡ true
 
--- so, or one call of one device failed, perhaps, which the fault names
+-- the same, or a fault: if it names a device, one call of that device failed
 abbrev pub FinishesOrFaults : Result Summary RunFault → ℕ → Reader × Reader → Writer × Writer → Writer × Writer → Type 0
 FinishesOrFaults (Ok summary) budget script answers certificate = Finished budget summary script answers certificate
 FinishesOrFaults (Err e) budget script answers certificate = RunFaultSays e

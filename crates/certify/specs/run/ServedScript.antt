@@ -47,8 +47,8 @@ pub record ServedAll {C : Type 0} (seen : C → Writer) (j : ScriptState) (comma
   pub refusals : new.refused ≡ old.refused + refused
   pub serves : Serves old.budget (place_in old j) (place_in new judge) commands text reports refused
 
--- From this place on the whole script was served, which made these steps. This was answered, these are the reports of the asks, and
--- so many commands were refused.
+-- The complete script was served from this place on, which made these steps. `text` was answered, `reports` are those of the asks, and
+-- `refused` commands were refused.
 pub record ServesTo (budget : ℕ) (a : RunPlace) (script : Reading) (to : List Step)
     (answered : List ℕ) (reports : List AskReport) (refused : ℕ) : Type 0 where
   pub outcomes : List Outcome
@@ -59,7 +59,7 @@ pub record ServesTo (budget : ℕ) (a : RunPlace) (script : Reading) (to : List 
   pub spent : AreWithinBudget budget a.rounds (identities_given a.judge (accepted_of a.judge script.0)) reports
   pub follows : ServesCommands a.judge a.steps to (accepted_of a.judge script.0) outcomes (rounds_of_asks reports)
 
--- The whole script was served, in which so many commands stand. It is malformed at this command, if it is.
+-- The complete script was served, with this number of commands. It is malformed at this command, if it is.
 pub record ServesWhole {C : Type 0} (seen : C → Writer) (j : ScriptState) (script : Reading) (count : ℕ) (at : Option ℕ)
     (old new : RunState C) (before after : Writer) : Type 0 where
   pub took : ComesBySteps seen (proof_in old.solver) (proof_in new.solver)
@@ -73,8 +73,8 @@ pub record ServesWhole {C : Type 0} (seen : C → Writer) (j : ScriptState) (scr
   pub refusals : new.refused ≡ old.refused + refused
   pub serves : ServesTo old.budget (place_in old j) script (steps_in new.solver) text reports refused
 
--- Between two of these commands were served; behind them the reader of scripts stands where `left` says what is left, and `plain` what
--- is left of the commands that stand in the text.
+-- These commands were served between two places. After them, `left` says what the reader of scripts has still to read, and `plain` which
+-- commands of the text are left.
 pub record ServesThrough {C : Type 0} (seen : C → Writer) (j : ScriptState) (text counted : List ℕ → Reading) (a b : Source)
     (reader : ScriptReader) (old new : RunState C) (before after : Writer) : Type 0 where
   pub commands : List Command
@@ -111,7 +111,7 @@ FailsWhole seen e a b old new before after = RunFaultSays e
     (TakesSomeOrEnds a b × NoneFailed before after × BreaksEmitting seen (proof_in old) (proof_in new))
     (TakesSomeOrEnds a b × NoneFailed before after × ComesBySteps seen (proof_in old) (proof_in new))
 
--- The script is served to its end; or there's a fault, and a front of right answers was written. It is none of store or counter without
+-- The script is served to its end; or there's a fault, and a prefix of right answers was written. It is none of store or counter without
 -- a cause.
 abbrev pub ServesScript : {C : Type 0} → (C → Writer) → ScriptState → (List ℕ → Reading) → (List ℕ → Reading) → Result (Option ℕ) RunFault
     → Source → Source → RunState C → RunState C → Writer → Writer → Type 0

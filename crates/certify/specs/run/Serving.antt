@@ -10,7 +10,7 @@ use Rattle.certify.specs.run.FinishedRun.{refused_count, answer_kind, AreWithinB
 use Rattle.certify.specs.run.Stretches.{ServesCommands}
 use Rattle.certify.specs.declared.summary.AskReport.{AskReport}
 
--- where a run stands: the judge's state, the number of the next command, the steps made so far and the rounds
+-- the place of a run: the script state, the number of the next command, the steps made so far and the rounds
 pub record RunPlace : Type 0 where
   pub judge : ScriptState
   pub number : ℕ
@@ -36,6 +36,6 @@ pub record Serves (budget : ℕ) (a b : RunPlace) (commands : List Command)
       → ServesCommands b.judge b.steps to (accepted_of b.judge left) rest counts
       → ServesCommands a.judge a.steps to (accepted_of a.judge (commands ++ left)) (outcomes ++ rest) (rounds_of_asks reports ++ counts)
 
--- behind a command that isn't refused
+-- after a command that isn't refused
 abbrev pub place_after : RunPlace → Command → List Step → ℕ → RunPlace
 place_after a c steps rounds = record { judge = accepted c a.judge; number = a.number + 1; steps = steps; rounds = rounds }

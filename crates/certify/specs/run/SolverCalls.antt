@@ -26,7 +26,7 @@ use Rattle.certify.specs.run.FinishedRun.{SpendsWithinBudget}
 use Rattle.certify.specs.run.Lacking.{CommandLacks}
 use Rattle.certify.specs.run.Quiet.{Proof, Solver}
 
--- what a solver that goes on, and isn't refused, may fail of
+-- the errors of a solver that has not failed before, and refuses nothing
 abbrev pub IsSolverFault : SolverError → Type 0
 IsSolverFault = IsNameFaultOr (Unit {0})
 
@@ -37,12 +37,12 @@ fault_for errors.OutOfMemory = fault.OutOfMemory
 fault_for errors.StoreFull = fault.StoreFull
 fault_for e = fault.CounterEnd
 
--- were the rounds spent?
+-- whether the rounds are exhausted
 abbrev pub is_interrupted : SolverError → Bool
 is_interrupted errors.Interrupted = true
 is_interrupted e = false
 
--- what each fault says, where writing the answers failed, writing the certificate, and what no device decides; the script wasn't read
+-- what each fault says: of a failed write of answers, of one of the certificate, and of the rest; the script is not read here
 abbrev pub FaultSays : RunFault → Type 0 → Type 0 → Type 0 → Type 0
 FaultSays fault.ScriptRead answers certificate rest = ⊥
 FaultSays fault.AnswersWrite answers certificate rest = answers
@@ -51,7 +51,7 @@ FaultSays fault.OutOfMemory answers certificate rest = rest
 FaultSays fault.StoreFull answers certificate rest = rest
 FaultSays fault.CounterEnd answers certificate rest = rest
 
--- why a fault came that is no device's and no want of memory: the clause buffer is full, or a variable is lacking for a name
+-- the cause of a fault that is neither a device's nor an allocation failure: the clause buffer is full, or a name lacks a variable
 abbrev pub IsCaused : RunFault → (full lacks : Type 0) → Type 0
 IsCaused fault.ScriptRead full lacks = Unit {0}
 IsCaused fault.AnswersWrite full lacks = Unit {0}
@@ -76,14 +76,14 @@ FailsIf r seen old new = IfErr r (λ e. FailsSolver seen e old new)
 abbrev pub HasNoLines : {C : Type 0} → Proof C → Type 0
 HasNoLines {C} p = (seen : C → Writer) → is_drat (target_of seen p) ≡ false
 
--- a solver that goes on, whose asks may have assumptions, with no checker of its own
+-- a solver that has not failed, whose asks may have assumptions, with no checker of its own
 pub record IsReadySolver {C : Type 0} (s : Solver C) : Type 0 where
   pub solver : IsSolver s
   pub going : s.failed ≡ false
   pub no_lines : HasNoLines (proof_in s)
   pub unchecked : is_checked (proof_in s) ≡ false
 
--- none of the names is refused, by a state of the judge that the solver agrees with
+-- none of the names is refused, in a script state that the solver agrees with
 abbrev pub IsAllowed : {C : Type 0} → Solver C → List ℕ → Type 0
 IsAllowed s user = (j : ScriptState) × (live : Live) × NamesAgree s.names (steps_in s) j live × (refused_literal j (names_in user) ≡ None)
 
@@ -101,7 +101,7 @@ abbrev pub LacksFor : {C : Type 0} → Solver C → Solver C → Command → Typ
 LacksFor old new c = (j : ScriptState) (live : Live) → NamesAgree old.names (steps_in old) j live
     → (var_limit < (accepted c j).identity_count) × CommandLacks j c (steps_in new)
 
--- from here on a search makes at most so many rounds
+-- from now on a search makes at most `budget` rounds
 pub record Limited {C : Type 0} (budget : ℕ) (old new : Solver C) : Type 0 where
   pub ready : IsReadySolver new
   pub limit : new.core.config.max_steps ≡ budget
@@ -123,7 +123,7 @@ pub record Solved {C : Type 0} (seen : C → Writer) (answer : Answer) (old new 
   pub answered : Answered seen old new
   pub answer_is : AnswerIs new.state answer
 
--- with at most so many rounds, of which it made some
+-- with at most `budget` rounds, of which it made some
 pub record Searched {C : Type 0} (seen : C → Writer) (budget : ℕ) (report : AskReport) (old new : Solver C) : Type 0 where
   pub mid : Solver C
   pub limited : Limited budget old mid

@@ -1,4 +1,4 @@
--- How a run stands between commands, and what one of them leaves.
+-- The state of a run between commands, and the effect of a command.
 use Rattle.std.specs.Prelude.{ℕ, ◌+◌, ◌≤◌, ◌≡◌, None, List, [], ◌∷◌, ◌++◌, IfErr, OnErr, Result, MatchResult}
 use Rattle.sat_base.specs.device.Device.{Writer, WriterTakes}
 use Rattle.sat_base.specs.script.Script.{Command}
@@ -24,18 +24,18 @@ use Rattle.certify.specs.run.SolverCalls.{FaultSays, IsCaused, IsReadySolver, La
 use Rattle.certify.specs.run.Serving.{RunPlace, Serves}
 use Rattle.certify.specs.run.Quiet.{Solver}
 
--- the judge's state is this, whatever names say of it
+-- the script state is this, whatever names say of it
 pub record AgreesWithState {C : Type 0} (s : Solver C) (j : ScriptState) (live : Live) : Type 0 where
   pub agree : NamesAgree s.names (steps_in s) j live
   pub kept : ScriptStateInvariant j
 
--- a run between commands, where the judge's state is this
+-- a run between commands, in this script state
 pub record HasStateBetweenCommands {C : Type 0} (s : RunState C) (j : ScriptState) : Type 0 where
   pub live : Live
   pub means : AgreesWithState s.solver j live
   pub names : NamesHaveState s.names j
 
--- a run that goes on between commands, with nothing assumed
+-- a run between commands, with nothing assumed
 pub record RunGoesOn {C : Type 0} (s : RunState C) : Type 0 where
   pub ready : IsReadySolver s.solver
   pub free : s.solver.assumed.items ≡ []
@@ -43,7 +43,7 @@ pub record RunGoesOn {C : Type 0} (s : RunState C) : Type 0 where
   pub judge : ScriptState
   pub at : HasStateBetweenCommands s judge
 
--- where a run stands, by the judge's state
+-- the place of a run, by the script state
 abbrev pub place_in : {C : Type 0} → RunState C → ScriptState → RunPlace
 place_in s j = record { judge = j; number = s.commands + 1; steps = steps_in s.solver; rounds = s.solver.clock.rounds }
 
@@ -55,11 +55,11 @@ last_place s j = record { judge = j; number = s.commands; steps = steps_in s.sol
 abbrev pub spelled_by : Lent → Command
 spelled_by lent = command_of (kind_of lent.kind) (named_literals lent.literals.now)
 
--- no judge for whom the names stand refuses it
+-- it is not refused in any script state that has these names
 abbrev pub NamesAllow : Names → Command → Type 0
 NamesAllow names c = (j : ScriptState) → NamesHaveState names j → refusal_of j c ≡ None
 
--- the last command that came was carried out by solver and answers; the names are told of it apart
+-- solver and answers carried out the last command; what it does to the names is stated apart
 pub record CarriedOut {C : Type 0} (seen : C → Writer) (old new : RunState C) (c : Command) (before after : Writer) : Type 0 where
   pub ready : IsReadySolver new.solver
   pub free : new.solver.assumed.items ≡ []
@@ -100,7 +100,7 @@ pub record ServedNext {C : Type 0} (seen : C → Writer) (old new : RunState C) 
   pub serves : (j : ScriptState) → HasStateBetweenCommands old j
       → HasStateBetweenCommands new (after_command c j) × Serves old.budget (place_in old j) (place_in new (after_command c j)) (c ∷ []) text reports refused
 
--- Where the last command, which isn't refused, wasn't carried out, a front of right answers to it and what is left was written.
+-- If the last command, which isn't refused, wasn't carried out, a prefix of right answers to it and to the rest was written.
 abbrev pub StopsCarrying : {T C : Type 0} → Result T RunFault → RunState C → Command → Reading → Writer → Writer → Type 0
 StopsCarrying r old c left before after =
     OnErr r ((j : ScriptState) (live : Live) → AgreesWithState old.solver j live → refusal_of j c ≡ None

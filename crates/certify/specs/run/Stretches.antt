@@ -11,7 +11,7 @@ use Rattle.sat_solver.specs.schedule.Solving.{AdvancesIn}
 use Rattle.sat_solver.specs.session.Coming.{OnlyAllowedSteps, EndsAtUnsat}
 use Rattle.certify.specs.run.Certifies.{IsKnown}
 
--- The ordered steps between these and those are what is expected, and each step may come where it stands.
+-- The ordered steps between these and those are what is expected, and every step is allowed at its place.
 pub record Stretch (May : List Step → Step → Type 0) (from to : List Step) (es : List Expected) : Type 0 where
   pub due : HasTrace checker_rules from to es
   pub comes : OnlyAllowedSteps May from to
@@ -35,8 +35,8 @@ due_for unsat (Sample names) j = setting Sampled names j
 abbrev pub MaySetOne : List ℕ → Bool → List Step → Step → Type 0
 MaySetOne names sample earlier step = (name : ℕ) × Among name names × MaySet name sample earlier step
 
--- Beside what is due: indices for the names of a clause, and the clause itself, deleted right behind its step; a hidden variable without an
--- index that goes, right behind its name; modes of names.
+-- Besides what is due: indices for the names of a clause, and the clause itself, deleted right after its step; a hidden variable without an
+-- index, which is removed right after its name; modes of names.
 abbrev pub MayFor : Command → List Step → Step → Type 0
 MayFor (Clause ls) = MayAdd (names_of ls)
 MayFor (Ask ls) = MayTake (names_of ls)
@@ -57,13 +57,13 @@ LearnsEachRound false Unknown rounds learned = rounds ≡ learned
 LearnsEachRound false (Sat line) rounds learned = rounds ≡ learned + 1
 LearnsEachRound false (Unsat core) rounds learned = rounds ≡ learned + 1
 
--- exactly so many of the steps between these do
+-- exactly `count` of the steps between these do
 pub record LearnsBetween (unsat : Bool) (o : Outcome) (rounds : ℕ) (opened shown : List Step) : Type 0 where
   pub learned : ℕ
   pub times : AdvancesIn opened shown learned
   pub counts : LearnsEachRound unsat o rounds learned
 
--- Its names come in, with indices, and it is opened; the search makes whatever other steps, but none behind recorded unsat, and
+-- Its names are introduced, with indices, and it is opened; the search makes any other steps, but none after recorded unsat, and
 -- its outcome is shown; it is closed.
 pub record AskStretches (j : ScriptState) (ls : List Literal) (o : Outcome) (rounds : ℕ) (from to : List Step) : Type 0 where
   pub opened : List Step

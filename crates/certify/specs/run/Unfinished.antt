@@ -30,7 +30,7 @@ AreSpentSoFar budget before [] (report ∷ reports) = ⊥
 AreSpentSoFar budget before (n ∷ ns) (report ∷ reports) =
     SpendsWithinBudget budget before report × IsBounded n budget before report × AreSpentSoFar budget (before + report.steps) ns reports
 
--- Right answers to a script begin with these bytes, if its first command has this number and so many rounds were made before. They are the
+-- Right answers to a script begin with these bytes, if its first command has this number and this many rounds were made before. They are the
 -- answers to the first asks, in the rounds that are reported: an answer is unknown only if these are exhausted.
 pub record BeginAnswers (budget before number : ℕ) (j : ScriptState) (script : Reading) (bytes : List ℕ) : Type 0 where
   pub told : List Outcome
@@ -49,7 +49,7 @@ pub record TookAnswersFront (budget before number : ℕ) (j : ScriptState) (scri
   pub took : TookBytes old new bytes
   pub front : BeginAnswers budget before number j script bytes
 
--- a reader gave the front of a text of which this is so, whatever follows
+-- a reader gave a prefix of a text of which this is so, whatever follows
 pub record GaveFrontOf (old new : Reader) (P : List ℕ → Type 0) : Type 0 where
   pub text : List ℕ
   pub front : GaveFront old new text
@@ -59,7 +59,7 @@ pub record GaveFrontOf (old new : Reader) (P : List ℕ → Type 0) : Type 0 whe
 abbrev pub Unfinished : ℕ → Reader × Reader → Writer × Writer → Type 0
 Unfinished budget script answers = GaveFrontOf script.0 script.1 (λ text. TookAnswersFront budget 0 1 start (reading text) answers.0 answers.1)
 
--- The writer took a front of the text of these steps, and nothing else. A checker accepts each of them in its turn. They are what is written
+-- The writer took a prefix of the text of these steps, and nothing else. A checker accepts each of them in its turn. They are what is written
 -- for those that were made, with widths for their hashes. Lists have the newest first.
 pub record StepsFront (old new : Writer) : Type 0 where
   pub made : List Step

@@ -1,4 +1,4 @@
--- How a reader of scripts stands in a text, and what tokens and bytes make of it.
+-- The place of a reader of scripts in a text, and the effect of tokens and bytes.
 use Rattle.std.specs.Prelude.{ℕ, ◌≡◌, ◌<◌, ◌*◌, Bool, true, false, not, ◌&&◌, ◌||◌, Option, Some, None, List, [], ◌∷◌, ◌++◌}
 use Rattle.std.specs.List.{AllByRecursion}
 use Rattle.sat_base.specs.values.Literals.{var_limit}
@@ -33,7 +33,7 @@ abbrev pub BeginsKind : Option CommandKind → ℕ → Type 0
 BeginsKind None letter = kind_of_letter letter ≡ None
 BeginsKind (Some kind) letter = kind_of_letter letter ≡ Some (kind_of kind)
 
--- is a command of this kind answered?
+-- whether a command of this kind is an ask
 abbrev pub is_ask_kind : Kind → Bool
 is_ask_kind OfClause = false
 is_ask_kind OfAsk = true
@@ -81,23 +81,23 @@ pub record IsNumbered (l : Literal) (name : ℕ) (positive : Bool) : Type 0 wher
   pub number : name ≡ held l.name
   pub sign : positive ≡ l.positive
 
--- is it a line `p cnf V C`?
+-- whether it is a line `p cnf V C`
 abbrev pub is_header : Token → Bool
 is_header (Number negative value) = false
 is_header (Letter b) = false
 is_header (Header v c) = true
 is_header Wrong = false
 
--- is there such a line among these?
+-- whether such a line is among these
 abbrev pub any_header : List Token → Bool
 any_header [] = false
 any_header (t ∷ ts) = is_header t || any_header ts
 
--- What is still to be read behind what is in hand, where these tokens are to come: with the ask that a header may make due, or without.
+-- What is still to be read after the command in hand, if these tokens follow: with the ask that a header may make due, or without.
 abbrev pub meaning : Bool → Commands → CommandHand → List Token → Reading
 meaning asks commands hand ts = with_ask (asks && ((commands.headed || any_header ts) && not commands.asked)) (commands_of hand ts)
 
--- what a token leaves, behind any others: less to read, a whole command and then less, or a malformed text
+-- what a token leaves, after any others: less to read, a complete command and then less, or a malformed text
 abbrev pub TakesToken : Reached → Commands → Token → Commands → Type 0
 TakesToken reached.More old t new = (hand : CommandHand) → HoldsHand old.draft hand
     → (next : CommandHand) × HoldsHand new.draft next × ((asks : Bool) (ts : List Token) → meaning asks old hand (t ∷ ts) ≡ meaning asks new next ts)
@@ -107,7 +107,7 @@ TakesToken reached.Command old t new = (hand : CommandHand) → HoldsHand old.dr
 TakesToken reached.Malformed old t new = (hand : CommandHand) → HoldsHand old.draft hand
     → (asks : Bool) (ts : List Token) → meaning asks old hand (t ∷ ts) ≡ ([], Malformed)
 
--- the reader stands at a place of a text: `left_of` says what is still to be read, whatever bytes come
+-- the reader is at a place of a text: `left_of` says what is still to be read, whatever bytes follow
 pub record MeansIf (asks : Bool) (reader : ScriptReader) (left_of : List ℕ → Reading) : Type 0 where
   pub hand : CommandHand
   pub holds : HoldsHand reader.commands.draft hand
@@ -147,7 +147,7 @@ TakesBytes reached.Command old bytes new =
 TakesBytes reached.Malformed old bytes new =
     (asks : Bool) (before : List ℕ → Reading) → MeansIf asks old before → (rest : List ℕ) → before (bytes ++ rest) ≡ ([], Malformed)
 
--- how a script ends: behind a header that no ask followed it is asked once
+-- how a script ends: after a header without any ask there is one ask
 abbrev pub end_reading : ScriptEnd → Reading
 end_reading ends.Clean = ([], Clean)
 end_reading ends.Asked = (Ask [] ∷ [], Clean)

@@ -15,7 +15,7 @@ waiting_bytes a = take (a.end - a.at) (drop a.at a.piece)
 abbrev pub source_in : {R : Type 0} → (R → Reader) → R → LastPiece → Source
 source_in seen r a = record { reader = seen r; waiting = waiting_bytes a; reads = a.reads; names = [] }
 
--- another piece was read, of so many bytes: none only at the end
+-- another chunk was read, and its length was returned: 0 only at the end
 abbrev pub RefillsAhead : Result ℕ ReadError → Source → Source → Type 0
 RefillsAhead (Ok n) old new = ConsumesWithReads (none_given n) old new [] × (n ≡ 0 → AllTaken new)
 RefillsAhead (Err errors.Failed) old new = ConsumesAndFails old new []

@@ -1,4 +1,4 @@
--- What comes of the bytes of a script that is read as its commands are wanted, whatever would follow.
+-- How a script is read command by command, whatever would follow.
 use Rattle.std.specs.Prelude.{ℕ, ◌+◌, ◌-◌, ◌*◌, ◌<◌, ◌≡◌, Bool, true, false, Option, Some, None, List, [], ◌++◌, length, Result, Ok, Err}
 use Rattle.sat_base.specs.device.Device.{most_reads, piece_size}
 use Rattle.sat_base.specs.device.Reading.{Source, ConsumesBytes, ConsumesToEnd}
@@ -17,19 +17,19 @@ use Rattle.certify.specs.declared.script.stream.CommandStream.{CommandStream}
 use Rattle.certify.specs.declared.script.stream.Next.{Next}
 use Rattle.certify.specs.declared.script.stream.Next.TheVariants as next
 
--- bytes that waited were taken, at least one where one did; they came to this
+-- bytes that were read ahead were consumed, at least one if there were any; this is what they led to
 abbrev pub TakesWaiting : {E : Type 0} → Result Reached E → CommandStream → CommandStream → Type 0
 TakesWaiting (Ok r) old new = (text : List ℕ) × (waiting_bytes old.ahead ≡ text ++ waiting_bytes new.ahead) × (new.ahead.reads ≡ old.ahead.reads)
     × (0 < length (waiting_bytes old.ahead) → 0 < length text) × TakesBytes r old.reader text new.reader
 TakesWaiting (Err e) old new = new.ahead ≡ old.ahead
 
--- the text is over
+-- the text has ended
 abbrev pub FinishesText : Next → ScriptReader → ScriptReader → Type 0
 FinishesText next.Command old new = ⊥
 FinishesText (next.Last e) old new = (asks : Bool) (before : List ℕ → Reading) → MeansIf asks old before → EndsLast asks true e new (before [])
 FinishesText (next.End e) old new = (asks : Bool) (before : List ℕ → Reading) → MeansIf asks old before → EndsLast asks false e new (before [])
 
--- A command came, and the text goes on; or one did that is the last; or none is left, and the text ends so.
+-- A command was read, and the text goes on; or the last command was read; or none is left, and the text ends so.
 abbrev pub Arrives : Next → Source → Source → ScriptReader → ScriptReader → Type 0
 Arrives next.Command a b old new = (text : List ℕ) × ConsumesBytes a b text × (0 < length text) × TakesBytes reached.Command old text new
 Arrives (next.Last e) a b old new =

@@ -8,7 +8,7 @@ use crate::script::ahead::LastPiece;
 use sat_base::{CountedRead, ReadError};
 use std::alloc::{AllocError, Global};
 
-/// Up to so many bytes without LF are looked at whenever more are read; more than that, whenever they have doubled.
+/// Up to this many bytes without LF are examined whenever more are read; longer ones whenever they have doubled.
 const HELD: usize = 1024;
 
 /// Which lines are allowed as the next one.

@@ -16,6 +16,7 @@ const MISUSED: u8 = 2;
 /// A fault, which standard error names.
 const FAILED: u8 = 3;
 
+/// The line for arguments that are no call.
 const USAGE: &str = "usage: certify [run S A C [STEPS] | confirm S A C | hints C H | check H]\n";
 
 /// Writes a line with this name to standard error. A fault there is ignored.

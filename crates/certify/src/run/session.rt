@@ -19,7 +19,7 @@ use std::alloc::Global;
 /// Rounds between reductions of the learned clauses of tier Local. A solver's default is 15,000, and 10,000 for tier
 /// Mid: with fewer rounds, fewer clauses are watched.
 const REDUCE_LOCALS_INTERVAL: u64 = 1_000;
-
+/// The same for tier Mid.
 const REDUCE_MIDS_INTERVAL: u64 = 1_000;
 
 /// The state of a run between commands.
