@@ -37,7 +37,7 @@ pub enum HeadlineFault {
 }
 
 /// Answers a script in memory.
-fn run_over(alloc: Global, script: &[u8], budget: u64) -> Result<Written, RunFault>
+pub(crate) fn run_over(alloc: Global, script: &[u8], budget: u64) -> Result<Written, RunFault>
     ensures { IfOk result (λ w. CertificateGuarantee script.now budget w.summary w.answers.items w.certificate.items) }
 {
     let mut answers = Counted::new(Vec::new(alloc));
@@ -59,7 +59,7 @@ fn run_over(alloc: Global, script: &[u8], budget: u64) -> Result<Written, RunFau
 }
 
 /// Compares a script, answers and a certificate in memory.
-fn confirm_over(
+pub(crate) fn confirm_over(
     alloc: Global,
     script: &[u8],
     answers: &[u8],

@@ -5,4 +5,3 @@ pub mod LineOrder
 pub mod LiteralsInOrder
 pub mod AnswerLines
 pub mod ShortTexts
-pub mod SpeltNumbers

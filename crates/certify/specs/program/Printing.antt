@@ -1,12 +1,10 @@
 -- What the program prints.
-use Rattle.std.specs.Prelude.{ℕ, ◌≡◌, ◌↔◌, ◌⊎◌, true, Bool, false, None, List, [], ◌∷◌, ◌++◌, codes, decimal}
+use Rattle.std.specs.Prelude.{ℕ, ◌≡◌, ◌↔◌, ◌⊎◌, true, Bool, false, None, List, ◌∷◌, ◌++◌, codes, decimal, []}
 use Rattle.sat_base.specs.device.Device.{Reader, Writer, GaveEnough, WriterTakes}
 use Rattle.sat_base.specs.script.Script.{ScriptEnding, Clean, Malformed}
-use Rattle.sat_checker.specs.matching.ProofChecking.{checker_rules}
-use Rattle.certify.specs.confirm.Matches.{Matches}
 use Rattle.certify.specs.confirm.VerdictPromises.{Exact}
 use Rattle.sat_base.specs.script.Language.{reading}
-use Rattle.certify.specs.run.FinishedRun.{AnswersRightly, TookCertificate}
+use Rattle.certify.specs.run.FinishedRun.{AnswersRightly, CertificateGuarantee, TookCertificate}
 use Rattle.certify.specs.run.RoundsLeft.{most_rounds}
 use Rattle.certify.specs.run.Unfinished.{TookBytes}
 use Rattle.certify.specs.declared.summary.Summary.{Summary}
@@ -18,7 +16,7 @@ use Rattle.certify.specs.declared.verdict.ConfirmFault.{ConfirmFault}
 use Rattle.certify.specs.declared.verdict.ConfirmFault.TheVariants as confirm_fault
 use Rattle.certify.specs.declared.fault.RunFault.{RunFault}
 use Rattle.certify.specs.declared.fault.RunFault.TheVariants as run_fault
-use Rattle.certify.specs.declared.program.standard.Written.{Written}
+use Rattle.certify.specs.declared.headline.Written.{Written}
 use Rattle.certify.specs.declared.program.fault.Fault.{Fault}
 use Rattle.certify.specs.declared.program.fault.Fault.TheVariants as fault
 use Rattle.certify.specs.declared.program.fault.HintsFault.{HintsFault}
@@ -81,10 +79,6 @@ abbrev pub yes_or_no_text : Verdict → List ℕ
 yes_or_no_text Yes = codes "yes" ++ 10 ∷ []
 yes_or_no_text (No ask why) = codes "no " ++ no_text ask why
 
--- the verdict is yes exactly where the three texts match
-abbrev pub SaysExactly : Verdict → List ℕ → List ℕ → List ℕ → Type 0
-SaysExactly v script answers certificate = (v ≡ Yes) ↔ Matches checker_rules reading script answers certificate
-
 -- whether the script is malformed
 abbrev pub is_malformed : ScriptEnding → Bool
 is_malformed Clean = false
@@ -94,11 +88,9 @@ is_malformed Malformed = true
 abbrev pub IsAnswered : List ℕ → List ℕ → Type 0
 IsAnswered text answers = (summary : Summary) × AnswersRightly text most_rounds summary answers
 
--- what a run wrote for a text in memory: right answers, and a certificate that matches
-pub record IsWritten (text : List ℕ) (w : Written) : Type 0 where
-  pub malformed : w.malformed ≡ is_malformed (reading text).1
-  pub answered : IsAnswered text w.answers.items
-  pub matches : Matches checker_rules reading text w.answers.items w.certificate.items
+-- what a run with all rounds allowed wrote for a text in memory: right answers, and their certificate
+abbrev pub IsWritten : List ℕ → Written → Type 0
+IsWritten text w = CertificateGuarantee text most_rounds w.summary w.answers.items w.certificate.items
 
 -- Right answers to a text were printed, and after them `c confirmed`. The status is 0 exactly if the text isn't malformed.
 pub record Prints (status : ℕ) (text : List ℕ) (old new : Writer) : Type 0 where

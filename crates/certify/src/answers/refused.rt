@@ -5,9 +5,9 @@ ghost use Rattle.certify.specs.answers.Answers.{refused_line};
 ghost use Rattle.certify.specs.judge.Names.{refusal_in};
 ghost use Rattle.certify.specs.confirm.Lines.{IsOneLine};
 
-use super::write::{push_number, push_refused_limit};
+use super::write::push_refused_limit;
 use crate::judge::Refusal;
-use sat_base::Var;
+use sat_base::{Var, push_decimal};
 use std::alloc::AllocError;
 
 /// Appends the line that refuses the command with this number, for a name in use of mode witness.
@@ -17,9 +17,9 @@ fn push_refused_witness(out: &mut Vec<u8>, command: u64, name: Var) -> Result<()
 {
     let number = name.index() as u64 + 1;
     out.extend_from_slice(b"c refused ")?;
-    push_number(out, command)?;
+    push_decimal(out, command)?;
     out.extend_from_slice(b" witness ")?;
-    push_number(out, number)?;
+    push_decimal(out, number)?;
     out.push(b'\n')?;
     Ok(())
 }

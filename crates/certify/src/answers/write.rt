@@ -1,55 +1,24 @@
 //! Writes answers line by line, after the bytes of a buffer. If memory runs out, a part of a line may be there. A name
 //! is written as its number, one more than the index of its variable.
-ghost use Rattle.std.specs.Prelude.{◌≡◌, ◌<◌, ◌≤◌, ◌^◌, ◌++◌, decimal, drop, OnOk};
+ghost use Rattle.std.specs.Prelude.{◌≡◌, ◌++◌, OnOk};
 ghost use Rattle.certify.specs.answers.Answers.{literals_text, malformed_line, outcome_text, refused_line, word_of};
 ghost use Rattle.sat_checker.specs.matching.Expected.{Sat, Unsat, Unknown};
 ghost use Rattle.certify.specs.answers.AnswerForms.{named_literal, named_literals};
 ghost use Rattle.sat_base.specs.script.ScriptState.{PastLimit};
 
-use sat_base::Lit;
+use sat_base::{Lit, MOST_DIGITS, push_decimal, write_decimal};
 use std::alloc::AllocError;
-
-/// Appends a number in decimal.
-pub(crate) fn push_number(out: &mut Vec<u8>, number: u64) -> Result<(), AllocError>
-    ensures { OnOk result (out.new.items ≡ out.old.items ++ decimal number) }
-{
-    if number > 9 {
-        push_number(out, number / 10)?;
-    }
-    out.push(b'0' + (number % 10) as u8)?;
-    Ok(())
-}
-
-/// Writes a number in decimal at the end of the bytes. Returns where it begins.
-fn spell_number(bytes: &mut [u8; 10], number: u32) -> usize
-    requires some { 1 ≤ number }
-    requires low { number < 10 ^ 9 }
-    ensures begins { 1 ≤ result }
-    ensures within { result < 10 }
-    ensures spelt { drop result bytes.new ≡ decimal number }
-{
-    let mut at = 9;
-    let mut rest = number;
-    while rest > 9 {
-        bytes[at] = b'0' + (rest % 10) as u8;
-        at -= 1;
-        rest /= 10;
-    }
-    bytes[at] = b'0' + rest as u8;
-    at
-}
 
 /// Appends a literal as DIMACS writes it.
 pub fn push_literal(out: &mut Vec<u8>, lit: Lit) -> Result<(), AllocError>
     ensures { OnOk result (out.new.items ≡ out.old.items ++ word_of (named_literal lit)) }
 {
-    let mut bytes = [b'0'; 10];
-    let at = spell_number(&mut bytes, lit.index() as u32 + 1);
+    let mut bytes = [b'-'; MOST_DIGITS + 1];
+    let end = write_decimal(&mut bytes, 1, lit.index() as u64 + 1);
     if lit.is_negative() {
-        bytes[at - 1] = b'-';
-        return out.extend_from_slice(&bytes[at - 1..]);
+        return out.extend_from_slice(&bytes[..end]);
     }
-    out.extend_from_slice(&bytes[at..])
+    out.extend_from_slice(&bytes[1..end])
 }
 
 /// Appends every literal and a space, then `0` and LF.
@@ -91,7 +60,7 @@ pub fn push_refused_limit(out: &mut Vec<u8>, command: u64) -> Result<(), AllocEr
     ensures { OnOk result (out.new.items ≡ out.old.items ++ refused_line command PastLimit) }
 {
     out.extend_from_slice(b"c refused ")?;
-    push_number(out, command)?;
+    push_decimal(out, command)?;
     out.extend_from_slice(b" limit\n")
 }
 
@@ -100,7 +69,7 @@ pub fn push_malformed(out: &mut Vec<u8>, command: u64) -> Result<(), AllocError>
     ensures { OnOk result (out.new.items ≡ out.old.items ++ malformed_line command) }
 {
     out.extend_from_slice(b"c malformed ")?;
-    push_number(out, command)?;
+    push_decimal(out, command)?;
     out.push(b'\n')?;
     Ok(())
 }

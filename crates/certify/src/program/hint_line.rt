@@ -3,8 +3,8 @@ ghost use Rattle.std.specs.Prelude.{◌≡◌, ◌≤◌, ◌↔◌, ◌++◌, O
 ghost use Rattle.certify.specs.program.HintPrinting.{bad_text, digit_of, hint_verdict_text, hint_why_text, is_proved};
 ghost use Rattle.certify.specs.program.HintPrinting.{proved_text};
 
-use crate::answers::write::push_number;
 use crate::program::printing::{DONE, REFUSED};
+use sat_base::push_decimal;
 use sat_hints::{HintVerdict, HintWhy};
 use std::alloc::AllocError;
 
@@ -39,9 +39,9 @@ fn push_proved(out: &mut Vec<u8>, empty: bool, cores: u64, lines: u64) -> Result
     out.extend_from_slice(b"proved empty=")?;
     out.extend_from_slice(digit(empty))?;
     out.extend_from_slice(b" cores=")?;
-    push_number(out, cores)?;
+    push_decimal(out, cores)?;
     out.extend_from_slice(b" lines=")?;
-    push_number(out, lines)?;
+    push_decimal(out, lines)?;
     out.extend_from_slice(b"\n")
 }
 
@@ -50,7 +50,7 @@ fn push_bad(out: &mut Vec<u8>, line: u64, why: HintWhy) -> Result<(), AllocError
     ensures { OnOk result (out.new.items ≡ out.old.items ++ bad_text line why) }
 {
     out.extend_from_slice(b"bad ")?;
-    push_number(out, line)?;
+    push_decimal(out, line)?;
     out.extend_from_slice(b" ")?;
     out.extend_from_slice(word(why).as_bytes())?;
     out.extend_from_slice(b"\n")

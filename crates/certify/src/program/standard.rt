@@ -5,23 +5,13 @@ ghost use Rattle.certify.specs.program.Calls.{HasStatus};
 ghost use Rattle.certify.specs.program.Printing.{IsWritten, Prints, PrintsAtMost, PrintsPrefix, PrintsVerdict};
 
 use crate::fault::RunFault;
+use crate::headline::{Written, run_over};
 use crate::program::fault::Fault;
 use crate::program::printing::{flush_out, write_out};
 use crate::program::progress::report_progress;
 use crate::program::verdict_line::{confirm_texts, status};
-use crate::run::run;
-use sat_base::{Counted, CountedRead, CountedWrite, read_whole};
-use sat_solver::Progress;
+use sat_base::{CountedRead, CountedWrite, read_whole};
 use std::alloc::Global;
-
-/// What a run in memory wrote.
-#[derive(Drop)]
-struct Written {
-    answers: Vec<u8>,
-    certificate: Vec<u8>,
-    malformed: bool,
-    progress: Progress,
-}
 
 /// Prints the answers to a script, and then the verdict on them, which is yes. Returns the status.
 fn print_confirmed<O: CountedWrite>(
@@ -46,7 +36,7 @@ fn print_confirmed<O: CountedWrite>(
     )?;
     write_out(output, &line)?;
     flush_out(output)?;
-    Ok(status(verdict, written.malformed))
+    Ok(status(verdict, written.summary.malformed.is_some()))
 }
 
 /// Answers a script, and confirms the answers. Returns the status.
@@ -63,7 +53,7 @@ pub(super) fn answer<I: CountedRead, O: CountedWrite, E: CountedWrite>(
 {
     let script = read_whole(alloc, input)?;
     let written = run_in_memory(alloc, &script)?;
-    report_progress(errors, &written.progress);
+    report_progress(errors, &written.summary.progress);
     print_confirmed(alloc, &script, &written, output)
 }
 
@@ -71,21 +61,8 @@ pub(super) fn answer<I: CountedRead, O: CountedWrite, E: CountedWrite>(
 fn run_in_memory(alloc: Global, script: &[u8]) -> Result<Written, Fault>
     ensures { IfOk result (IsWritten script.now) }
 {
-    let mut answers = Counted::new(Vec::new(alloc));
-    let mut certificate = Counted::new(Vec::new(alloc));
-    match run(
-        alloc,
-        &mut Counted::new(script),
-        &mut answers,
-        &mut certificate,
-        u64::MAX,
-    ) {
-        Ok(summary) => Ok(Written {
-            answers: answers.into_inner(),
-            certificate: certificate.into_inner(),
-            malformed: summary.malformed.is_some(),
-            progress: summary.progress,
-        }),
+    match run_over(alloc, script, u64::MAX) {
+        Ok(written) => Ok(written),
         Err(RunFault::AnswersWrite | RunFault::CertificateWrite) => {
             Err(Fault::Run(RunFault::OutOfMemory))
         }

@@ -1,13 +1,13 @@
 //! The verdict on three texts, its line, and its status.
 ghost use Rattle.std.specs.Prelude.{◌≡◌, ◌≤◌, ◌↔◌, ◌++◌, IfOk, OnOk, false};
 ghost use Rattle.certify.specs.declared.verdict.Verdict.TheVariants.{Yes};
-ghost use Rattle.certify.specs.program.Printing.{SaysExactly, no_text, verdict_text, yes_or_no_text};
+ghost use Rattle.certify.specs.laws.EndToEnd.{VerdictSays};
+ghost use Rattle.certify.specs.program.Printing.{no_text, verdict_text, yes_or_no_text};
 
-use crate::answers::write::push_number;
-use crate::confirm::confirm;
+use crate::headline::confirm_over;
 use crate::program::printing::{DONE, REFUSED};
 use crate::verdict::{ConfirmFault, Verdict, Why};
-use sat_base::Counted;
+use sat_base::push_decimal;
 use sat_checker::Looks;
 use std::alloc::{AllocError, Global};
 
@@ -15,7 +15,7 @@ use std::alloc::{AllocError, Global};
 fn push_no(out: &mut Vec<u8>, ask: u64, why: Why) -> Result<(), AllocError>
     ensures { OnOk result (out.new.items ≡ out.old.items ++ no_text ask why) }
 {
-    push_number(out, ask)?;
+    push_decimal(out, ask)?;
     out.extend_from_slice(b" ")?;
     out.extend_from_slice(why.word().as_bytes())?;
     out.extend_from_slice(b"\n")
@@ -58,28 +58,6 @@ pub(super) fn status(verdict: Verdict, malformed: bool) -> u8
     }
 }
 
-/// Confirms three texts in memory.
-fn confirm_slices(
-    alloc: Global,
-    script: &[u8],
-    answers: &[u8],
-    certificate: &[u8],
-) -> Result<Verdict, ConfirmFault>
-    ensures { IfOk result (λ v. SaysExactly v script.now answers.now certificate.now) }
-{
-    let mut script = Counted::new(script);
-    let mut answers = Counted::new(answers);
-    let mut certificate = Counted::new(certificate);
-    let mut looks = Looks::new();
-    confirm(
-        alloc,
-        &mut script,
-        &mut answers,
-        &mut certificate,
-        &mut looks,
-    )
-}
-
 /// Confirms three texts, and appends the last line of the output to `line`.
 pub(super) fn confirm_texts(
     alloc: Global,
@@ -88,10 +66,11 @@ pub(super) fn confirm_texts(
     certificate: &[u8],
     line: &mut Vec<u8>,
 ) -> Result<Verdict, ConfirmFault>
-    ensures exact { IfOk result (λ v. SaysExactly v script.now answers.now certificate.now) }
+    ensures says { IfOk result (VerdictSays script.now answers.now certificate.now) }
     ensures line { IfOk result (λ v. line.new.items ≡ line.old.items ++ verdict_text v) }
 {
-    let verdict = confirm_slices(alloc, script, answers, certificate)?;
+    let mut looks = Looks::new();
+    let verdict = confirm_over(alloc, script, answers, certificate, &mut looks)?;
     push_verdict(line, verdict)?;
     Ok(verdict)
 }

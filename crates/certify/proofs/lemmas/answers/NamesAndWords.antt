@@ -1,5 +1,5 @@
 -- Names, digit by digit, and literals as words in front of a space.
-use Rattle.std.proofs.Common.{ℕ, zero, suc, ◌+◌, ◌-◌, ◌*◌, ◌/◌, ◌%◌, ◌^◌, ◌<◌, ◌≤◌, ◌≡◌, ◌≢◌, ◌⊎◌, inl, inr, Bool, true, false, cond, ◌∷◌, ◌++◌, [], List, length, take, get_or, decimal, append-nil, refl, sym, ◌∙◌, ap, subst, arith, append_assoc}
+use Rattle.std.proofs.Common.{ℕ, zero, suc, ◌+◌, ◌-◌, ◌*◌, ◌/◌, ◌%◌, ◌^◌, ◌<◌, ◌≤◌, ◌≡◌, ◌≢◌, ◌⊎◌, inl, inr, Bool, true, false, cond, ◌∷◌, ◌++◌, List, length, take, get_or, decimal, append-nil, refl, sym, ◌∙◌, ap, subst, arith, append_assoc, []}
 use Rattle.std.proofs.lemmas.Fmt.{decimal_digit, decimal_step, decimal_is_IsNumeral, first_decimal, decimal_nonempty}
 use Rattle.std.proofs.lemmas.Str.Parse.{digit_from_value, digits_value-take-le}
 use Rattle.std.proofs.Math.Seq.{take-append_seam}
@@ -8,16 +8,6 @@ use Rattle.sat_base.specs.values.Literals.{var_limit}
 use Rattle.certify.specs.answers.AnswerForms.{IsName}
 use Rattle.certify.specs.answers.AnswerReading.{digits_so_far, NoNameDigit, NoName, NoLiteral, StartsNoLiteral, StartsNoName}
 use Rattle.certify.proofs.lemmas.laws.DistinctTexts.{Plain, plain_digits, small, numeral}
-
--- the last digit, behind nothing or behind the others
-pub one_digit : (n : ℕ) (xs : List ℕ) → n ≤ 9 → xs ++ ((48 + n % 10) ∷ []) ≡ xs ++ decimal n
-one_digit n xs h = let e : n % 10 ≡ n = omega arith in let small : n < 10 = omega arith in rw (e, decimal_digit n small) refl
-
-pub only_digit : (n : ℕ) → n ≤ 9 → decimal n ≡ (48 + n) ∷ []
-only_digit n h = decimal_digit n (omega arith)
-
-pub last_digit : (n : ℕ) (xs : List ℕ) → 9 < n → n < 2 ^ 64 → (xs ++ decimal (n / 10)) ++ ((48 + n % 10) ∷ []) ≡ xs ++ decimal n
-last_digit n xs h fits = let more : 10 ≤ n = omega arith in rw (decimal_step n more fits) (append_assoc xs (decimal (n / 10)) ((48 + n % 10) ∷ []))
 
 digits : (n : ℕ) → n ≤ var_limit → AllDigits 10 (decimal n)
 digits n h = (numeral n h).0

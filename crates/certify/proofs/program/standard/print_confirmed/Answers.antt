@@ -1,14 +1,84 @@
-use Rattle.std.proofs.Common.{◌≡◌, ◌++◌, ◌∙◌, List, ℕ, [], append-nil, ap, sym, subst, rules}
+use Rattle.std.proofs.Common.{◌≡◌, ◌+◌, ◌++◌, ◌∙◌, List, ℕ, length, is_some, append-nil, ap, sym, subst, []}
 use Rattle.sat_base.specs.device.Device.{WriterBreaks, WriterTakes}
 use Rattle.sat_base.proofs.lemmas.device.Writes.{took_more}
-use Rattle.sat_checker.specs.matching.ProofChecking.{checker_rules}
-use Rattle.certify.specs.confirm.Matches.{Matches}
-use Rattle.certify.specs.program.Printing.{IsAnswered, verdict_text}
+use Rattle.certify.specs.program.Printing.{IsAnswered, is_malformed, verdict_text}
 use Rattle.sat_base.specs.script.Language.{reading}
+use Rattle.certify.specs.run.FinishedRun.{CertificateGuarantee}
+use Rattle.certify.specs.run.RoundsLeft.{most_rounds}
 use Rattle.certify.specs.declared.verdict.Verdict.TheVariants.{Yes}
-use Rattle.certify.proofs.lemmas.program.PrintedVerdicts.{prefix_cut, prefix_line, prefix_reported, prefix_whole}
+use Rattle.certify.proofs.lemmas.laws.FinishedTexts.{backed_yes}
+use Rattle.certify.proofs.lemmas.program.PrintedVerdicts.{malformed_is, prefix_cut, prefix_line, prefix_reported, prefix_whole}
 use Rattle.certify.proofs.lemmas.run.Stopping.{bytes_taken}
+use Rattle.certify.proofs.program.standard.print_confirmed.Given.{Over}
 use Rattle.certify.proofs.program.standard.print_confirmed.Goals as goal
+use Rattle.certify.proofs.program.standard.print_confirmed.Goals.{In_ok-verdict, In_ok-write_out}
+
+-- the answers were written
+module _ (g : Over) (c : In_ok-write_out g) where
+  abbrev answers : List ℕ
+  answers = c.args.written.now.answers.items
+
+  answered : IsAnswered c.args.script.now answers
+  answered = (c.args.written.now.summary, c.requires.is_answered)
+
+  takes : WriterTakes (g.O.CountedWrite.seen c.args.output.now) (g.O.CountedWrite.seen c.write_out.new.output) answers
+  takes = subst (WriterTakes (g.O.CountedWrite.seen c.args.output.now) (g.O.CountedWrite.seen c.write_out.new.output)) c.deref.ensures.value c.in_ok-write_out.ensures.takes
+
+-- they are confirmed, so the last line says so
+module _ (g : Over) (c : In_ok-verdict g) where
+  is_yes : c.in_ok-verdict.verdict ≡ Yes
+  is_yes =
+      let w = c.args.written.now in
+      let text = c.args.script.now in
+      let guarantee = subst (λ (s : List ℕ). CertificateGuarantee text most_rounds w.summary s c.deref-3.result.now) (sym c.deref-2.ensures.value)
+      (subst (λ (s : List ℕ). CertificateGuarantee text most_rounds w.summary w.answers.items s) (sym c.deref-3.ensures.value) c.requires) in
+      backed_yes most_rounds w.summary text c.deref-2.result.now c.deref-3.result.now c.in_ok-verdict.verdict guarantee c.in_ok-verdict.ensures.says
+
+  line_is : c.confirm_texts.new.line.items ≡ verdict_text Yes
+  line_is = c.in_ok-verdict.ensures.line ∙ ap (λ (xs : List ℕ). xs ++ verdict_text c.in_ok-verdict.verdict) c.new-line.ensures.items ∙ ap verdict_text is_yes
+
+pub returns-in_err-write_out-clause-prefix : goal.returns-in_err-write_out-clause-prefix
+returns-in_err-write_out-clause-prefix g c =
+    let seen = g.O.CountedWrite.seen in
+    let a = seen c.args.output.now in
+    let b = seen c.write_out.new.output in
+    prefix_cut c.args.script.now c.args.written.now.answers.items (c.args.written.now.summary, c.requires.is_answered) a b (subst (WriterBreaks a b) c.deref.ensures.value c.in_err-write_out.ensures.breaks)
+
+pub returns-in_err-verdict-clause-prefix : goal.returns-in_err-verdict-clause-prefix
+returns-in_err-verdict-clause-prefix g c =
+    let x = (goal.at.returns-in_err-verdict-clause-prefix g c).In_ok-write_out in
+    prefix_reported c.args.script.now (answers g x) (answered g x) (g.O.CountedWrite.seen c.args.output.now) (g.O.CountedWrite.seen c.write_out.new.output) (takes g x)
+
+pub returns-in_err-write_out-2-clause-prefix : goal.returns-in_err-write_out-2-clause-prefix
+returns-in_err-write_out-2-clause-prefix g c =
+    let seen = g.O.CountedWrite.seen in
+    let b = seen c.write_out.new.output in
+    let d = seen c.write_out-2.new.output in
+    let x = (goal.at.returns-in_err-write_out-2-clause-prefix g c).In_ok-write_out in
+    let y = (goal.at.returns-in_err-write_out-2-clause-prefix g c).In_ok-verdict in
+    prefix_line c.args.script.now (answers g x) (answered g x) (seen c.args.output.now) b d (takes g x)
+    (subst (WriterBreaks b d) (c.deref-4.ensures.value ∙ line_is g y) c.in_err-write_out-2.ensures.breaks)
+
+pub returns-in_err-flush_out-clause-prefix : goal.returns-in_err-flush_out-clause-prefix
+returns-in_err-flush_out-clause-prefix g c =
+    let seen = g.O.CountedWrite.seen in
+    let b = seen c.write_out.new.output in
+    let d = seen c.write_out-2.new.output in
+    let x = (goal.at.returns-in_err-flush_out-clause-prefix g c).In_ok-write_out in
+    let y = (goal.at.returns-in_err-flush_out-clause-prefix g c).In_ok-verdict in
+    prefix_whole c.args.script.now (answers g x) (answered g x) (seen c.args.output.now) b d (seen c.flush_out.new.output) (takes g x)
+    (subst (WriterTakes b d) (c.deref-4.ensures.value ∙ line_is g y) c.in_ok-write_out-2.ensures.takes) c.in_err-flush_out.ensures.kept
+
+pub returns-clause-prefix : goal.returns-clause-prefix
+returns-clause-prefix g c =
+    let seen = g.O.CountedWrite.seen in
+    let b = seen c.write_out.new.output in
+    let d = seen c.write_out-2.new.output in
+    let f = seen c.flush_out.new.output in
+    let x = (goal.at.returns-clause-prefix g c).In_ok-write_out in
+    let y = (goal.at.returns-clause-prefix g c).In_ok-verdict in
+    prefix_whole c.args.script.now (answers g x) (answered g x) (seen c.args.output.now) b d f (takes g x)
+    (subst (WriterTakes b d) (c.deref-4.ensures.value ∙ line_is g y) c.in_ok-write_out-2.ensures.takes) (bytes_taken d f [] c.in_ok-flush_out.ensures.took)
 
 pub returns-clause-printed : goal.returns-clause-printed
 returns-clause-printed g c =
@@ -17,81 +87,16 @@ returns-clause-printed g c =
     let b = seen c.write_out.new.output in
     let d = seen c.write_out-2.new.output in
     let f = seen c.flush_out.new.output in
-    let text = c.args.script.now in
-    let written = c.requires in
-    let printed = c.deref-2.result.now in
-    let matches = subst (λ (s : List ℕ). Matches checker_rules reading text s c.deref-3.result.now) (sym c.deref-2.ensures.value)
-    (subst (λ (s : List ℕ). Matches checker_rules reading text c.args.written.now.answers.items s) (sym c.deref-3.ensures.value) written.matches) in
-    let yes : c.in_ok-verdict.verdict ≡ Yes = c.in_ok-verdict.ensures.exact.1 matches in
+    let x = (goal.at.returns-clause-printed g c).In_ok-write_out in
+    let y = (goal.at.returns-clause-printed g c).In_ok-verdict in
     let last = verdict_text Yes in
-    let is_last = c.deref-4.ensures.value ∙ c.in_ok-verdict.ensures.line ∙ ap (λ (xs : List ℕ). xs ++ verdict_text c.in_ok-verdict.verdict) c.new-line.ensures.items ∙ ap verdict_text yes in
-    let line = took_more b d f last [] (subst (WriterTakes b d) is_last c.in_ok-write_out-2.ensures.takes) c.in_ok-flush_out.ensures.took in
-    let answers = subst (WriterTakes a b) (c.deref.ensures.value ∙ sym c.deref-2.ensures.value) c.in_ok-write_out.ensures.takes in
+    let line = took_more b d f last [] (subst (WriterTakes b d) (c.deref-4.ensures.value ∙ line_is g y) c.in_ok-write_out-2.ensures.takes) c.in_ok-flush_out.ensures.took in
+    let is : c.is_some.result ≡ is_malformed (reading c.args.script.now).1 =
+    c.is_some.ensures ∙ ap is_some c.requires.is_answered.malformed ∙ malformed_is (length (reading c.args.script.now).0 + 1) (reading c.args.script.now).1 in
     record {
-      answers = printed;
-      answered = subst (IsAnswered text) (sym c.deref-2.ensures.value) written.answered;
-      printed = took_more a b f printed last answers (subst (WriterTakes b f) (append-nil last) line);
+      answers = answers g x;
+      answered = answered g x;
+      printed = took_more a b f (answers g x) last (takes g x) (subst (WriterTakes b f) (append-nil last) line);
       flushed = c.in_ok-flush_out.ensures.flushed;
-      done = search rules;
+      done = (λ zero. sym is ∙ (c.status.ensures.done.0 zero).1, λ formed. c.status.ensures.done.1 (is_yes g y, is ∙ formed));
     }
-
-pub returns-in_err-write_out-clause-prefix : goal.returns-in_err-write_out-clause-prefix
-returns-in_err-write_out-clause-prefix g c =
-    let seen = g.O.CountedWrite.seen in
-    let a = seen c.args.output.now in
-    let b = seen c.write_out.new.output in
-    prefix_cut c.args.script.now c.args.written.now.answers.items c.requires.answered a b (subst (WriterBreaks a b) c.deref.ensures.value c.in_err-write_out.ensures.breaks)
-
-pub returns-in_err-verdict-clause-prefix : goal.returns-in_err-verdict-clause-prefix
-returns-in_err-verdict-clause-prefix g c =
-    let seen = g.O.CountedWrite.seen in
-    let a = seen c.args.output.now in
-    let b = seen c.write_out.new.output in
-    prefix_reported c.args.script.now c.args.written.now.answers.items c.requires.answered a b (subst (WriterTakes a b) c.deref.ensures.value c.in_ok-write_out.ensures.takes)
-
-pub returns-in_err-write_out-2-clause-prefix : goal.returns-in_err-write_out-2-clause-prefix
-returns-in_err-write_out-2-clause-prefix g c =
-    let seen = g.O.CountedWrite.seen in
-    let a = seen c.args.output.now in
-    let b = seen c.write_out.new.output in
-    let d = seen c.write_out-2.new.output in
-    let text = c.args.script.now in
-    let written = c.requires in
-    let matches = subst (λ (s : List ℕ). Matches checker_rules reading text s c.deref-3.result.now) (sym c.deref-2.ensures.value)
-    (subst (λ (s : List ℕ). Matches checker_rules reading text c.args.written.now.answers.items s) (sym c.deref-3.ensures.value) written.matches) in
-    let yes : c.in_ok-verdict.verdict ≡ Yes = c.in_ok-verdict.ensures.exact.1 matches in
-    let is_last = c.deref-4.ensures.value ∙ c.in_ok-verdict.ensures.line ∙ ap (λ (xs : List ℕ). xs ++ verdict_text c.in_ok-verdict.verdict) c.new-line.ensures.items ∙ ap verdict_text yes in
-    prefix_line text c.args.written.now.answers.items written.answered a b d (subst (WriterTakes a b) c.deref.ensures.value c.in_ok-write_out.ensures.takes)
-    (subst (WriterBreaks b d) is_last c.in_err-write_out-2.ensures.breaks)
-
-pub returns-in_err-flush_out-clause-prefix : goal.returns-in_err-flush_out-clause-prefix
-returns-in_err-flush_out-clause-prefix g c =
-    let seen = g.O.CountedWrite.seen in
-    let a = seen c.args.output.now in
-    let b = seen c.write_out.new.output in
-    let d = seen c.write_out-2.new.output in
-    let f = seen c.flush_out.new.output in
-    let text = c.args.script.now in
-    let written = c.requires in
-    let matches = subst (λ (s : List ℕ). Matches checker_rules reading text s c.deref-3.result.now) (sym c.deref-2.ensures.value)
-    (subst (λ (s : List ℕ). Matches checker_rules reading text c.args.written.now.answers.items s) (sym c.deref-3.ensures.value) written.matches) in
-    let yes : c.in_ok-verdict.verdict ≡ Yes = c.in_ok-verdict.ensures.exact.1 matches in
-    let is_last = c.deref-4.ensures.value ∙ c.in_ok-verdict.ensures.line ∙ ap (λ (xs : List ℕ). xs ++ verdict_text c.in_ok-verdict.verdict) c.new-line.ensures.items ∙ ap verdict_text yes in
-    prefix_whole text c.args.written.now.answers.items written.answered a b d f (subst (WriterTakes a b) c.deref.ensures.value c.in_ok-write_out.ensures.takes)
-    (subst (WriterTakes b d) is_last c.in_ok-write_out-2.ensures.takes) c.in_err-flush_out.ensures.kept
-
-pub returns-clause-prefix : goal.returns-clause-prefix
-returns-clause-prefix g c =
-    let seen = g.O.CountedWrite.seen in
-    let a = seen c.args.output.now in
-    let b = seen c.write_out.new.output in
-    let d = seen c.write_out-2.new.output in
-    let f = seen c.flush_out.new.output in
-    let text = c.args.script.now in
-    let written = c.requires in
-    let matches = subst (λ (s : List ℕ). Matches checker_rules reading text s c.deref-3.result.now) (sym c.deref-2.ensures.value)
-    (subst (λ (s : List ℕ). Matches checker_rules reading text c.args.written.now.answers.items s) (sym c.deref-3.ensures.value) written.matches) in
-    let yes : c.in_ok-verdict.verdict ≡ Yes = c.in_ok-verdict.ensures.exact.1 matches in
-    let is_last = c.deref-4.ensures.value ∙ c.in_ok-verdict.ensures.line ∙ ap (λ (xs : List ℕ). xs ++ verdict_text c.in_ok-verdict.verdict) c.new-line.ensures.items ∙ ap verdict_text yes in
-    prefix_whole text c.args.written.now.answers.items written.answered a b d f (subst (WriterTakes a b) c.deref.ensures.value c.in_ok-write_out.ensures.takes)
-    (subst (WriterTakes b d) is_last c.in_ok-write_out-2.ensures.takes) (bytes_taken d f [] c.in_ok-flush_out.ensures.took)
