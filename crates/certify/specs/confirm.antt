@@ -6,7 +6,7 @@ pub mod VerdictPromises
 pub mod CertificatePlaces
 pub mod ReadSteps
 pub mod Streams
-pub mod Views
+pub mod CertificateStates
 pub mod SpeltLiterals
 pub mod Stepping
 pub mod Variables

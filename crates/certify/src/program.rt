@@ -2,7 +2,7 @@
 ghost use Rattle.std.specs.Prelude.{◌≡◌, ◌≤◌, [], map, IfOk};
 ghost use Rattle.std.specs.String.{string_bytes};
 ghost use Rattle.certify.specs.Devices.{gave, took};
-ghost use Rattle.certify.specs.program.Calls.{TellsUsage, request_of};
+ghost use Rattle.certify.specs.program.Calls.{ReportsUsage, request_of};
 ghost use Rattle.certify.specs.program.FileCalls.{CallDone, DoneOverFiles};
 ghost use Rattle.certify.specs.program.Printing.{PrintsAtMost, PrintsVerdict};
 
@@ -55,7 +55,7 @@ pub fn program<R: AllocGlobal + Files, I: CountedRead, O: CountedWrite, E: Count
 ) -> u8
     ensures status { result ≤ 3 }
     // Arguments that are text and no call have status 2. Others have it only if the call writes files.
-    ensures usage { IfOk arguments (λ words. TellsUsage (map string_bytes words.items) result) }
+    ensures usage { IfOk arguments (λ words. ReportsUsage (map string_bytes words.items) result) }
     // Without arguments and with status 0 or 1, the output received right answers to the script, none of them unknown
     // unless all rounds are exhausted, and then `c confirmed`. 0 means that the script is not malformed.
     ensures printed { IfOk arguments (λ words. words.items ≡ [] → result ≤ 1
@@ -87,7 +87,7 @@ fn obey<R: AllocGlobal + Files, I: CountedRead, O: CountedWrite, E: CountedWrite
     errors: &mut E,
 ) -> u8
     ensures status { result ≤ 3 }
-    ensures usage { TellsUsage (map string_bytes words.now) result }
+    ensures usage { ReportsUsage (map string_bytes words.now) result }
     ensures printed { words.now ≡ [] → result ≤ 1
         → PrintsVerdict result (gave I.seen input.old input.new) (took O.seen output.old output.new) }
     ensures prefix { words.now ≡ []

@@ -8,7 +8,7 @@ use Rattle.sat_checker.specs.declared.kernel.Kernel.{Kernel}
 use Rattle.sat_checker.specs.matching.Expected.{Outcome, Expected}
 use Rattle.certify.specs.confirm.CertificatePlaces.{CanMeet, MeetsExactly, MeetsNoneOf, SkipsUnordered, MeetsNothing, NextIsOrdered}
 use Rattle.certify.specs.confirm.Feeding.{HasTaken}
-use Rattle.certify.specs.confirm.Views.{View}
+use Rattle.certify.specs.confirm.CertificateStates.{CertificateState}
 use Rattle.certify.specs.confirm.Comparing.{MayStayUnmet, Due, ExcusesDue}
 use Rattle.certify.specs.confirm.Following.{StandFor}
 use Rattle.certify.specs.declared.confirm.ordered.Awaited.{Awaited}
@@ -24,43 +24,43 @@ pub record CheckerIsAt (checker : Kernel) (names : NamedVars) (earlier : List St
   pub stand : StandFor names earlier
 
 -- the next ordered step was read, and unsat isn't recorded
-pub record StepIsReady (names : NamedVars) (old : View) (earlier : List Step) (new : View) : Type 0 where
+pub record StepIsReady (names : NamedVars) (old : CertificateState) (earlier : List Step) (new : CertificateState) : Type 0 where
   pub later : List Step
   pub stands : CheckerIsAt new.checker names later
   pub open_yet : (ready_after later).unsat ≡ false
   pub offers : NextIsOrdered earlier old.rest later new.step new.rest
 
 -- unsat is recorded before an ordered step came
-pub record UnsatIsRecorded (names : NamedVars) (old : View) (earlier : List Step) (new : View) : Type 0 where
+pub record UnsatIsRecorded (names : NamedVars) (old : CertificateState) (earlier : List Step) (new : CertificateState) : Type 0 where
   pub later : List Step
   pub stands : CheckerIsAt new.checker names later
   pub closed : (ready_after later).unsat ≡ true
   pub skips : SkipsUnordered earlier old.rest later new.rest
 
 -- an unordered step was accepted
-pub record StepWasPassed (names : NamedVars) (old : View) (earlier : List Step) (new : View) : Type 0 where
+pub record StepWasPassed (names : NamedVars) (old : CertificateState) (earlier : List Step) (new : CertificateState) : Type 0 where
   pub later : List Step
   pub stands : CheckerIsAt new.checker names later
   pub skips : SkipsUnordered earlier old.rest later new.rest
 
 -- what was found while an ordered step is awaited, or why none can follow
-abbrev pub AwaitsNext : NamedVars → View → View → Result Awaited Why → Type 0
+abbrev pub AwaitsNext : NamedVars → CertificateState → CertificateState → Result Awaited Why → Type 0
 AwaitsNext names old new (Ok awaited.Step) = (earlier : List Step) → CheckerIsAt old.checker names earlier → StepIsReady names old earlier new
 AwaitsNext names old new (Ok awaited.Cut) = (earlier : List Step) → CheckerIsAt old.checker names earlier → UnsatIsRecorded names old earlier new
 AwaitsNext names old new (Err why) = (earlier : List Step) → CheckerIsAt old.checker names earlier → MeetsNothing earlier old.rest
 
 -- what one more step led to
-abbrev pub StepsOnce : NamedVars → View → View → Result (Option Awaited) Why → Type 0
+abbrev pub StepsOnce : NamedVars → CertificateState → CertificateState → Result (Option Awaited) Why → Type 0
 StepsOnce names old new (Ok None) = (earlier : List Step) → CheckerIsAt old.checker names earlier → StepWasPassed names old earlier new
 StepsOnce names old new (Ok (Some a)) = AwaitsNext names old new (Ok a)
 StepsOnce names old new (Err why) = AwaitsNext names old new (Err why)
 
 -- only unordered steps were accepted
-abbrev pub PassesUnordered : NamedVars → View → View → Result (Unit {0}) Why → Type 0
+abbrev pub PassesUnordered : NamedVars → CertificateState → CertificateState → Result (Unit {0}) Why → Type 0
 PassesUnordered names old new r = (earlier : List Step) → CheckerIsAt old.checker names earlier → StepWasPassed names old earlier new
 
 -- just what is expected is met
-pub record IsDueMet (due : Due) (after : NamedVars) (old : View) (earlier : List Step) (new : View) : Type 0 where
+pub record IsDueMet (due : Due) (after : NamedVars) (old : CertificateState) (earlier : List Step) (new : CertificateState) : Type 0 where
   pub later : List Step
   pub stands : CheckerIsAt new.checker after later
   pub leads : (o : Outcome) (ask : List Literal)
@@ -69,7 +69,7 @@ pub record IsDueMet (due : Due) (after : NamedVars) (old : View) (earlier : List
       → CanMeet earlier (due o ask ∷ es) old.rest → (ready_after later).unsat ≡ true → MayStayUnmet (due o ask)
 
 -- what is expected is met, or can't be
-abbrev pub MeetsDue : Due → NamedVars → NamedVars → View → View → Result (Unit {0}) Why → Type 0
+abbrev pub MeetsDue : Due → NamedVars → NamedVars → CertificateState → CertificateState → Result (Unit {0}) Why → Type 0
 MeetsDue due before after old new (Ok x) = (earlier : List Step) → CheckerIsAt old.checker before earlier → IsDueMet due after old earlier new
 MeetsDue due before after old new (Err why) = (earlier : List Step) → CheckerIsAt old.checker before earlier
     → (o : Outcome) (ask : List Literal) → MeetsNoneOf earlier old.rest (due o ask ∷ [])

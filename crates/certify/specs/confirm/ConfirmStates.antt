@@ -7,7 +7,7 @@ use Rattle.sat_base.specs.device.Reading.{Source}
 use Rattle.sat_base.specs.steps.StepReading.{reader_name, reader_source}
 use Rattle.sat_checker.specs.CheckerView.{kernel_of}
 use Rattle.certify.specs.confirm.Streams.{StepsGoOn, Stream, stream_of}
-use Rattle.certify.specs.confirm.Views.{View}
+use Rattle.certify.specs.confirm.CertificateStates.{CertificateState}
 use Rattle.certify.specs.confirm.Stopping.{Joins}
 use Rattle.certify.specs.confirm.Lines.{answers_source}
 use Rattle.certify.specs.declared.confirm.stop.Stop.{Stop}
@@ -27,7 +27,7 @@ stream_in seen steps m = stream_of seen steps (kernel_of m.certificate.checker)
 -- answers and certificate. M is so where the commands are too many.
 pub record ConfirmsBoth {A C T : Type 0} (M : Type 0) (goes : Bool) (result : Result T Stop)
     (seen : A → Reader) (steps_seen : C → Reader) (old_answers new_answers : A)
-    (old new : StepReader C Buffers) (before after : ConfirmState) (P : List ℕ → List ℕ → View → View → Result T Why → Type 0) : Type 0 where
+    (old new : StepReader C Buffers) (before after : ConfirmState) (P : List ℕ → List ℕ → CertificateState → CertificateState → Result T Why → Type 0) : Type 0 where
   pub same : reader_name new ≡ reader_name old
   pub bound : (reader_source steps_seen new).reads ≤ most_reads
   pub goes_on : OnOk result (StepsGoOn steps_seen new)

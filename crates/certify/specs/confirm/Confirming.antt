@@ -6,7 +6,7 @@ use Rattle.sat_base.specs.steps.Steps.{Step}
 use Rattle.sat_checker.specs.matching.Expected.{Outcome, Adds, Opens, Closes, showing}
 use Rattle.sat_checker.specs.matching.ProofChecking.{checker_rules}
 use Rattle.certify.specs.confirm.LeftToMatch.{Left}
-use Rattle.certify.specs.confirm.Views.{View}
+use Rattle.certify.specs.confirm.CertificateStates.{CertificateState}
 use Rattle.certify.specs.judge.Names.{Changes, NamesHaveState}
 use Rattle.sat_base.specs.script.ScriptStateLaws.{ScriptStateInvariant, NamesIncrease}
 use Rattle.certify.specs.confirm.Awaiting.{CheckerIsAt, MeetsDue}
@@ -27,7 +27,7 @@ abbrev pub table_of : Matching → Table
 table_of m = record { names = m.names; variables = m.certificate.names }
 
 -- names and modes are those of the script state, and the checker accepted these steps, after which the names stand for their variables
-pub record HoldsAt (t : Table) (u : View) (j : ScriptState) (earlier : List Step) : Type 0 where
+pub record HoldsAt (t : Table) (u : CertificateState) (j : ScriptState) (earlier : List Step) : Type 0 where
   pub judged : NamesHaveState t.names j
   pub kept : ScriptStateInvariant j
   pub at : CheckerIsAt u.checker t.variables earlier
@@ -37,7 +37,7 @@ abbrev pub ToConfirm : ScriptState → ℕ → List Step → List Command → Sc
 ToConfirm j n earlier commands ending answers certificate = Left checker_rules j n earlier [] commands ending answers certificate
 
 -- Command n is confirmed: the script from here is confirmed exactly if the commands after it are.
-pub record Confirmed (before behind : List ℕ) (old new : View) (j : ScriptState) (earlier : List Step) (n : ℕ)
+pub record Confirmed (before behind : List ℕ) (old new : CertificateState) (j : ScriptState) (earlier : List Step) (n : ℕ)
     (command : Command) (t : Table) : Type 0 where
   pub later : List Step
   pub stands : HoldsAt t new (after_command command j) later
@@ -47,7 +47,7 @@ pub record Confirmed (before behind : List ℕ) (old new : View) (j : ScriptStat
       → ToConfirm j n earlier (command ∷ commands) ending before old.rest
 
 -- command n is confirmed, or can't be
-abbrev pub ConfirmsNext : ℕ → Command → Table → Table → List ℕ → List ℕ → View → View → Result (Unit {0}) Why → Type 0
+abbrev pub ConfirmsNext : ℕ → Command → Table → Table → List ℕ → List ℕ → CertificateState → CertificateState → Result (Unit {0}) Why → Type 0
 ConfirmsNext n command t next before behind old new (Ok x) =
     (j : ScriptState) (earlier : List Step) → HoldsAt t old j earlier → Confirmed before behind old new j earlier n command next
 ConfirmsNext n command t next before behind old new (Err why) =
@@ -55,13 +55,13 @@ ConfirmsNext n command t next before behind old new (Err why) =
     → (commands : List Command) (ending : ScriptEnding) → ToConfirm j n earlier (command ∷ commands) ending before old.rest → ⊥
 
 -- a command of this kind isn't refused, and what it expects for its names is met
-pub record MeetsCommandNames (kind : Kind) (ls : List Literal) (t next : Table) (old new : View) : Type 0 where
+pub record MeetsCommandNames (kind : Kind) (ls : List Literal) (t next : Table) (old new : CertificateState) : Type 0 where
   pub allowed : (j : ScriptState) → NamesHaveState t.names j → refusal_of j (command_of kind ls) ≡ None
   pub met : (j : ScriptState) → NamesHaveState t.names j → MeetsAll (naming_all kind (names_of ls) j) t.variables next.variables old new (Ok tt)
   pub changes : Changes t.names next.names (taken_by kind (names_of ls))
 
 -- what a command of this kind adds or asks after its names is met, or can't be
-abbrev pub MeetsContent : Kind → List Literal → NamedVars → NamedVars → View → View → Result (Unit {0}) Why → Type 0
+abbrev pub MeetsContent : Kind → List Literal → NamedVars → NamedVars → CertificateState → CertificateState → Result (Unit {0}) Why → Type 0
 MeetsContent OfClause ls before after old new r = MeetsAll (Adds ls ∷ []) before after old new r
 MeetsContent OfAsk ls before after old new r = MeetsDue (λ o ask. Opens ls o) before after old new r
 MeetsContent OfHide ls before after old new r = MeetsAll [] before after old new r
@@ -69,36 +69,36 @@ MeetsContent OfWitness ls before after old new r = MeetsAll [] before after old 
 MeetsContent OfSample ls before after old new r = MeetsAll [] before after old new r
 
 -- the rest of a command after its names is confirmed, or can't be
-abbrev pub ConfirmsContent : ℕ → Kind → List Literal → Table → Table → List ℕ → List ℕ → View → View → Result (Unit {0}) Why → Type 0
+abbrev pub ConfirmsContent : ℕ → Kind → List Literal → Table → Table → List ℕ → List ℕ → CertificateState → CertificateState → Result (Unit {0}) Why → Type 0
 ConfirmsContent n kind ls named next before behind old new r =
-    (t : Table) (u : View) → MeetsCommandNames kind ls t named u old → ConfirmsNext n (command_of kind ls) t next before behind u new r
+    (t : Table) (u : CertificateState) → MeetsCommandNames kind ls t named u old → ConfirmsNext n (command_of kind ls) t next before behind u new r
 
 -- an ask is confirmed by its answer after its assumptions, or can't be
-abbrev pub ConfirmsAnswer : ℕ → List Literal → Table → Table → List ℕ → List ℕ → View → View → Result (Unit {0}) Why → Type 0
+abbrev pub ConfirmsAnswer : ℕ → List Literal → Table → Table → List ℕ → List ℕ → CertificateState → CertificateState → Result (Unit {0}) Why → Type 0
 ConfirmsAnswer n ask asked next before behind old new r =
-    (t named : Table) (u v : View) → MeetsCommandNames OfAsk ask t named u v → named.names ≡ asked.names
+    (t named : Table) (u v : CertificateState) → MeetsCommandNames OfAsk ask t named u v → named.names ≡ asked.names
     → MeetsDue (λ o under. Opens ask o) named.variables asked.variables v old (Ok tt)
     → ConfirmsNext n (Ask ask) t next before behind u new r
 
 -- what shows the outcome of an ask is met, or can't be
-abbrev pub MeetsShown : Names → List Literal → Outcome → NamedVars → NamedVars → View → View → Result (Unit {0}) Why → Type 0
+abbrev pub MeetsShown : Names → List Literal → Outcome → NamedVars → NamedVars → CertificateState → CertificateState → Result (Unit {0}) Why → Type 0
 MeetsShown names ask o before after old new r =
     (j : ScriptState) → NamesHaveState names j → NamesIncrease j.in_use → MeetsAll (showing j ask o) before after old new r
 
 -- the same with the end of the ask
-abbrev pub MeetsOutcome : Names → List Literal → Outcome → NamedVars → NamedVars → View → View → Result (Unit {0}) Why → Type 0
+abbrev pub MeetsOutcome : Names → List Literal → Outcome → NamedVars → NamedVars → CertificateState → CertificateState → Result (Unit {0}) Why → Type 0
 MeetsOutcome names ask o before after old new r =
     (j : ScriptState) → NamesHaveState names j → NamesIncrease j.in_use → MeetsAll (showing j ask o ++ Closes ∷ []) before after old new r
 
 -- The rest of the script is confirmed from command n on, or can't be.
-abbrev pub ConfirmsLast : ℕ → Reading → Table → List ℕ → View → Result (Unit {0}) Why → Type 0
+abbrev pub ConfirmsLast : ℕ → Reading → Table → List ℕ → CertificateState → Result (Unit {0}) Why → Type 0
 ConfirmsLast n script t before old (Ok x) =
     (j : ScriptState) (earlier : List Step) → HoldsAt t old j earlier → ToConfirm j n earlier script.0 script.1 before old.rest
 ConfirmsLast n script t before old (Err why) =
     (j : ScriptState) (earlier : List Step) → HoldsAt t old j earlier → ToConfirm j n earlier script.0 script.1 before old.rest → ⊥
 
 -- The script was confirmed from one command up to another: it is confirmed completely exactly if the rest is.
-pub record IsThrough (old new : View) (j : ScriptState) (earlier : List Step) (n : ℕ) (script : Reading) (before : List ℕ)
+pub record IsThrough (old new : CertificateState) (j : ScriptState) (earlier : List Step) (n : ℕ) (script : Reading) (before : List ℕ)
     (m : ℕ) (left : Reading) (next : Table) (behind : List ℕ) : Type 0 where
   pub judge : ScriptState
   pub later : List Step
@@ -107,6 +107,6 @@ pub record IsThrough (old new : View) (j : ScriptState) (earlier : List Step) (n
   pub back : ToConfirm judge m later left.0 left.1 behind new.rest → ToConfirm j n earlier script.0 script.1 before old.rest
 
 -- the same for every script state and all steps for which the table holds
-abbrev pub Through : ℕ → Reading → Table → ℕ → Reading → Table → List ℕ → List ℕ → View → View → Result (Unit {0}) Why → Type 0
+abbrev pub Through : ℕ → Reading → Table → ℕ → Reading → Table → List ℕ → List ℕ → CertificateState → CertificateState → Result (Unit {0}) Why → Type 0
 Through n script t m left next before behind old new r =
     (j : ScriptState) (earlier : List Step) → HoldsAt t old j earlier → IsThrough old new j earlier n script before m left next behind

@@ -5,7 +5,7 @@ use Rattle.sat_base.specs.script.ScriptState.{ScriptState, Sampled, Witnessed, n
 use Rattle.sat_base.specs.steps.Steps.{Step}
 use Rattle.sat_checker.specs.matching.Expected.{Expected, NewName, NoName, bringing, hiding, setting}
 use Rattle.certify.specs.confirm.CertificatePlaces.{MeetsExactly, MeetsNoneOf}
-use Rattle.certify.specs.confirm.Views.{View}
+use Rattle.certify.specs.confirm.CertificateStates.{CertificateState}
 use Rattle.certify.specs.judge.Names.{NamesHaveState, taken}
 use Rattle.certify.specs.confirm.Awaiting.{CheckerIsAt}
 use Rattle.sat_base.specs.script.Language.{Kind, OfClause, OfAsk, OfHide, OfWitness, OfSample}
@@ -14,13 +14,13 @@ use Rattle.certify.specs.declared.confirm.variables.NamedVars.{NamedVars}
 use Rattle.certify.specs.declared.verdict.Why.{Why}
 
 -- exactly what is pending was met
-pub record GoesOnTo (pending : List Expected) (after : NamedVars) (old : View) (earlier : List Step) (new : View) : Type 0 where
+pub record GoesOnTo (pending : List Expected) (after : NamedVars) (old : CertificateState) (earlier : List Step) (new : CertificateState) : Type 0 where
   pub later : List Step
   pub stands : CheckerIsAt new.checker after later
   pub leads : MeetsExactly earlier old.rest pending later new.rest
 
 -- what is pending is met, or can't be
-abbrev pub MeetsAll : List Expected → NamedVars → NamedVars → View → View → Result (Unit {0}) Why → Type 0
+abbrev pub MeetsAll : List Expected → NamedVars → NamedVars → CertificateState → CertificateState → Result (Unit {0}) Why → Type 0
 MeetsAll pending before after old new (Ok x) = (earlier : List Step) → CheckerIsAt old.checker before earlier → GoesOnTo pending after old earlier new
 MeetsAll pending before after old new (Err why) = (earlier : List Step) → CheckerIsAt old.checker before earlier → MeetsNoneOf earlier old.rest pending
 
@@ -37,7 +37,7 @@ abbrev pub expected_naming : Kind → ℕ → ScriptState → List Expected
 expected_naming kind name j = map NewName (new_names name j) ++ hidden_by kind name
 
 -- it is met, or can't be
-abbrev pub MeetsName : Kind → ℕ → Names → NamedVars → NamedVars → View → View → Result (Unit {0}) Why → Type 0
+abbrev pub MeetsName : Kind → ℕ → Names → NamedVars → NamedVars → CertificateState → CertificateState → Result (Unit {0}) Why → Type 0
 MeetsName kind name names before after old new r = (j : ScriptState) → NamesHaveState names j → MeetsAll (expected_naming kind name j) before after old new r
 
 -- what a command of this kind expects for names, from left to right
@@ -46,7 +46,7 @@ naming_all kind [] j = []
 naming_all kind (name ∷ names) j = expected_naming kind name j ++ naming_all kind names (taken kind name j)
 
 -- it is met, or can't be
-abbrev pub MeetsNames : Kind → List ℕ → Names → NamedVars → NamedVars → View → View → Result (Unit {0}) Why → Type 0
+abbrev pub MeetsNames : Kind → List ℕ → Names → NamedVars → NamedVars → CertificateState → CertificateState → Result (Unit {0}) Why → Type 0
 MeetsNames kind list names before after old new r = (j : ScriptState) → NamesHaveState names j → MeetsAll (naming_all kind list j) before after old new r
 
 -- the state after the names of a command

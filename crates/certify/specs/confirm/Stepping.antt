@@ -1,7 +1,7 @@
 -- The steps of a certificate up to the next ordered one.
 use Rattle.std.specs.Prelude.{ℕ, ◌==◌, ◌||◌, Bool, true, false, Option, Some, None, Result, Ok, Err}
 use Rattle.certify.specs.confirm.ReadSteps.{ReadsStep, BeginsNoStep}
-use Rattle.certify.specs.confirm.Views.{View, certificate_place}
+use Rattle.certify.specs.confirm.CertificateStates.{CertificateState, certificate_place}
 use Rattle.certify.specs.declared.confirm.ordered.Awaited.{Awaited}
 use Rattle.certify.specs.declared.confirm.ordered.Awaited.TheVariants as awaited
 use Rattle.certify.specs.declared.verdict.Why.{Why}
@@ -21,6 +21,6 @@ is_fed_so_far None = true
 is_fed_so_far (Some a) = is_fed a
 
 -- a step was read, or the bytes begin with none
-abbrev pub ReadsOne : View → View → Result (Unit {0}) Why → Type 0
+abbrev pub ReadsOne : CertificateState → CertificateState → Result (Unit {0}) Why → Type 0
 ReadsOne old new (Ok x) = ReadsStep (certificate_place old) (certificate_place new)
 ReadsOne old new (Err why) = BeginsNoStep old.rest

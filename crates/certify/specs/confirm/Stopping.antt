@@ -4,7 +4,7 @@ use Rattle.sat_base.specs.device.Reading.{Source}
 use Rattle.sat_base.specs.declared.device.whole.ReadError.{ReadError}
 use Rattle.sat_base.specs.declared.device.whole.ReadError.TheVariants as errors
 use Rattle.certify.specs.confirm.Streams.{Stream, Confirms, Covers, rest_in}
-use Rattle.certify.specs.confirm.Views.{View}
+use Rattle.certify.specs.confirm.CertificateStates.{CertificateState}
 use Rattle.certify.specs.script.LastPiece.{FaultsAhead, NoReadFailedAhead, TakesSome}
 use Rattle.certify.specs.declared.confirm.stop.Stop.TheVariants as stop
 use Rattle.certify.specs.declared.confirm.stop.Stop.{Stop}
@@ -33,12 +33,12 @@ Replies goes (Err stop.ScriptRead) a b P = ⊥
 Replies goes (Err stop.TooMany) a b P = ⊥
 
 -- says nothing
-abbrev pub Any : {A : Type 0} → View → View → Result A Why → Type 0
+abbrev pub Any : {A : Type 0} → CertificateState → CertificateState → Result A Why → Type 0
 Any old new r = Unit {0}
 
 -- The result of a call that reads both: P says what it means for what is left of both. M holds if there are too many commands.
 abbrev pub Joins : {A : Type 0} → Type 0 → Bool → Result A Stop → Source → Source → Stream → Stream
-    → (List ℕ → List ℕ → View → View → Result A Why → Type 0) → Type 0
+    → (List ℕ → List ℕ → CertificateState → CertificateState → Result A Why → Type 0) → Type 0
 Joins M goes (Ok x) a b s t P = TakesSome goes a b
     × ((total : List ℕ) → Covers b total → Confirms (Ok x) s t (P (rest_in total a) (rest_in total b)))
 Joins {A} M goes (Err (stop.No why)) a b s t P = TakesSome false a b

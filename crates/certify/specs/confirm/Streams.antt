@@ -9,7 +9,7 @@ use Rattle.sat_base.specs.declared.steps.reader.StepReader.{StepReader}
 use Rattle.sat_base.specs.device.Device.{Reader, most_reads, piece_size}
 use Rattle.sat_base.specs.steps.StepReading.{reader_name, reader_source, has_reader_failed, step_in}
 use Rattle.sat_base.specs.steps.Steps.{Step}
-use Rattle.certify.specs.confirm.Views.{View}
+use Rattle.certify.specs.confirm.CertificateStates.{CertificateState}
 use Rattle.certify.specs.confirm.Walks.{walks_if, FeedsSomeSteps, RunsOut}
 use Rattle.sat_checker.specs.declared.kernel.Kernel.{Kernel}
 use Rattle.certify.specs.declared.confirm.stop.Stop.{Stop}
@@ -54,7 +54,7 @@ abbrev pub rest_in : List ℕ → Source → List ℕ
 rest_in total s = s.waiting ++ drop (length s.reader.given) total
 
 -- the state of the certificate, if these are all its bytes
-abbrev pub seen_in : List ℕ → Stream → View
+abbrev pub seen_in : List ℕ → Stream → CertificateState
 seen_in total s = record { checker = s.checker; step = s.step; rest = rest_in total s.source }
 
 -- these can be all bytes that a reader will have given: no more where it is at its end
@@ -64,7 +64,7 @@ pub record Covers (s : Source) (total : List ℕ) : Type 0 where
   pub none : AtEnd s → later ≡ []
 
 -- whatever would follow, P holds of the states of the certificate before and after
-abbrev pub HoldsWhateverFollows : Stream → Stream → (View → View → Type 0) → Type 0
+abbrev pub HoldsWhateverFollows : Stream → Stream → (CertificateState → CertificateState → Type 0) → Type 0
 HoldsWhateverFollows old new P = (total : List ℕ) → Covers new.source total → P (seen_in total old) (seen_in total new)
 
 -- some bytes were taken
@@ -77,12 +77,12 @@ TakesBytesOrEnds old new = ((text : List ℕ) × ConsumesWithReads 1 old.source 
 
 -- A call succeeded: P holds of the states before and after, and the checker was fed the steps between them, except for the last one if that is
 -- still to be fed.
-abbrev pub GoesOnWith : Bool → Stream → Stream → (View → View → Type 0) → Type 0
+abbrev pub GoesOnWith : Bool → Stream → Stream → (CertificateState → CertificateState → Type 0) → Type 0
 GoesOnWith fed old new P = TakesStreamBytes old new × HoldsWhateverFollows old new P × HoldsWhateverFollows old new (walks_if fed)
 
 -- A call stopped, whatever would follow. P says what a `No` means for the states before and after. Whatever the cause, the looks are those of
 -- the steps that the checker was fed.
-abbrev pub StopsWith : Stop → Stream → Stream → (View → View → Why → Type 0) → Type 0
+abbrev pub StopsWith : Stop → Stream → Stream → (CertificateState → CertificateState → Why → Type 0) → Type 0
 StopsWith (stop.No why) old new P = TakesBytesOrEnds old new × HoldsWhateverFollows old new (λ a b. P a b why) × HoldsWhateverFollows old new FeedsSomeSteps
 StopsWith stop.CertificateRead old new P = ((text : List ℕ) × ConsumesAndFails old.source new.source text) × HoldsWhateverFollows old new FeedsSomeSteps
 StopsWith stop.OutOfMemory old new P = TakesBytesOrEnds old new × HoldsWhateverFollows old new FeedsSomeSteps
@@ -92,12 +92,12 @@ StopsWith stop.AnswersRead old new P = ⊥
 StopsWith stop.TooMany old new P = ⊥
 
 -- What a call returns: it succeeds or it stops. P says what the result means for the states before and after.
-abbrev pub GoesOrStops : {A : Type 0} → (A → Bool) → Result A Stop → Stream → Stream → (View → View → Result A Why → Type 0) → Type 0
+abbrev pub GoesOrStops : {A : Type 0} → (A → Bool) → Result A Stop → Stream → Stream → (CertificateState → CertificateState → Result A Why → Type 0) → Type 0
 GoesOrStops fed (Ok x) old new P = GoesOnWith (fed x) old new (λ a b. P a b (Ok x))
 GoesOrStops fed (Err e) old new P = StopsWith e old new (λ a b why. P a b (Err why))
 
 -- the same if the checker is fed every step that is read
-abbrev pub Confirms : {A : Type 0} → Result A Stop → Stream → Stream → (View → View → Result A Why → Type 0) → Type 0
+abbrev pub Confirms : {A : Type 0} → Result A Stop → Stream → Stream → (CertificateState → CertificateState → Result A Why → Type 0) → Type 0
 Confirms r old new P = GoesOrStops (λ x. true) r old new P
 
 -- the result of a call that reads nothing: P says what it means

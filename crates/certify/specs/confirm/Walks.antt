@@ -8,7 +8,7 @@ use Rattle.sat_checker.specs.Looks.{most_looks}
 use Rattle.sat_checker.specs.Spent.{IsSpent, SpentBy}
 use Rattle.sat_checker.specs.declared.kernel.Kernel.{Kernel}
 use Rattle.certify.specs.confirm.Feeding.{HasTaken}
-use Rattle.certify.specs.confirm.Views.{View}
+use Rattle.certify.specs.confirm.CertificateStates.{CertificateState}
 
 -- One count of looks leads to another by steps from the beginning of the bytes: every one is accepted after the earlier ones, the last
 -- perhaps not.
@@ -41,23 +41,23 @@ pub record IsFedFront (old : Kernel) (bytes : List ℕ) (new : Kernel) (rest : L
   pub spends : ReachesCounterEnd later rest → ReachesCounterEnd earlier bytes
 
 -- it was fed all steps between two states
-abbrev pub FeedsAllSteps : View → View → Type 0
+abbrev pub FeedsAllSteps : CertificateState → CertificateState → Type 0
 FeedsAllSteps old new = (earlier : List Step) → HasTaken old.checker earlier → IsFedFront old.checker old.rest new.checker new.rest earlier
 
 -- it was fed all but the last one
-abbrev pub WalksBefore : View → View → Type 0
+abbrev pub WalksBefore : CertificateState → CertificateState → Type 0
 WalksBefore old new = (text : List ℕ) × SpellsStep new.step text
     × ((earlier : List Step) → HasTaken old.checker earlier → IsFedFront old.checker old.rest new.checker (text ++ new.rest) earlier)
 
 -- it was fed the last one too, or not
-abbrev pub walks_if : Bool → View → View → Type 0
+abbrev pub walks_if : Bool → CertificateState → CertificateState → Type 0
 walks_if true old new = FeedsAllSteps old new
 walks_if false old new = WalksBefore old new
 
 -- it was fed some steps, the last of which it perhaps didn't accept
-abbrev pub FeedsSomeSteps : View → View → Type 0
+abbrev pub FeedsSomeSteps : CertificateState → CertificateState → Type 0
 FeedsSomeSteps old new = (earlier : List Step) → HasTaken old.checker earlier → LooksReach earlier old.rest (kernel_looks old.checker) (kernel_looks new.checker)
 
 -- a number was at its end
-abbrev pub RunsOut : View → View → Type 0
+abbrev pub RunsOut : CertificateState → CertificateState → Type 0
 RunsOut old new = (earlier : List Step) → HasTaken old.checker earlier → ReachesCounterEnd earlier old.rest

@@ -60,8 +60,8 @@ abbrev pub MayOverlap : List (List ℕ) → Type 0
 MayOverlap words = (request : Request) × AsksFor words request × WritesFiles request
 
 -- Words that are no call have status 2. Others have it only if the call writes files.
-pub record TellsUsage (words : List (List ℕ)) (status : ℕ) : Type 0 where
-  pub told : IsMisuse words → status ≡ 2
+pub record ReportsUsage (words : List (List ℕ)) (status : ℕ) : Type 0 where
+  pub misused : IsMisuse words → status ≡ 2
   pub only : status ≡ 2 → IsMisuse words ⊎ MayOverlap words
 
 -- a run over these files, with at most `budget` rounds for each ask

@@ -15,7 +15,8 @@ use Rattle.certify.specs.declared.fault.RunFault.{RunFault}
 use Rattle.certify.specs.declared.run.session.RunState.{RunState}
 use Rattle.certify.specs.declared.summary.Summary.{Summary}
 use Rattle.certify.specs.run.Unfinished.{TookBytes, TookSteps}
-use Rattle.certify.specs.run.SolverCalls.{FaultSays, IsCaused, proof_in}
+use Rattle.sat_solver.specs.solver.View.{proof_in}
+use Rattle.certify.specs.run.SolverCalls.{FaultSays, IsCaused}
 use Rattle.certify.specs.run.Quiet.{Proof, Solver}
 
 -- a target is there, open or broken

@@ -15,7 +15,8 @@ use Rattle.sat_solver.specs.solver.Naming.{ChangesMode}
 use Rattle.sat_solver.specs.solver.Whole.{steps_in}
 use Rattle.certify.specs.declared.judge.NameState.{NameState}
 use Rattle.certify.specs.declared.judge.NameState.TheVariants as state
-use Rattle.certify.specs.run.SolverCalls.{IsReadySolver, proof_in}
+use Rattle.sat_solver.specs.solver.View.{proof_in}
+use Rattle.certify.specs.run.SolverCalls.{IsReadySolver}
 use Rattle.certify.specs.run.Stretches.{MayFor, Stretch, due_for}
 use Rattle.certify.specs.run.Quiet.{Solver}
 

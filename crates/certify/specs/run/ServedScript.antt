@@ -24,7 +24,8 @@ use Rattle.certify.specs.script.LastPiece.{FaultsAhead, TakesSomeOrEnds, TakesSo
 use Rattle.certify.specs.script.Commands.{ReaderMeans, MeansIf}
 use Rattle.certify.specs.run.FinishedRun.{refused_count, malformed_at, answer_kind, AreWithinBudget, rounds_of_asks, identities_given}
 use Rattle.certify.specs.run.Unfinished.{Exceeds, TookAnswersFront}
-use Rattle.certify.specs.run.SolverCalls.{IsCaused, IsReadySolver, proof_in}
+use Rattle.sat_solver.specs.solver.View.{proof_in}
+use Rattle.certify.specs.run.SolverCalls.{IsCaused, IsReadySolver}
 use Rattle.certify.specs.run.Serving.{RunPlace, Serves}
 use Rattle.certify.specs.run.Standing.{RunGoesOn, HasStateBetweenCommands, place_in}
 use Rattle.certify.specs.run.Stretches.{ServesCommands}

@@ -16,6 +16,7 @@ use Rattle.sat_solver.specs.session.Making.{ComesBySteps, BreaksEmitting}
 use Rattle.sat_solver.specs.proof.ProofView.{is_checked, is_drat, target_of}
 use Rattle.sat_solver.specs.solver.Calls.{Answered}
 use Rattle.sat_solver.specs.solver.Taking.{IsNameFaultOr}
+use Rattle.sat_solver.specs.solver.View.{proof_in}
 use Rattle.sat_solver.specs.solver.Whole.{IsSolver, steps_in}
 use Rattle.certify.specs.declared.fault.RunFault.{RunFault}
 use Rattle.certify.specs.declared.fault.RunFault.TheVariants as fault
@@ -59,10 +60,6 @@ IsCaused fault.CertificateWrite full lacks = Unit {0}
 IsCaused fault.OutOfMemory full lacks = Unit {0}
 IsCaused fault.StoreFull full lacks = full
 IsCaused fault.CounterEnd full lacks = lacks
-
--- where a solver writes
-abbrev pub proof_in : {C : Type 0} → Solver C → Proof C
-proof_in s = s.core.proof
 
 -- a call of the solver failed, perhaps since one of the certificate's writer did, the last
 abbrev pub FailsSolver : {C : Type 0} → (C → Writer) → RunFault → Solver C → Solver C → Type 0

@@ -20,7 +20,8 @@ use Rattle.sat_base.specs.script.ScriptStateLaws.{ScriptStateInvariant}
 use Rattle.certify.specs.script.Commands.{kind_of}
 use Rattle.sat_base.specs.script.Language.{Reading, command_of, onto_commands}
 use Rattle.certify.specs.run.Unfinished.{Exceeds, TookAnswersFront}
-use Rattle.certify.specs.run.SolverCalls.{FaultSays, IsCaused, IsReadySolver, LacksFor, proof_in}
+use Rattle.sat_solver.specs.solver.View.{proof_in}
+use Rattle.certify.specs.run.SolverCalls.{FaultSays, IsCaused, IsReadySolver, LacksFor}
 use Rattle.certify.specs.run.Serving.{RunPlace, Serves}
 use Rattle.certify.specs.run.Quiet.{Solver}
 

@@ -146,7 +146,7 @@ impl Names {
     /// Returns the names that become new variables when a name is introduced, in order: all from the first one that was
     /// never used up to this name, or only the name itself if it is hidden.
     pub fn new_names(&self, var: Var) -> NewNames
-        ensures told { (j : ScriptState) → NamesHaveState self.now j
+        ensures names { (j : ScriptState) → NamesHaveState self.now j
             → new_names (var + 1) j ≡ names_from result.count (result.first + 1) }
         ensures within { result.first + result.count ≤ var_limit }
     {

@@ -4,7 +4,8 @@ ghost use Rattle.sat_base.specs.device.Device.{WriterTakes};
 ghost use Rattle.sat_solver.specs.proof.ProofView.{GivesWriter, target_of};
 ghost use Rattle.certify.specs.Devices.{OneFailed};
 ghost use Rattle.certify.specs.run.Unfinished.{TookBytes};
-ghost use Rattle.certify.specs.run.SolverCalls.{IsReadySolver, proof_in};
+ghost use Rattle.sat_solver.specs.solver.View.{proof_in};
+ghost use Rattle.certify.specs.run.SolverCalls.{IsReadySolver};
 ghost use Rattle.certify.specs.run.Ending.{EndsCertificate, EndsRun, FinishesRun, GivesFront, HasTarget, HasOpenTarget};
 
 use super::faults::fault_of;

@@ -61,7 +61,7 @@ fn report_malformed<A: CountedWrite, C: CountedWrite + Drop>(
     answers: &mut A,
     number: u64,
 ) -> Result<(), RunFault>
-    ensures told { OnOk result (WriterTakes (A.seen answers.old) (A.seen answers.new) (malformed_line number)) }
+    ensures takes { OnOk result (WriterTakes (A.seen answers.old) (A.seen answers.new) (malformed_line number)) }
     ensures same { session.new ≡ record session.old { page = session.new.page } }
     ensures stops { (j : ScriptState) → OnErr result
         (TookAnswersFront session.old.budget session.old.solver.clock.rounds number j ([], Malformed)

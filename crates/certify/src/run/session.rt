@@ -6,7 +6,8 @@ ghost use Rattle.sat_solver.specs.variables.Calls.{NamesAgree};
 ghost use Rattle.sat_solver.specs.proof.Counting.{nothing_counted as uncounted};
 ghost use Rattle.sat_solver.specs.proof.ProofView.{Open, target_of};
 ghost use Rattle.sat_solver.specs.solver.Whole.{steps_in};
-ghost use Rattle.certify.specs.run.SolverCalls.{IsReadySolver, proof_in};
+ghost use Rattle.sat_solver.specs.solver.View.{proof_in};
+ghost use Rattle.certify.specs.run.SolverCalls.{IsReadySolver};
 ghost use Rattle.certify.specs.run.Standing.{RunGoesOn, HasStateBetweenCommands};
 
 use super::page::Page;

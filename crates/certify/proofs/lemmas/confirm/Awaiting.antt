@@ -11,7 +11,7 @@ use Rattle.certify.specs.confirm.Feeding.{HasTaken, FeedsStep, SettlesConflict}
 use Rattle.certify.specs.confirm.ReadSteps.{ReadsStep}
 use Rattle.certify.specs.confirm.Stepping.{ReadsOne, is_fed, is_fed_so_far}
 use Rattle.certify.specs.confirm.Streams.{Stream, seen_in, rest_in, GoesOrStops, Confirms}
-use Rattle.certify.specs.confirm.Views.{View, certificate_place}
+use Rattle.certify.specs.confirm.CertificateStates.{CertificateState, certificate_place}
 use Rattle.certify.specs.confirm.Awaiting.{CheckerIsAt, StepIsReady, UnsatIsRecorded, StepWasPassed, AwaitsNext, StepsOnce, PassesUnordered}
 use Rattle.certify.specs.declared.confirm.ordered.Awaited.{Awaited}
 use Rattle.certify.specs.declared.confirm.ordered.Awaited.TheVariants as awaited
@@ -24,7 +24,7 @@ use Rattle.certify.proofs.lemmas.confirm.Streams.{going_then, confirms_none, con
 use Rattle.certify.proofs.lemmas.confirm.Following.{others}
 
 -- what a round that ends brings
-module _ (names : NamedVars) (old : View) (new : View) (unsat : Bool) (told : (steps : List Step) → HasAccepted old.checker steps → unsat ≡ (ready_after steps).unsat) where
+module _ (names : NamedVars) (old : CertificateState) (new : CertificateState) (unsat : Bool) (told : (steps : List Step) → HasAccepted old.checker steps → unsat ≡ (ready_after steps).unsat) where
   -- unsat is recorded
   is_cut : unsat ≡ true → (earlier : List Step) → CheckerIsAt old.checker names earlier → UnsatIsRecorded names old earlier old
   is_cut is earlier s = record { later = earlier; stands = s; closed = sym (told earlier s.taken.stands) ∙ is; skips = skips_none earlier old.rest }
@@ -53,7 +53,7 @@ module _ (names : NamedVars) (old : View) (new : View) (unsat : Bool) (told : (s
         }
 
     -- it is refused
-    is_refused : (mid : View) → ReadsStep (certificate_place old) (certificate_place mid) → is_ordered mid.step ≡ false → ((steps : List Step) → HasTaken old.checker steps → Accepts (ready_after steps) mid.step → ⊥)
+    is_refused : (mid : CertificateState) → ReadsStep (certificate_place old) (certificate_place mid) → is_ordered mid.step ≡ false → ((steps : List Step) → HasTaken old.checker steps → Accepts (ready_after steps) mid.step → ⊥)
         → (earlier : List Step) → CheckerIsAt old.checker names earlier → MeetsNothing earlier old.rest
     is_refused mid r o a earlier s =
         let open_yet = sym (told earlier s.taken.stands) ∙ is in
@@ -88,13 +88,13 @@ module _ (names : NamedVars) where
   pub passed_none : (a : Stream) → Confirms (Ok tt) a a (PassesUnordered names)
   passed_none a = confirms_none tt a (PassesUnordered names) (λ total earlier s. record { later = earlier; stands = s; skips = skips_none earlier (rest_in total a.source) })
 
-  passed_on : (u v w : View) → PassesUnordered names u v (Ok tt) → StepsOnce names v w (Ok None) → PassesUnordered names u w (Ok tt)
+  passed_on : (u v w : CertificateState) → PassesUnordered names u v (Ok tt) → StepsOnce names v w (Ok None) → PassesUnordered names u w (Ok tt)
   passed_on u v w p h earlier s =
       let x = p earlier s in
       let y = h x.later x.stands in
       record { later = y.later; stands = y.stands; skips = skips_on x.skips y.skips }
 
-  ends : (u v w : View) (y : Result Awaited Why) → PassesUnordered names u v (Ok tt) → AwaitsNext names v w y → AwaitsNext names u w y
+  ends : (u v w : CertificateState) (y : Result Awaited Why) → PassesUnordered names u v (Ok tt) → AwaitsNext names v w y → AwaitsNext names u w y
   ends u v w (Ok awaited.Step) p h = λ earlier s. let x = p earlier s in let y = h x.later x.stands in record { later = y.later; stands = y.stands; open_yet = y.open_yet; offers = skips_offer x.skips y.offers }
   ends u v w (Ok awaited.Cut) p h = λ earlier s. let x = p earlier s in let y = h x.later x.stands in record { later = y.later; stands = y.stands; closed = y.closed; skips = skips_on x.skips y.skips }
   ends u v w (Err why) p h = λ earlier s. let x = p earlier s in skips_stop x.skips (h x.later x.stands)
@@ -112,7 +112,7 @@ module _ (names : NamedVars) where
   -- A UNIT CONFLICT IS SETTLED
 
   -- what waits is so of a checker that settled one, too
-  awaits_settled : (x : Awaited) (u v : View) (next : Kernel) → SettlesConflict (Ok tt) v.checker next → AwaitsNext names u v (Ok x) → AwaitsNext names u (record v { checker = next }) (Ok x)
+  awaits_settled : (x : Awaited) (u v : CertificateState) (next : Kernel) → SettlesConflict (Ok tt) v.checker next → AwaitsNext names u v (Ok x) → AwaitsNext names u (record v { checker = next }) (Ok x)
   awaits_settled awaited.Step u v next settled h = λ earlier s.
       let y = h earlier s in
       record { later = y.later; stands = record { taken = (settled y.later y.stands.taken).0; stand = y.stands.stand }; open_yet = y.open_yet; offers = y.offers }
@@ -121,7 +121,7 @@ module _ (names : NamedVars) where
       record { later = y.later; stands = record { taken = (settled y.later y.stands.taken).0; stand = y.stands.stand }; closed = y.closed; skips = y.skips }
 
   -- a checker that goes on refuses to settle none
-  awaits_never : (x : Awaited) (u v w : View) (why : Why) → AwaitsNext names u v (Ok x) → ((steps : List Step) → HasTaken v.checker steps → ⊥) → AwaitsNext names u w (Err why)
+  awaits_never : (x : Awaited) (u v w : CertificateState) (why : Why) → AwaitsNext names u v (Ok x) → ((steps : List Step) → HasTaken v.checker steps → ⊥) → AwaitsNext names u w (Err why)
   awaits_never awaited.Step u v w why h none = λ earlier s. let y = h earlier s in absurd (none y.later y.stands.taken)
   awaits_never awaited.Cut u v w why h none = λ earlier s. let y = h earlier s in absurd (none y.later y.stands.taken)
 

@@ -12,7 +12,7 @@ use Rattle.certify.specs.answers.Answers.{outcome_text, refused_line, malformed_
 use Rattle.certify.specs.confirm.CertificatePlaces.{CanMeet, MeetsNoneOf}
 use Rattle.certify.specs.confirm.Lines.{TakesDueLine}
 use Rattle.certify.specs.confirm.Matches.{OneEach}
-use Rattle.certify.specs.confirm.Views.{View}
+use Rattle.certify.specs.confirm.CertificateStates.{CertificateState}
 use Rattle.certify.specs.judge.Names.{NamesHaveState}
 use Rattle.certify.specs.confirm.Awaiting.{IsDueMet, MeetsDue}
 use Rattle.certify.specs.confirm.Confirming.{Table, HoldsAt, ToConfirm, Confirmed, ConfirmsNext, ConfirmsLast, MeetsCommandNames, MeetsOutcome}
@@ -96,7 +96,7 @@ after_accepted : (j : ScriptState) (c : Command) → refusal_of j c ≡ None →
 after_accepted j c e = rw e refl
 
 -- behind a command that leaves this state
-confirmed : (before behind : List ℕ) (old new : View) (j next : ScriptState) (earlier later : List Step) (n : ℕ) (c : Command) (t : Table) → after_command c j ≡ next → HoldsAt t new next later
+confirmed : (before behind : List ℕ) (old new : CertificateState) (j next : ScriptState) (earlier later : List Step) (n : ℕ) (c : Command) (t : Table) → after_command c j ≡ next → HoldsAt t new next later
     → ((cs : List Command) (ending : ScriptEnding) → ToConfirm j n earlier (c ∷ cs) ending before old.rest → ToConfirm next (n + 1) later cs ending behind new.rest)
     → ((cs : List Command) (ending : ScriptEnding) → ToConfirm next (n + 1) later cs ending behind new.rest → ToConfirm j n earlier (c ∷ cs) ending before old.rest)
     → Confirmed before behind old new j earlier n c t
@@ -107,7 +107,7 @@ confirmed before behind old new j next earlier later n c t e s on back = record 
   back = λ cs ending h. back cs ending (subst (λ x. ToConfirm x (n + 1) later cs ending behind new.rest) e h);
 }
 
-pub command_refused : (before behind : List ℕ) (u : View) (n : ℕ) (c : Command) (t : Table) (r : Refusal) (y : Result (Unit {0}) Why) → ((j : ScriptState) → NamesHaveState t.names j → refusal_of j c ≡ Some r)
+pub command_refused : (before behind : List ℕ) (u : CertificateState) (n : ℕ) (c : Command) (t : Table) (r : Refusal) (y : Result (Unit {0}) Why) → ((j : ScriptState) → NamesHaveState t.names j → refusal_of j c ≡ Some r)
     → TakesDueLine before behind (refused_line n r) y → ConfirmsNext n c t t before behind u u y
 command_refused before behind u n c t r (Ok x) refused line = λ j earlier s.
     let e = refused j s.judged in
@@ -149,20 +149,20 @@ unnamed_barred (Clause ls) j n earlier cs ending answers certificate e b h = lef
 unnamed_barred (Ask ls) j n earlier cs ending answers certificate e b h = ask_unnamed j n ls cs ending answers e earlier certificate b h
 unnamed_barred x j n earlier cs ending answers certificate e b h = left_barred [] (accepted x j) (n + 1) cs ending answers b ((command_pending x tt j n earlier cs ending answers certificate e).0 h)
 
-pub command_unnamed : (kind : Kind) (ls : List Literal) (t next : Table) (before behind : List ℕ) (u v : View) (n : ℕ) (after : NamedVars) (why : Why) → ((j : ScriptState) → NamesHaveState t.names j → refusal_of j (command_of kind ls) ≡ None)
+pub command_unnamed : (kind : Kind) (ls : List Literal) (t next : Table) (before behind : List ℕ) (u v : CertificateState) (n : ℕ) (after : NamedVars) (why : Why) → ((j : ScriptState) → NamesHaveState t.names j → refusal_of j (command_of kind ls) ≡ None)
     → ((j : ScriptState) → NamesHaveState t.names j → MeetsAll (naming_all kind (names_of ls) j) t.variables after u v (Err why)) → ConfirmsNext n (command_of kind ls) t next before behind u v (Err why)
 command_unnamed kind ls t next before behind u v n after why allowed met j earlier s cs ending h =
     unnamed_barred (command_of kind ls) j n earlier cs ending before u.rest (allowed j s.judged) (subst (MeetsNoneOf earlier u.rest) (naming_is kind ls j) (met j s.judged earlier s.at)) h
 
-named_on : (kind : Kind) (ls : List Literal) (t next : Table) (u v : View) → MeetsCommandNames kind ls t next u v → (j : ScriptState) (earlier : List Step) → HoldsAt t u j earlier → GoesOnTo (for_names (command_of kind ls) j) next.variables u earlier v
+named_on : (kind : Kind) (ls : List Literal) (t next : Table) (u v : CertificateState) → MeetsCommandNames kind ls t next u v → (j : ScriptState) (earlier : List Step) → HoldsAt t u j earlier → GoesOnTo (for_names (command_of kind ls) j) next.variables u earlier v
 named_on kind ls t next u v named j earlier s = subst (λ (es : List Expected). GoesOnTo es next.variables u earlier v) (naming_is kind ls j) (named.met j s.judged earlier s.at)
 
 -- a command that is no ask
-module _ (kind : Kind) (ls : List Literal) (a : NoAsk (command_of kind ls)) (t named : Table) (u v : View) (n : ℕ) (is : MeetsCommandNames kind ls t named u v) (before : List ℕ) where
+module _ (kind : Kind) (ls : List Literal) (a : NoAsk (command_of kind ls)) (t named : Table) (u v : CertificateState) (n : ℕ) (is : MeetsCommandNames kind ls t named u v) (before : List ℕ) where
   c : Command
   c = command_of kind ls
 
-  pub plain_confirmed : (next : Table) (w : View) (y : Result (Unit {0}) Why) → next.names ≡ named.names → MeetsAll (behind_names (command_of kind ls)) named.variables next.variables v w y → ConfirmsNext n (command_of kind ls) t next before before u w y
+  pub plain_confirmed : (next : Table) (w : CertificateState) (y : Result (Unit {0}) Why) → next.names ≡ named.names → MeetsAll (behind_names (command_of kind ls)) named.variables next.variables v w y → ConfirmsNext n (command_of kind ls) t next before before u w y
   plain_confirmed next w (Ok x) same met = λ j earlier s.
       let e = is.allowed j s.judged in
       let first = named_on kind ls t named u v is j earlier s in
@@ -188,16 +188,16 @@ module _ (kind : Kind) (ls : List Literal) (a : NoAsk (command_of kind ls)) (t n
 
 -- AN ASK
 
-module _ (ls : List Literal) (t named : Table) (u v : View) (n : ℕ) (is : MeetsCommandNames OfAsk ls t named u v) where
+module _ (ls : List Literal) (t named : Table) (u v : CertificateState) (n : ℕ) (is : MeetsCommandNames OfAsk ls t named u v) where
   first : (j : ScriptState) (earlier : List Step) → HoldsAt t u j earlier → GoesOnTo (bringing (names_of ls) j) named.variables u earlier v
   first j earlier s = named_on OfAsk ls t named u v is j earlier s
 
-  pub ask_without_assumptions : (next : Table) (before behind : List ℕ) (after : NamedVars) (w : View) (why : Why) → MeetsDue (λ o ask. Opens ls o) named.variables after v w (Err why) → ConfirmsNext n (Ask ls) t next before behind u w (Err why)
+  pub ask_without_assumptions : (next : Table) (before behind : List ℕ) (after : NamedVars) (w : CertificateState) (why : Why) → MeetsDue (λ o ask. Opens ls o) named.variables after v w (Err why) → ConfirmsNext n (Ask ls) t next before behind u w (Err why)
   ask_without_assumptions next before behind after w why bars j earlier s cs ending h =
       let f = first j earlier s in
       ask_unopened j n ls cs ending before (is.allowed j s.judged) earlier f.later u.rest v.rest f.leads (λ o. bars f.later f.stands o []) h
 
-  module _ (asked : Table) (w : View) (same : named.names ≡ asked.names) (opens : MeetsDue (λ o ask. Opens ls o) named.variables asked.variables v w (Ok tt)) (before : List ℕ) where
+  module _ (asked : Table) (w : CertificateState) (same : named.names ≡ asked.names) (opens : MeetsDue (λ o ask. Opens ls o) named.variables asked.variables v w (Ok tt)) (before : List ℕ) where
     second : (j : ScriptState) (earlier : List Step) (s : HoldsAt t u j earlier) → IsDueMet (λ o ask. Opens ls o) asked.variables v (first j earlier s).later w
     second j earlier s = let f = first j earlier s in opens f.later f.stands
 
@@ -216,7 +216,7 @@ module _ (ls : List Literal) (t named : Table) (u v : View) (n : ℕ) (is : Meet
     within : (j : ScriptState) (earlier : List Step) (s : HoldsAt t u j earlier) → Within (second j earlier s).later
     within j earlier s = let h = holds j earlier s in all_within asked.variables (second j earlier s).later h.at.stand
 
-    pub ask_without_answer : (next : Table) (behind : List ℕ) (x : View) (why : Why)
+    pub ask_without_answer : (next : Table) (behind : List ℕ) (x : CertificateState) (why : Why)
         → ((steps : List Step) → HasTakenSteps w.checker steps → (o : Outcome) (tail : List ℕ) → IsInForm o → ((ready_after steps).unsat ≡ true → o ≡ Unsat []) → before ≡ outcome_text o ++ tail → ⊥)
         → ConfirmsNext n (Ask ls) t next before behind u x (Err why)
     ask_without_answer next behind x why none j earlier s cs ending h =
@@ -227,7 +227,7 @@ module _ (ls : List Literal) (t named : Table) (u v : View) (n : ℕ) (is : Meet
 
     module _ (o : Outcome) (behind : List ℕ)
         (read : (steps : List Step) → HasTakenSteps w.checker steps → (before ≡ outcome_text o ++ behind) × IsInForm o × ((ready_after steps).unsat ≡ true → o ≡ Unsat [])) where
-      pub ask_answered : (next : Table) (y : View) (r : Result (Unit {0}) Why) → next.names ≡ asked.names → MeetsOutcome asked.names ls o asked.variables next.variables w y r → ConfirmsNext n (Ask ls) t next before behind u y r
+      pub ask_answered : (next : Table) (y : CertificateState) (r : Result (Unit {0}) Why) → next.names ≡ asked.names → MeetsOutcome asked.names ls o asked.variables next.variables w y r → ConfirmsNext n (Ask ls) t next before behind u y r
       ask_answered next y (Ok z) kept met = λ j earlier s.
           let e = is.allowed j s.judged in
           let f = first j earlier s in
@@ -257,22 +257,22 @@ module _ (ls : List Literal) (t named : Table) (u v : View) (n : ℕ) (is : Meet
 
 -- THE END
 
-pub over_barred : (n : ℕ) (t : Table) (after : NamedVars) (before : List ℕ) (u v : View) (why : Why) → MeetsAll (Finish ∷ []) t.variables after u v (Err why) → ConfirmsLast n ([], Clean) t before u (Err why)
+pub over_barred : (n : ℕ) (t : Table) (after : NamedVars) (before : List ℕ) (u v : CertificateState) (why : Why) → MeetsAll (Finish ∷ []) t.variables after u v (Err why) → ConfirmsLast n ([], Clean) t before u (Err why)
 over_barred n t after before u v why bars j earlier s h = (bars earlier s.at).none [] (end_on j n earlier Clean before u.rest h).1
 
-pub over_done : (n : ℕ) (t : Table) (after : NamedVars) (before : List ℕ) (u v : View) → MeetsAll (Finish ∷ []) t.variables after u v (Ok tt) → before ≡ [] → ConfirmsLast n ([], Clean) t before u (Ok tt)
+pub over_done : (n : ℕ) (t : Table) (after : NamedVars) (before : List ℕ) (u v : CertificateState) → MeetsAll (Finish ∷ []) t.variables after u v (Ok tt) → before ≡ [] → ConfirmsLast n ([], Clean) t before u (Ok tt)
 over_done n t after before u v met a j earlier s =
     let o = met earlier s.at in
     end_back j n earlier Clean before u.rest a (o.leads.back [] (nothing_met o.later v.rest))
 
-pub over_extra : (n : ℕ) (t : Table) (before : List ℕ) (u : View) (why : Why) → (before ≡ [] → ⊥) → ConfirmsLast n ([], Clean) t before u (Err why)
+pub over_extra : (n : ℕ) (t : Table) (before : List ℕ) (u : CertificateState) (why : Why) → (before ≡ [] → ⊥) → ConfirmsLast n ([], Clean) t before u (Err why)
 over_extra n t before u why x j earlier s h = x (end_on j n earlier Clean before u.rest h).0
 
 -- behind the last line of the answers to a malformed text
-pub malformed_barred : (n : ℕ) (t : Table) (before behind : List ℕ) (u : View) (why : Why) → TakesDueLine before behind (malformed_line n) (Err why) → ConfirmsLast n ([], Malformed) t before u (Err why)
+pub malformed_barred : (n : ℕ) (t : Table) (before behind : List ℕ) (u : CertificateState) (why : Why) → TakesDueLine before behind (malformed_line n) (Err why) → ConfirmsLast n ([], Malformed) t before u (Err why)
 malformed_barred n t before behind u why line j earlier s h = line [] ((end_on j n earlier Malformed before u.rest h).0 ∙ sym (append-nil (malformed_line n)))
 
-pub malformed_then : (n : ℕ) (t : Table) (before behind : List ℕ) (u : View) (y : Result (Unit {0}) Why) → TakesDueLine before behind (malformed_line n) (Ok tt) → ConfirmsLast n ([], Clean) t behind u y → ConfirmsLast n ([], Malformed) t before u y
+pub malformed_then : (n : ℕ) (t : Table) (before behind : List ℕ) (u : CertificateState) (y : Result (Unit {0}) Why) → TakesDueLine before behind (malformed_line n) (Ok tt) → ConfirmsLast n ([], Clean) t behind u y → ConfirmsLast n ([], Malformed) t before u y
 malformed_then n t before behind u (Ok x) line k = λ j earlier s.
     let p = end_on j n earlier Clean behind u.rest (k j earlier s) in
     end_back j n earlier Malformed before u.rest (line ∙ ap (λ x. malformed_line n ++ x) p.0 ∙ append-nil (malformed_line n)) p.1

@@ -12,7 +12,7 @@ use Rattle.certify.specs.answers.Answers.{outcome_text, refused_line, malformed_
 use Rattle.certify.specs.answers.AnswerForms.{IsInForm, named_literals}
 use Rattle.certify.specs.confirm.Lines.{TakesDueLine}
 use Rattle.certify.specs.confirm.Streams.{Stream, Confirms, seen_in}
-use Rattle.certify.specs.confirm.Views.{View}
+use Rattle.certify.specs.confirm.CertificateStates.{CertificateState}
 use Rattle.certify.specs.judge.Names.{states_of, Changes, ReportsRefusal, NamesHaveState, refusal_in, used_in}
 use Rattle.certify.specs.confirm.Awaiting.{MeetsDue}
 use Rattle.certify.specs.confirm.Comparing.{MayStayUnmet, Due}
@@ -38,7 +38,7 @@ use Rattle.certify.proofs.lemmas.confirm.UsedNames.{used_names}
 
 -- ONE THING THAT IS EXPECTED
 
-at_ask : (due : Due) (o : Outcome) (ask : List Literal) → MayStayUnmet (due o ask) → (before after : NamedVars) (u v : View) (y : Result (Unit {0}) Why) → MeetsDue due before after u v y → MeetsAll (due o ask ∷ []) before after u v y
+at_ask : (due : Due) (o : Outcome) (ask : List Literal) → MayStayUnmet (due o ask) → (before after : NamedVars) (u v : CertificateState) (y : Result (Unit {0}) Why) → MeetsDue due before after u v y → MeetsAll (due o ask ∷ []) before after u v y
 at_ask due o ask free before after u v (Ok x) m = λ earlier s. let k = m earlier s in record { later = k.later; stands = k.stands; leads = k.leads o ask (λ closed. free) }
 at_ask due o ask free before after u v (Err why) m = λ earlier s. m earlier s o ask
 
@@ -76,7 +76,7 @@ module _ (n : ℕ) (ask : List Literal) (asked next : Table) (a b : Source) (s :
       (λ p q more why none t named x v is same opens. ask_without_answer ask t named x v n is asked (seen_in more s) same opens p next q (seen_in more s) why (λ steps taken o tail form alone e. none o tail form (λ closed. alone (sym (told steps taken) ∙ closed)) e)) h
 
   -- the answer, and that unsat is recorded or isn't
-  abbrev Answered : List ℕ → List ℕ → View → View → Result (Unit {0}) Why → Type 0
+  abbrev Answered : List ℕ → List ℕ → CertificateState → CertificateState → Result (Unit {0}) Why → Type 0
   Answered before behind u v y = (u ≡ v) × IsReply before behind reply settled (Ok tt) × ((steps : List Step) → HasTakenSteps u.checker steps → settled ≡ (ready_after steps).unsat)
 
   pub answer_closes : (r : Result (Unit {0}) Stop) (t : Stream) → next.names ≡ asked.names → Replies {A = Unit {0}} true (Ok tt) a b (λ before behind y. IsReply before behind reply settled y)
@@ -85,19 +85,19 @@ module _ (n : ℕ) (ask : List Literal) (asked next : Table) (a b : Source) (s :
       here open_yet
       (λ p q z v w y m f g t named x u is same opens.
       let read : (steps : List Step) → HasTakenSteps w.checker steps → (p ≡ outcome_text reply ++ z) × IsInForm reply × ((ready_after steps).unsat ≡ true → reply ≡ Unsat []) = λ steps taken.
-      (f.1.0 ∙ ap (λ (rest : List ℕ). outcome_text reply ++ rest) g.0, f.1.1, (λ closed. f.1.2 (f.2 steps (subst (λ (k : View). HasTakenSteps k.checker steps) (sym f.0) taken) ∙ closed))) in
-      let opened : MeetsDue (λ o under. Opens ask o) named.variables asked.variables u w (Ok tt) = subst (λ (k : View). MeetsDue (λ o under. Opens ask o) named.variables asked.variables u k (Ok tt)) f.0 opens in
+      (f.1.0 ∙ ap (λ (rest : List ℕ). outcome_text reply ++ rest) g.0, f.1.1, (λ closed. f.1.2 (f.2 steps (subst (λ (k : CertificateState). HasTakenSteps k.checker steps) (sym f.0) taken) ∙ closed))) in
+      let opened : MeetsDue (λ o under. Opens ask o) named.variables asked.variables u w (Ok tt) = subst (λ (k : CertificateState). MeetsDue (λ o under. Opens ask o) named.variables asked.variables u k (Ok tt)) f.0 opens in
       ask_answered ask t named x u n is asked w same opened p reply z read next y m kept g.1)
       (replies_go ⊥ tt tt a b s (λ before behind y. IsReply before behind reply settled y) Answered (λ p q more k. (refl, k, told)) h)
       (certificate_joins ⊥ r b s t (MeetsOutcome asked.names ask reply asked.variables next.variables) (λ q z w y (m : Result (Unit {0}) Why). (q ≡ z) × MeetsOutcome asked.names ask reply asked.variables next.variables w y m) behind_open (λ p u v y k. (refl, k)) p)
 
 -- A COMMAND'S CONTENT
 
-content : (n : ℕ) (kind : Kind) (ls : List Literal) (named next : Table) (p : List ℕ) (u v : View) (y : Result (Unit {0}) Why) → (kind ≡ OfAsk → ⊥) → next.names ≡ named.names → MeetsContent kind ls named.variables next.variables u v y → ConfirmsContent n kind ls named next p p u v y
+content : (n : ℕ) (kind : Kind) (ls : List Literal) (named next : Table) (p : List ℕ) (u v : CertificateState) (y : Result (Unit {0}) Why) → (kind ≡ OfAsk → ⊥) → next.names ≡ named.names → MeetsContent kind ls named.variables next.variables u v y → ConfirmsContent n kind ls named next p p u v y
 content n OfAsk ls named next p u v y a same m = absurd (a refl)
 content n e ls named next p u v y a same m = λ t x is. plain_confirmed e ls tt t named x u n is p next v y same m
 
-content_barred : (n : ℕ) (kind : Kind) (ls : List Literal) (named mid next : Table) (p : List ℕ) (u v : View) (why : Why) → mid.names ≡ named.names → MeetsContent kind ls named.variables mid.variables u v (Err why) → ConfirmsContent n kind ls named next p p u v (Err why)
+content_barred : (n : ℕ) (kind : Kind) (ls : List Literal) (named mid next : Table) (p : List ℕ) (u v : CertificateState) (why : Why) → mid.names ≡ named.names → MeetsContent kind ls named.variables mid.variables u v (Err why) → ConfirmsContent n kind ls named next p p u v (Err why)
 content_barred n OfAsk ls named mid next p u v why same m = λ t x is. ask_without_assumptions ls t named x u n is next p p mid.variables v why m
 content_barred n e ls named mid next p u v why same m = λ t x is. plain_confirmed e ls tt t named x u n is p (record mid { names = named.names }) v (Err why) refl m
 
@@ -167,7 +167,7 @@ module _ (n : ℕ) (t : Table) (after : NamedVars) (a : Source) (s u : Stream) (
       (certificate_goes ⊥ tt a s u (MeetsDue (λ o under. Finish) t.variables after) (λ p q x y (m : Result (Unit {0}) Why). (p ≡ q) × MeetsDue (λ o under. Finish) t.variables after x y (Ok tt)) (λ p x y m. (refl, m)) p)
       (replies_join ⊥ false r a b u (λ before behind. SaysSo (before ≡ [])) (λ q z x y. SaysSo (q ≡ [])) behind_open (λ p q more y k. k) h)
     where
-      said : (p q z : List ℕ) (v w y : View) (m : Result (Unit {0}) Why) → (p ≡ q) × MeetsDue (λ o under. Finish) t.variables after v w (Ok tt) → SaysSo (q ≡ []) m → ConfirmsLast n ([], Clean) t p v m
+      said : (p q z : List ℕ) (v w y : CertificateState) (m : Result (Unit {0}) Why) → (p ≡ q) × MeetsDue (λ o under. Finish) t.variables after v w (Ok tt) → SaysSo (q ≡ []) m → ConfirmsLast n ([], Clean) t p v m
       said p q z v w y (Ok x) f g = over_done n t after p v w (at_ask (λ o under. Finish) Unknown [] tt t.variables after v w (Ok tt) f.1) (f.0 ∙ g)
       said p q z v w y (Err why) f g = over_extra n t p v why (λ e. g (sym f.0 ∙ e))
 
@@ -179,12 +179,12 @@ module _ (n : ℕ) (t : Table) (a b : Source) (s : Stream) (here : AtEnd a → �
   pub malformed_goes : (c : Source) (u : Stream) (r : Result (Unit {0}) Stop) → Replies {A = Unit {0}} true (Ok tt) a b (λ before behind. TakesDueLine before behind (malformed_line n)) → Joins {A = Unit {0}} ⊥ false r b c s u (λ before behind x y. ConfirmsLast n ([], Clean) t before x)
       → Joins {A = Unit {0}} ⊥ false r a c s u (λ before behind x y. ConfirmsLast n ([], Malformed) t before x)
   malformed_goes c u r h k = joins_then ⊥ false tt r a b c s s u (λ p q x y (m : Result (Unit {0}) Why). (x ≡ y) × TakesDueLine p q (malformed_line n) (Ok tt)) (λ before behind x y. ConfirmsLast n ([], Clean) t before x) (λ before behind x y. ConfirmsLast n ([], Malformed) t before x) here open_yet
-      (λ p q z v w y m f g. malformed_then n t p q v m f.1 (subst (λ (x : View). ConfirmsLast n ([], Clean) t q x m) (sym f.0) g))
+      (λ p q z v w y m f g. malformed_then n t p q v m f.1 (subst (λ (x : CertificateState). ConfirmsLast n ([], Clean) t q x m) (sym f.0) g))
       (replies_go ⊥ tt tt a b s (λ before behind. TakesDueLine before behind (malformed_line n)) (λ p q x y (m : Result (Unit {0}) Why). (x ≡ y) × TakesDueLine p q (malformed_line n) (Ok tt)) (λ p q more line. (refl, line)) h) k
 
 -- an ask under no literals, and the end
 module _ (n m : ℕ) (t mid : Table) (a b c : Source) (s u v : Stream) (here : AtEnd a → ⊥) (open_yet : AtEnd s.source → ⊥) where
-  asked_end : (w : Command) (r : Reading) (p q z : List ℕ) (x y k : View) (h : Result (Unit {0}) Why) → m ≡ n + 1 → ConfirmsNext n w t mid p q x y (Ok tt) → ConfirmsLast m r mid q y h → ConfirmsLast n (w ∷ r.0, r.1) t p x h
+  asked_end : (w : Command) (r : Reading) (p q z : List ℕ) (x y k : CertificateState) (h : Result (Unit {0}) Why) → m ≡ n + 1 → ConfirmsNext n w t mid p q x y (Ok tt) → ConfirmsLast m r mid q y h → ConfirmsLast n (w ∷ r.0, r.1) t p x h
   asked_end w r p q z x y k (Ok o) is f g = λ j earlier s.
       let d = f j earlier s in
       d.back r.0 r.1 (subst (λ (i : ℕ). ToConfirm (after_command w j) i d.later r.0 r.1 q y.rest) is (g (after_command w j) d.later d.stands))

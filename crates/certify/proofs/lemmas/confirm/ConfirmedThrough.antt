@@ -7,7 +7,7 @@ use Rattle.sat_base.specs.script.ScriptState.{ScriptState, after_command}
 use Rattle.sat_base.specs.steps.Steps.{Step}
 use Rattle.certify.specs.confirm.Streams.{Stream, Confirms, Covers, rest_in}
 use Rattle.certify.specs.confirm.VerdictPromises.{numbers}
-use Rattle.certify.specs.confirm.Views.{View}
+use Rattle.certify.specs.confirm.CertificateStates.{CertificateState}
 use Rattle.certify.specs.declared.confirm.stop.Stop.TheVariants as stop
 use Rattle.certify.specs.declared.confirm.stop.Stop.{Stop}
 use Rattle.certify.specs.declared.script.ScriptEnd.{ScriptEnd}
@@ -46,7 +46,7 @@ pub numbers_more : (c : Command) (r : Reading) → numbers (onto_commands (c ∷
 numbers_more c (cs, Clean) = omega arith
 numbers_more c (cs, Malformed) = omega arith
 
-through_command : (n m k : ℕ) (script : Reading) (c : Command) (left : Reading) (t between next : Table) (p q z : List ℕ) (u v w : View) → k ≡ m + 1
+through_command : (n m k : ℕ) (script : Reading) (c : Command) (left : Reading) (t between next : Table) (p q z : List ℕ) (u v w : CertificateState) → k ≡ m + 1
     → Through n script t m (onto_commands (c ∷ []) left) between p q u v (Ok tt) → ConfirmsNext m c between next q z v w (Ok tt) → Through n script t k left next p z u w (Ok tt)
 through_command n m k script c left t between next p q z u v w e f g j earlier s =
     let x = f j earlier s in
@@ -60,18 +60,18 @@ through_command n m k script c left t between next p q z u v w e f g j earlier s
     }
 
 -- nothing of what is left can be confirmed
-abbrev Nothing : ℕ → Reading → Table → List ℕ → List ℕ → View → View → Result (Unit {0}) Why → Type 0
+abbrev Nothing : ℕ → Reading → Table → List ℕ → List ℕ → CertificateState → CertificateState → Result (Unit {0}) Why → Type 0
 Nothing n script t before behind old new r = (j : ScriptState) (earlier : List Step) → HoldsAt t old j earlier → ToConfirm j n earlier script.0 script.1 before old.rest → ⊥
 
-through_last : (n m : ℕ) (script left : Reading) (t between : Table) (p q z : List ℕ) (u v w : View) (y : Result (Unit {0}) Why) → Through n script t m left between p q u v (Ok tt) → ConfirmsLast m left between q v y → ConfirmsLast n script t p u y
+through_last : (n m : ℕ) (script left : Reading) (t between : Table) (p q z : List ℕ) (u v w : CertificateState) (y : Result (Unit {0}) Why) → Through n script t m left between p q u v (Ok tt) → ConfirmsLast m left between q v y → ConfirmsLast n script t p u y
 through_last n m script left t between p q z u v w (Ok x) f g = λ j earlier s. let h = f j earlier s in h.back (g h.judge h.later h.stands)
 through_last n m script left t between p q z u v w (Err why) f g = λ j earlier s k. let h = f j earlier s in g h.judge h.later h.stands (h.on k)
 
-through_nothing : (n m : ℕ) (script left : Reading) (t between : Table) (p q z : List ℕ) (u v w : View) (y : Result (Unit {0}) Why) → Through n script t m left between p q u v (Ok tt) → Nothing m left between q z v w y → Nothing n script t p z u w y
+through_nothing : (n m : ℕ) (script left : Reading) (t between : Table) (p q z : List ℕ) (u v w : CertificateState) (y : Result (Unit {0}) Why) → Through n script t m left between p q u v (Ok tt) → Nothing m left between q z v w y → Nothing n script t p z u w y
 through_nothing n m script left t between p q z u v w y f g j earlier s k = let h = f j earlier s in g h.judge h.later h.stands (h.on k)
 
 -- what a call leaves that went on
-pub quits : (a b : Source) (s t : Stream) (P : List ℕ → List ℕ → View → View → Result (Unit {0}) Why → Type 0) → (AtEnd s.source → ⊥) → Joins ⊥ true (Ok tt) a b s t P → NoReadFailedAhead a b × Confirms {A = Unit {0}} (Err stop.OutOfMemory) s t Any
+pub quits : (a b : Source) (s t : Stream) (P : List ℕ → List ℕ → CertificateState → CertificateState → Result (Unit {0}) Why → Type 0) → (AtEnd s.source → ⊥) → Joins ⊥ true (Ok tt) a b s t P → NoReadFailedAhead a b × Confirms {A = Unit {0}} (Err stop.OutOfMemory) s t Any
 quits a b s t P open_yet h =
     let total = b.reader.given in
     (took_kept true a b h.0, says_stop {B = ℕ} {C = Unit {0}} true stop.OutOfMemory s t (λ u v. P (rest_in total a) (rest_in total b) u v (Ok tt)) (λ y. ⊥) Any open_yet (λ more why f n. tt) (h.1 total (covers_given b)) tt)

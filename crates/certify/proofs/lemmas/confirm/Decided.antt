@@ -14,7 +14,7 @@ use Rattle.sat_checker.proofs.lemmas.matching.CheckerIsSound.{the_checking_sound
 use Rattle.certify.specs.confirm.Matches.{Matches}
 use Rattle.certify.specs.confirm.Streams.{Confirms, Covers, rest_in, seen_in}
 use Rattle.certify.specs.confirm.VerdictPromises.{AreRightAnswers, Exact, GaveTextWith, IsSoundVerdict, Promised, TakesLooks, numbers}
-use Rattle.certify.specs.confirm.Views.{View}
+use Rattle.certify.specs.confirm.CertificateStates.{CertificateState}
 use Rattle.certify.specs.confirm.Walks.{LooksReach, FeedsSomeSteps}
 use Rattle.certify.specs.confirm.Confirming.{ConfirmsLast, HoldsAt, Table}
 use Rattle.certify.specs.confirm.Stopping.{Any}
@@ -154,7 +154,7 @@ module _ (x a c : Reader) (checker : Kernel) (step : Step) (table : Table) (fres
   abbrev Sure : Verdict → Type 0
   Sure v = Exact (x, new.script.reader) (a, new.answers.reader) (c, new.certificate.source.reader) v
 
-  matched : (s t u : List ℕ) (v : View) → ConfirmsLast 1 (reading s) table t (record { checker = checker; step = step; rest = u }) (Ok tt) → Matches checker_rules reading s t u
+  matched : (s t u : List ℕ) (v : CertificateState) → ConfirmsLast 1 (reading s) table t (record { checker = checker; step = step; rest = u }) (Ok tt) → Matches checker_rules reading s t u
   matched s t u v h = (left_begins (reading s).0 (reading s).1 t u).1 (h start [] (fresh u))
 
   unmatched : (s t u : List ℕ) (why : Why) → ConfirmsLast 1 (reading s) table t (record { checker = checker; step = step; rest = u }) (Err why) → Matches checker_rules reading s t u → ⊥

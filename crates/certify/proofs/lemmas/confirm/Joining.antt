@@ -4,7 +4,7 @@ use Rattle.std.proofs.lemmas.List.{append-nil}
 use Rattle.sat_base.specs.device.Reading.{Source, AtEnd, ConsumesWithReads, ConsumesBytes}
 use Rattle.sat_base.proofs.lemmas.device.ReadLemmas.{passes_none, passes_more, faults_later}
 use Rattle.certify.specs.confirm.Streams.{Stream, Confirms, Covers, rest_in, seen_in}
-use Rattle.certify.specs.confirm.Views.{View}
+use Rattle.certify.specs.confirm.CertificateStates.{CertificateState}
 use Rattle.certify.specs.declared.confirm.stop.Stop.{Stop}
 use Rattle.certify.specs.declared.confirm.stop.Stop.TheVariants as stop
 use Rattle.certify.specs.declared.verdict.Why.{Why}
@@ -94,13 +94,13 @@ replies_no goes x why a b P R open_yet f h = (took_halted a b open_yet h.0, λ t
 
 -- WHERE THE CERTIFICATE STAYS
 
-no_stays : {A : Type 0} (s : Stream) (why : Why) (P : View → View → Result A Why → Type 0) → (AtEnd s.source → ⊥) → ((total : List ℕ) → P (seen_in total s) (seen_in total s) (Err why)) → Confirms {A = A} (Err (stop.No why)) s s P
+no_stays : {A : Type 0} (s : Stream) (why : Why) (P : CertificateState → CertificateState → Result A Why → Type 0) → (AtEnd s.source → ⊥) → ((total : List ℕ) → P (seen_in total s) (seen_in total s) (Err why)) → Confirms {A = A} (Err (stop.No why)) s s P
 no_stays s why P open_yet f = (moves_halt s s open_yet ([], passes_none s.source), (λ total k. f total), (λ total k. tries_none (seen_in total s) (seen_in total s) refl))
 
 short_stays : (A : Type 0) (s : Stream) → (AtEnd s.source → ⊥) → Confirms {A = A} (Err stop.OutOfMemory) s s Any
 short_stays A s open_yet = (moves_halt s s open_yet ([], passes_none s.source), (λ total k. tries_none (seen_in total s) (seen_in total s) refl))
 
-pub replies_join : {A : Type 0} (M : Type 0) (goes : Bool) (r : Result A Stop) (a b : Source) (s : Stream) (P : List ℕ → List ℕ → Result A Why → Type 0) (R : List ℕ → List ℕ → View → View → Result A Why → Type 0) → (AtEnd s.source → ⊥)
+pub replies_join : {A : Type 0} (M : Type 0) (goes : Bool) (r : Result A Stop) (a b : Source) (s : Stream) (P : List ℕ → List ℕ → Result A Why → Type 0) (R : List ℕ → List ℕ → CertificateState → CertificateState → Result A Why → Type 0) → (AtEnd s.source → ⊥)
     → ((p q more : List ℕ) (y : Result A Why) → P p q y → R p q (seen_in more s) (seen_in more s) y) → Replies goes r a b P → Joins M goes r a b s s R
 replies_join {A} M goes (Ok x) a b s P R open_yet f h = (h.0, λ total k. confirms_none x s (R (rest_in total a) (rest_in total b)) (λ more. f (rest_in total a) (rest_in total b) more (Ok x) (h.1 total k)))
 replies_join {A} M goes (Err (stop.No why)) a b s P R open_yet f h = (h.0, λ total k. no_stays s why (R (rest_in total a) (rest_in total b)) open_yet (λ more. f (rest_in total a) (rest_in total b) more (Err why) (h.1 total k)))
@@ -111,16 +111,16 @@ replies_join {A} M goes (Err e) a b s P R open_yet f h = absurd h
 -- WHERE THE ANSWERS STAY
 
 -- a call that went on
-pub certificate_goes : {A : Type 0} (M : Type 0) (x : A) (a : Source) (s t : Stream) (P : View → View → Result A Why → Type 0) (R : List ℕ → List ℕ → View → View → Result A Why → Type 0)
-    → ((p : List ℕ) (u v : View) → P u v (Ok x) → R p p u v (Ok x)) → Confirms (Ok x) s t P → Joins M true (Ok x) a a s t R
+pub certificate_goes : {A : Type 0} (M : Type 0) (x : A) (a : Source) (s t : Stream) (P : CertificateState → CertificateState → Result A Why → Type 0) (R : List ℕ → List ℕ → CertificateState → CertificateState → Result A Why → Type 0)
+    → ((p : List ℕ) (u v : CertificateState) → P u v (Ok x) → R p p u v (Ok x)) → Confirms (Ok x) s t P → Joins M true (Ok x) a a s t R
 certificate_goes M x a s t P R f h = (took_none a, λ total k. confirms_so (Ok x) s t (λ u v (y : Result _ Why). P u v (Ok x)) (λ u v (y : Result _ Why). R (rest_in total a) (rest_in total a) u v (Ok x)) (λ more y. f (rest_in total a) (seen_in more s) (seen_in more t)) h)
 
-any_stop : (A B : Type 0) (e : Stop) (s t : Stream) (P : View → View → Result A Why → Type 0) → Confirms {A = A} (Err e) s t P → Confirms {A = B} (Err e) s t Any
+any_stop : (A B : Type 0) (e : Stop) (s t : Stream) (P : CertificateState → CertificateState → Result A Why → Type 0) → Confirms {A = A} (Err e) s t P → Confirms {A = B} (Err e) s t Any
 any_stop A B e s t P h = confirms_stop {A = A} {B = B} e s t P Any (λ total why k. tt) h
 
 -- or stopped
-pub certificate_stops : {A B : Type 0} (M : Type 0) (goes : Bool) (e : Stop) (a : Source) (s t : Stream) (P : View → View → Result A Why → Type 0) (R : List ℕ → List ℕ → View → View → Result B Why → Type 0) → (AtEnd a → ⊥)
-    → ((p : List ℕ) (u v : View) (why : Why) → P u v (Err why) → R p p u v (Err why)) → Confirms {A = A} (Err e) s t P → Joins {A = B} M goes (Err e) a a s t R
+pub certificate_stops : {A B : Type 0} (M : Type 0) (goes : Bool) (e : Stop) (a : Source) (s t : Stream) (P : CertificateState → CertificateState → Result A Why → Type 0) (R : List ℕ → List ℕ → CertificateState → CertificateState → Result B Why → Type 0) → (AtEnd a → ⊥)
+    → ((p : List ℕ) (u v : CertificateState) (why : Why) → P u v (Err why) → R p p u v (Err why)) → Confirms {A = A} (Err e) s t P → Joins {A = B} M goes (Err e) a a s t R
 certificate_stops {A} {B} M goes (stop.No why) a s t P R open_yet f h = (took_halted a a open_yet (took_none a), λ total k. confirms_stop (stop.No why) s t P (R (rest_in total a) (rest_in total a)) (λ more w. f (rest_in total a) (seen_in more s) (seen_in more t) w) h)
 certificate_stops {A} {B} M goes stop.CertificateRead a s t P R open_yet f h = ((refl, refl), any_stop A B stop.CertificateRead s t P h)
 certificate_stops {A} {B} M goes stop.OutOfMemory a s t P R open_yet f h = ((refl, refl), any_stop A B stop.OutOfMemory s t P h)
@@ -131,8 +131,8 @@ certificate_stops M goes stop.TooMany a s t P R open_yet f h = absurd h
 
 -- BOTH
 
-pub joins_stop : {A B : Type 0} (M : Type 0) (goes : Bool) (e : Stop) (a b : Source) (s t : Stream) (P : List ℕ → List ℕ → View → View → Result A Why → Type 0) (R : List ℕ → List ℕ → View → View → Result B Why → Type 0)
-    → ((p q : List ℕ) (u v : View) (why : Why) → P p q u v (Err why) → R p q u v (Err why)) → Joins {A = A} M goes (Err e) a b s t P → Joins {A = B} M goes (Err e) a b s t R
+pub joins_stop : {A B : Type 0} (M : Type 0) (goes : Bool) (e : Stop) (a b : Source) (s t : Stream) (P : List ℕ → List ℕ → CertificateState → CertificateState → Result A Why → Type 0) (R : List ℕ → List ℕ → CertificateState → CertificateState → Result B Why → Type 0)
+    → ((p q : List ℕ) (u v : CertificateState) (why : Why) → P p q u v (Err why) → R p q u v (Err why)) → Joins {A = A} M goes (Err e) a b s t P → Joins {A = B} M goes (Err e) a b s t R
 joins_stop {A} {B} M goes (stop.No why) a b s t P R f h = (h.0, λ total k. confirms_stop (stop.No why) s t (P (rest_in total a) (rest_in total b)) (R (rest_in total a) (rest_in total b)) (λ more w. f (rest_in total a) (rest_in total b) (seen_in more s) (seen_in more t) w) (h.1 total k))
 joins_stop {A} {B} M goes stop.AnswersRead a b s t P R f h = (h.0, any_stop A B stop.OutOfMemory s t Any h.1)
 joins_stop {A} {B} M goes stop.ScriptRead a b s t P R f h = absurd h
@@ -140,14 +140,14 @@ joins_stop {A} {B} M goes stop.TooMany a b s t P R f h = (h.0, any_stop A B stop
 joins_stop {A} {B} M goes e a b s t P R f h = (h.0, any_stop A B e s t Any h.1)
 
 -- a stop behind a call that went on
-stop_then : (A B : Type 0) (M : Type 0) (x : A) (e : Stop) (a b : Source) (s t u : Stream) (P : List ℕ → List ℕ → View → View → Result A Why → Type 0) → (AtEnd s.source → ⊥) → Joins M true (Ok x) a b s t P → Confirms {A = B} (Err e) t u Any → Confirms {A = B} (Err e) s u Any
+stop_then : (A B : Type 0) (M : Type 0) (x : A) (e : Stop) (a b : Source) (s t u : Stream) (P : List ℕ → List ℕ → CertificateState → CertificateState → Result A Why → Type 0) → (AtEnd s.source → ⊥) → Joins M true (Ok x) a b s t P → Confirms {A = B} (Err e) t u Any → Confirms {A = B} (Err e) s u Any
 stop_then A B M x e a b s t u P open_yet h k =
     let total = b.reader.given in
     then_stop {A = A} {B = B} {C = B} x e s t u (P (rest_in total a) (rest_in total b)) Any Any open_yet (λ more why f g. tt) (h.1 total (covers_given b)) k
 
 -- one behind another that went on
-pub joins_then : {A B : Type 0} (M : Type 0) (goes : Bool) (x : A) (r : Result B Stop) (a b c : Source) (s t u : Stream) (P : List ℕ → List ℕ → View → View → Result A Why → Type 0) (Q R : List ℕ → List ℕ → View → View → Result B Why → Type 0)
-    → (AtEnd a → ⊥) → (AtEnd s.source → ⊥) → ((p q z : List ℕ) (v w y : View) (n : Result B Why) → P p q v w (Ok x) → Q q z w y n → R p z v y n)
+pub joins_then : {A B : Type 0} (M : Type 0) (goes : Bool) (x : A) (r : Result B Stop) (a b c : Source) (s t u : Stream) (P : List ℕ → List ℕ → CertificateState → CertificateState → Result A Why → Type 0) (Q R : List ℕ → List ℕ → CertificateState → CertificateState → Result B Why → Type 0)
+    → (AtEnd a → ⊥) → (AtEnd s.source → ⊥) → ((p q z : List ℕ) (v w y : CertificateState) (n : Result B Why) → P p q v w (Ok x) → Q q z w y n → R p z v y n)
     → Joins M true (Ok x) a b s t P → Joins M goes r b c t u Q → Joins M goes r a c s u R
 joins_then {A} {B} M goes x (Ok y) a b c s t u P Q R here open_yet f h k = (
   took_then goes a b c h.0 k.0,
@@ -169,17 +169,17 @@ joins_then {A} {B} M goes x (Err stop.TooMany) a b c s t u P Q R here open_yet f
 joins_then {A} {B} M goes x (Err e) a b c s t u P Q R here open_yet f h k = (kept_then a b c (took_kept true a b h.0) k.0, stop_then A B M x e a b s t u P open_yet h k.1)
 
 -- the same of whatever it answers
-pub certificate_joins : {A : Type 0} (M : Type 0) (r : Result A Stop) (a : Source) (s t : Stream) (P : View → View → Result A Why → Type 0) (R : List ℕ → List ℕ → View → View → Result A Why → Type 0) → (AtEnd a → ⊥)
-    → ((p : List ℕ) (u v : View) (y : Result A Why) → P u v y → R p p u v y) → Confirms r s t P → Joins M true r a a s t R
+pub certificate_joins : {A : Type 0} (M : Type 0) (r : Result A Stop) (a : Source) (s t : Stream) (P : CertificateState → CertificateState → Result A Why → Type 0) (R : List ℕ → List ℕ → CertificateState → CertificateState → Result A Why → Type 0) → (AtEnd a → ⊥)
+    → ((p : List ℕ) (u v : CertificateState) (y : Result A Why) → P u v y → R p p u v y) → Confirms r s t P → Joins M true r a a s t R
 certificate_joins M (Ok x) a s t P R open_yet f h = certificate_goes M x a s t P R (λ p u v. f p u v (Ok x)) h
 certificate_joins M (Err e) a s t P R open_yet f h = certificate_stops M true e a s t P R open_yet (λ p u v why. f p u v (Err why)) h
 
 -- answers that were read, and the certificate stays
-pub replies_go : {A B : Type 0} (M : Type 0) (x : A) (y : B) (a b : Source) (s : Stream) (P : List ℕ → List ℕ → Result A Why → Type 0) (R : List ℕ → List ℕ → View → View → Result B Why → Type 0)
+pub replies_go : {A B : Type 0} (M : Type 0) (x : A) (y : B) (a b : Source) (s : Stream) (P : List ℕ → List ℕ → Result A Why → Type 0) (R : List ℕ → List ℕ → CertificateState → CertificateState → Result B Why → Type 0)
     → ((p q more : List ℕ) → P p q (Ok x) → R p q (seen_in more s) (seen_in more s) (Ok y)) → Replies true (Ok x) a b P → Joins M true (Ok y) a b s s R
 replies_go M x y a b s P R f h = (h.0, λ total k. confirms_none y s (R (rest_in total a) (rest_in total b)) (λ more. f (rest_in total a) (rest_in total b) more (h.1 total k)))
 
-pub replies_end : {A B : Type 0} (M : Type 0) (goes : Bool) (e : Stop) (a b : Source) (s : Stream) (P : List ℕ → List ℕ → Result A Why → Type 0) (R : List ℕ → List ℕ → View → View → Result B Why → Type 0) → (AtEnd s.source → ⊥)
+pub replies_end : {A B : Type 0} (M : Type 0) (goes : Bool) (e : Stop) (a b : Source) (s : Stream) (P : List ℕ → List ℕ → Result A Why → Type 0) (R : List ℕ → List ℕ → CertificateState → CertificateState → Result B Why → Type 0) → (AtEnd s.source → ⊥)
     → ((p q more : List ℕ) (why : Why) → P p q (Err why) → R p q (seen_in more s) (seen_in more s) (Err why)) → Replies {A = A} goes (Err e) a b P → Joins {A = B} M goes (Err e) a b s s R
 replies_end {A} {B} M goes (stop.No why) a b s P R open_yet f h = (h.0, λ total k. no_stays s why (R (rest_in total a) (rest_in total b)) open_yet (λ more. f (rest_in total a) (rest_in total b) more why (h.1 total k)))
 replies_end {A} {B} M goes stop.OutOfMemory a b s P R open_yet f h = (h, short_stays B s open_yet)
@@ -187,15 +187,15 @@ replies_end {A} {B} M goes stop.AnswersRead a b s P R open_yet f h = (h, short_s
 replies_end {A} {B} M goes e a b s P R open_yet f h = absurd h
 
 -- commands are too many
-pub too_many : {B : Type 0} (M : Type 0) (goes : Bool) (a : Source) (s : Stream) (R : List ℕ → List ℕ → View → View → Result B Why → Type 0) → (AtEnd s.source → ⊥) → M → Joins {A = B} M goes (Err stop.TooMany) a a s s R
+pub too_many : {B : Type 0} (M : Type 0) (goes : Bool) (a : Source) (s : Stream) (R : List ℕ → List ℕ → CertificateState → CertificateState → Result B Why → Type 0) → (AtEnd s.source → ⊥) → M → Joins {A = B} M goes (Err stop.TooMany) a a s s R
 too_many {B} M goes a s R open_yet m = ((refl, refl), short_stays B s open_yet, m)
 
 -- one of two reasons is the other
-pub joins_as : {A : Type 0} (M N : Type 0) (goes : Bool) (r : Result A Stop) (a b : Source) (s t : Stream) (P : List ℕ → List ℕ → View → View → Result A Why → Type 0) → (M → N) → Joins M goes r a b s t P → Joins N goes r a b s t P
+pub joins_as : {A : Type 0} (M N : Type 0) (goes : Bool) (r : Result A Stop) (a b : Source) (s t : Stream) (P : List ℕ → List ℕ → CertificateState → CertificateState → Result A Why → Type 0) → (M → N) → Joins M goes r a b s t P → Joins N goes r a b s t P
 joins_as M N goes (Err stop.ScriptRead) a b s t P f h = absurd h
 joins_as M N goes (Err stop.TooMany) a b s t P f h = (h.0, h.1, f h.2)
 joins_as M N goes e a b s t P f h = h
 
 -- where they aren't, whatever M is
-pub joins_many : {A : Type 0} (M : Type 0) (goes : Bool) (r : Result A Stop) (a b : Source) (s t : Stream) (P : List ℕ → List ℕ → View → View → Result A Why → Type 0) → Joins ⊥ goes r a b s t P → Joins M goes r a b s t P
+pub joins_many : {A : Type 0} (M : Type 0) (goes : Bool) (r : Result A Stop) (a b : Source) (s t : Stream) (P : List ℕ → List ℕ → CertificateState → CertificateState → Result A Why → Type 0) → Joins ⊥ goes r a b s t P → Joins M goes r a b s t P
 joins_many M goes r a b s t P h = joins_as ⊥ M goes r a b s t P (λ x. absurd x) h

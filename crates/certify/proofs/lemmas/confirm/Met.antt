@@ -14,7 +14,7 @@ use Rattle.certify.specs.confirm.Feeding.{HasTaken, FeedsStep}
 use Rattle.certify.specs.confirm.Matches.{MayBeUnmet}
 use Rattle.certify.specs.confirm.Stepping.{is_fed}
 use Rattle.certify.specs.confirm.Streams.{Stream, seen_in, GoesOrStops, Confirms}
-use Rattle.certify.specs.confirm.Views.{View}
+use Rattle.certify.specs.confirm.CertificateStates.{CertificateState}
 use Rattle.certify.specs.confirm.Awaiting.{CheckerIsAt, AwaitsNext, MeetsDue, SaysUnmet}
 use Rattle.certify.specs.confirm.Comparing.{MayStayUnmet, AreKnown, Compares, Due, ExcusesDue}
 use Rattle.certify.specs.confirm.Following.{NamesFollow}
@@ -45,7 +45,7 @@ still_allowed earlier e step (fails same) u v = tt
 still_allowed earlier e step closes u v = tt
 still_allowed earlier e step finish u v = tt
 
-module _ (due : Due) (before after : NamedVars) (old mid : View) where
+module _ (due : Due) (before after : NamedVars) (old mid : CertificateState) where
   met_stop : (why : Why) → AwaitsNext before old mid (Err why) → MeetsDue due before after old mid (Err why)
   met_stop why h earlier s o ask = bars_stop (due o ask) (h earlier s)
 
@@ -71,7 +71,7 @@ module _ (due : Due) (before after : NamedVars) (old mid : View) where
   met_refused : (next : Kernel) (why : Why) → AwaitsNext before old mid (Ok awaited.Step) → ((steps : List Step) → HasTaken mid.checker steps → Accepts (ready_after steps) mid.step → ⊥) → MeetsDue due before after old (record mid { checker = next }) (Err why)
   met_refused next why h d = λ earlier s o ask. let k = h earlier s in bars_refused (due o ask) k.offers (d k.later k.stands.taken)
 
-unmet_met : (due : Due) (names : NamedVars) (old mid : View) → AwaitsNext names old mid (Ok awaited.Cut) → ExcusesDue due None → MeetsDue due names names old mid (Ok tt)
+unmet_met : (due : Due) (names : NamedVars) (old mid : CertificateState) → AwaitsNext names old mid (Ok awaited.Cut) → ExcusesDue due None → MeetsDue due names names old mid (Ok tt)
 unmet_met due names old mid h x = λ earlier s.
     let k = h earlier s in
     record {

@@ -7,7 +7,7 @@ use Rattle.sat_base.specs.script.ScriptState.{ScriptState, names_from, new_names
 use Rattle.sat_checker.specs.matching.Expected.{Outcome, Unknown, Expected, NewName}
 use Rattle.certify.specs.confirm.CertificatePlaces.{MeetsExactly, MeetsNoneOf}
 use Rattle.certify.specs.confirm.Streams.{Stream, seen_in, Confirms}
-use Rattle.certify.specs.confirm.Views.{View}
+use Rattle.certify.specs.confirm.CertificateStates.{CertificateState}
 use Rattle.certify.specs.judge.Names.{NamesHaveState}
 use Rattle.certify.specs.confirm.Awaiting.{MeetsDue}
 use Rattle.certify.specs.confirm.Comparing.{MayStayUnmet, Due}
@@ -22,14 +22,14 @@ use Rattle.certify.proofs.lemmas.confirm.CertificatePlaces.{leads_nowhere, leads
 use Rattle.certify.proofs.lemmas.confirm.NamesFrom.{from_more, from_split}
 use Rattle.certify.proofs.lemmas.confirm.Streams.{confirms_none, confirms_so, confirms_stop, confirms_then, says_stop}
 
-pub nothing : (names : NamedVars) (u : View) → MeetsAll [] names names u u (Ok tt)
+pub nothing : (names : NamedVars) (u : CertificateState) → MeetsAll [] names names u u (Ok tt)
 nothing names u earlier s = record { later = earlier; stands = s; leads = leads_nowhere earlier u.rest }
 
 pub all_none : (names : NamedVars) (a : Stream) → Confirms (Ok tt) a a (MeetsAll [] names names)
 all_none names a = confirms_none tt a (MeetsAll [] names names) (λ total earlier s. record { later = earlier; stands = s; leads = leads_nowhere earlier (seen_in total a).rest })
 
 -- one thing that is expected, whatever outcome and ask
-pub one : (due : Due) (e : Expected) → ((o : Outcome) (ask : List Literal) → due o ask ≡ e) → MayStayUnmet e → (before after : NamedVars) (u v : View) (y : Result (Unit {0}) Why) → MeetsDue due before after u v y → MeetsAll (e ∷ []) before after u v y
+pub one : (due : Due) (e : Expected) → ((o : Outcome) (ask : List Literal) → due o ask ≡ e) → MayStayUnmet e → (before after : NamedVars) (u v : CertificateState) (y : Result (Unit {0}) Why) → MeetsDue due before after u v y → MeetsAll (e ∷ []) before after u v y
 one due e is free before after u v (Ok x) m = λ earlier s.
     let k = m earlier s in
     record {
@@ -40,7 +40,7 @@ one due e is free before after u v (Ok x) m = λ earlier s.
 one due e is free before after u v (Err why) m = λ earlier s. subst (λ (d : Expected). MeetsNoneOf earlier u.rest (d ∷ [])) (is Unknown []) (m earlier s Unknown [])
 
 -- some things, and then others
-pub both : (p q : List Expected) (first mid last : NamedVars) (u v w : View) (y : Result (Unit {0}) Why) → MeetsAll p first mid u v (Ok tt) → MeetsAll q mid last v w y → MeetsAll (p ++ q) first last u w y
+pub both : (p q : List Expected) (first mid last : NamedVars) (u v w : CertificateState) (y : Result (Unit {0}) Why) → MeetsAll p first mid u v (Ok tt) → MeetsAll q mid last v w y → MeetsAll (p ++ q) first last u w y
 both p q first mid last u v w (Ok x) f g = λ earlier s.
     let k = f earlier s in
     let m = g k.later k.stands in
@@ -48,7 +48,7 @@ both p q first mid last u v w (Ok x) f g = λ earlier s.
 both p q first mid last u v w (Err why) f g = λ earlier s. let k = f earlier s in bars_behind k.leads (g k.later k.stands)
 
 -- where the first aren't met
-pub first_barred : (p q : List Expected) (before after end : NamedVars) (u v : View) (why : Why) → MeetsAll p before after u v (Err why) → MeetsAll (p ++ q) before end u v (Err why)
+pub first_barred : (p q : List Expected) (before after end : NamedVars) (u v : CertificateState) (why : Why) → MeetsAll p before after u v (Err why) → MeetsAll (p ++ q) before end u v (Err why)
 first_barred p q before after end u v why f earlier s = bars_more q (f earlier s)
 
 pub meets_one : (due : Due) (e : Expected) → ((o : Outcome) (ask : List Literal) → due o ask ≡ e) → MayStayUnmet e → (before after : NamedVars) (r : Result (Unit {0}) Stop) (a b : Stream) → Confirms r a b (MeetsDue due before after) → Confirms r a b (MeetsAll (e ∷ []) before after)

@@ -17,7 +17,7 @@ use Rattle.certify.specs.confirm.Feeding.{HasTaken, FeedsStep, SettlesConflict}
 use Rattle.certify.specs.confirm.Streams.{Stream, rest_in, seen_in, Covers, HoldsWhateverFollows, TakesStreamBytes, TakesBytesOrEnds, GoesOnWith, Confirms, SaysAlone, stop_of, most_bytes_left}
 use Rattle.certify.specs.confirm.VerdictPromises.{TakesLooks}
 use Rattle.certify.specs.confirm.Walks.{LooksReach, FeedsAllSteps, walks_if, FeedsSomeSteps, RunsOut}
-use Rattle.certify.specs.confirm.Views.{View, certificate_place}
+use Rattle.certify.specs.confirm.CertificateStates.{CertificateState, certificate_place}
 use Rattle.sat_checker.specs.Accepts.{Accepts, ready_after}
 use Rattle.sat_checker.specs.ProofView.{most_bytes}
 use Rattle.sat_checker.specs.KernelView.{kernel_looks, LooksAtMost}
@@ -109,16 +109,16 @@ pub moves_halt : (a b : Stream) → (AtEnd a.source → ⊥) → TakesStreamByte
 moves_halt a b open_yet m = ((m.0, weaker a.source b.source m.0 m.1), λ h. absurd (stays_open a.source b.source m.0 open_yet m.1 h))
 
 -- what is so between two views, and then two more
-over_then : (n : ℕ) (a b c : Stream) (text : List ℕ) (P Q R : View → View → Type 0) → (AtEnd b.source → ⊥) → ConsumesWithReads n b.source c.source text
+over_then : (n : ℕ) (a b c : Stream) (text : List ℕ) (P Q R : CertificateState → CertificateState → Type 0) → (AtEnd b.source → ⊥) → ConsumesWithReads n b.source c.source text
     → ((total : List ℕ) → P (seen_in total a) (seen_in total b) → Q (seen_in total b) (seen_in total c) → R (seen_in total a) (seen_in total c)) → HoldsWhateverFollows a b P → HoldsWhateverFollows b c Q → HoldsWhateverFollows a c R
 over_then n a b c text P Q R open_yet p f g h total k = f total (g total (covers_back n b.source c.source text total open_yet p k)) (h total k)
 
-over_fault : (a b c : Stream) (text : List ℕ) (P Q R : View → View → Type 0) → (AtEnd b.source → ⊥) → ConsumesAndFails b.source c.source text
+over_fault : (a b c : Stream) (text : List ℕ) (P Q R : CertificateState → CertificateState → Type 0) → (AtEnd b.source → ⊥) → ConsumesAndFails b.source c.source text
     → ((total : List ℕ) → P (seen_in total a) (seen_in total b) → Q (seen_in total b) (seen_in total c) → R (seen_in total a) (seen_in total c)) → HoldsWhateverFollows a b P → HoldsWhateverFollows b c Q → HoldsWhateverFollows a c R
 over_fault a b c text P Q R open_yet p f g h total k = f total (g total (covers_fault b.source c.source text total open_yet p k)) (h total k)
 
 -- a call that goes on behind one that went on
-pub going_then : (fed : Bool) (a b c : Stream) (P Q R : View → View → Type 0) → (AtEnd a.source → ⊥)
+pub going_then : (fed : Bool) (a b c : Stream) (P Q R : CertificateState → CertificateState → Type 0) → (AtEnd a.source → ⊥)
     → ((total : List ℕ) → P (seen_in total a) (seen_in total b) → Q (seen_in total b) (seen_in total c) → R (seen_in total a) (seen_in total c)) → GoesOnWith true a b P → GoesOnWith fed b c Q → GoesOnWith fed a c R
 going_then fed a b c P Q R open_yet f p q =
     let here = stays_open a.source b.source p.0.0 open_yet p.0.1 in (
@@ -128,7 +128,7 @@ going_then fed a b c P Q R open_yet f p q =
     )
 
 -- an error behind a call that went on
-pub then_stop : {A B C : Type 0} (x : A) (e : Stop) (a b c : Stream) (P : View → View → Result A Why → Type 0) (Q : View → View → Result B Why → Type 0) (R : View → View → Result C Why → Type 0) → (AtEnd a.source → ⊥)
+pub then_stop : {A B C : Type 0} (x : A) (e : Stop) (a b c : Stream) (P : CertificateState → CertificateState → Result A Why → Type 0) (Q : CertificateState → CertificateState → Result B Why → Type 0) (R : CertificateState → CertificateState → Result C Why → Type 0) → (AtEnd a.source → ⊥)
     → ((total : List ℕ) (why : Why) → P (seen_in total a) (seen_in total b) (Ok x) → Q (seen_in total b) (seen_in total c) (Err why) → R (seen_in total a) (seen_in total c) (Err why))
     → Confirms (Ok x) a b P → Confirms {A = B} (Err e) b c Q → Confirms {A = C} (Err e) a c R
 then_stop x (stop.No why) a b c P Q R open_yet f p q =
@@ -156,13 +156,13 @@ then_stop x stop.CounterEnd a b c P Q R open_yet f p q =
 then_stop x e a b c P Q R open_yet f p q = absurd q
 
 -- behind a call that went on
-pub confirms_then : {A B : Type 0} (x : A) (r : Result B Stop) (a b c : Stream) (P : View → View → Result A Why → Type 0) (Q R : View → View → Result B Why → Type 0) → (AtEnd a.source → ⊥)
+pub confirms_then : {A B : Type 0} (x : A) (r : Result B Stop) (a b c : Stream) (P : CertificateState → CertificateState → Result A Why → Type 0) (Q R : CertificateState → CertificateState → Result B Why → Type 0) → (AtEnd a.source → ⊥)
     → ((total : List ℕ) (y : Result B Why) → P (seen_in total a) (seen_in total b) (Ok x) → Q (seen_in total b) (seen_in total c) y → R (seen_in total a) (seen_in total c) y) → Confirms (Ok x) a b P → Confirms r b c Q → Confirms r a c R
 confirms_then x (Ok y) a b c P Q R open_yet f p q = going_then true a b c (λ u v. P u v (Ok x)) (λ u v. Q u v (Ok y)) (λ u v. R u v (Ok y)) open_yet (λ total. f total (Ok y)) p q
 confirms_then x (Err e) a b c P Q R open_yet f p q = then_stop x e a b c P Q R open_yet (λ total why. f total (Err why)) p q
 
 -- an error that is handed on
-pub confirms_stop : {A B : Type 0} (e : Stop) (a b : Stream) (P : View → View → Result A Why → Type 0) (R : View → View → Result B Why → Type 0)
+pub confirms_stop : {A B : Type 0} (e : Stop) (a b : Stream) (P : CertificateState → CertificateState → Result A Why → Type 0) (R : CertificateState → CertificateState → Result B Why → Type 0)
     → ((total : List ℕ) (why : Why) → P (seen_in total a) (seen_in total b) (Err why) → R (seen_in total a) (seen_in total b) (Err why)) → Confirms {A = A} (Err e) a b P → Confirms {A = B} (Err e) a b R
 confirms_stop (stop.No why) a b P R f p = (p.0, (λ total k. f total why (p.1 total k)), p.2)
 confirms_stop stop.ScriptRead a b P R f p = absurd p
@@ -171,17 +171,17 @@ confirms_stop stop.TooMany a b P R f p = absurd p
 confirms_stop e a b P R f p = p
 
 -- the same of what is said behind it
-pub confirms_so : {A : Type 0} (r : Result A Stop) (a b : Stream) (P R : View → View → Result A Why → Type 0) → ((total : List ℕ) (y : Result A Why) → P (seen_in total a) (seen_in total b) y → R (seen_in total a) (seen_in total b) y) → Confirms r a b P → Confirms r a b R
+pub confirms_so : {A : Type 0} (r : Result A Stop) (a b : Stream) (P R : CertificateState → CertificateState → Result A Why → Type 0) → ((total : List ℕ) (y : Result A Why) → P (seen_in total a) (seen_in total b) y → R (seen_in total a) (seen_in total b) y) → Confirms r a b P → Confirms r a b R
 confirms_so (Ok x) a b P R f p = (p.0, (λ total k. f total (Ok x) (p.1 total k)), p.2)
 confirms_so (Err e) a b P R f p = confirms_stop e a b P R (λ total why. f total (Err why)) p
 
 -- WHAT READS NOTHING
 
-pub confirms_none : {A : Type 0} (x : A) (a : Stream) (P : View → View → Result A Why → Type 0) → ((total : List ℕ) → P (seen_in total a) (seen_in total a) (Ok x)) → Confirms (Ok x) a a P
+pub confirms_none : {A : Type 0} (x : A) (a : Stream) (P : CertificateState → CertificateState → Result A Why → Type 0) → ((total : List ℕ) → P (seen_in total a) (seen_in total a) (Ok x)) → Confirms (Ok x) a a P
 confirms_none x a P f = (([], passes_none a.source), (λ total k. f total), (λ total k. walks_none (seen_in total a)))
 
 -- an error of what reads nothing, behind a call that went on
-pub says_stop : {B C : Type 0} (fed : Bool) (e : Stop) (a b : Stream) (P : View → View → Type 0) (S : Result B Why → Type 0) (R : View → View → Result C Why → Type 0) → (AtEnd a.source → ⊥)
+pub says_stop : {B C : Type 0} (fed : Bool) (e : Stop) (a b : Stream) (P : CertificateState → CertificateState → Type 0) (S : Result B Why → Type 0) (R : CertificateState → CertificateState → Result C Why → Type 0) → (AtEnd a.source → ⊥)
     → ((total : List ℕ) (why : Why) → P (seen_in total a) (seen_in total b) → S (Err why) → R (seen_in total a) (seen_in total b) (Err why))
     → GoesOnWith fed a b P → SaysAlone {A = B} (Err e) S → Confirms {A = C} (Err e) a b R
 says_stop fed (stop.No why) a b P S R open_yet f p s = (moves_halt a b open_yet p.0, (λ total k. f total why (p.1 total k) s), (λ total k. tries_if fed (seen_in total a) (seen_in total b) (p.2 total k)))
@@ -191,14 +191,14 @@ says_stop fed e a b P S R open_yet f p s = absurd s
 -- WHAT A CHECKER IS FED
 
 -- the step that was read last is accepted
-pub feeds_on : (a b : Stream) (next : Kernel) (P Q : View → View → Type 0) → FeedsStep (Ok tt) b.checker b.step next → LooksAtMost b.checker b.step next
+pub feeds_on : (a b : Stream) (next : Kernel) (P Q : CertificateState → CertificateState → Type 0) → FeedsStep (Ok tt) b.checker b.step next → LooksAtMost b.checker b.step next
     → ((total : List ℕ) → P (seen_in total a) (seen_in total b) → Q (seen_in total a) (seen_in total (record b { checker = next })))
     → GoesOnWith false a b P → GoesOnWith true a (record b { checker = next }) Q
 feeds_on a b next P Q fed looks f p =
     (p.0, (λ total k. f total (p.1 total k)), (λ total k. walks_fed (seen_in total a) (seen_in total b) (seen_in total (record b { checker = next })) refl fed looks (p.2 total k)))
 
 -- or isn't
-pub feeds_stop : {C : Type 0} (e : Stop) (a b : Stream) (next : Kernel) (P : View → View → Type 0) (R : View → View → Result C Why → Type 0) → (AtEnd a.source → ⊥) → FeedsStep (Err e) b.checker b.step next → LooksAtMost b.checker b.step next
+pub feeds_stop : {C : Type 0} (e : Stop) (a b : Stream) (next : Kernel) (P : CertificateState → CertificateState → Type 0) (R : CertificateState → CertificateState → Result C Why → Type 0) → (AtEnd a.source → ⊥) → FeedsStep (Err e) b.checker b.step next → LooksAtMost b.checker b.step next
     → ((total : List ℕ) (why : Why) → P (seen_in total a) (seen_in total b) → ((steps : List Step) → HasTaken b.checker steps → Accepts (ready_after steps) b.step → ⊥) → R (seen_in total a) (seen_in total (record b { checker = next })) (Err why))
     → GoesOnWith false a b P → Confirms {A = C} (Err e) a (record b { checker = next }) R
 feeds_stop (stop.No why) a b next P R open_yet fed looks f p =
@@ -212,14 +212,14 @@ feeds_stop stop.CounterEnd a b next P R open_yet fed looks f p = (
 feeds_stop e a b next P R open_yet fed looks f p = absurd fed
 
 -- a pending unit conflict is settled
-pub settles_on : (fed : Bool) (a b : Stream) (next : Kernel) (P Q : View → View → Type 0) → SettlesConflict (Ok tt) b.checker next
+pub settles_on : (fed : Bool) (a b : Stream) (next : Kernel) (P Q : CertificateState → CertificateState → Type 0) → SettlesConflict (Ok tt) b.checker next
     → ((total : List ℕ) → P (seen_in total a) (seen_in total b) → Q (seen_in total a) (seen_in total (record b { checker = next })))
     → GoesOnWith fed a b P → GoesOnWith fed a (record b { checker = next }) Q
 settles_on fed a b next P Q settled f p =
     (p.0, (λ total k. f total (p.1 total k)), (λ total k. walks_settled fed (seen_in total a) (seen_in total b) (seen_in total (record b { checker = next })) refl refl settled (p.2 total k)))
 
 -- or there is no id for it
-pub settles_stop : {C : Type 0} (e : Stop) (fed : Bool) (a b : Stream) (next : Kernel) (P : View → View → Type 0) (R : View → View → Result C Why → Type 0) → (AtEnd a.source → ⊥) → SettlesConflict (Err e) b.checker next
+pub settles_stop : {C : Type 0} (e : Stop) (fed : Bool) (a b : Stream) (next : Kernel) (P : CertificateState → CertificateState → Type 0) (R : CertificateState → CertificateState → Result C Why → Type 0) → (AtEnd a.source → ⊥) → SettlesConflict (Err e) b.checker next
     → ((total : List ℕ) (why : Why) → P (seen_in total a) (seen_in total b) → ((steps : List Step) → HasTaken b.checker steps → ⊥) → R (seen_in total a) (seen_in total (record b { checker = next })) (Err why))
     → GoesOnWith fed a b P → Confirms {A = C} (Err e) a (record b { checker = next }) R
 settles_stop (stop.No why) fed a b next P R open_yet settled f p = (
@@ -271,7 +271,7 @@ pub all_over : (s : Source) → AllTaken s → IsAtEnd s.reader.to_come
 all_over s t = none_waits s.reader.to_come s.waiting t.waiting t.over
 
 -- no step stands there
-pub none_came : {A : Type 0} (e : StepError) (a b : Stream) (P : View → View → Result A Why → Type 0) → (AtEnd a.source → ⊥) → b.checker ≡ a.checker → AnswersStepRead (Err e) a.source b.source
+pub none_came : {A : Type 0} (e : StepError) (a b : Stream) (P : CertificateState → CertificateState → Result A Why → Type 0) → (AtEnd a.source → ⊥) → b.checker ≡ a.checker → AnswersStepRead (Err e) a.source b.source
     → ((total : List ℕ) (why : Why) → BeginsNoStep (rest_in total a.source) → P (seen_in total a) (seen_in total b) (Err why)) → Confirms {A = A} (Err (stop_of e)) a b P
 none_came errors.Ends a b P o c h f = ((([], h.0), λ _. all_over b.source h.1), (λ total k. f total CertificateEnds (no_step_over a.source b.source total h k)), (λ total k. tries_none (seen_in total a) (seen_in total b) c))
 none_came errors.Cut a b P o c h f =

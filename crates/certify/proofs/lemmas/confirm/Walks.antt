@@ -8,16 +8,16 @@ use Rattle.sat_checker.specs.Looks.{most_looks}
 use Rattle.sat_checker.specs.Spent.{IsSpent}
 use Rattle.sat_checker.specs.declared.kernel.Kernel.{Kernel}
 use Rattle.certify.specs.confirm.Feeding.{HasTaken, FeedsStep, SettlesConflict}
-use Rattle.certify.specs.confirm.Views.{View}
+use Rattle.certify.specs.confirm.CertificateStates.{CertificateState}
 use Rattle.certify.specs.confirm.Walks.{LooksReach, same_looks, looks_tried, looks_taken, ReachesCounterEnd, spent_settling, spent_trying, spent_taking, IsFedFront, FeedsAllSteps, WalksBefore, walks_if, FeedsSomeSteps, RunsOut}
 use Rattle.certify.specs.declared.confirm.stop.Stop.TheVariants as stop
 
-pub walks_none : (u : View) → FeedsAllSteps u u
+pub walks_none : (u : CertificateState) → FeedsAllSteps u u
 walks_none u earlier t = record { later = earlier; taken = t; reaches = λ n r. r; spends = λ s. s }
 
 -- ONE BEHIND ANOTHER
 
-pub walks_on : (fed : Bool) (u v w : View) → FeedsAllSteps u v → walks_if fed v w → walks_if fed u w
+pub walks_on : (fed : Bool) (u v w : CertificateState) → FeedsAllSteps u v → walks_if fed v w → walks_if fed u w
 walks_on true u v w f g = λ earlier t.
     let x = f earlier t in
     let y = g x.later x.taken in
@@ -31,24 +31,24 @@ walks_on false u v w f g = (
       record { later = y.later; taken = y.taken; reaches = λ n r. x.reaches n (y.reaches n r); spends = λ s. x.spends (y.spends s) }),
 )
 
-pub tries_on : (u v w : View) → FeedsAllSteps u v → FeedsSomeSteps v w → FeedsSomeSteps u w
+pub tries_on : (u v w : CertificateState) → FeedsAllSteps u v → FeedsSomeSteps v w → FeedsSomeSteps u w
 tries_on u v w f g earlier t = let x = f earlier t in x.reaches (kernel_looks w.checker) (g x.later x.taken)
 
-pub runs_on : (u v w : View) → FeedsAllSteps u v → RunsOut v w → RunsOut u w
+pub runs_on : (u v w : CertificateState) → FeedsAllSteps u v → RunsOut v w → RunsOut u w
 runs_on u v w f g earlier t = let x = f earlier t in x.spends (g x.later x.taken)
 
 -- WHERE NOTHING MORE IS FED
 
-pub tries_if : (fed : Bool) (u v : View) → walks_if fed u v → FeedsSomeSteps u v
+pub tries_if : (fed : Bool) (u v : CertificateState) → walks_if fed u v → FeedsSomeSteps u v
 tries_if true u v f = λ earlier t. let x = f earlier t in x.reaches (kernel_looks v.checker) same_looks
 tries_if false u v f = λ earlier t. let x = f.2 earlier t in x.reaches (kernel_looks v.checker) same_looks
 
-pub tries_none : (u v : View) → v.checker ≡ u.checker → FeedsSomeSteps u v
+pub tries_none : (u v : CertificateState) → v.checker ≡ u.checker → FeedsSomeSteps u v
 tries_none u v e earlier t = subst (λ (c : Kernel). LooksReach earlier u.rest (kernel_looks u.checker) (kernel_looks c)) (sym e) same_looks
 
 -- THE NEXT STEP
 
-pub walks_read : (u v : View) (text : List ℕ) → SpellsStep v.step text → u.rest ≡ text ++ v.rest → v.checker ≡ u.checker → WalksBefore u v
+pub walks_read : (u v : CertificateState) (text : List ℕ) → SpellsStep v.step text → u.rest ≡ text ++ v.rest → v.checker ≡ u.checker → WalksBefore u v
 walks_read u v text spelt front same = (
   text,
   spelt,
@@ -60,7 +60,7 @@ walks_read u v text spelt front same = (
   })),
 )
 
-pub walks_fed : (u v w : View) → w.rest ≡ v.rest → FeedsStep (Ok tt) v.checker v.step w.checker → LooksAtMost v.checker v.step w.checker → WalksBefore u v → FeedsAllSteps u w
+pub walks_fed : (u v w : CertificateState) → w.rest ≡ v.rest → FeedsStep (Ok tt) v.checker v.step w.checker → LooksAtMost v.checker v.step w.checker → WalksBefore u v → FeedsAllSteps u w
 walks_fed u v w same fed most f earlier t =
     let x = f.2 earlier t in
     let y = fed x.later x.taken in
@@ -73,10 +73,10 @@ walks_fed u v w same fed most f earlier t =
       spends = λ s. x.spends (spent_taking v.step f.0 w.rest here f.1 y.0 s);
     }
 
-pub tries_fed : (u v w : View) → LooksAtMost v.checker v.step w.checker → WalksBefore u v → FeedsSomeSteps u w
+pub tries_fed : (u v w : CertificateState) → LooksAtMost v.checker v.step w.checker → WalksBefore u v → FeedsSomeSteps u w
 tries_fed u v w most f earlier t = let x = f.2 earlier t in x.reaches (kernel_looks w.checker) (looks_tried v.step f.0 v.rest refl f.1 (most x.later x.taken.stands))
 
-pub runs_fed : (u v w : View) (next : Kernel) → FeedsStep (Err stop.CounterEnd) v.checker v.step next → WalksBefore u v → RunsOut u w
+pub runs_fed : (u v w : CertificateState) (next : Kernel) → FeedsStep (Err stop.CounterEnd) v.checker v.step next → WalksBefore u v → RunsOut u w
 runs_fed u v w next fed f earlier t = let x = f.2 earlier t in x.spends (spent_trying v.step f.0 v.rest refl f.1 (fed x.later x.taken))
 
 -- A UNIT CONFLICT THAT WAS PENDING
@@ -91,7 +91,7 @@ settled_walk old bytes mid next rest earlier settled x =
       spends = x.spends;
     }
 
-pub walks_settled : (fed : Bool) (u v w : View) → w.rest ≡ v.rest → w.step ≡ v.step → SettlesConflict (Ok tt) v.checker w.checker → walks_if fed u v → walks_if fed u w
+pub walks_settled : (fed : Bool) (u v w : CertificateState) → w.rest ≡ v.rest → w.step ≡ v.step → SettlesConflict (Ok tt) v.checker w.checker → walks_if fed u v → walks_if fed u w
 walks_settled true u v w r s settled f = λ earlier t.
     subst (λ bytes. IsFedFront u.checker u.rest w.checker bytes earlier) (sym r) (settled_walk u.checker u.rest v.checker w.checker v.rest earlier settled (f earlier t))
 walks_settled false u v w r s settled f = (
@@ -101,31 +101,31 @@ walks_settled false u v w r s settled f = (
 )
 
 -- where it stands
-pub record Reached (u v : View) (earlier : List Step) : Type 0 where
+pub record Reached (u v : CertificateState) (earlier : List Step) : Type 0 where
   pub later : List Step
   pub taken : HasTaken v.checker later
   pub looks : LooksReach earlier u.rest (kernel_looks u.checker) (kernel_looks v.checker)
   pub spent : IsSpent (ready_after later) → ReachesCounterEnd earlier u.rest
 
-reached : (fed : Bool) (u v : View) → walks_if fed u v → (earlier : List Step) → HasTaken u.checker earlier → Reached u v earlier
+reached : (fed : Bool) (u v : CertificateState) → walks_if fed u v → (earlier : List Step) → HasTaken u.checker earlier → Reached u v earlier
 reached true u v f = λ earlier t. let x = f earlier t in record { later = x.later; taken = x.taken; looks = x.reaches (kernel_looks v.checker) same_looks; spent = λ s. x.spends (spent_settling s) }
 reached false u v f = λ earlier t. let x = f.2 earlier t in record { later = x.later; taken = x.taken; looks = x.reaches (kernel_looks v.checker) same_looks; spent = λ s. x.spends (spent_settling s) }
 
 -- there is no memory
-pub tries_kept : (fed : Bool) (u v w : View) → SettlesConflict (Err stop.OutOfMemory) v.checker w.checker → walks_if fed u v → FeedsSomeSteps u w
+pub tries_kept : (fed : Bool) (u v w : CertificateState) → SettlesConflict (Err stop.OutOfMemory) v.checker w.checker → walks_if fed u v → FeedsSomeSteps u w
 tries_kept fed u v w settled f earlier t =
     let x = reached fed u v f earlier t in subst (LooksReach earlier u.rest (kernel_looks u.checker)) (sym (settled x.later x.taken)) x.looks
 
 -- there is no id for its empty clause
-pub tries_spent : (fed : Bool) (u v w : View) → SettlesConflict (Err stop.CounterEnd) v.checker w.checker → walks_if fed u v → FeedsSomeSteps u w
+pub tries_spent : (fed : Bool) (u v w : CertificateState) → SettlesConflict (Err stop.CounterEnd) v.checker w.checker → walks_if fed u v → FeedsSomeSteps u w
 tries_spent fed u v w settled f earlier t =
     let x = reached fed u v f earlier t in subst (LooksReach earlier u.rest (kernel_looks u.checker)) (sym (settled x.later x.taken).1) x.looks
 
-pub runs_spent : (fed : Bool) (u v w : View) → SettlesConflict (Err stop.CounterEnd) v.checker w.checker → walks_if fed u v → RunsOut u w
+pub runs_spent : (fed : Bool) (u v w : CertificateState) → SettlesConflict (Err stop.CounterEnd) v.checker w.checker → walks_if fed u v → RunsOut u w
 runs_spent fed u v w settled f earlier t = let x = reached fed u v f earlier t in x.spent (settled x.later x.taken).0
 
 -- what never comes
-pub never_settled : (fed : Bool) (u v : View) (T : Type 0) (earlier : List Step) → ((steps : List Step) → HasTaken v.checker steps → ⊥) → walks_if fed u v → HasTaken u.checker earlier → T
+pub never_settled : (fed : Bool) (u v : CertificateState) (T : Type 0) (earlier : List Step) → ((steps : List Step) → HasTaken v.checker steps → ⊥) → walks_if fed u v → HasTaken u.checker earlier → T
 never_settled fed u v T earlier none f t = let x = reached fed u v f earlier t in absurd (none x.later x.taken)
 
 -- from another count of looks on

@@ -23,7 +23,8 @@ use Rattle.sat_solver.specs.proof.ProofView.{FailsCheck, is_checked}
 use Rattle.sat_solver.specs.solver.Whole.{HasFullStore}
 use Rattle.certify.specs.declared.fault.RunFault.{RunFault}
 use Rattle.certify.specs.declared.fault.RunFault.TheVariants as fault
-use Rattle.certify.specs.run.SolverCalls.{FailsSolver, IsAllowed, IsCaused, IsReadySolver, IsSolverFault, RefusedForRoom, fault_for, proof_in}
+use Rattle.sat_solver.specs.solver.View.{proof_in}
+use Rattle.certify.specs.run.SolverCalls.{FailsSolver, IsAllowed, IsCaused, IsReadySolver, IsSolverFault, RefusedForRoom, fault_for}
 use Rattle.certify.proofs.lemmas.run.RunStateCalls.{took_none}
 use Rattle.certify.specs.run.Quiet.{Solver}
 

@@ -9,7 +9,8 @@ use Rattle.sat_solver.specs.declared.proof.made.CheckFault.TheVariants as checks
 use Rattle.sat_solver.specs.session.Making.{ComesBySteps, BreaksEmitting}
 use Rattle.sat_solver.specs.proof.ProofView.{EmitsExactly, FailsCheck, GivesWriter, target_of}
 use Rattle.sat_solver.specs.solver.Proving.{ClosesProof}
-use Rattle.certify.specs.run.SolverCalls.{FaultSays, IsCaused, IsReadySolver, fault_for, proof_in}
+use Rattle.sat_solver.specs.solver.View.{proof_in}
+use Rattle.certify.specs.run.SolverCalls.{FaultSays, IsCaused, IsReadySolver, fault_for}
 use Rattle.certify.specs.declared.fault.RunFault.{RunFault}
 use Rattle.certify.specs.declared.fault.RunFault.TheVariants as fault
 use Rattle.certify.specs.run.Ending.{EndsCertificate, FinishesRun, GivenBack}

@@ -10,7 +10,8 @@ use Rattle.sat_solver.specs.solver.Whole.{steps_in}
 use Rattle.certify.specs.declared.run.session.RunState.{RunState}
 use Rattle.certify.specs.answers.Answers.{refused_line}
 use Rattle.certify.specs.judge.Names.{NamesHaveState}
-use Rattle.certify.specs.run.SolverCalls.{IsReadySolver, proof_in}
+use Rattle.sat_solver.specs.solver.View.{proof_in}
+use Rattle.certify.specs.run.SolverCalls.{IsReadySolver}
 use Rattle.certify.specs.run.Serving.{RunPlace, Serves}
 use Rattle.certify.specs.run.Standing.{NamesAllow, CarriedOut, RunGoesOn, HasStateBetweenCommands, AgreesWithState, Refused, ServedNext, place_in}
 use Rattle.sat_base.proofs.lemmas.script.ScriptStates.{accepted_kept, start_kept}

@@ -17,7 +17,8 @@ use Rattle.sat_solver.proofs.lemmas.session.ComingLemmas.{comes_both, comes_map,
 use Rattle.certify.specs.answers.AnswerForms.{named_literals}
 use Rattle.certify.specs.declared.judge.NameState.{NameState}
 use Rattle.certify.specs.declared.judge.NameState.TheVariants as state
-use Rattle.certify.specs.run.SolverCalls.{IsReadySolver, proof_in}
+use Rattle.sat_solver.specs.solver.View.{proof_in}
+use Rattle.certify.specs.run.SolverCalls.{IsReadySolver}
 use Rattle.certify.specs.run.Obeying.{Obeyed, command_to, due_to, may_to}
 use Rattle.sat_checker.specs.matching.Traces.{HasTrace, no_step}
 use Rattle.certify.specs.run.Stretches.{IsNoAsk, MayFor, due_for}

@@ -23,7 +23,7 @@ use Rattle.sat_solver.proofs.lemmas.session.StepLemmas.{sessions_are_accepted}
 use Rattle.sat_solver.proofs.lemmas.session.FrontLemmas.{went_added, went_failed, went_more}
 use Rattle.sat_solver.proofs.lemmas.solver.FrontLemmas.{calls_go_on}
 use Rattle.certify.specs.run.Unfinished.{StepsFront}
-use Rattle.certify.specs.run.SolverCalls.{proof_in}
+use Rattle.sat_solver.specs.solver.View.{proof_in}
 use Rattle.certify.specs.run.Ending.{GivesFront}
 use Rattle.certify.specs.run.Quiet.{Solver}
 

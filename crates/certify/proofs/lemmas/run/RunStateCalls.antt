@@ -24,7 +24,8 @@ use Rattle.certify.specs.answers.RightAnswers.{IsRight}
 use Rattle.certify.specs.run.FinishedRun.{IsBounded, SpendsWithinBudget, answer_kind}
 use Rattle.certify.specs.run.Unfinished.{TookAnswersFront}
 use Rattle.certify.specs.run.Asking.{AskEffect}
-use Rattle.certify.specs.run.SolverCalls.{FaultSays, FailsSolver, IsAllowed, IsReadySolver, Searched, proof_in}
+use Rattle.sat_solver.specs.solver.View.{proof_in}
+use Rattle.certify.specs.run.SolverCalls.{FaultSays, FailsSolver, IsAllowed, IsReadySolver, Searched}
 use Rattle.certify.specs.run.Serving.{Serves, place_after}
 use Rattle.certify.specs.run.Standing.{CarriedOut, AgreesWithState, StopsCarrying, WritesBoth, last_place, place_in}
 use Rattle.certify.specs.run.Reporting.{outcome_for}

@@ -36,7 +36,8 @@ use Rattle.sat_base.specs.script.Language.{Reading, reading, written}
 use Rattle.certify.specs.run.FinishedRun.{WritesAnswers, AnswersRightly, CertificateGuarantee, TookCertificate, rounds_of_asks, identities_given, malformed_at, AreWithinBudget}
 use Rattle.certify.specs.run.Running.{ReadsFew, FinishesOrFaults, WritesRun}
 use Rattle.certify.specs.run.Unfinished.{CounterEnds, Exceeds, ExceedsWritten, StepsFront, TookAnswersFront, TookSteps, Unfinished}
-use Rattle.certify.specs.run.SolverCalls.{IsCaused, FaultSays, IsReadySolver, proof_in}
+use Rattle.sat_solver.specs.solver.View.{proof_in}
+use Rattle.certify.specs.run.SolverCalls.{IsCaused, FaultSays, IsReadySolver}
 use Rattle.certify.specs.run.Lacking.{OneLacks}
 use Rattle.certify.specs.run.Certifies.{Certifies, complete, ordered}
 use Rattle.certify.specs.run.Ending.{ClosedBy, EndsRun, GivenBack, GivesFront, HasTarget, HasOpenTarget, SumsUp}

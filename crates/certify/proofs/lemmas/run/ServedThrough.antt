@@ -29,7 +29,8 @@ use Rattle.certify.specs.script.Commands.{HasWhole, ReaderMeans, MeansIf, Reache
 use Rattle.certify.specs.script.Streaming.{Arrives, NextComes}
 use Rattle.certify.specs.run.FinishedRun.{malformed_at, answer_kind, rounds_of_asks}
 use Rattle.certify.specs.run.Unfinished.{Exceeds, TookAnswersFront}
-use Rattle.certify.specs.run.SolverCalls.{FaultSays, IsCaused, IsReadySolver, proof_in}
+use Rattle.sat_solver.specs.solver.View.{proof_in}
+use Rattle.certify.specs.run.SolverCalls.{FaultSays, IsCaused, IsReadySolver}
 use Rattle.certify.specs.run.Serving.{RunPlace, Serves}
 use Rattle.certify.specs.run.Standing.{CarriedOut, CausedOver, RunGoesOn, HasStateBetweenCommands, ServedNext, StopsCarrying, StopsOver, WritesBoth, last_place, place_in}
 use Rattle.certify.specs.run.Stretches.{ServesCommands, made_none}

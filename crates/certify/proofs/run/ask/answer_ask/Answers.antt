@@ -5,7 +5,7 @@ use Rattle.sat_base.specs.script.Script.{Ask}
 use Rattle.certify.specs.answers.AnswerForms.{named_literals}
 use Rattle.sat_checker.specs.matching.Expected.{Unknown}
 use Rattle.certify.proofs.lemmas.run.RunStateCalls.{answers_say, ask_cut, ask_reported, asked_of, memory_says, nothing_stops, solver_says, sought_writes, takes_none, took_both}
-use Rattle.certify.specs.run.SolverCalls.{proof_in}
+use Rattle.sat_solver.specs.solver.View.{proof_in}
 use Rattle.sat_solver.specs.solver.Whole.{HasFullStore}
 use Rattle.certify.specs.run.SolverCalls.{LacksFor, RefusedForRoom}
 use Rattle.certify.proofs.lemmas.run.CallFaults.{caused_map}

@@ -5,7 +5,7 @@ use Rattle.certify.specs.answers.Answers.{refused_line}
 use Rattle.certify.specs.judge.Names.{refusal_in}
 use Rattle.certify.specs.run.Unfinished.{TookAnswersFront}
 use Rattle.std.proofs.lemmas.Result.{err_from_is_err_and}
-use Rattle.certify.specs.run.SolverCalls.{proof_in}
+use Rattle.sat_solver.specs.solver.View.{proof_in}
 use Rattle.certify.proofs.lemmas.run.RunStateCalls.{err_map, memory_says, on_err, took_none, written_of}
 use Rattle.certify.proofs.lemmas.run.Stopping.{front_none, front_refused}
 use Rattle.certify.specs.Devices.{OneFailed}

@@ -4,7 +4,7 @@ use Rattle.sat_base.specs.script.Script.{Malformed}
 use Rattle.certify.specs.answers.Answers.{malformed_line}
 use Rattle.certify.specs.run.Unfinished.{TookAnswersFront}
 use Rattle.std.proofs.lemmas.Result.{err_from_is_err_and}
-use Rattle.certify.specs.run.SolverCalls.{proof_in}
+use Rattle.sat_solver.specs.solver.View.{proof_in}
 use Rattle.certify.proofs.lemmas.run.RunStateCalls.{err_map, memory_says, on_err, took_none, written_of}
 use Rattle.certify.proofs.lemmas.run.Stopping.{front_malformed, front_none}
 use Rattle.certify.specs.Devices.{OneFailed}

@@ -2,7 +2,7 @@ use Rattle.std.proofs.lemmas.Result.{err_from_is_err_and}
 use Rattle.std.proofs.Common.{◌≡◌, ◌+◌, ◌-◌, ◌^◌, arith, inl, [], Err, None, Some, refl, sym, ap, subst, rules}
 use Rattle.certify.specs.declared.script.ScriptEnd.{ScriptEnd}
 use Rattle.certify.specs.script.Commands.{end_reading}
-use Rattle.certify.specs.run.SolverCalls.{proof_in}
+use Rattle.sat_solver.specs.solver.View.{proof_in}
 use Rattle.sat_base.specs.script.Script.{Clean, Malformed}
 use Rattle.certify.specs.run.Unfinished.{TookAnswersFront}
 use Rattle.certify.specs.run.Standing.{CausedOver, StopsOver}
@@ -42,7 +42,7 @@ returns-in_ok-report_malformed-in-Malformed-clause-serves g c j at =
     let same = c.in_ok-report_malformed-in-Malformed.ensures.same in
     let number : c.in-Some.number ≡ s.commands + 1 = search rules in
     subst (λ (e : ScriptEnd). ServesWhole g.C.CountedWrite.seen j (end_reading e) 0 (Some c.in-Some.number) s t a b) (sym c.in-Malformed.is)
-    (ends_malformed g.C.CountedWrite.seen j s t a b c.in-Some.number number (ap (λ (x : _). x.solver) same) (ap (λ (x : _). x.commands) same) (ap (λ (x : _). x.refused) same) (ap (λ (x : _). x.asks) same) c.in_ok-report_malformed-in-Malformed.ensures.told)
+    (ends_malformed g.C.CountedWrite.seen j s t a b c.in-Some.number number (ap (λ (x : _). x.solver) same) (ap (λ (x : _). x.commands) same) (ap (λ (x : _). x.refused) same) (ap (λ (x : _). x.asks) same) c.in_ok-report_malformed-in-Malformed.ensures.takes)
 
 pub returns-in_default-clause-stops : goal.returns-in_default-clause-stops
 returns-in_default-clause-stops g c = λ j at. front_none c.args.session.now.budget c.args.session.now.solver.clock.rounds (c.args.session.now.commands + 1) j (end_reading c.args.end) (g.A.CountedWrite.seen c.args.answers.now)

@@ -1,6 +1,6 @@
 use Rattle.std.proofs.Common.{◌+◌, [], ◌∷◌, arith, inl, refl}
 use Rattle.sat_base.specs.script.Language.{onto_commands}
-use Rattle.certify.specs.run.SolverCalls.{proof_in}
+use Rattle.sat_solver.specs.solver.View.{proof_in}
 use Rattle.certify.proofs.lemmas.run.RunStateCalls.{took_none}
 use Rattle.certify.proofs.lemmas.run.Stopping.{front_none}
 use Rattle.certify.proofs.run.serve.serve_next.Goals as goal

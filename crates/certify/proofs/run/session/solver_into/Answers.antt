@@ -7,7 +7,7 @@ use Rattle.sat_solver.specs.proof.ProofView.{is_checked, is_drat, steps_of}
 use Rattle.sat_solver.specs.variables.Calls.{NamesAgree}
 use Rattle.sat_solver.specs.solver.Configuring.{Configured, Configures}
 use Rattle.sat_solver.specs.solver.Proving.{Opened, OpensProof}
-use Rattle.certify.specs.run.SolverCalls.{proof_in}
+use Rattle.sat_solver.specs.solver.View.{proof_in}
 use Rattle.certify.specs.run.Quiet.{Solver}
 use Rattle.certify.proofs.lemmas.run.NoLines.{none_yet}
 use Rattle.certify.proofs.run.session.solver_into.Goals as goal

@@ -5,11 +5,11 @@ use Rattle.certify.specs.confirm.ReadSteps.{CertificatePlace}
 use Rattle.sat_checker.specs.declared.kernel.Kernel.{Kernel}
 
 -- How far a certificate was read, and the checker that its steps were fed to.
-pub record View : Type 0 where
+pub record CertificateState : Type 0 where
   pub checker : Kernel  -- what the steps are fed to
   pub step : Step  -- the step that was read last
   pub rest : List ℕ  -- the bytes still to come
 
 -- how far it was read
-abbrev pub certificate_place : View → CertificatePlace
+abbrev pub certificate_place : CertificateState → CertificatePlace
 certificate_place v = record { step = v.step; rest = v.rest }
