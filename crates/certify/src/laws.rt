@@ -2,7 +2,7 @@
 ghost use Rattle.certify.specs.laws.Confirmed.{CertifiedMatches};
 ghost use Rattle.certify.specs.laws.EndToEnd.{FinishedIsConfirmed};
 ghost use Rattle.certify.specs.laws.HeadlineLaws.{CertifiedIsHeadline, RightByAsks, RightByOutcomes, SameAnswers};
-ghost use Rattle.certify.specs.laws.HeadlineLaws.{SaysTheSame};
+ghost use Rattle.certify.specs.laws.HeadlineLaws.{SameMatches, SameReports, SaysTheSame};
 ghost use Rattle.certify.specs.laws.HintTexts.{RunsHaveHints};
 ghost use Rattle.certify.specs.laws.Laws.{AskBindsNothing, AskLeavesNames, MatchingIsRight, NotBoth};
 ghost use Rattle.certify.specs.laws.Laws.{RepeatChangesNothing, TautologyChangesNothing, TextsDetermineOutcomes};
@@ -49,6 +49,8 @@ pub fn short_says_the_same()
     ensures answers { SameAnswers }
     ensures asks { RightByAsks }
     ensures right { RightByOutcomes }
+    ensures matching { SameMatches }
+    ensures reports { SameReports }
 {}
 
 /// The certificate of a finished run has a hint text, which is proved: `convert` does not refuse it.

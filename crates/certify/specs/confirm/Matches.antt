@@ -7,7 +7,10 @@ use Rattle.sat_base.specs.steps.Steps.{Step}
 use Rattle.sat_base.specs.steps.StepText.{SpellsSteps}
 use Rattle.sat_checker.specs.matching.Checking.{CheckerRules, is_ordered}
 use Rattle.sat_checker.specs.matching.Expected.{Outcome, Sat, Unsat, Unknown, Expected, Opens, Shows, Fails, expected, Fits}
+use Rattle.sat_checker.specs.matching.ProofChecking.{checker_rules}
 use Rattle.certify.specs.answers.Answers.{answers_text}
+use Rattle.certify.specs.answers.AnswersText.{lines_from}
+use Rattle.certify.specs.answers.ScriptText.{script_in}
 
 -- one outcome for each ask
 abbrev pub OneEach : List Command → List Outcome → Type 0
@@ -59,6 +62,19 @@ pub record MatchesCommands (k : CheckerRules) (commands : List Command) (ending 
   pub spelt : SpellsSteps steps text
   pub match : StepsMatch k commands outcomes steps
 
--- the three texts
+-- the same of three texts, however a script is read
 abbrev pub Matches : CheckerRules → (List ℕ → List Command × ScriptEnding) → List ℕ → List ℕ → List ℕ → Type 0
 Matches k reading script answers certificate = MatchesCommands k (reading script).0 (reading script).1 answers certificate
+
+-- The three texts match. The answers are the lines of these outcomes. The certificate begins with the text of these steps, each of which the
+-- checker accepts in its turn, and the ordered ones are those of the script's commands and these outcomes. Nothing is said of the bytes after
+-- the steps.
+pub record TextsMatch (script answers certificate : List ℕ) : Type 0 where
+  pub outcomes : List Outcome
+  pub steps : List Step
+  pub text : List ℕ
+  pub rest : List ℕ
+  pub answered : answers ≡ lines_from 1 start (script_in script).0 (script_in script).1 outcomes
+  pub begins : certificate ≡ text ++ rest
+  pub spelt : SpellsSteps steps text
+  pub match : StepsMatch checker_rules (script_in script).0 outcomes steps

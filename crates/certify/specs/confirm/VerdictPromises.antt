@@ -1,5 +1,5 @@
 -- What a verdict promises of the texts that three readers gave.
-use Rattle.std.specs.Prelude.{ℕ, ◌+◌, ◌*◌, ◌^◌, ◌≤◌, ◌≡◌, ◌↔◌, ◌⊎◌, Result, Err, IfOk, List, [], ◌++◌, length}
+use Rattle.std.specs.Prelude.{ℕ, ◌+◌, ◌*◌, ◌^◌, ◌≤◌, ◌≡◌, ◌↔◌, ◌⊎◌, Result, Err, IfOk, List, ◌++◌, length, []}
 use Rattle.sat_base.specs.device.Device.{Reader, GaveFront, GaveEnough, CanFollow, ReadFails, most_reads}
 use Rattle.certify.specs.Devices.{gave}
 use Rattle.sat_base.specs.script.ScriptState.{start}
@@ -7,11 +7,10 @@ use Rattle.certify.specs.answers.ScriptText.{script_in}
 use Rattle.certify.specs.answers.AnswersText.{lines_from}
 use Rattle.sat_checker.specs.matching.Expected.{Outcome}
 use Rattle.certify.specs.answers.Asks.{asks_of, EachIsRight}
-use Rattle.certify.specs.confirm.Matches.{Matches}
-use Rattle.sat_checker.specs.matching.ProofChecking.{checker_rules}
+use Rattle.certify.specs.confirm.Matches.{TextsMatch}
 use Rattle.certify.specs.confirm.Walks.{LooksReach}
 use Rattle.sat_base.specs.script.Script.{Clean, Malformed}
-use Rattle.sat_base.specs.script.Language.{Reading, reading}
+use Rattle.sat_base.specs.script.Language.{Reading}
 use Rattle.certify.specs.declared.verdict.ConfirmFault.{ConfirmFault}
 use Rattle.certify.specs.declared.verdict.ConfirmFault.TheVariants as fault
 use Rattle.certify.specs.declared.verdict.Verdict.{Verdict}
@@ -24,7 +23,7 @@ GaveTextWith r IsSo = GaveEnough r.0 r.1 IsSo
 -- yes says exactly that the texts that were given match
 abbrev pub Exact : Reader × Reader → Reader × Reader → Reader × Reader → Verdict → Type 0
 Exact script answers certificate v =
-    GaveTextWith script (λ s. GaveTextWith answers (λ a. GaveTextWith certificate (λ c. (v ≡ Yes) ↔ Matches checker_rules reading s a c)))
+    GaveTextWith script (λ s. GaveTextWith answers (λ a. GaveTextWith certificate (λ c. (v ≡ Yes) ↔ TextsMatch s a c)))
 
 -- the same of what three readers were and are
 abbrev pub IsExact : {S A C E : Type 0} → Result Verdict E → (S → Reader) → (A → Reader) → (C → Reader)

@@ -1,9 +1,7 @@
 -- The complete promise in one statement: a script is run, what was written is confirmed, and so are any answers with any certificate.
 use Rattle.std.specs.Prelude.{ℕ, ◌+◌, ◌*◌, ◌^◌, ◌≤◌, ◌≡◌, ◌↔◌, List, ◌++◌, length}
 use Rattle.sat_base.specs.device.Device.{Reader, GaveFront, CanFollow}
-use Rattle.sat_base.specs.script.Language.{reading}
-use Rattle.sat_checker.specs.matching.ProofChecking.{checker_rules}
-use Rattle.certify.specs.confirm.Matches.{Matches}
+use Rattle.certify.specs.confirm.Matches.{TextsMatch}
 use Rattle.certify.specs.confirm.VerdictPromises.{AreRightAnswers, Exact}
 use Rattle.certify.specs.run.FinishedRun.{CertificateGuarantee}
 use Rattle.certify.specs.declared.summary.Summary.{Summary}
@@ -29,7 +27,7 @@ FinishedIsConfirmed =
 
 -- a verdict on three texts: yes exactly where they match, and then the answers are right
 pub record VerdictSays (script answers certificate : List ℕ) (v : Verdict) : Type 0 where
-  pub exact : (v ≡ Yes) ↔ Matches checker_rules reading script answers certificate
+  pub exact : (v ≡ Yes) ↔ TextsMatch script answers certificate
   pub sound : v ≡ Yes → AreRightAnswers script answers
 
 -- the most looks for texts of these lengths

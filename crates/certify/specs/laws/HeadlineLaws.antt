@@ -9,8 +9,10 @@ use Rattle.certify.specs.answers.RightAnswers.{AnswersAreRight}
 use Rattle.certify.specs.answers.ScriptText.{script_in}
 use Rattle.certify.specs.answers.AnswersText.{lines_from}
 use Rattle.certify.specs.answers.Asks.{asks_of, EachIsRight}
+use Rattle.certify.specs.confirm.Matches.{Matches, TextsMatch}
 use Rattle.certify.specs.confirm.VerdictPromises.{AreRightAnswers}
-use Rattle.certify.specs.run.FinishedRun.{rounds_of_asks}
+use Rattle.sat_checker.specs.matching.ProofChecking.{checker_rules}
+use Rattle.certify.specs.run.FinishedRun.{AnswersRightly, ReportsRightly, rounds_of_asks}
 use Rattle.certify.specs.laws.EndToEnd.{Certified}
 use Rattle.certify.specs.laws.Headline.{Headline}
 use Rattle.certify.specs.declared.summary.Summary.{Summary}
@@ -35,6 +37,15 @@ abbrev pub RightByOutcomes : Type 0
 RightByOutcomes = (script answers : List ℕ)
     → AreRightAnswers script answers
     ↔ ((outcomes : List Outcome) × (answers ≡ answers_text (reading script).0 (reading script).1 outcomes) × AnswersAreRight (reading script).0 outcomes)
+
+-- three texts match by the short definitions exactly if they match by those that code is proved against
+abbrev pub SameMatches : Type 0
+SameMatches = (script answers certificate : List ℕ) → TextsMatch script answers certificate ↔ Matches checker_rules reading script answers certificate
+
+-- a run's answers and summary are right by the short definitions exactly if they are by those that code is proved against
+abbrev pub SameReports : Type 0
+SameReports = (text : List ℕ) (budget : ℕ) (summary : Summary) (answered : List ℕ)
+    → ReportsRightly text budget summary answered ↔ AnswersRightly text budget summary answered
 
 -- what `certify_over` promises gives the headline
 abbrev pub CertifiedIsHeadline : Type 0

@@ -7,7 +7,11 @@ use Rattle.sat_base.specs.script.ScriptState.{ScriptState, refusal_of, after_com
 use Rattle.sat_base.specs.steps.Steps.{Step, End}
 use Rattle.sat_base.specs.steps.StepText.{SpellsSteps}
 use Rattle.certify.specs.Devices.{gave, took}
+use Rattle.sat_base.specs.text.Text.{lines}
 use Rattle.certify.specs.answers.Answers.{answers_text}
+use Rattle.certify.specs.answers.AnswersText.{lines_from}
+use Rattle.certify.specs.answers.Asks.{Asked, asks_of, EachIsRight}
+use Rattle.certify.specs.answers.ScriptText.{script_in, spelled, tokens_in}
 use Rattle.sat_checker.specs.Accepts.{AcceptsAll}
 use Rattle.sat_checker.specs.Laws.{has_delete_var}
 use Rattle.sat_checker.specs.matching.Expected.{Outcome, Sat, Unsat, Unknown, expected}
@@ -63,6 +67,10 @@ identities_given j (Hide names ∷ commands) = identities_given (accepted (Hide 
 identities_given j (Witness names ∷ commands) = identities_given (accepted (Witness names) j) commands
 identities_given j (Sample names ∷ commands) = identities_given (accepted (Sample names) j) commands
 
+-- how many variables there are as each of these asks begins
+abbrev pub variables_at : List Asked → List ℕ
+variables_at asks = map (λ a. a.state.identity_count) asks
+
 -- the rounds of each ask
 abbrev pub rounds_of_asks : List AskReport → List ℕ
 rounds_of_asks reports = map (λ r. r.steps) reports
@@ -86,6 +94,18 @@ pub record AnswersRightly (text : List ℕ) (budget : ℕ) (summary : Summary) (
   -- one report for each outcome, of its kind
   pub kinds : map (λ r. r.answer) summary.asks.items ≡ map answer_kind outcomes
   pub spent : AreWithinBudget budget 0 (identities_given start (accepted_of start (reading text).0)) summary.asks.items
+
+-- The same in the short words, in which the asks are a list of their own.
+pub record ReportsRightly (text : List ℕ) (budget : ℕ) (summary : Summary) (answered : List ℕ) : Type 0 where
+  pub outcomes : List Outcome
+  pub right : EachIsRight (asks_of start (script_in text).0) outcomes
+  pub answers : answered ≡ lines_from 1 start (script_in text).0 (script_in text).1 outcomes
+  pub commands : summary.commands ≡ length (spelled None (tokens_in true (lines text))).0
+  pub refused : summary.refused ≡ refused_count start (script_in text).0
+  pub malformed : summary.malformed ≡ malformed_at (length (script_in text).0 + 1) (script_in text).1
+  -- one report for each outcome, of its kind
+  pub kinds : map (λ r. r.answer) summary.asks.items ≡ map answer_kind outcomes
+  pub spent : AreWithinBudget budget 0 (variables_at (asks_of start (script_in text).0)) summary.asks.items
 
 -- What its certificate is to the answers: it spells steps, the oldest first, which are, in order, those of the accepted commands and of
 -- these outcomes, which took the rounds that the summary reports. Each is accepted in its turn. The list has the newest first.
@@ -113,7 +133,7 @@ pub record CertificateGuarantee (text : List ℕ) (budget : ℕ) (summary : Summ
 abbrev pub WritesAnswers : ℕ → Summary → Reader × Reader → Writer × Writer → Type 0
 WritesAnswers budget summary script answers =
     GaveEnough script.0 script.1 (λ text. (answered : List ℕ)
-    × WriterTakes answers.0 answers.1 answered × AnswersRightly text budget summary answered)
+    × WriterTakes answers.0 answers.1 answered × ReportsRightly text budget summary answered)
 
 -- and the certificate's writer took the certificate
 abbrev pub TookCertificate : ℕ → Summary → Reader × Reader → Writer × Writer → Writer × Writer → Type 0

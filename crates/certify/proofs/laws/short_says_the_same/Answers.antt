@@ -1,5 +1,5 @@
-use Rattle.certify.proofs.lemmas.laws.Headlines.{right_by_asks, right_by_outcomes}
-use Rattle.certify.proofs.lemmas.answers.ShortTexts.{says_the_same, same_answers}
+use Rattle.certify.proofs.lemmas.laws.Headlines.{right_by_asks, right_by_outcomes, same_reports}
+use Rattle.certify.proofs.lemmas.answers.ShortTexts.{says_the_same, same_answers, same_matches}
 use Rattle.certify.proofs.laws.short_says_the_same.Goals as goal
 
 pub returns-clause-script : goal.returns-clause-script
@@ -13,3 +13,9 @@ returns-clause-asks c = right_by_asks
 
 pub returns-clause-right : goal.returns-clause-right
 returns-clause-right c = right_by_outcomes
+
+pub returns-clause-matching : goal.returns-clause-matching
+returns-clause-matching c = same_matches
+
+pub returns-clause-reports : goal.returns-clause-reports
+returns-clause-reports c = same_reports

@@ -1,15 +1,18 @@
 -- Short definitions of scripts and answers say the same as those that code is proved against.
-use Rattle.std.proofs.Common.{ℕ, ◌+◌, ◌≡◌, ◌∙◌, Bool, true, false, not, cond, ◌&&◌, Option, Some, None, List, [], ◌∷◌, ◌++◌, map, nat_eq, refl, sym, ap}
+use Rattle.std.proofs.Common.{ℕ, ◌+◌, ◌≡◌, ◌∙◌, Bool, true, false, not, cond, ◌&&◌, Option, Some, None, List, ◌∷◌, ◌++◌, map, nat_eq, refl, sym, ap, subst, []}
 use Rattle.std.specs.Prelude.{is_some, unwrap_or, decimal, if◌then◌else◌}
 use Rattle.sat_base.specs.text.Text.{is_letter, is_none, lines, words, begins_with, digits, header_in, header_if, header_first, on_line, plain, minus, behind_minus, alone, token, tokens_of, scan, tokens, dimacs_header, Token, Number, Letter, Header, Wrong}
 use Rattle.sat_base.specs.script.Script.{Literal, Command, Clause, Ask, Hide, Witness, Sample, ScriptEnding, Clean, Malformed, names_of}
 use Rattle.sat_base.specs.script.ScriptState.{ScriptState, Refusal, PastLimit, WitnessName, refusal_of, start}
 use Rattle.sat_checker.specs.matching.Expected.{Outcome, Sat, Unsat, Unknown}
 use Rattle.sat_base.specs.script.Language.{Reading, reading, written, with_ask, spoken, Kind, OfClause, OfAsk, OfHide, OfWitness, OfSample, command_of, CommandHand, Nothing, Within, GoesOn, Ends, Fails, commands_of, beginning, behind_command_turn, command_in, turn_with_literal}
+use Rattle.sat_base.specs.steps.Steps.{Step}
+use Rattle.sat_checker.specs.matching.ProofChecking.{checker_rules}
+use Rattle.certify.specs.confirm.Matches.{StepsMatch}
 use Rattle.certify.specs.answers.Answers.{answers_from, literals_text, outcome_text, refused_line, piece, outcomes_left}
 use Rattle.certify.specs.answers.ScriptText.{number, single, token_in, tokens_in, command_with_literal, going_on, spelled, is_headed, script_in}
 use Rattle.certify.specs.answers.AnswersText.{literals_line, outcome_lines, refusal_line, command_lines, lines_from}
-use Rattle.certify.specs.laws.HeadlineLaws.{SameAnswers, SaysTheSame}
+use Rattle.certify.specs.laws.HeadlineLaws.{SameAnswers, SameMatches, SaysTheSame}
 
 -- WORDS
 
@@ -161,6 +164,11 @@ says text =
 pub says_the_same : SaysTheSame
 says_the_same = says
 
+-- the commands that stand in a text
+pub same_written : (text : List ℕ) → spelled None (tokens_in true (lines text)) ≡ written text
+unfolding written
+same_written text = ap (λ (ts : List Token). spelled None ts) (same_tokens text) ∙ same_commands (spoken (tokens text)) Nothing
+
 -- ANSWERS
 
 same_literals : (ls : List Literal) → literals_line ls ≡ literals_text ls
@@ -195,3 +203,18 @@ same_from k j (command ∷ commands) ending os =
 
 pub same_answers : SameAnswers
 same_answers commands ending outcomes = same_from 1 start commands ending outcomes
+
+-- MATCHING
+
+-- what is so of a reading of the script
+abbrev MatchesBy : List ℕ → List Outcome → List Step → Reading → Type 0
+MatchesBy answers outcomes steps r = (answers ≡ lines_from 1 start r.0 r.1 outcomes) × StepsMatch checker_rules r.0 outcomes steps
+
+pub same_matches : SameMatches
+same_matches script answers certificate =
+    let r = reading script in (
+      λ m. let p = subst (MatchesBy answers m.outcomes m.steps) (says_the_same script) (m.answered, m.match) in
+          record { outcomes = m.outcomes; steps = m.steps; text = m.text; rest = m.rest; answered = p.0 ∙ same_answers r.0 r.1 m.outcomes; begins = m.begins; spelt = m.spelt; match = p.1 },
+      λ m. let p = subst (MatchesBy answers m.outcomes m.steps) (sym (says_the_same script)) (m.answered ∙ sym (same_answers r.0 r.1 m.outcomes), m.match) in
+          record { outcomes = m.outcomes; steps = m.steps; text = m.text; rest = m.rest; answered = p.0; begins = m.begins; spelt = m.spelt; match = p.1 },
+    )

@@ -1,5 +1,5 @@
 -- What is said of three texts, by how the confirmation of them ended.
-use Rattle.std.proofs.Common.{ℕ, ◌+◌, ◌-◌, ◌^◌, ◌<◌, ◌≤◌, ◌≡◌, ◌↔◌, ◌⊎◌, inl, inr, min, true, false, List, [], ◌++◌, length, Result, Ok, Err, refl, subst, arith}
+use Rattle.std.proofs.Common.{ℕ, ◌+◌, ◌-◌, ◌^◌, ◌<◌, ◌≤◌, ◌≡◌, ◌↔◌, ◌⊎◌, inl, inr, min, true, false, List, ◌++◌, length, Result, Ok, Err, refl, subst, arith, []}
 use Rattle.std.specs.Prelude.{IfOk}
 use Rattle.sat_base.specs.device.Device.{Reader, GaveEnough, most_reads}
 use Rattle.sat_base.specs.device.Reading.{Source, AtEnd, unread}
@@ -11,7 +11,7 @@ use Rattle.sat_checker.specs.ProofView.{most_bytes}
 use Rattle.sat_checker.specs.declared.kernel.Kernel.{Kernel}
 use Rattle.sat_checker.specs.matching.ProofChecking.{checker_rules}
 use Rattle.sat_checker.proofs.lemmas.matching.CheckerIsSound.{the_checking_sound}
-use Rattle.certify.specs.confirm.Matches.{Matches}
+use Rattle.certify.specs.confirm.Matches.{Matches, TextsMatch}
 use Rattle.certify.specs.confirm.Streams.{Confirms, Covers, rest_in, seen_in}
 use Rattle.certify.specs.confirm.VerdictPromises.{AreRightAnswers, Exact, GaveTextWith, IsSoundVerdict, Promised, TakesLooks, numbers}
 use Rattle.certify.specs.confirm.CertificateStates.{CertificateState}
@@ -35,6 +35,7 @@ use Rattle.certify.proofs.lemmas.confirm.LooksBound.{takes_looks}
 use Rattle.certify.proofs.lemmas.confirm.Streams.{confirms_so, few_given, gave_enough, moves_halt, read_fails, took_faulted, took_looks}
 use Rattle.certify.proofs.lemmas.confirm.Walks.{looks_from, tries_if}
 use Rattle.certify.proofs.lemmas.laws.ExpectedOutcomes.{matching_right}
+use Rattle.certify.proofs.lemmas.answers.ShortTexts.{same_matches}
 use Rattle.certify.proofs.lemmas.laws.Headlines.{right_answers}
 use Rattle.certify.proofs.lemmas.confirm.Joining.{covers_given, took_kept}
 use Rattle.certify.proofs.lemmas.script.FewCommands.{few_read}
@@ -45,11 +46,11 @@ use Rattle.certify.proofs.lemmas.script.FewCommands.{few_read}
 pub sound_as : {E : Type 0} (r : Result Verdict E) (script answers certificate : Reader × Reader) → IfOk r (Exact script answers certificate) → IfOk r (IsSoundVerdict script answers)
 sound_as (Err e) script answers certificate h = tt
 sound_as (Ok v) script answers certificate h = λ said.
-    enough_as script.0 script.1 (λ s. GaveTextWith answers (λ a. GaveTextWith certificate (λ c. (v ≡ Yes) ↔ Matches checker_rules reading s a c))) (λ s. GaveTextWith answers (AreRightAnswers s))
+    enough_as script.0 script.1 (λ s. GaveTextWith answers (λ a. GaveTextWith certificate (λ c. (v ≡ Yes) ↔ TextsMatch s a c))) (λ s. GaveTextWith answers (AreRightAnswers s))
     (λ s g.
-    enough_as answers.0 answers.1 (λ a. GaveTextWith certificate (λ c. (v ≡ Yes) ↔ Matches checker_rules reading s a c)) (AreRightAnswers s)
+    enough_as answers.0 answers.1 (λ a. GaveTextWith certificate (λ c. (v ≡ Yes) ↔ TextsMatch s a c)) (AreRightAnswers s)
     (λ a k.
-    let m : Matches checker_rules reading s a (k.text ++ []) = (k.holds [] (λ called ended. refl)).0 said in
+    let m : Matches checker_rules reading s a (k.text ++ []) = (same_matches s a (k.text ++ [])).0 ((k.holds [] (λ called ended. refl)).0 said) in
     right_answers s a m.outcomes m.answered (matching_right checker_rules the_checking_sound (reading s).0 m.outcomes m.steps m.match))
     g) h
 
@@ -154,37 +155,37 @@ module _ (x a c : Reader) (checker : Kernel) (step : Step) (table : Table) (fres
   abbrev Sure : Verdict → Type 0
   Sure v = Exact (x, new.script.reader) (a, new.answers.reader) (c, new.certificate.source.reader) v
 
-  matched : (s t u : List ℕ) (v : CertificateState) → ConfirmsLast 1 (reading s) table t (record { checker = checker; step = step; rest = u }) (Ok tt) → Matches checker_rules reading s t u
-  matched s t u v h = (left_begins (reading s).0 (reading s).1 t u).1 (h start [] (fresh u))
+  matched : (s t u : List ℕ) (v : CertificateState) → ConfirmsLast 1 (reading s) table t (record { checker = checker; step = step; rest = u }) (Ok tt) → TextsMatch s t u
+  matched s t u v h = (same_matches s t u).1 ((left_begins (reading s).0 (reading s).1 t u).1 (h start [] (fresh u)))
 
-  unmatched : (s t u : List ℕ) (why : Why) → ConfirmsLast 1 (reading s) table t (record { checker = checker; step = step; rest = u }) (Err why) → Matches checker_rules reading s t u → ⊥
-  unmatched s t u why h m = h start [] (fresh u) ((left_begins (reading s).0 (reading s).1 t u).0 m)
+  unmatched : (s t u : List ℕ) (why : Why) → ConfirmsLast 1 (reading s) table t (record { checker = checker; step = step; rest = u }) (Err why) → TextsMatch s t u → ⊥
+  unmatched s t u why h m = h start [] (fresh u) ((left_begins (reading s).0 (reading s).1 t u).0 ((same_matches s t u).0 m))
 
   yes_exact : ConfirmsScript reading (Ok tt) old new → Sure Yes
   yes_exact e =
-      given x new.script (λ s. GaveTextWith (a, new.answers.reader) (λ t. GaveTextWith (c, new.certificate.source.reader) (λ u. (Yes ≡ Yes) ↔ Matches checker_rules reading s t u))) e.0
+      given x new.script (λ s. GaveTextWith (a, new.answers.reader) (λ t. GaveTextWith (c, new.certificate.source.reader) (λ u. (Yes ≡ Yes) ↔ TextsMatch s t u))) e.0
       (λ total k.
       let s = rest_in total (unread x) in
       let j = e.1 total k in
-      given a new.answers (λ t. GaveTextWith (c, new.certificate.source.reader) (λ u. (Yes ≡ Yes) ↔ Matches checker_rules reading s t u)) j.0
+      given a new.answers (λ t. GaveTextWith (c, new.certificate.source.reader) (λ u. (Yes ≡ Yes) ↔ TextsMatch s t u)) j.0
       (λ all l.
       let t = rest_in all (unread a) in
       let p = j.1 all l in
       let h = moves_halt old.certificate new.certificate (unread_open c) p.0 in
-      gave_enough c new.certificate.source h.0.0 (λ u. (Yes ≡ Yes) ↔ Matches checker_rules reading s t u) h.0.1 h.1
+      gave_enough c new.certificate.source h.0.0 (λ u. (Yes ≡ Yes) ↔ TextsMatch s t u) h.0.1 h.1
       (λ more m. ((λ said. matched s t (rest_in more (unread c)) (seen_in more old.certificate) (p.1 more m)), (λ said. refl)))))
 
   no_exact : (ask : ℕ) (why : Why) → ConfirmsScript reading (Err (stop.No why)) old new → Sure (No ask why)
   no_exact ask why e =
-      given x new.script (λ s. GaveTextWith (a, new.answers.reader) (λ t. GaveTextWith (c, new.certificate.source.reader) (λ u. (No ask why ≡ Yes) ↔ Matches checker_rules reading s t u))) e.0
+      given x new.script (λ s. GaveTextWith (a, new.answers.reader) (λ t. GaveTextWith (c, new.certificate.source.reader) (λ u. (No ask why ≡ Yes) ↔ TextsMatch s t u))) e.0
       (λ total k.
       let s = rest_in total (unread x) in
       let j = e.1 total k in
-      given a new.answers (λ t. GaveTextWith (c, new.certificate.source.reader) (λ u. (No ask why ≡ Yes) ↔ Matches checker_rules reading s t u)) j.0
+      given a new.answers (λ t. GaveTextWith (c, new.certificate.source.reader) (λ u. (No ask why ≡ Yes) ↔ TextsMatch s t u)) j.0
       (λ all l.
       let t = rest_in all (unread a) in
       let p = j.1 all l in
-      gave_enough c new.certificate.source p.0.0.0 (λ u. (No ask why ≡ Yes) ↔ Matches checker_rules reading s t u) p.0.0.1 p.0.1
+      gave_enough c new.certificate.source p.0.0.0 (λ u. (No ask why ≡ Yes) ↔ TextsMatch s t u) p.0.0.1 p.0.1
       (λ more m. ((λ said. absurd (cc)), (λ same. absurd (unmatched s t (rest_in more (unread c)) why (p.1 more m) same))))))
 
   tells : (r : Result (Unit {0}) Stop) (asks : ℕ) → new.script.reads ≤ most_reads → new.certificate.source.reads ≤ most_reads → ConfirmsScript reading r old new → Tells x a c new.script new.answers new.certificate.source (said_by r asks)

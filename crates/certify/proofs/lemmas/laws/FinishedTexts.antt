@@ -1,5 +1,5 @@
 -- What a finished run wrote is confirmed: by whatever readers, and over texts in memory.
-use Rattle.std.proofs.Common.{ℕ, ◌+◌, ◌*◌, ◌^◌, ◌≤◌, ◌≡◌, ◌∙◌, List, [], ◌++◌, Option, None, Some, Result, Ok, Err, IfOk, sym, ap, subst, arith, length, length-append}
+use Rattle.std.proofs.Common.{ℕ, ◌+◌, ◌*◌, ◌^◌, ◌≤◌, ◌≡◌, ◌∙◌, List, ◌++◌, Option, None, Some, Result, Ok, Err, IfOk, sym, ap, subst, arith, length, length-append, []}
 use Rattle.std.specs.Prelude.{IfSome, ◌↔◌}
 use Rattle.std.specs.Io.KnownBytes.{Appends, Consumes}
 use Rattle.std.proofs.lemmas.List.{append_cancel_left}
@@ -8,7 +8,7 @@ use Rattle.sat_base.specs.device.Device.{Reader, Writer, GaveEnough, WriterTakes
 use Rattle.sat_base.specs.script.Language.{reading}
 use Rattle.sat_base.proofs.lemmas.device.Given.{enough_reported}
 use Rattle.sat_checker.specs.matching.ProofChecking.{checker_rules}
-use Rattle.certify.specs.confirm.Matches.{Matches}
+use Rattle.certify.specs.confirm.Matches.{Matches, TextsMatch}
 use Rattle.certify.specs.confirm.VerdictPromises.{AreRightAnswers, Exact, GaveTextWith, IsSoundVerdict, TakesLooks}
 use Rattle.certify.specs.laws.EndToEnd.{CanBe, FinishedIsConfirmed, VerdictSays, most_looks_over}
 use Rattle.certify.specs.run.FinishedRun.{CertificateGuarantee, TookCertificate, rounds_of_asks}
@@ -16,6 +16,7 @@ use Rattle.certify.specs.declared.summary.Summary.{Summary}
 use Rattle.certify.specs.declared.verdict.ConfirmFault.{ConfirmFault}
 use Rattle.certify.specs.declared.verdict.Verdict.{Verdict}
 use Rattle.certify.specs.declared.verdict.Verdict.TheVariants.{Yes}
+use Rattle.certify.proofs.lemmas.answers.ShortTexts.{same_matches}
 use Rattle.certify.proofs.lemmas.laws.CertifiedMatches.{certified_matches}
 
 -- what is said of all that a reader gave is so of a text that it can be
@@ -24,11 +25,11 @@ can_be a b P text c g =
     let same : c.given ≡ g.text = append_cancel_left a.given c.given g.text (sym c.front.gave ∙ g.front.gave) in
     subst P (sym (c.whole ∙ ap (λ (xs : List ℕ). xs ++ c.rest) same)) (g.holds c.rest c.follows)
 
-pub backed_matches : (budget : ℕ) (summary : Summary) (text answered certified : List ℕ) → CertificateGuarantee text budget summary answered certified → Matches checker_rules reading text answered certified
+pub backed_matches : (budget : ℕ) (summary : Summary) (text answered certified : List ℕ) → CertificateGuarantee text budget summary answered certified → TextsMatch text answered certified
 backed_matches budget summary text answered certified b =
     let a = b.is_answered in
-    subst (λ s. Matches checker_rules reading text s certified) (sym a.answers)
-    (certified_matches reading text certified a.outcomes b.steps (rounds_of_asks summary.asks.items) a.right b.accepted b.certifies b.certificate)
+    (same_matches text answered certified).1 (subst (λ s. Matches checker_rules reading text s certified) (sym a.answers)
+    (certified_matches reading text certified a.outcomes b.steps (rounds_of_asks summary.asks.items) a.right b.accepted b.certifies b.certificate))
 
 pub finished_confirmed : FinishedIsConfirmed
 finished_confirmed script answers certificate v budget summary text answered certified s a c b e =
@@ -42,9 +43,9 @@ told a b P text e g = subst (λ o. IfSome o P) e (enough_reported a b P g)
 pub says : (r : Result Verdict ConfirmFault) (a x b y c z : Reader) (s t u : List ℕ) → a.to_come ≡ Some s → b.to_come ≡ Some t → c.to_come ≡ Some u
     → IfOk r (Exact (a, x) (b, y) (c, z)) → IfOk r (IsSoundVerdict (a, x) (b, y)) → IfOk r (VerdictSays s t u)
 says (Ok v) a x b y c z s t u d e f h k = record {
-  exact = told c z (λ n. (v ≡ Yes) ↔ Matches checker_rules reading s t n) u f
-      (told b y (λ m. GaveTextWith (c, z) (λ n. (v ≡ Yes) ↔ Matches checker_rules reading s m n)) t e
-      (told a x (λ l. GaveTextWith (b, y) (λ m. GaveTextWith (c, z) (λ n. (v ≡ Yes) ↔ Matches checker_rules reading l m n))) s d h));
+  exact = told c z (λ n. (v ≡ Yes) ↔ TextsMatch s t n) u f
+      (told b y (λ m. GaveTextWith (c, z) (λ n. (v ≡ Yes) ↔ TextsMatch s m n)) t e
+      (told a x (λ l. GaveTextWith (b, y) (λ m. GaveTextWith (c, z) (λ n. (v ≡ Yes) ↔ TextsMatch l m n))) s d h));
   sound = λ yes. told b y (AreRightAnswers s) t e (told a x (λ l. GaveTextWith (b, y) (AreRightAnswers l)) s d (k yes));
 }
 says (Err e) a x b y c z s t u d f g h k = tt

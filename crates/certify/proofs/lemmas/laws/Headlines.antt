@@ -1,6 +1,6 @@
 -- From what `certify_over` promises to the headline.
 use Rattle.std.proofs.Common.{ℕ, ◌+◌, ◌≡◌, ◌∙◌, Bool, true, false, cond, List, [], ◌∷◌, map, refl, sym, ap, subst, lt_of_not-le}
-use Rattle.std.specs.Prelude.{◌↔◌, is_some}
+use Rattle.std.specs.Prelude.{◌↔◌, is_some, length}
 use Rattle.sat_base.specs.script.Script.{Literal, Command, Clause, Ask, Hide, Witness, Sample}
 use Rattle.sat_base.specs.script.ScriptState.{ScriptState, accepted, accepted_of, refusal_of, start}
 use Rattle.sat_base.specs.script.Language.{Reading, reading}
@@ -10,13 +10,14 @@ use Rattle.certify.specs.answers.RightAnswers.{AreRight, AnswersAreRight}
 use Rattle.certify.specs.answers.AnswersText.{lines_from}
 use Rattle.certify.specs.confirm.VerdictPromises.{AreRightAnswers}
 use Rattle.certify.specs.answers.Asks.{Asked, asks_of, EachIsRight}
-use Rattle.certify.specs.run.FinishedRun.{AreWithinBudget, answer_kind, rounds_of_asks, identities_given}
+use Rattle.certify.specs.run.FinishedRun.{AnswersRightly, AreWithinBudget, ReportsRightly, answer_kind, identities_given, malformed_at, refused_count, rounds_of_asks, variables_at}
 use Rattle.certify.specs.laws.Headline.{EachTookRounds}
-use Rattle.certify.specs.laws.HeadlineLaws.{CertifiedIsHeadline, RightByAsks, RightByOutcomes}
+use Rattle.certify.specs.laws.HeadlineLaws.{CertifiedIsHeadline, RightByAsks, RightByOutcomes, SameReports}
 use Rattle.certify.specs.declared.summary.Answer.TheVariants as kind
 use Rattle.certify.proofs.lemmas.run.Shown.{rounds_are_shown}
-use Rattle.certify.proofs.lemmas.answers.ShortTexts.{says_the_same, same_answers}
+use Rattle.certify.proofs.lemmas.answers.ShortTexts.{says_the_same, same_answers, same_written}
 use Rattle.certify.specs.declared.summary.AskReport.{AskReport}
+use Rattle.certify.specs.declared.summary.Summary.{Summary}
 
 -- ASK BY ASK
 
@@ -59,9 +60,6 @@ pub right_by_asks : RightByAsks
 right_by_asks commands outcomes = same_right start commands outcomes
 
 -- HOW MANY VARIABLES EACH ASK HAS
-
-abbrev variables_at : List Asked → List ℕ
-variables_at asks = map (λ a. a.state.identity_count) asks
 
 abbrev SameGiven : ScriptState → List Command → Type 0
 SameGiven j commands = identities_given j (accepted_of j commands) ≡ variables_at (asks_of j commands)
@@ -131,6 +129,46 @@ right_by_outcomes script answers =
       λ a. let p = subst (AreRightBy answers a.outcomes) (says_the_same script) (a.answered, a.right) in
           (a.outcomes, p.0 ∙ same_answers r.0 r.1 a.outcomes, (right_by_asks r.0 a.outcomes).1 p.1),
       λ h. right_answers script answers h.0 h.1 h.2,
+    )
+
+-- what is so of a run's answers and summary, by a reading of the script
+abbrev ReportsBy : ℕ → Summary → List ℕ → List Outcome → Reading → Type 0
+ReportsBy budget summary answered outcomes r =
+    (answered ≡ lines_from 1 start r.0 r.1 outcomes) × EachIsRight (asks_of start r.0) outcomes × (summary.refused ≡ refused_count start r.0)
+    × (summary.malformed ≡ malformed_at (length r.0 + 1) r.1) × AreWithinBudget budget 0 (variables_at (asks_of start r.0)) summary.asks.items
+
+pub same_reports : SameReports
+same_reports text budget summary answered =
+    let r = reading text in
+    let Spent : List ℕ → Type 0 = λ ns. AreWithinBudget budget 0 ns summary.asks.items in (
+      λ a. let p = subst (ReportsBy budget summary answered a.outcomes) (says_the_same text) (a.answers, a.right, a.refused, a.malformed, a.spent) in
+          record {
+            outcomes = a.outcomes;
+            right = (right_by_asks r.0 a.outcomes).1 p.1;
+            answers = p.0 ∙ same_answers r.0 r.1 a.outcomes;
+            commands = a.commands ∙ ap (λ (q : Reading). length q.0) (same_written text);
+            refused = p.2;
+            malformed = p.3;
+            kinds = a.kinds;
+            spent = subst Spent (sym (same_given start r.0)) p.4;
+          },
+      λ a. let p = subst (ReportsBy budget summary answered a.outcomes) (sym (says_the_same text)) (
+        a.answers ∙ sym (same_answers r.0 r.1 a.outcomes),
+        (right_by_asks r.0 a.outcomes).0 a.right,
+        a.refused,
+        a.malformed,
+        subst Spent (same_given start r.0) a.spent,
+      ) in
+          record {
+            outcomes = a.outcomes;
+            right = p.1;
+            answers = p.0;
+            commands = a.commands ∙ ap (λ (q : Reading). length q.0) (sym (same_written text));
+            refused = p.2;
+            malformed = p.3;
+            kinds = a.kinds;
+            spent = p.4;
+          },
     )
 
 pub certified_headline : CertifiedIsHeadline

@@ -33,7 +33,7 @@ use Rattle.certify.specs.declared.summary.Summary.{Summary}
 use Rattle.certify.specs.declared.script.ahead.LastPiece.{LastPiece}
 use Rattle.certify.specs.script.LastPiece.{source_in, waiting_bytes}
 use Rattle.sat_base.specs.script.Language.{Reading, reading, written}
-use Rattle.certify.specs.run.FinishedRun.{WritesAnswers, AnswersRightly, CertificateGuarantee, TookCertificate, rounds_of_asks, identities_given, malformed_at, AreWithinBudget}
+use Rattle.certify.specs.run.FinishedRun.{WritesAnswers, AnswersRightly, CertificateGuarantee, ReportsRightly, TookCertificate, rounds_of_asks, identities_given, malformed_at, AreWithinBudget}
 use Rattle.certify.specs.run.Running.{ReadsFew, FinishesOrFaults, WritesRun}
 use Rattle.certify.specs.run.Unfinished.{CounterEnds, Exceeds, ExceedsWritten, StepsFront, TookAnswersFront, TookSteps, Unfinished}
 use Rattle.sat_solver.specs.solver.View.{proof_in}
@@ -48,6 +48,7 @@ use Rattle.certify.proofs.lemmas.run.Unhidden.{none_deletes}
 use Rattle.certify.proofs.lemmas.run.Learned.{asks_learn}
 use Rattle.certify.proofs.lemmas.confirm.Streams.{faulted_front, gave_enough, passed_front, read_fails}
 use Rattle.certify.proofs.lemmas.confirm.Joining.{covers_given, took_kept}
+use Rattle.certify.proofs.lemmas.laws.Headlines.{same_reports}
 use Rattle.certify.proofs.lemmas.run.MadeCertifies.{made_certifies}
 use Rattle.certify.proofs.lemmas.run.ProofFronts.{carried_front, went_broke, went_took}
 use Rattle.certify.proofs.lemmas.run.RunStateCalls.{broke_later, took_both}
@@ -431,7 +432,7 @@ counter_lent seen budget x y u z a c v given back same r h k =
 
 module _ (budget : ℕ) (x y : Reader) (u z a b : Writer) where
   pub answered_if : (r : Result Summary RunFault) → FinishesOrFaults r budget (x, y) (u, z) (a, b) → IfOk r (λ s. WritesAnswers budget s (x, y) (u, z))
-  answered_if (Ok s) h = enough_so x y (λ text. WritesRun text budget s (u, z) (a, b)) (λ text. (answered : List ℕ) × WriterTakes u z answered × AnswersRightly text budget s answered) (λ text k. (k.answered, k.tells, k.is_backed.is_answered)) h.wrote
+  answered_if (Ok s) h = enough_so x y (λ text. WritesRun text budget s (u, z) (a, b)) (λ text. (answered : List ℕ) × WriterTakes u z answered × ReportsRightly text budget s answered) (λ text k. (k.answered, k.tells, (same_reports text budget s k.answered).1 k.is_backed.is_answered)) h.wrote
   answered_if (Err e) h = tt
 
   pub backed_if : (r : Result Summary RunFault) → FinishesOrFaults r budget (x, y) (u, z) (a, b) → IfOk r (λ s. TookCertificate budget s (x, y) (u, z) (a, b))
