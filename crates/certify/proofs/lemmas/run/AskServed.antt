@@ -104,7 +104,7 @@ unsat_outcome now kind.Unknown e h = absurd (unknown_apart now.state (unknown_st
 -- what shows an answer
 module _ {C : Type 0} (now : Solver C) (whole : SolverInvariant now) (ask : List Literal) (asked : named_literals now.assumed.items ≡ ask) (j : ScriptState) (before : State) (s : List Step) where
   abbrev Told : State → State → Type 0
-  Told b st = HasTrace checker_rules s (steps_in now) (due_between_states b st (line_in now) now.assumed.items now.told.failed_core.items)
+  Told b st = HasTrace checker_rules s (steps_in now) (due_between_states b st (line_in now) now.assumed.items now.reported.failed_core.items)
 
   abbrev Shown : Bool → Outcome → Type 0
   Shown unsat o = HasTrace checker_rules s (steps_in now) (showing_if unsat j ask o)
@@ -123,7 +123,7 @@ module _ {C : Type 0} (now : Solver C) (whole : SolverInvariant now) (ask : List
   core_shown : now.state ≡ states.UnsatUnderAssumptions → before ≡ states.Unknown → Told before now.state → Shown (checker_rules.unsat (steps_in now)) (outcome_for kind.Unsat now)
   core_shown e b w =
       let v : Told states.Unknown states.UnsatUnderAssumptions = subst (λ st. Told states.Unknown st) e (subst (λ st. Told st now.state) b w) in
-      let core = now.told.failed_core.items in
+      let core = now.reported.failed_core.items in
       let m = subst (HasTrace checker_rules s (steps_in now)) (ap (λ q. Fails q (named_literals core) ∷ []) asked) v in
       let sorted = sorted_core [] ask core m refl in
       shown_going (outcome_for kind.Unsat now) (core_apart now.state e)
@@ -245,7 +245,7 @@ module _ {C : Type 0} (seen : C → Writer) (old mid now : Solver C) (user : Lis
     agree_at : solver.NamesAgree searched.mid.names (steps_in searched.mid) (accepted (Ask (named_literals user)) j) first.live
     agree_at = subst (λ ns. solver.NamesAgree ns (steps_in searched.mid) (accepted (Ask (named_literals user)) j) first.live) (sym searched.limited.names) (subst (λ ss. solver.NamesAgree mid.names ss (accepted (Ask (named_literals user)) j) first.live) (sym same_steps) agree_mid)
 
-    second : solver.ReachesScriptState now.names (steps_in searched.mid) (steps_in now) (accepted (Ask (named_literals user)) j) (due_between_states searched.mid.state now.state (line_in now) now.assumed.items now.told.failed_core.items)
+    second : solver.ReachesScriptState now.names (steps_in searched.mid) (steps_in now) (accepted (Ask (named_literals user)) j) (due_between_states searched.mid.state now.state (line_in now) now.assumed.items now.reported.failed_core.items)
     second = searched.solved.answered.did.does.kept (accepted (Ask (named_literals user)) j) first.live agree_at
 
     named : HasTrace checker_rules (steps_in old) (steps_in mid) (bringing (names_of (named_literals user)) j ++ (Opens (named_literals user) (outcome_for report.answer now) ∷ []))
@@ -256,7 +256,7 @@ module _ {C : Type 0} (seen : C → Writer) (old mid now : Solver C) (user : Lis
 
     shown : HasTrace checker_rules (steps_in mid) (steps_in now) (showing_if (checker_rules.unsat (steps_in now)) (accepted (Ask (named_literals user)) j) (named_literals user) (outcome_for report.answer now))
     shown = answer_shown now searched.solved.answered.did.whole (named_literals user) assumed_is (accepted (Ask (named_literals user)) j) searched.mid.state (steps_in mid) report.answer searched.solved.answer_is was_unknown listed
-        (subst (λ ss. HasTrace checker_rules ss (steps_in now) (due_between_states searched.mid.state now.state (line_in now) now.assumed.items now.told.failed_core.items)) same_steps second.trace)
+        (subst (λ ss. HasTrace checker_rules ss (steps_in now) (due_between_states searched.mid.state now.state (line_in now) now.assumed.items now.reported.failed_core.items)) same_steps second.trace)
 
     pub ask_right : IsRight (accepted (Ask (named_literals user)) j) (named_literals user) (outcome_for report.answer now)
     ask_right = reported_right now (named_literals user) assumed_is (accepted (Ask (named_literals user)) j) second.live second.agree report.answer right

@@ -21,9 +21,9 @@ recorded_at steps may u = record { recorded = u; none = λ a h. unsat_means_none
 module _ {C : Type 0} (s : Solver C) (whole : SolverInvariant s) where
   -- it is where the clauses alone are known to be unsatisfiable
   pub known_unsat : s.state ≡ states.Unsat → checker_rules.unsat (steps_in s) ≡ true
-  known_unsat e = unsat_as (steps_in s) whole.stands.may ∙ subst (λ st. StateSays st s.core s.names s.asked s.assumed.items s.told.failed_core.items) e whole.says
+  known_unsat e = unsat_as (steps_in s) whole.stands.may ∙ subst (λ st. StateSays st s.core s.names s.asked s.assumed.items s.reported.failed_core.items) e whole.says
 
-  going_by : (st : State) → (st ≡ states.Unsat → ⊥) → StateSays st s.core s.names s.asked s.assumed.items s.told.failed_core.items → (session_in s).unsat ≡ false
+  going_by : (st : State) → (st ≡ states.Unsat → ⊥) → StateSays st s.core s.names s.asked s.assumed.items s.reported.failed_core.items → (session_in s).unsat ≡ false
   going_by states.Unknown n h = h.joined.sound.search.stands.fits.consistent
   going_by states.Sat n h = h.0.joined.sound.search.stands.fits.consistent
   going_by states.UnsatUnderAssumptions n h = h.0.joined.sound.search.stands.fits.consistent
