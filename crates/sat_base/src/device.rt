@@ -25,12 +25,12 @@ use std::io::{ErrorKind, Read, Write};
 pub trait CountedRead: Read {
     ghost seen: { Self → Reader };
 
-    /// Reads once. Every `Err` is a failed call, also if it was interrupted, and is not repeated.
+    /// Reads once. Every `Err` is a failed call, even if it was interrupted, and is not repeated.
     fn read_counted(&mut self, buf: &mut [u8]) -> io::Result<usize>
         ensures bound { ReadsAtMost result buf.new }
         ensures once { ReadsOnce result buf.new (seen self.old) (seen self.new) };
 
-    // What it says is still to come is what std's reader says.
+    // The bytes still to come are those that std's reader states.
     ghost tells: { (r : Self) → (seen r).to_come ≡ Self.remaining r };
 }
 
@@ -38,7 +38,7 @@ pub trait CountedRead: Read {
 pub trait CountedWrite: Write {
     ghost seen: { Self → Writer };
 
-    /// Writes once. Every `Err` is a failed call, and so is a write that accepts no byte of a piece that is not empty.
+    /// Writes once. The call counts as failed if it returns `Err`, or if it accepts no byte of a nonempty piece.
     fn write_counted(&mut self, piece: &[u8]) -> io::Result<usize>
         ensures bound { WritesAtMost result piece.now }
         ensures once { WritesOnce result piece.now (seen self.old) (seen self.new) };
@@ -63,7 +63,7 @@ pub trait CountedWrite: Write {
         Ok(())
     }
 
-    // What it says it holds is what std's writer says.
+    // The bytes that it holds are those that std's writer states.
     ghost tells: { (w : Self) → (seen w).contents ≡ Self.contents w };
 }
 

@@ -28,7 +28,7 @@ use std::io;
 use std::marker::Model;
 
 /// A parser of DIMACS CNF, which is fed a formula's text in chunks. It looks at every byte once. Of the text it holds
-/// the clauses that were not taken yet, the clause in hand, and the header.
+/// the clauses that were not taken yet, the unfinished clause, and the header.
 ///
 /// Contracts see the bytes that were fed, the clauses that were taken, and whether it has stopped. It stops at a fault
 /// of the text, if memory runs out, and when the text is finished. The clauses read so far can be taken then, too.
@@ -79,16 +79,16 @@ impl DimacsParser {
 
     /// Feeds the next bytes of the text. After an `Err` the parser has stopped: at a fault, on the line of the wrong
     /// word or of the number above 2^28, or because memory ran out. A wrong word is reported at the first byte after
-    /// which no right one continues.
+    /// which it can no longer become right.
     pub fn feed(&mut self, piece: &[u8]) -> Result<(), DimacsError>
         ensures answer { FeedsPiece result piece.now self.old self.new }
-        // No fault of a line that has ended is held back, nor a word that is wrong whatever follows.
+        // No finished line has a fault, and no word is wrong whatever follows.
         ensures sound { OnOk result (IsSoundSoFar self.new) }
     {
         self.parser.feed(piece)
     }
 
-    /// Finishes the text. A text that ends inside a clause is malformed on its last line, whatever memory there is:
+    /// Finishes the text. A text that ends inside a clause is malformed on its last line, even if no memory is left:
     /// memory is needed only for a last clause that ends there.
     pub fn finish(&mut self) -> Result<(), DimacsError>
         ensures { Finishes result self.old self.new }
@@ -113,15 +113,15 @@ impl DimacsParser {
         self.parser.clauses.formula.var_count()
     }
 
-    /// Returns the number of complete clauses of the text so far, held at 2^64-1.
+    /// Returns the number of complete clauses of the text so far, capped at 2^64-1.
     pub fn clause_count(&self) -> u64
         ensures { result ≡ held (length (clauses_read self.now)) }
     {
         self.parser.clauses.count
     }
 
-    /// Returns the numbers of the header, if there is one: of variables and of clauses, both held at 2^64-1. They are
-    /// compared with nothing.
+    /// Returns the header's numbers of variables and of clauses, if there is a header. Both are capped at 2^64-1, and
+    /// are not checked against the clauses.
     pub fn header(&self) -> Option<(u64, u64)>
         ensures { result ≡ held_numbers (dimacs_header (lines_read self.now)) }
     {
@@ -135,12 +135,12 @@ impl DimacsParser {
         self.parser.has_ended()
     }
 
-    /// Reads a formula to the end of its text, which is that of the reader or a line that begins with `%`. Returns
+    /// Reads a formula to the end of its text, which is the end of the reader or a line that begins with `%`. Returns
     /// `OutOfMemory` only if the bytes that the reader gave have no fault.
     pub fn parse<R: CountedRead>(alloc: Global, reader: &mut R) -> Result<CnfFormula, DimacsError>
         // The formula and the faults are those of the text that was given, whatever follows.
         ensures given { GaveEnough (R.seen reader.old) (R.seen reader.new) (Parses result) }
-        // A read has failed only if this is returned, and none is repeated.
+        // A read has failed only if this is returned, and no read is repeated.
         ensures kept { IsErrOf result DimacsError.Read ⊎ ((R.seen reader.new).failures ≡ (R.seen reader.old).failures) }
         ensures read { IsErrOf result DimacsError.Read → ReadFails (R.seen reader.old) (R.seen reader.new) }
         // If a read fails or memory runs out, no line that was given has a fault, and no word is wrong whatever
@@ -214,13 +214,13 @@ impl DimacsParser {
     ) -> Result<DimacsParser, IncrementalError<E>>
         requires { F.IsAlwaysCallable closure }
         // If no call does more than take clauses, the answer is that of the text that was given, whatever follows. The
-        // clauses taken and those that remain are the text's, too, by what `take_formula` ensures.
+        // clauses taken and those that remain are also those of the text, by what `take_formula` ensures.
         ensures given { KeepsText (λ f p r q g. F.step f p r q g) closure
             → ParsesInParts (R.seen reader.old) (R.seen reader.new) result }
         // Whatever the closure does, it was called with the parser after every chunk that the reader gave.
         ensures visited { VisitsAll (λ f p r q g. F.step f p r q g) closure (R.seen reader.old) (R.seen reader.new)
             result }
-        // A read has failed only if this is returned, and none is repeated.
+        // A read has failed only if this is returned, and no read is repeated.
         ensures kept { IsErrOf result (IncrementalError.Dimacs DimacsError.Read)
             ⊎ ((R.seen reader.new).failures ≡ (R.seen reader.old).failures) }
         ensures read { IsErrOf result (IncrementalError.Dimacs DimacsError.Read)

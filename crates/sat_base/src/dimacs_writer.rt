@@ -84,8 +84,8 @@ impl<W: CountedWrite, P: Room> Output<W, P> {
     }
 }
 
-/// Writes a formula in DIMACS CNF: a line `p cnf V C` with the number of variables and that of clauses, then a line for
-/// every clause, with its numbers and `0`. It writes in pieces of 4,096 bytes, and does not allocate. After an error, a
+/// Writes a formula in DIMACS CNF: a line `p cnf V C` with the numbers of variables and clauses, then a line for every
+/// clause, with its numbers and `0`. It writes in pieces of 4,096 bytes, and does not allocate. After an error, a
 /// prefix of the text may have been written.
 pub fn write_dimacs<W: CountedWrite>(writer: &mut W, formula: &CnfFormula) -> io::Result<()>
     ensures { WritesText (dimacs_text formula.now) result (W.seen writer.old) (W.seen writer.new) }

@@ -13,16 +13,16 @@ pub trait ExtendFormula {
     /// What has to hold between calls. Every call preserves it, whatever it returns.
     ghost ready: { Self → Type 0 };
 
-    /// From the state before, this clause was added, to the state after.
+    /// Adding this clause leads from the state before to the state after.
     ghost adds: { Self → List ℕ → Self → Type 0 };
 
-    /// From the state before, this clause was refused for this reason, to the state after.
+    /// Refusing this clause for this reason leads from the state before to the state after.
     ghost refuses_clause: { Self → List ℕ → Self.Error → Self → Type 0 };
 
-    /// From the state before, this variable was returned, to the state after.
+    /// Returning this variable leads from the state before to the state after.
     ghost makes: { Self → ℕ → Self → Type 0 };
 
-    /// From the state before, no variable was returned for this reason, to the state after.
+    /// Returning no variable, for this reason, leads from the state before to the state after.
     ghost refuses_variable: { Self → Self.Error → Self → Type 0 };
 
     /// Adds a clause.

@@ -39,7 +39,7 @@ impl Model for CnfFormula {
 }
 
 impl CnfFormula {
-    /// Returns a formula without clauses and variables. Does not allocate.
+    /// Returns a formula without clauses or variables. Does not allocate.
     pub fn new(alloc: Global) -> CnfFormula
         ensures { result ≡ no_formula }
     {
@@ -49,7 +49,7 @@ impl CnfFormula {
         }
     }
 
-    /// Returns the number of variables. Their indices are those below it.
+    /// Returns the number of variables. Their indices are the numbers below it.
     pub fn var_count(&self) -> usize
         ensures count { result ≡ self.now.var_count }
         ensures covers { vars_of self.now.clauses ≤ self.now.var_count }
@@ -58,7 +58,7 @@ impl CnfFormula {
         self.var_count
     }
 
-    /// Raises the number of variables to this count. A lower count changes nothing.
+    /// Raises the number of variables to `count`. A lower count changes nothing.
     pub fn set_var_count(&mut self, count: usize)
         requires { count ≤ var_limit }
         ensures { self.new ≡ with_at_least_vars count self.old }
@@ -73,7 +73,7 @@ impl CnfFormula {
         self.clauses.len()
     }
 
-    /// Whether the formula has no clause.
+    /// Whether the formula has no clauses.
     pub fn is_empty(&self) -> bool
         ensures { IsTrue result ↔ self.now.clauses ≡ [] }
     {

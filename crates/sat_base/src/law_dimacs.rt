@@ -10,13 +10,13 @@ pub fn dimacs_laws()
     ensures spelled { CleanIfSpelled }
 {}
 
-/// The text that is written of a formula is read as that formula: its clauses in order, a clean end, and a header with
-/// the number of variables and that of clauses. The call does nothing.
+/// The text that is written for a formula is read as that formula: its clauses in order, a clean end, and a header with
+/// the numbers of variables and clauses. The call does nothing.
 pub fn written_dimacs_is_read()
     ensures { WrittenIsRead }
 {}
 
-/// Texts, and what they say. The call does nothing.
+/// Example texts, with their meaning. The call does nothing.
 pub fn dimacs_rows()
     ensures clean { CleanRows }
     ensures faults { FaultRows }

@@ -10,12 +10,12 @@ pub fn steps_have_one_form()
     ensures { IsUniquelyDecodable SpellsStep }
 {}
 
-/// A text of steps is that of one list of steps.
+/// A text of steps spells only one list of steps.
 pub fn texts_are_read_one_way()
     ensures { (xs ys : List Step) (text : List ℕ) → SpellsSteps xs text → SpellsSteps ys text → xs ≡ ys }
 {}
 
-/// A step has one spelling.
+/// Every step has exactly one spelling.
 pub fn steps_have_one_spelling()
     ensures { (step : Step) (a b : List ℕ) → SpellsStep step a → SpellsStep step b → a ≡ b }
 {}

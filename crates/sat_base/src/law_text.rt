@@ -7,7 +7,7 @@ ghost use Rattle.sat_base.specs.script.ScriptRows.{ReadRows, MalformedRows};
 pub fn script_laws()
     ensures one { OneReading }
     ensures spelled { ReadIfSpelled }
-    // Texts, and what they mean.
+    // Example texts, with their meaning.
     ensures read { ReadRows }
     ensures malformed { MalformedRows }
 {}

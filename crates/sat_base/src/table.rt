@@ -14,8 +14,8 @@ const MORE: usize = 8;
 /// A table from places to values, most of which may be missing.
 ///
 /// Near places are in a list, others in a tree. The length of the list is limited by a multiple of the number of places
-/// for which room was made, or by the owner. So memory follows how much was read, whatever numbers were read. A place in
-/// the list costs as much as in a `Vec`.
+/// for which room was made, or by the owner. So the memory of a table depends on how much was read, not on which
+/// numbers were read. A place in the list costs as much as in a `Vec`.
 #[derive(Drop)]
 pub struct Table<T> {
     near: Vec<T>,
@@ -36,7 +36,7 @@ impl<T: Copy> Table<T> {
         }
     }
 
-    /// Allows the list to be this long from now on, if it was not before. Does not allocate, and changes no value.
+    /// Raises the limit of near places to `limit`, if it was lower. Does not allocate, and changes no value.
     #[inline(always)]
     pub fn allow(&mut self, limit: usize)
         ensures same { (missing : T) → KeepsValues missing self.old self.new }
@@ -125,7 +125,7 @@ impl<T: Copy> Table<T> {
         self.make_far(place, missing)
     }
 
-    /// Makes all places up to this one near.
+    /// Makes `place` and all places before it near.
     fn draw_near(&mut self, place: usize, missing: T) -> Result<(), AllocError>
         requires { length self.old.near.items ≤ place }
         ensures room { OnOk result (HasPlaceFor self.new place) }

@@ -15,12 +15,12 @@ use header::{HeaderPlace, Stage, ended_in, next_in_header};
 /// A token: what a word says, or a header line.
 #[derive(Clone, Copy, Debug, Drop, PartialEq, Eq)]
 pub enum Token {
-    /// A number: an optional `-` and digits. Larger values are held at 2^64-1. A number of value 0 is not negative.
+    /// A number: an optional `-` and digits. Larger values are capped at 2^64-1. A number of value 0 is not negative.
     Number { negative: bool, value: u64 },
     /// A word of one ASCII letter.
     Letter(u8),
-    /// A line `p cnf VARS CLAUSES` at a place where it is allowed. Both numbers are held at 2^64-1, and compared with
-    /// nothing.
+    /// A line `p cnf VARS CLAUSES` at a place where it is allowed. Both numbers are capped at 2^64-1, and are not
+    /// checked against the clauses.
     Header { vars: u64, clauses: u64 },
     /// Any other word, such as `-0`, `+1` and `x1`, and any other line that begins with `p`.
     Wrong,
@@ -38,7 +38,7 @@ enum Place {
     Between,
     /// After a minus sign.
     Minus,
-    /// In a number, whose value is held at 2^64-1.
+    /// In a number, whose value is capped at 2^64-1.
     Digits { negative: bool, value: u64 },
     /// After a letter that begins a word.
     Letter(u8),
@@ -54,19 +54,19 @@ enum Place {
 
 /// A tokenizer: it receives the bytes of a text one by one, and returns its tokens. It holds no bytes.
 ///
-/// Blanks are space, tab, CR and LF, and a word is a longest run of other bytes. A line ends at LF. The first byte of a
-/// line that is no blank decides what the line is: with `c` it is a comment, with `%` it ends the text, and with `p` it
-/// is a header line, which is one token. A header is allowed once, before the first word of other lines.
+/// Blanks are space, tab, CR and LF, and a word is a longest run of other bytes. A line ends at LF. The first nonblank
+/// byte of a line decides what the line is: with `c` it is a comment, with `%` it ends the text, and with `p` it is a
+/// header line, which is one token. A header is allowed once, before the first word of other lines.
 #[derive(Drop)]
 pub struct Tokenizer {
     place: Place,
-    /// The lines that have ended, held at 2^64-1.
+    /// The lines that have ended, capped at 2^64-1.
     lines: u64,
 }
 
-// Every byte passes several of the functions below, which pass places by value. Unless they are inlined, every place is
-// written to memory and read again. With all of them inlined, a tokenizer that is lent to no other function stays in
-// registers.
+// Every byte goes through several of the functions below, which pass places by value. Unless they are inlined, every
+// place is written to memory and read again. With all of them inlined, a tokenizer that is lent to no other function
+// stays in registers.
 
 /// Whether a byte is a space, a tab, a CR or an LF.
 fn is_blank(byte: u8) -> bool
@@ -89,7 +89,7 @@ fn is_letter(byte: u8) -> bool
     (byte > 64 && byte < 91) || (byte > 96 && byte < 123)
 }
 
-/// Returns the value with one more digit, held at 2^64-1.
+/// Returns the value with one more digit, capped at 2^64-1.
 fn grown(value: u64, digit: u8) -> u64
     requires { is_digit digit ≡ true }
     ensures { result ≡ grown value digit }
@@ -121,7 +121,7 @@ fn word_begun(byte: u8) -> Place
     }
 }
 
-/// Returns the place after the first byte of a line that is no blank.
+/// Returns the place after the first nonblank byte of a line.
 #[inline(always)]
 fn line_begun(may: bool, byte: u8) -> Place
     requires { is_blank byte ≡ false }
@@ -240,7 +240,7 @@ fn number_begun(byte: u8) -> Place
     }
 }
 
-/// Returns the place after a byte that is no blank.
+/// Returns the place after a nonblank byte.
 #[inline(always)]
 fn next(place: Place, byte: u8) -> Place
     requires { is_blank byte ≡ false }
@@ -274,7 +274,7 @@ fn header_token(place: HeaderPlace) -> Token
     }
 }
 
-/// Returns the token in hand at the end of the line, if there is one.
+/// Returns the token that the end of the line completes, if there is one.
 #[inline(always)]
 fn token_in(place: Place) -> Option<Token>
     ensures { SaysInHand result place }
@@ -394,7 +394,7 @@ impl Tokenizer {
         ensures takes { TakesByte self.old byte result self.new }
         // Only a blank ends a word,
         ensures inside { is_blank byte ≡ false → result ≡ None }
-        // and after it none is in hand, nor a header line after LF,
+        // and after it no word is unfinished, and after LF no header line,
         ensures quiet { is_blank byte ≡ true → (after : List ℕ → Scan) → StandsBefore self.new after
             → HoldsNoWord (after []) }
         ensures ended { byte ≡ 10 → (after : List ℕ → Scan) → StandsBefore self.new after → (after []).tokens ≡ [] }
@@ -437,7 +437,7 @@ impl Tokenizer {
     }
 
     /// Receives a number with which the bytes begin, and the space or LF after it, if a word begins here. Returns the
-    /// number of these bytes, whether the number is negative, and its value, held at 2^64-1. Otherwise it receives
+    /// number of these bytes, whether the number is negative, and its value, capped at 2^64-1. Otherwise it receives
     /// nothing, and `push_some` has to be called.
     #[inline(always)]
     pub fn push_whole(&mut self, bytes: &[u8]) -> Option<(usize, bool, u64)>
@@ -470,8 +470,8 @@ impl Tokenizer {
         None
     }
 
-    /// Receives one byte or more, of which only the last may end a token. Returns their number, and the token. All
-    /// digits of a number are received at once; the number of bytes matters for nothing else.
+    /// Receives one or more bytes, only the last of which may end a token. Returns their number, and the token. All
+    /// digits of a number are received at once; the number of bytes has no other effect.
     #[inline(always)]
     pub fn push_some(&mut self, bytes: &[u8]) -> (usize, Option<Token>)
         requires { 0 < length bytes.now }
@@ -491,9 +491,9 @@ impl Tokenizer {
         (count + 1, self.push(bytes[count]))
     }
 
-    /// Whether the word or header line in hand is wrong, whatever follows. It is from the first byte on after which no
-    /// right one continues. So `1x` is wrong at `x`, and `--` at the second `-`; but `-0`, which may continue as `-01`,
-    /// only at its end.
+    /// Whether the unfinished word or header line is wrong, whatever follows. It is wrong from the first byte after
+    /// which it can no longer become right. So `1x` is wrong at `x`, and `--` at the second `-`; but `-0`, which may
+    /// continue as `-01`, only at its end.
     #[inline(always)]
     pub fn is_wrong(&self) -> bool
         ensures wrong { result ≡ true → (before : List ℕ → Scan) → StandsBefore self.now before → WrongAhead before }
@@ -507,7 +507,7 @@ impl Tokenizer {
     }
 
     /// Whether the text has ended, at a line that begins with `%`: exactly then whatever follows is ignored, and need
-    /// not be read. No token is in hand then.
+    /// not be read. In that case no token is unfinished.
     #[inline(always)]
     pub fn is_over(&self) -> bool
         ensures over { result ≡ true → (before : List ℕ → Scan) → StandsBefore self.now before → IgnoresRest before }
@@ -519,16 +519,16 @@ impl Tokenizer {
         matches!(self.place, Place::Over)
     }
 
-    /// Returns the token in hand if the text ends here, if there is one.
+    /// Returns the token that is completed if the text ends here, or `None` if there is none.
     pub fn finish(&self) -> Option<Token>
         ensures { (before : List ℕ → Scan) → StandsBefore self.now before → GivesLast result (before []) }
     {
         token_in(self.place)
     }
 
-    /// Returns the line of the last byte, from 1, held at 2^64-1, or 0 before the first byte. After the `%` that ends
-    /// the text it is the line of the `%`. The token that the last byte ended is on this line, and so is the one in
-    /// hand, if the text ends here.
+    /// Returns the line of the last byte, from 1, capped at 2^64-1, or 0 before the first byte. After the `%` that ends
+    /// the text it is the line of the `%`. The token that the last byte ended is on this line, and so is the one that
+    /// `finish` returns.
     pub fn line(&self) -> u64
         ensures { (before : List ℕ → Scan) → StandsBefore self.now before → result ≡ held (before []).last }
     {

@@ -47,8 +47,7 @@ impl Var {
         self.index as usize
     }
 
-    /// Returns the variable with this number of DIMACS, which counts from 1, or `None` for numbers below 1 and above
-    /// 2^28.
+    /// Returns the variable with this DIMACS number, which counts from 1, or `None` for numbers below 1 and above 2^28.
     pub fn from_dimacs(number: i64) -> Option<Var>
         ensures { MatchOption result (IsNoVariable number) (λ v. number ≡ pos (v + 1)) }
     {

@@ -8,7 +8,7 @@ use Rattle.sat_base.specs.device.Device.{Reader, Writer}
 abbrev pub no_calls : Tally
 no_calls = record { calls = 0; failures = 0; given = []; taken = []; ended = false; flushed = false; failed = false; flushes = 0 }
 
--- a call that did not fail, and is no flush and no end
+-- a call that did not fail, did not flush and did not find the end
 abbrev pub after_call : Tally → Tally
 after_call t = record t { calls = t.calls + 1; ended = false; flushed = false; failed = false }
 
@@ -38,7 +38,7 @@ after_failure t = record (after_call t) { failures = t.failures + 1; failed = tr
 abbrev pub device_of : {D : Type 0} → Counted D → D
 device_of c = c.device
 
--- the device as a reader, whose bytes may be known
+-- the device as a reader; its remaining bytes may be known
 abbrev pub reader_of : {D : Type 0} → (D → Option (List ℕ)) → Counted D → Reader
 reader_of remaining c = record {
   to_come = remaining c.device;

@@ -37,7 +37,7 @@ lent_writer name w = record w { loans = name ∷ w.loans }
 abbrev pub CountsErr : {T E : Type 0} → Result T E → ℕ → ℕ → Bool → Type 0
 CountsErr r old new failed = MatchResult r (λ _. (new ≡ old) × (failed ≡ false)) (λ _. (new ≡ old + 1) × (failed ≡ true))
 
--- whether a write accepts no byte of a piece that is not empty
+-- whether a write accepts no byte of a nonempty piece
 abbrev pub takes_none : ℕ → List ℕ → Bool
 takes_none n piece = nat_eq n 0 && nat_lt 0 (length piece)
 
@@ -96,7 +96,7 @@ pub record GaveFront (old new : Reader) (text : List ℕ) : Type 0 where
   pub told : Consumes old.to_come new.to_come text
   pub loans : new.loans ≡ old.loans
 
--- There were at most as many reads as bytes given, and one more.
+-- The number of reads is at most one more than the number of bytes given.
 abbrev pub FewReads : Reader → Reader → Type 0
 FewReads old new = new.calls + length old.given ≤ old.calls + length new.given + 1
 
@@ -115,7 +115,8 @@ pub record GaveAll (old new : Reader) (text : List ℕ) : Type 0 where
   pub few : FewReads old new
   pub loans : new.loans ≡ old.loans
 
--- These bytes could still come: any bytes, but none if the last read, made since `old`, found the end.
+-- These bytes could still come. If a read was made since `old`, and the last one found the end, there are none; otherwise they are
+-- any bytes.
 abbrev pub CanFollow : Reader → Reader → List ℕ → Type 0
 CanFollow old new rest = old.calls < new.calls → new.ended ≡ true → rest ≡ []
 

@@ -43,7 +43,7 @@ abbrev pub AtEnd : Source → Type 0
 AtEnd s = (0 < s.reads) × (s.reader.ended ≡ true)
 
 -- These bytes were consumed, and no call failed. The bytes that were pending and those given since are those consumed and those pending
--- now. A read gave at most 4,096 bytes. There were at most `more` reads more than bytes given; if `more` is 0, none found the end.
+-- now. A read gave at most 4,096 bytes. There were at most `more` more reads than bytes given; if `more` is 0, none found the end.
 pub record ConsumesWithReads (more : ℕ) (old new : Source) (text : List ℕ) : Type 0 where
   pub fresh : List ℕ
   pub gave : new.reader.given ≡ old.reader.given ++ fresh
@@ -80,7 +80,7 @@ LastReadFails old new = (new.reader.failures ≡ old.reader.failures + 1) × (ne
 abbrev pub SourceReadsAreExhausted : Source → Source → Type 0
 SourceReadsAreExhausted old new = (new.reader.failures ≡ old.reader.failures) × (most_reads ≤ new.reads)
 
--- These bytes were consumed, which were all that was given. Only the last read failed, or none failed and 2^48 were made.
+-- These bytes, which are all that were given, were consumed. Only the last read failed, or none failed and 2^48 were made.
 pub record ConsumesAndFails (old new : Source) (text : List ℕ) : Type 0 where
   pub fresh : List ℕ
   pub gave : new.reader.given ≡ old.reader.given ++ fresh
@@ -94,17 +94,17 @@ pub record ConsumesAndFails (old new : Source) (text : List ℕ) : Type 0 where
   pub loans : new.reader.loans ≡ old.reader.loans
   pub names : new.names ≡ old.names
 
--- one, if a read gave nothing
+-- 1 if a read gave nothing, otherwise 0
 abbrev pub none_given : ℕ → ℕ
 none_given n = if nat_eq n 0 then 1 else 0
 
--- the next bytes were read, this number of them; 0 only at the end
+-- the next n bytes were read; n is 0 only at the end
 abbrev pub Refills : Result (Unit {0}) StepError → ℕ → Source → Source → Type 0
 Refills (Ok u) n old new = ConsumesWithReads (none_given n) old new [] × (n ≡ 0 → AllTaken new)
 Refills (Err errors.Read) n old new = ConsumesAndFails old new []
 Refills (Err e) n old new = ⊥
 
--- the same, whatever borrows hold them
+-- the same for a reader and its buffered bytes, whatever borrows lend them
 abbrev pub RefillsAlone : {R : Type 0} → (R → Reader) → Result (Unit {0}) StepError → R → Ahead → R → Ahead → Type 0
 RefillsAlone seen result r a s b =
     (names : List ℕ) → Refills result b.end (with_borrows names (source seen r a)) (with_borrows names (source seen s b))

@@ -17,13 +17,13 @@ empty_sink w = record { writer = w; waiting = [] }
 abbrev pub sink_of : {W P : Type 0} → (W → Writer) → (P → List ℕ) → Output W P → Sink
 sink_of seen waiting o = record { writer = seen o.writer; waiting = waiting o.pending }
 
--- A text was put after the pending bytes. The writer accepted a prefix of both, and the rest is pending.
+-- A text was put after the pending bytes. The writer accepted a prefix of the two together, and the rest is pending.
 pub record AddsToSink (old new : Sink) (text : List ℕ) : Type 0 where
   pub fresh : List ℕ
   pub flows : old.waiting ++ text ≡ fresh ++ new.waiting
   pub takes : WriterTakes old.writer new.writer fresh
 
--- Only the last call failed. The writer accepted a prefix of both, and the rest is lost.
+-- Only the last call failed. The writer accepted a prefix of the two together, and the rest is lost.
 pub record SinkFails (old new : Sink) (text : List ℕ) : Type 0 where
   pub breaks : WriterBreaks old.writer new.writer (old.waiting ++ text)
   pub none : new.waiting ≡ []

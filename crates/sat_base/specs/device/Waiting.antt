@@ -11,7 +11,7 @@ waiting_in p = take p.len p.bytes
 abbrev pub waiting : Ahead → List ℕ
 waiting a = drop a.at (take a.end a.piece)
 
--- there is room for this many bytes more
+-- there is room for this many more bytes
 abbrev pub HasByteRoom : {P : Type 0} → ℕ → (P → List ℕ) → (P → ℕ) → P → Type 0
 HasByteRoom count waiting size p = length (waiting p) + count ≤ size p
 

@@ -11,19 +11,19 @@ use Rattle.sat_base.specs.values.Formulas.{with_formula_clause}
 use Rattle.sat_base.specs.dimacs.Dimacs.{Malformed, Limit, Hand, Turn, GoesOn, Ends, Fails, literals_in, turn}
 use Rattle.sat_base.specs.values.Literals.{var_limit}
 
--- a token as the code has it, with its value as it was held
+-- a token as the code represents it, with its capped value
 abbrev pub token_of : CodeToken → Token
 token_of (code.Number negative value) = Number negative value
 token_of (code.Letter b) = Letter b
 token_of (code.Header v c) = Header v c
 token_of code.Wrong = Wrong
 
--- the clause in hand with these literals, or none if there are no literals
+-- the unfinished clause with these literals, or `None` if there are no literals
 abbrev pub hand_of : List ℕ → Hand
 hand_of [] = None
 hand_of (l ∷ ls) = Some (l ∷ ls)
 
--- the clause in hand
+-- the unfinished clause
 abbrev pub hand_in : Clauses → Hand
 hand_in clauses = hand_of clauses.hand.items
 
@@ -42,7 +42,7 @@ SameClausesAndCount old new = (new.formula ≡ old.formula) × (new.count ≡ ol
 abbrev pub SameClausesAndHeader : Clauses → Clauses → Type 0
 SameClausesAndHeader old new = SameClausesAndCount old new × (new.header ≡ old.header)
 
--- the effect of a turn that is no fault
+-- the effect of a turn that is not a fault
 abbrev pub TakesTokenTurn : Turn → Clauses → Clauses → Type 0
 TakesTokenTurn (GoesOn hand) old new = SameClausesAndCount old new × (hand_in new ≡ hand)
 TakesTokenTurn (Ends clause) old new = (new.formula ≡ with_formula_clause clause old.formula) × (new.count ≡ held (old.count + 1)) × (hand_in new ≡ None)
@@ -66,7 +66,7 @@ CollectsToken (Err refusal.Malformed) old t new = SameClausesAndHeader old new �
 CollectsToken (Err refusal.Limit) old t new = SameClausesAndHeader old new × ((n : ℕ) → turn (hand_in old) n t ≡ Fails (Limit n))
 CollectsToken (Err refusal.OutOfMemory) old t new = SameClausesAndHeader old new × NeedsRoom t
 
--- the flag says whether a clause is in hand
+-- the flag says whether a clause is unfinished
 abbrev pub IsInside : Bool → Hand → Type 0
 IsInside false hand = hand ≡ None
 IsInside true hand = (ls : List ℕ) × (hand ≡ Some ls)

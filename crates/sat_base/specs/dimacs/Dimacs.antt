@@ -1,4 +1,4 @@
--- The clauses of a formula's text, as DIMACS CNF has them.
+-- The clauses of a text in DIMACS CNF.
 use Rattle.std.specs.Prelude.{ℕ, ◌-◌, ◌≡◌, Bool, false, not, ◌||◌, List, [], ◌∷◌, ◌++◌, Option, None, Some, nat_eq, nat_lt, if◌then◌else◌}
 use Rattle.sat_base.specs.values.Literals.{coded, var_limit}
 use Rattle.sat_base.specs.text.Text.{Token, Number, Letter, Header, Wrong, Scan, scan, is_blank}
@@ -14,7 +14,7 @@ pub record Dimacs : Type 0 where
   pub clauses : List (List ℕ)  -- in order, over codes of literals
   pub ending : Ending
 
--- the literals so far of the clause in hand, or `None` between clauses
+-- the literals so far of the unfinished clause, or `None` between clauses
 abbrev pub Hand : Type 0
 Hand = Option (List ℕ)
 
@@ -24,7 +24,7 @@ pub data Turn : Type 0 where
   Ends : List ℕ → Turn
   Fails : Ending → Turn
 
--- a single zero is the clause of no literals
+-- a single zero is the empty clause
 abbrev pub literals_in : Hand → List ℕ
 literals_in None = []
 literals_in (Some ls) = ls
@@ -52,12 +52,12 @@ behind_turn (GoesOn hand) more = more hand
 behind_turn (Ends clause) more = record { clauses = clause ∷ (more None).clauses; ending = (more None).ending }
 behind_turn (Fails ending) more = record { clauses = []; ending = ending }
 
--- the clauses that tokens add to what is in hand; `last` is the last line
+-- the clauses that tokens complete, starting from an unfinished clause or none; `last` is the last line
 unfoldable pub clauses_of : Hand → ℕ → List (ℕ × Token) → Dimacs
 clauses_of hand last [] = record { clauses = []; ending = at_end hand last }
 clauses_of hand last (t ∷ ts) = behind_turn (turn hand t.0 t.1) (λ h. clauses_of h last ts)
 
--- the clauses that a scan adds to what is in hand
+-- the clauses that a scan completes, starting from an unfinished clause or none
 abbrev pub dimacs_of : Hand → Scan → Dimacs
 dimacs_of hand s = clauses_of hand s.last s.tokens
 

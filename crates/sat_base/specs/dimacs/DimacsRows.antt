@@ -1,4 +1,4 @@
--- Formulas' texts, and what they say.
+-- Example texts of formulas, with their meaning.
 use Rattle.std.specs.Prelude.{◌≡◌, ℕ, ◌-◌, List, [], ◌∷◌, true, false, None, Some, codes}
 use Rattle.sat_base.specs.values.Literals.{coded}
 use Rattle.sat_base.specs.text.Text.{dimacs_header}
@@ -28,7 +28,7 @@ pub record CleanRows : Type 0 where
   pub percent : IsDimacs (codes "1 0\n%\n0\n") ((positive_lits 1 ∷ []) ∷ []) Clean
   pub largest : IsDimacs (codes "-268435456 0") ((negative_lit 268435456 ∷ []) ∷ []) Clean
 
--- texts with a fault, with the clauses before it and its line
+-- texts with a fault, each with the clauses before the fault and the line of the fault
 pub record FaultRows : Type 0 where
   pub minus_zero : IsDimacs (codes "1 2\n-0 0\n") [] (Malformed 2)
   pub past_the_limit : IsDimacs (codes "1 0\n268435457 0\n") ((positive_lits 1 ∷ []) ∷ []) (Limit 2)
@@ -41,7 +41,7 @@ pub record FaultRows : Type 0 where
   pub late_header : IsDimacs (codes "1 0\np cnf 1 1\n") ((positive_lits 1 ∷ []) ∷ []) (Malformed 2)
   pub first_fault : IsDimacs (codes "268435457 x\n") [] (Limit 1)
 
--- the headers of texts, if they have one
+-- headers of texts, and a text without one
 pub record HeaderRows : Type 0 where
   pub numbers : HasHeader (codes "c x\np cnf 2 1\n1 -2 0\n") 2 1
   pub no_LF : HasHeader (codes "p cnf 07 99999999999999999999") 7 99999999999999999999

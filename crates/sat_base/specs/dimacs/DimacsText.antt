@@ -17,7 +17,7 @@ abbrev pub clause_lines : List (List ℕ) → List ℕ
 clause_lines [] = []
 clause_lines (c ∷ cs) = clause_line c ++ clause_lines cs
 
--- `p cnf V C`, the number of variables and that of clauses, and LF
+-- `p cnf V C`, with the numbers of variables and clauses, and LF
 abbrev pub header_line : ℕ → ℕ → List ℕ
 header_line v c = codes "p cnf " ++ (decimal v ++ (codes " " ++ (decimal c ++ codes "\n")))
 

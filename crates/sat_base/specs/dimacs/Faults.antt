@@ -24,7 +24,7 @@ pub record HasTakenSoundly (text : List ℕ) (machine : Tokenizer) : Type 0 wher
   pub sound : NoFault None (tokens (whole_lines text))
   pub right : RightAhead left_of
 
--- a token is no fault, or is one on this line, whatever is in hand
+-- a token is not a fault, or is one on this line, whatever clause is unfinished
 abbrev pub JudgesToken : Result (Unit {0}) DimacsError → ℕ → Token → Type 0
 JudgesToken (Ok u) line t = (hand : Hand) (n : ℕ) → unless_fault (turn hand n t) (λ h. Unit {0})
 JudgesToken (Err (errors.Malformed l)) line t = (l ≡ line) × ((hand : Hand) (n : ℕ) → turn hand n t ≡ Fails (Malformed n))

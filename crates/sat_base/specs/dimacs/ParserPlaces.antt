@@ -12,7 +12,7 @@ use Rattle.sat_base.specs.dimacs.Dimacs.{Hand, Dimacs, clauses_of}
 use Rattle.sat_base.specs.dimacs.Collecting.{hand_in}
 use Rattle.sat_base.specs.dimacs.Parsing.{Progress, NoFault, clauses_read, lines_read, whole_lines, held_numbers, last_byte}
 
--- what a caller knows of this parser
+-- what a caller knows about this parser
 abbrev pub progress_of : Parser → Progress
 progress_of p = record { fed = p.history.fed; taken = p.history.taken; stopped = p.stopped; ended = p.ended }
 
@@ -29,7 +29,7 @@ all_in p = p.history.taken ++ p.clauses.formula.clauses
 abbrev pub onto_clauses : List (List ℕ) → Dimacs → Dimacs
 onto_clauses cs d = record { clauses = cs ++ d.clauses; ending = d.ending }
 
--- The tokens so far have these clauses and leave this in hand: so the clauses of any continuation come after them.
+-- The tokens so far have these clauses, and leave this clause unfinished or none. So the clauses of any continuation come after them.
 pub record HaveTakenTokens (before : List (ℕ × Token)) (all : List (List ℕ)) (hand : Hand) : Type 0 where
   pub says : (last : ℕ) (ts : List (ℕ × Token)) → clauses_of None last (before ++ ts) ≡ onto_clauses all (clauses_of hand last ts)
   pub sound : (ts : List (ℕ × Token)) → NoFault hand ts → NoFault None (before ++ ts)

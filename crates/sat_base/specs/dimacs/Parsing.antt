@@ -14,7 +14,7 @@ use Rattle.sat_base.specs.declared.dimacs.error.IncrementalError.{IncrementalErr
 use Rattle.sat_base.specs.declared.dimacs.error.IncrementalError.TheVariants as parts
 use Rattle.sat_base.specs.declared.dimacs.error.DimacsError.TheVariants as errors
 
--- what a caller knows of a parser
+-- what a caller knows about a parser
 pub record Progress : Type 0 where
   pub fed : List ℕ  -- the bytes that it accepted
   pub taken : List (List ℕ)  -- the clauses that were taken from it
@@ -45,7 +45,7 @@ words_read p = if p.ended then p.fed else up_to_last_blank p.fed
 abbrev pub clauses_read : Progress → List (List ℕ)
 clauses_read p = (dimacs (words_read p)).clauses
 
--- with all clauses read taken
+-- with every clause that was read so far taken
 abbrev pub all_taken : Progress → Progress
 all_taken p = record p { taken = clauses_read p }
 
@@ -63,22 +63,22 @@ whole_lines (b ∷ bs) = if has_LF (b ∷ bs) then b ∷ whole_lines bs else []
 abbrev pub lines_read : Progress → List ℕ
 lines_read p = if p.ended then p.fed else whole_lines p.fed
 
--- the numbers of a header, held
+-- the numbers of a header, capped
 abbrev pub held_numbers : Option (ℕ × ℕ) → Option (ℕ × ℕ)
 held_numbers None = None
 held_numbers (Some h) = Some (held h.0, held h.1)
 
--- however the text continues, it has the clauses read and this ending
+-- however the text continues, its clauses are those already read, and it has this ending
 abbrev pub EndsAt : Ending → Progress → Type 0
 EndsAt ending p = (rest : List ℕ) → dimacs (p.fed ++ rest) ≡ record { clauses = clauses_read p; ending = ending }
 
--- the turn is no fault, and `more` holds of what is in hand after it
+-- the turn is not a fault, and `more` holds for the unfinished clause after it, or for none
 abbrev pub unless_fault : Turn → (Hand → Type 0) → Type 0
 unless_fault (GoesOn hand) more = more hand
 unless_fault (Ends clause) more = more None
 unless_fault (Fails ending) more = ⊥
 
--- no token is a fault, after what is in hand
+-- no token is a fault after this unfinished clause, or after none
 abbrev pub NoFault : Hand → List (ℕ × Token) → Type 0
 NoFault hand [] = Unit {0}
 NoFault hand (t ∷ ts) = unless_fault (turn hand t.0 t.1) (λ h. NoFault h ts)
@@ -88,11 +88,11 @@ pub record IsSoundText (text : List ℕ) : Type 0 where
   pub lines : NoFault None (tokens (whole_lines text))
   pub words : RightAhead (λ rest. scan (text ++ rest))
 
--- the same of the bytes that a parser has accepted
+-- the same for the bytes that a parser has accepted
 abbrev pub IsSoundSoFar : Progress → Type 0
 IsSoundSoFar p = IsSoundText p.fed
 
--- the same of what a reader gave, which also ends cleanly if its end was found
+-- the same for what a reader gave, which also ends cleanly if its end was found
 abbrev pub GaveSound : Reader → Reader → Type 0
 GaveSound old new = (text : List ℕ) × GaveFront old new text × IsSoundText text
     × (old.calls < new.calls → new.ended ≡ true → (dimacs text).ending ≡ Clean)
@@ -101,7 +101,7 @@ GaveSound old new = (text : List ℕ) × GaveFront old new text × IsSoundText t
 abbrev pub EndsInLastPiece : List ℕ → Type 0
 EndsInLastPiece text = (front rest : List ℕ) → text ≡ front ++ rest → HasEnded front → length rest < piece_size
 
--- the same of the bytes given: nothing was read after that line
+-- the same for the bytes given: nothing was read after that line
 abbrev pub StopsReading : Reader → Reader → Type 0
 StopsReading old new = (text : List ℕ) × GaveFront old new text × EndsInLastPiece text
 

@@ -19,7 +19,7 @@ command_of OfHide ls = Hide (names_of ls)
 command_of OfWitness ls = Witness (names_of ls)
 command_of OfSample ls = Sample (names_of ls)
 
--- what is in hand between two tokens: nothing, or a command with its literals or names so far
+-- the unfinished command between two tokens: none, or one with its literals or names so far
 pub data CommandHand : Type 0 where
   Nothing : CommandHand
   Within : Kind → List Literal → CommandHand
@@ -30,7 +30,7 @@ pub data CommandTurn : Type 0 where
   Ends : Command → CommandTurn
   Fails : CommandTurn
 
--- the command that a zero ends; a single zero is the clause of no literals
+-- the command that a zero ends; a single zero is the empty clause
 abbrev pub command_in : CommandHand → Command
 command_in Nothing = Clause []
 command_in (Within kind ls) = command_of kind ls
@@ -93,7 +93,7 @@ behind_command_turn (GoesOn hand) more = more hand
 behind_command_turn (Ends command) more = onto_commands (command ∷ []) (more Nothing)
 behind_command_turn Fails more = ([], Malformed)
 
--- the commands that the tokens spell, after what is in hand
+-- the commands that the tokens spell, starting from an unfinished command or none
 unfoldable pub commands_of : CommandHand → List Token → Reading
 commands_of hand [] = ([], command_at_end hand)
 commands_of hand (t ∷ ts) = behind_command_turn (command_turn hand t) (λ h. commands_of h ts)

@@ -1,4 +1,4 @@
--- Texts, and what they mean.
+-- Example texts, with their meaning.
 use Rattle.std.specs.Prelude.{ℕ, [], ◌∷◌, true, false, codes}
 use Rattle.sat_base.specs.script.Script.{Literal, Clause, Ask, Hide, Witness, Sample, Clean, Malformed}
 use Rattle.sat_base.specs.script.Language.{IsScript}

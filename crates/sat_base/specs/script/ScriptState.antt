@@ -1,4 +1,4 @@
--- What a script's commands leave: names, their variables, modes and clauses. It has no result of a search.
+-- What a script's commands leave: names, their variables, modes and clauses. No result of a search is part of it.
 use Rattle.std.specs.Prelude.{ℕ, zero, suc, ◌+◌, ◌-◌, ◌==◌, ◌≡◌, max, Bool, true, false, not, Option, Some, None, List, [], ◌∷◌, ◌++◌, map, set, get_or, nat_lt, is_some, unwrap_or, ◌&&◌, if◌then◌else◌}
 use Rattle.std.specs.List.{filter, AllByRecursion}
 use Rattle.sat_base.specs.values.Literals.{coded, var_limit}
@@ -34,7 +34,7 @@ abbrev pub identity_in : List Named → ℕ → Option ℕ
 identity_in [] name = None
 identity_in (n ∷ ns) name = if n.name == name then Some n.identity else identity_in ns name
 
--- the identity of the variable that has this name now, none for a name that is not in use
+-- the identity of the variable that has this name now, or `None` if the name is not in use
 abbrev pub identity_of : ScriptState → ℕ → Option ℕ
 identity_of j name = identity_in j.in_use name
 
@@ -58,8 +58,8 @@ abbrev pub names_from : ℕ → ℕ → List ℕ
 names_from zero name = []
 names_from (suc count) name = name ∷ names_from count (name + 1)
 
--- The names that get a new variable when `name` is used: none if it is in use, and itself if it is hidden. A name never used comes with all
--- smaller names never used, so a first clause `5 0` introduces 1 to 5.
+-- The names that get a new variable when `name` is used: none if it is in use, and itself if it is hidden. A name that was never used comes
+-- with all smaller names that were never used, so a first clause `5 0` introduces 1 to 5.
 abbrev pub new_names : ℕ → ScriptState → List ℕ
 new_names name j =
     if nat_lt name j.first_unused
@@ -92,7 +92,8 @@ with_mode mode name j = record j { modes = set j.modes (unwrap_or (identity_of j
 abbrev pub with_clause : List Literal → ScriptState → ScriptState
 with_clause ls j = record j { clauses = map (over j) ls ∷ j.clauses }
 
--- The state after an accepted command: every name of it is introduced, and then hidden, or its variable gets a mode.
+-- The state after an accepted command. Every name of the command is introduced. `Hide` then hides it, and `Witness` and `Sample` set its
+-- variable's mode. `Clause` then adds the clause.
 abbrev pub accepted : Command → ScriptState → ScriptState
 accepted (Clause ls) j = with_clause ls (for_each bring_in (names_of ls) j)
 accepted (Ask ls) j = for_each bring_in (names_of ls) j
@@ -115,7 +116,7 @@ abbrev pub has_witness : ScriptState → Option ℕ → Bool
 has_witness j None = false
 has_witness j (Some identity) = is_witness (get_or j.modes identity Sampled)
 
--- The leftmost name that is past the limit, or a witness if none is allowed, decides. A name that is not in use is no witness.
+-- The leftmost name that is past the limit, or a witness if none is allowed, decides. A name that is not in use is not a witness.
 abbrev pub first_refusal : Bool → ScriptState → List ℕ → Option Refusal
 first_refusal may_witness j [] = None
 first_refusal may_witness j (name ∷ names) =

@@ -6,12 +6,12 @@ use Rattle.sat_base.specs.values.Clauses.{Valuation, literal_true, EachHolds}
 use Rattle.sat_base.specs.script.Script.{Literal, Command, Among}
 use Rattle.sat_base.specs.script.ScriptState.{ScriptState, Named, identity_of, over, after_script, start}
 
--- every name once, increasing
+-- the names strictly increase
 abbrev pub NamesIncrease : List Named → Type 0
 NamesIncrease [] = Unit {0}
 NamesIncrease (n ∷ ns) = AllByRecursion (λ m. n.name < m.name) ns × NamesIncrease ns
 
--- Names in use increase and are below the first never used, which is at most one past the limit. Exactly the identities given out have
+-- Names in use increase and are below the first name never used, which is at most one past the limit. Exactly the identities given out have
 -- modes, and no others occur.
 pub record ScriptStateInvariant (j : ScriptState) : Type 0 where
   pub limit : j.first_unused ≤ var_limit + 1

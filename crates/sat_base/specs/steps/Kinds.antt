@@ -1,4 +1,4 @@
--- Steps of which the lists are held elsewhere.
+-- Steps whose lists are stored elsewhere.
 use Rattle.std.specs.Prelude.{ℕ, ◌==◌, ◌||◌, ◌&&◌, Bool, List, nat_lt}
 use Rattle.sat_base.specs.declared.steps.kind.Kind.{Kind}
 use Rattle.sat_base.specs.declared.steps.step_lists.Lists.{Lists}

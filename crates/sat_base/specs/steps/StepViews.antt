@@ -5,7 +5,7 @@ use Rattle.sat_base.specs.declared.steps.step.ProofStep.{ProofStep}
 use Rattle.sat_base.specs.declared.steps.step.ProofStep.TheVariants as code
 use Rattle.sat_base.specs.steps.Steps.{Deletion, Redundant, Simplified, Satisfied, Step, SolverVarName, UserVarName, DeleteVar, ChangeSamplingMode, AddClause, AtClause, UnitClauses, DeleteClause, ChangeHashBits, Model, Assumptions, FailedAssumptions, End}
 
--- the reason for which a clause is deleted, as the code has it
+-- the reason for which a clause is deleted, as the code represents it
 abbrev pub deletion_of : DeleteClauseProof → Deletion
 deletion_of proofs.Redundant = Redundant
 deletion_of proofs.Simplified = Simplified

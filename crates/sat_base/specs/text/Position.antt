@@ -12,7 +12,7 @@ abbrev pub later_lines : List (List ℕ) → List (List ℕ)
 later_lines [] = []
 later_lines (l ∷ ls) = ls
 
--- the words of a header line that have ended: none, `p`, `p cnf`, and these with one number and with both
+-- the finished words of a header line: none, `p`, `p cnf`, and these with one number and with both
 pub data Stage : Type 0 where
   Begun : Stage
   Named : Stage
@@ -25,7 +25,7 @@ abbrev pub with_value : (ℕ → Stage) → Option ℕ → Option Stage
 with_value stage None = None
 with_value stage (Some n) = Some (stage n)
 
--- the stage after one word more, if that is allowed there
+-- the stage after one more word, if that is allowed there
 abbrev pub stage_behind : Stage → List ℕ → Option Stage
 stage_behind Begun w = if same_bytes w (codes "p") then Some Named else None
 stage_behind Named w = if same_bytes w (codes "cnf") then Some Format else None
@@ -66,7 +66,7 @@ abbrev pub HasNoBlank : List ℕ → Type 0
 HasNoBlank [] = Unit {0}
 HasNoBlank (b ∷ bs) = (is_blank b ≡ false) × HasNoBlank bs
 
--- a word in hand has no blanks
+-- an unfinished word has no blanks
 abbrev pub IsPosition : Position → Type 0
 IsPosition (Within x w) = HasNoBlank (x ∷ w)
 IsPosition (HeaderWithin stage x w) = HasNoBlank (x ∷ w)
@@ -96,7 +96,7 @@ last_left spot n ls = last_line (n + 1) (later_lines ls)
 unfoldable pub left : Position → ℕ → List ℕ → Scan
 left spot n bytes = record { tokens = tokens_left spot n (lines bytes); last = last_left spot n (lines bytes) }
 
--- the word or header line in hand, when the line ends
+-- the unfinished word or header line, when the line ends
 abbrev pub in_hand : Position → ℕ → List (ℕ × Token)
 in_hand (Within x w) n = (n + 1, token (x ∷ w)) ∷ []
 in_hand (HeaderBetween stage) n = (n + 1, stage_end stage) ∷ []
@@ -126,7 +126,7 @@ abbrev pub behind_header_word : Option Stage → Position
 behind_header_word None = Comment false
 behind_header_word (Some stage) = HeaderBetween stage
 
--- the position after a blank that ends no line
+-- the position after a blank that does not end a line
 abbrev pub behind_blank : Position → Position
 behind_blank (Fresh may) = Leading may
 behind_blank (Leading may) = Leading may

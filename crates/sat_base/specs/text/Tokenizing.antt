@@ -12,22 +12,22 @@ use Rattle.sat_base.specs.declared.text.Tokenizer.{Tokenizer}
 use Rattle.sat_base.specs.text.Text.{digits, Token, Number, Letter, Header, Wrong, token, Scan, is_letter}
 use Rattle.sat_base.specs.text.Position.{Stage, Begun, Named, Format, Vars, Both, stage_behind, Position, Fresh, Leading, Comment, Between, Within, HeaderBetween, HeaderWithin, Spoilt, Over, HasNoBlank, left, in_hand, ended_by_blank, behind_blank, behind_LF, onto}
 
--- a count or a value is held at 2^64-1
+-- a count or a value, capped at 2^64-1
 abbrev pub held : ℕ → ℕ
 held n = min n (2 ^ 64 - 1)
 
--- a token as the code has it, with its values held
+-- a token as the code represents it, with its values capped
 abbrev pub held_token : Token → CodeToken
 held_token (Number negative value) = code.Number negative (held value)
 held_token (Letter b) = code.Letter b
 held_token (Header v c) = code.Header (held v) (held c)
 held_token Wrong = code.Wrong
 
--- the value with the digit of this byte after it, held
+-- the value with the digit of this byte appended, capped
 abbrev pub grown : ℕ → ℕ → ℕ
 grown value digit = held (10 * value + (digit - 48))
 
--- the bytes are digits that spell a number, which is held
+-- the bytes are digits, and the value is the number that they spell, capped
 abbrev pub SpellsHeld : List ℕ → ℕ → Type 0
 SpellsHeld ds value = (m : ℕ) × (digits 0 ds ≡ Some m) × (value ≡ held m)
 
@@ -39,7 +39,7 @@ BeginsWrong w = (more : List ℕ) → token (w ++ more) ≡ Wrong
 abbrev pub BeginsSpoilt : Stage → List ℕ → Type 0
 BeginsSpoilt s w = (more : List ℕ) → stage_behind s (w ++ more) ≡ None
 
--- the words of a header line that have ended, as the code has them, with their values held
+-- the finished words of a header line, as the code represents them, with their values capped
 abbrev pub IsStage : CodeStage → Stage → Type 0
 IsStage stage.Named s = s ≡ Named
 IsStage stage.Format s = s ≡ Format
@@ -59,7 +59,7 @@ IsAtHeader (header.Clauses vars value) spot =
     (v : ℕ) × (x : ℕ) × (w : List ℕ) × (vars ≡ held v)
     × HasNoBlank (x ∷ w) × SpellsHeld (x ∷ w) value × (spot ≡ HeaderWithin (Vars v) x w)
 
--- the positions that a place can be, with the bytes of the word in hand and the numbers of the header, of any size
+-- the positions that a place can represent, with the bytes of the unfinished word and the numbers of the header, not capped
 abbrev pub IsAt : Place → Position → Type 0
 IsAt (at.Fresh may) spot = spot ≡ Fresh may
 IsAt (at.Leading may) spot = spot ≡ Leading may
@@ -80,7 +80,7 @@ IsAt at.Over spot = spot ≡ Over
 abbrev pub MovesPosition : Position → ℕ → Position → Type 0
 MovesPosition old byte new = (n : ℕ) (rest : List ℕ) → left old n (byte ∷ rest) ≡ left new n rest
 
--- a byte that is no blank leads from one place to another
+-- a nonblank byte leads from one place to another
 abbrev pub MovesPlace : Place → ℕ → Place → Type 0
 MovesPlace old byte new = (spot : Position) → IsAt old spot → (next : Position) × IsAt new next × MovesPosition spot byte next
 
@@ -96,7 +96,7 @@ BeginsWord (at.Leading may) = Unit {0}
 BeginsWord at.Between = Unit {0}
 BeginsWord place = ⊥
 
--- the same in a header line, or `None` if the word in hand is then not allowed
+-- the same in a header line, or `None` if the unfinished word is then not allowed
 abbrev pub MovesHeader : HeaderPlace → ℕ → Option HeaderPlace → Type 0
 MovesHeader old byte None = (spot : Position) → IsAtHeader old spot → MovesPosition spot byte Spoilt
 MovesHeader old byte (Some new) = (spot : Position) → IsAtHeader old spot → (next : Position) × IsAtHeader new next × MovesPosition spot byte next
@@ -110,12 +110,12 @@ abbrev pub BeganHeader : CodeStage → ℕ → Option HeaderPlace → Type 0
 BeganHeader ended byte None = (s : Stage) → IsStage ended s → BeginsSpoilt s (byte ∷ [])
 BeganHeader ended byte (Some place) = (s : Stage) → IsStage ended s → IsAtHeader place (HeaderWithin s byte [])
 
--- the token in hand when a line or a word ends, if there is one
+-- the token that is completed when a line or a word ends, if there is one
 abbrev pub IsHeldToken : Option CodeToken → (ℕ → List (ℕ × Token)) → Type 0
 IsHeldToken None tokens = (n : ℕ) → tokens n ≡ []
 IsHeldToken (Some t) tokens = (given : Token) × (t ≡ held_token given) × ((n : ℕ) → tokens n ≡ (n + 1, given) ∷ [])
 
--- when the line ends at this place, the token in hand is this one, or there is none
+-- if the line ends at this place, it completes this token, or none
 abbrev pub SaysInHand : Option CodeToken → Place → Type 0
 SaysInHand given place = (spot : Position) → IsAt place spot → IsHeldToken given (in_hand spot)
 
@@ -123,22 +123,22 @@ SaysInHand given place = (spot : Position) → IsAt place spot → IsHeldToken g
 abbrev pub SaysAtBlank : Option CodeToken → Place → Type 0
 SaysAtBlank given place = (spot : Position) → IsAt place spot → IsHeldToken given (ended_by_blank spot)
 
--- the words of a header line that have ended when the one in hand ends
+-- the finished words of a header line once the unfinished one ends
 abbrev pub ended_stage : Position → Option Stage
 ended_stage (HeaderBetween s) = Some s
 ended_stage (HeaderWithin s x w) = stage_behind s (x ∷ w)
 ended_stage spot = None
 
--- the words of a header line that have ended, as the code has them, or none in both
+-- the finished words of a header line, as the code represents them, or none in both
 abbrev pub IsStageIf : Option CodeStage → Option Stage → Type 0
 IsStageIf None given = given ≡ None
 IsStageIf (Some ended) given = (s : Stage) × IsStage ended s × (given ≡ Some s)
 
--- the place after a blank that ends no line
+-- the place after a blank that does not end a line
 abbrev pub LeadsBehind : Place → Place → Type 0
 LeadsBehind old new = (spot : Position) → IsAt old spot → IsAt new (behind_blank spot)
 
--- with no word in hand
+-- no word is unfinished
 abbrev pub IsQuiet : Place → Type 0
 IsQuiet (at.Leading may) = Unit {0}
 IsQuiet (at.Comment may) = Unit {0}
@@ -192,11 +192,11 @@ IsOfHeader (Letter b) = ⊥
 IsOfHeader (Header v c) = Unit {0}
 IsOfHeader Wrong = Unit {0}
 
--- no word is in hand, though a header line may be
+-- no word is unfinished, though a header line may be
 abbrev pub HoldsNoWord : Scan → Type 0
 HoldsNoWord s = (s.tokens ≡ []) ⊎ ((line : ℕ) × (t : Token) × IsOfHeader t × (s.tokens ≡ (line, t) ∷ []))
 
--- what remains when the text ends: the token in hand, on the last line, or none
+-- what remains when the text ends: the token that the end completes, on the last line, or none
 abbrev pub GivesLast : Option CodeToken → Scan → Type 0
 GivesLast None rest = rest.tokens ≡ []
 GivesLast (Some t) rest = (given : Token) × (t ≡ held_token given) × (rest.tokens ≡ (rest.last, given) ∷ [])

@@ -16,7 +16,7 @@ abbrev pub clause_true : Valuation → List ℕ → Bool
 clause_true a [] = false
 clause_true a (l ∷ ls) = literal_true a l || clause_true a ls
 
--- the valuation with the other value at v
+-- the valuation with the value at v flipped
 abbrev pub flipped : ℕ → Valuation → Valuation
 flipped v a = λ x. if x == v then not (a x) else a x
 

@@ -7,7 +7,7 @@ pub record Formula : Type 0 where
   pub var_count : ℕ
   pub clauses : List (List ℕ)
 
--- the formula without clauses and variables
+-- the formula without clauses or variables
 abbrev pub no_formula : Formula
 no_formula = record { var_count = 0; clauses = [] }
 
@@ -21,7 +21,7 @@ abbrev pub vars_of : List (List ℕ) → ℕ
 vars_of [] = 0
 vars_of (c ∷ cs) = max (vars_in c) (vars_of cs)
 
--- with one clause more, whose variables are covered
+-- with one more clause, whose variables are covered
 abbrev pub with_formula_clause : List ℕ → Formula → Formula
 with_formula_clause clause f = record { var_count = max f.var_count (vars_in clause); clauses = f.clauses ++ clause ∷ [] }
 
@@ -29,6 +29,6 @@ with_formula_clause clause f = record { var_count = max f.var_count (vars_in cla
 abbrev pub with_at_least_vars : ℕ → Formula → Formula
 with_at_least_vars count f = record f { var_count = max f.var_count count }
 
--- with one variable more, which has the index that was the count
+-- with one more variable, whose index is the old count
 abbrev pub with_next_variable : Formula → Formula
 with_next_variable f = record f { var_count = f.var_count + 1 }

@@ -19,7 +19,7 @@ pub struct Counted<D> {
 }
 
 impl<D> Counted<D> {
-    /// Returns a device that was not called yet.
+    /// Returns a device that has not been called yet.
     pub fn new(device: D) -> Counted<D>
         ensures device { device_of result ≡ device }
         ensures reader { (remaining : D → Option (List ℕ))

@@ -24,10 +24,10 @@ impl<R> Drop for Input<'_, R> {
     }
 }
 
-// Every byte passes `next_byte` and `byte_within`, and no call that returns a `Result` is inlined without the
-// attribute.
+// Every byte goes through `next_byte` and `byte_within`, and no call that returns a `Result` is inlined without
+// the attribute.
 impl<'r, R: CountedRead> Input<'r, R> {
-    /// Borrows a reader, and what was read of it ahead.
+    /// Borrows a reader, and the bytes that were read ahead from it.
     pub(crate) fn new(reader: &'r mut R, ahead: &'r mut Ahead) -> Input<'r, R>
         ensures reader { result.reader.ghost_name ≡ reader.entry.ghost_name }
         ensures ahead { result.ahead.ghost_name ≡ ahead.entry.ghost_name }

@@ -16,7 +16,7 @@ pub(crate) struct Output<W, P> {
     pub(crate) error: Option<io::Error>,
 }
 
-// Every byte passes `put`, and no call that returns a `Result` is inlined without the attribute.
+// Every byte goes through `put`, and no call that returns a `Result` is inlined without the attribute.
 impl<W: CountedWrite, P: Room> Output<W, P> {
     /// Returns an output without pending bytes.
     pub(crate) fn new(writer: W, pending: P) -> Output<W, P>

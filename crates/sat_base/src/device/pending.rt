@@ -11,7 +11,7 @@ pub(crate) struct Pending<const N: usize> {
 }
 
 impl<const N: usize> Pending<N> {
-    /// Returns no pending bytes.
+    /// Returns an empty buffer of pending bytes.
     pub(crate) fn new() -> Pending<N>
         requires { 0 < N }
         ensures { result.len ≡ 0 }

@@ -36,7 +36,7 @@ pub(crate) trait Room: Drop {
         ensures { result.now ≡ waiting self.now };
 }
 
-// Every byte passes `free` and `push`.
+// Every byte goes through `free` and `push`.
 impl<const N: usize> Room for Pending<N> {
     ghost waiting = { λ p. take p.len p.bytes };
 

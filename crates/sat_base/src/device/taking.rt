@@ -1,4 +1,4 @@
-//! Reading bytes ahead, and consuming them. `Ahead` is in another module, since these contracts speak of readers.
+//! Reading bytes ahead, and consuming them. `Ahead` is in another module, since these contracts are about readers.
 ghost use Rattle.std.specs.Prelude.{◌≡◌, ◌+◌, ◌<◌, ◌≤◌, ◌∷◌, take, drop, OnOk};
 ghost use Rattle.sat_base.specs.device.Reading.{RefillsAlone};
 ghost use Rattle.sat_base.specs.device.Waiting.{waiting};
@@ -8,7 +8,7 @@ use crate::device::whole::MAX_READS;
 use crate::{CountedRead, StepError};
 
 impl Ahead {
-    /// Returns no bytes, before the first read.
+    /// Returns the empty buffer before the first read.
     pub(crate) fn new() -> Ahead
         ensures end { result.end ≡ 0 }
         ensures reads { result.reads ≡ 0 }

@@ -4,8 +4,9 @@ ghost use Rattle.std.specs.Borrow.{ftrue};
 
 use std::marker::Model;
 
-/// The number of calls and of those that failed, the bytes that reads gave and that writes received, and what the last
-/// call was. The counts have no largest value.
+/// The numbers of calls and of failures, the bytes given and received, and what the last call was.
+///
+/// The counts are unbounded.
 #[derive(Drop)]
 pub(crate) struct Tally {
     pub ghost calls: { ℕ },

@@ -14,7 +14,7 @@ pub(crate) const MAX_READS: u64 = 1 << 48;
 /// Why a reader was not read to its end.
 #[derive(Clone, Copy, Debug, Drop, PartialEq, Eq, Error)]
 pub enum ReadError {
-    /// A read failed, or there were 2^48 of them.
+    /// A read failed, or 2^48 reads were made.
     #[error("a read failed")]
     Failed,
     #[error("out of memory")]
@@ -76,7 +76,7 @@ pub fn read_into<R: CountedRead, F: Feed>(reader: &mut R, taker: &mut F) -> Resu
     ensures failed { IsErrOf result ReadError.Failed → ReadFails (R.seen reader.old) (R.seen reader.new) }
     ensures memory { IsErrOf result ReadError.OutOfMemory
         → (R.seen reader.new).failures ≡ (R.seen reader.old).failures }
-    // Memory is needed only for bytes.
+    // Memory runs out only after a byte was read.
     ensures some { IsErrOf result ReadError.OutOfMemory
         → length (R.seen reader.old).given < length (R.seen reader.new).given }
     ensures reads { (R.seen reader.new).calls ≤ (R.seen reader.old).calls + most_reads }
@@ -102,7 +102,7 @@ pub fn read_whole<R: CountedRead>(alloc: Global, reader: &mut R) -> Result<Vec<u
     ensures failed { IsErrOf result ReadError.Failed → ReadFails (R.seen reader.old) (R.seen reader.new) }
     ensures memory { IsErrOf result ReadError.OutOfMemory
         → (R.seen reader.new).failures ≡ (R.seen reader.old).failures }
-    // Memory is needed only for bytes.
+    // Memory runs out only after a byte was read.
     ensures some { IsErrOf result ReadError.OutOfMemory
         → length (R.seen reader.old).given < length (R.seen reader.new).given }
     ensures reads { (R.seen reader.new).calls ≤ (R.seen reader.old).calls + most_reads }

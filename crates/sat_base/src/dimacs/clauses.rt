@@ -44,15 +44,15 @@ impl<T: Drop> From<AllocFailed<T>> for Refusal {
     }
 }
 
-/// The header and the clauses that were read, and the literals of the clause in hand.
+/// The header and the clauses that were read, and the literals of the unfinished clause.
 #[derive(Drop)]
 pub(crate) struct Clauses {
     /// The clauses that were not taken yet, with the number of variables of all that were read.
     pub(crate) formula: CnfFormula,
     pub(crate) hand: Vec<Lit>,
-    /// The number of clauses read, held at 2^64-1.
+    /// The number of clauses read, capped at 2^64-1.
     pub(crate) count: u64,
-    /// The header's numbers, held at 2^64-1.
+    /// The header's numbers, capped at 2^64-1.
     pub(crate) header: Option<(u64, u64)>,
 }
 
@@ -67,7 +67,7 @@ pub(crate) fn is_literal(token: Token) -> bool
 }
 
 impl Clauses {
-    /// Returns no clauses. Does not allocate.
+    /// Returns empty `Clauses`. Does not allocate.
     pub(crate) fn new(alloc: Global) -> Clauses
         ensures formula { result.formula ≡ no_formula }
         ensures hand { hand_in result ≡ None }
@@ -82,7 +82,7 @@ impl Clauses {
         }
     }
 
-    /// Ends the clause in hand, at a zero.
+    /// Ends the unfinished clause, at a zero.
     fn end_clause(&mut self) -> Result<(), Refusal>
         ensures { MatchResult result (λ _. TakesTokenTurn (Ends (literals_in (hand_in self.old))) self.old self.new
             × (self.new.header ≡ self.old.header)) (λ e. (e ≡ OutOfMemory) × SameClausesAndHeader self.old self.new) }
@@ -93,7 +93,7 @@ impl Clauses {
         Ok(())
     }
 
-    // Every word passes this, and no call that returns a `Result` is inlined without the attribute.
+    // Every word goes through this, and no call that returns a `Result` is inlined without the attribute.
     /// Adds the next token.
     #[inline(always)]
     pub(crate) fn take(&mut self, token: Token) -> Result<(), Refusal>
@@ -127,7 +127,7 @@ impl Clauses {
         !self.hand.is_empty()
     }
 
-    /// Takes the clauses. The next ones are collected in a formula that has as many variables already.
+    /// Takes the clauses. The next ones are collected in a formula that already has as many variables.
     pub(crate) fn take_formula(&mut self, alloc: Global) -> CnfFormula
         ensures formula { result ≡ self.old.formula }
         ensures rest { self.new ≡ record self.old { formula = with_at_least_vars self.old.formula.var_count no_formula } }

@@ -7,7 +7,7 @@ use super::clauses::LARGEST;
 use super::error::DimacsError;
 use crate::{Token, Tokenizer};
 
-/// Checks whether a token on this line is a fault, whatever is in hand.
+/// Checks whether a token on this line is a fault, whatever clause is unfinished.
 fn judge_token(token: Token, line: u64) -> Result<(), DimacsError>
     ensures { JudgesToken result line (token_of token) }
 {

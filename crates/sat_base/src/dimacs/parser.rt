@@ -122,7 +122,7 @@ impl Parser {
         }
     }
 
-    /// Whether a line that begins with `%` has ended the text, so that it is to be finished.
+    /// Whether a line that begins with `%` has ended the text, so that only `finish` is due.
     pub(crate) fn has_ended(&self) -> bool
         requires { IsParser self.now }
         ensures { SaysEnded result (progress_of self.now) }
@@ -133,7 +133,7 @@ impl Parser {
         self.tokenizer.is_over()
     }
 
-    /// Ends the text, with no word in hand.
+    /// Ends the text. No word may be unfinished.
     fn end(&mut self) -> Result<(), DimacsError>
         ensures parser { self.new ≡ record self.old { stopped = true; ended = true } }
         ensures answer { EndsClean result self.old }

@@ -77,7 +77,7 @@ impl<R: CountedRead> Input<'_, R> {
         Ok(Lit::from_code(code as usize))
     }
 
-    /// Reads this number of literals.
+    /// Reads `count` literals.
     fn literal_items(&mut self, count: u64, lits: &mut Vec<Lit>) -> Result<(), StepError>
         requires { lits.old.items ≡ [] }
         ensures { ReadsFromInput (Times IsLiteral count) (giving lits.new.items result) R.seen self.old self.new }
@@ -96,7 +96,7 @@ impl<R: CountedRead> Input<'_, R> {
         Ok(())
     }
 
-    /// Reads this number of hashes.
+    /// Reads `count` hashes.
     fn hash_items(&mut self, count: u64, hashes: &mut Vec<ClauseHash>) -> Result<(), StepError>
         requires { hashes.old.items ≡ [] }
         ensures { ReadsFromInput (Times IsHash count) (giving hashes.new.items result) R.seen self.old self.new }
@@ -124,7 +124,7 @@ impl<R: CountedRead> Input<'_, R> {
         Ok((lit, hash))
     }
 
-    /// Reads this number of units.
+    /// Reads `count` units.
     fn unit_items(
         &mut self,
         count: u64,

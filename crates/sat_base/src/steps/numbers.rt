@@ -131,7 +131,7 @@ impl Ahead {
     }
 
     /// Consumes a number, if it is complete among the buffered bytes, has at most eight bytes and is at most `largest`.
-    #[inline(always)] // each number that stands alone goes through it
+    #[inline(always)] // each number outside a list goes through it
     pub(crate) fn take_number(&mut self, largest: u64) -> Option<u64>
         ensures some { (number : ℕ) → result ≡ Some number → TakesNumber (largest + 1) number self.old self.new }
         ensures none { result ≡ None → self.new ≡ self.old }
@@ -159,8 +159,8 @@ impl<R: CountedRead> Input<'_, R> {
         self.number_by_bytes(largest)
     }
 
-    /// Reads it byte by byte: the end of a chunk or of the text may cut it, and it may be no number.
-    #[inline(never)] // so that numbers that stand whole pay nothing for it
+    /// Reads a number byte by byte. The end of a chunk or of the text may cut it, and it may be invalid.
+    #[inline(never)] // so that numbers that are buffered completely pay nothing for it
     fn number_by_bytes(&mut self, largest: u64) -> Result<u64, StepError>
         requires { 0 < largest }
         ensures { ReadsFromInput (IsBelow (largest + 1)) result R.seen self.old self.new }

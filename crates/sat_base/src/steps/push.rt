@@ -242,8 +242,8 @@ impl<W: CountedWrite, P: Room> Output<W, P> {
         }
     }
 
-    /// Whether there is room for a step's bytes. A number takes at most ten, and besides its lists a step has at most
-    /// three numbers and its tag.
+    /// Whether there is room for a step's bytes. A number takes at most ten bytes, and besides its lists a step has at
+    /// most three numbers and its tag.
     #[inline(always)]
     fn has_room(&self, step: &ProofStep<'_>) -> bool
         ensures { result ≡ true → HasByteRoom (10 * (items_in (step_of step.now) + 4)) P.waiting P.size

@@ -14,7 +14,7 @@ use crate::steps::step_lists::Lists;
 use crate::{CountedRead, ProofStep, StepError};
 use std::alloc::Global;
 
-/// The buffers of a reader of steps: the bytes read ahead, and the lists of the step in hand.
+/// The buffers of a reader of steps: the bytes read ahead, and the lists of the current step.
 #[derive(Drop)]
 pub struct Buffers {
     ahead: Ahead,
@@ -93,7 +93,7 @@ fn read_from<R: CountedRead>(
 }
 
 impl<'r, R: CountedRead> StepReader<'r, R, Buffers> {
-    /// Returns a reader of the next steps of a reader. Reads nothing yet, and does not allocate.
+    /// Returns a reader of steps over a reader of bytes. Reads nothing yet, and does not allocate.
     pub fn new(alloc: Global, reader: &'r mut R) -> StepReader<'r, R, Buffers>
         ensures same { reader_name result ≡ reader.entry.ghost_name }
         ensures source { reader_source R.seen result ≡ unread (R.seen reader.old) }

@@ -34,7 +34,7 @@ impl Model for HashBits {
 }
 
 impl HashBits {
-    /// Returns this number of bits, or `None` if it is above 64.
+    /// Returns a width of `bits` bits, or `None` if it is above 64.
     pub fn new(bits: u32) -> Option<HashBits>
         ensures { MatchOption result (64 < bits) (λ h. h ≡ bits) }
     {
@@ -44,7 +44,7 @@ impl HashBits {
         Some(HashBits { bits })
     }
 
-    /// Returns this number of bits.
+    /// Returns a width of `bits` bits.
     pub(crate) fn of_width(bits: u32) -> HashBits
         requires { bits ≤ 64 }
         ensures { result ≡ bits }

@@ -1,4 +1,4 @@
-//! The lists of the step in hand, whose memory is reused.
+//! The lists of the current step, whose memory is reused.
 ghost use Rattle.std.specs.Prelude.{◌≡◌, []};
 ghost use Rattle.sat_base.specs.steps.StepViews.{step_of};
 ghost use Rattle.sat_base.specs.steps.Kinds.{step_with};

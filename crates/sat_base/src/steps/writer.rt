@@ -47,8 +47,8 @@ impl<W: CountedWrite> StepWriter<W> {
         self.output.give_error(put)
     }
 
-    /// Writes a step if there surely is room for all of its bytes, and returns whether there is. Does not call the
-    /// writer.
+    /// Writes a step if there is certainly room for all of its bytes, and returns whether it did. Does not call
+    /// the writer.
     #[inline(always)] // so that a caller's step needs no space in memory
     pub fn try_write(&mut self, step: &ProofStep<'_>) -> bool
         ensures sends { result ≡ true → AddsToSink (steps_sink W.seen self.old) (steps_sink W.seen self.new)

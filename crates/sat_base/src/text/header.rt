@@ -6,7 +6,7 @@ ghost use Rattle.sat_base.specs.text.Tokenizing.{BeganHeader, MovesHeader, IsAtH
 
 use super::{grown, is_digit};
 
-/// The words of the line that have ended. Numbers are held at 2^64-1.
+/// The finished words of the line. Numbers are capped at 2^64-1.
 #[derive(Clone, Copy, Drop)]
 pub(crate) enum Stage {
     /// `p`.
@@ -19,7 +19,7 @@ pub(crate) enum Stage {
     Both { vars: u64, clauses: u64 },
 }
 
-/// A place in the line. Numbers are held at 2^64-1.
+/// A place in the line. Numbers are capped at 2^64-1.
 #[derive(Clone, Copy, Drop)]
 pub(crate) enum HeaderPlace {
     /// After the blanks that ended these words.
@@ -72,7 +72,7 @@ fn begun(ended: Stage, byte: u8) -> Option<HeaderPlace>
     }
 }
 
-/// Returns the place after a byte that is no blank, if the word in hand is still allowed.
+/// Returns the place after a nonblank byte, if the unfinished word is still allowed.
 pub(crate) fn next_in_header(place: HeaderPlace, byte: u8) -> Option<HeaderPlace>
     requires { is_blank byte ≡ false }
     ensures { MovesHeader place byte result }
@@ -115,7 +115,7 @@ pub(crate) fn next_in_header(place: HeaderPlace, byte: u8) -> Option<HeaderPlace
     }
 }
 
-/// Returns the words that have ended if the one in hand ends here, if it is allowed then.
+/// Returns the finished words if the unfinished one ends here, or `None` if it is not allowed then.
 pub(crate) fn ended_in(place: HeaderPlace) -> Option<Stage>
     ensures { (spot : Position) → IsAtHeader place spot → IsStageIf result (ended_stage spot) }
 {
