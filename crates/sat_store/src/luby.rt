@@ -46,7 +46,7 @@ impl LubySequence {
     }
 }
 
-/// Returns the term with this number, from 1 on.
+/// Returns the term with this number, counting from 1.
 fn luby_term(number: u64) -> u64
     requires { 0 < number }
     ensures { result ≡ luby number }

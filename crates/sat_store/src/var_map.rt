@@ -129,7 +129,7 @@ fn make_room(codes: &mut Vec<u32>, from: Var) -> Result<(), AllocError>
     codes.reserve(index + 1 - codes.len())
 }
 
-/// Sets the target of a variable. Capacity for its code must be reserved.
+/// Sets the target of a variable. Capacity for its code must have been reserved.
 #[inline(always)]
 fn put(codes: &mut Vec<u32>, from: Var, into: Var)
     requires { from < vec_capacity codes.old }
@@ -189,7 +189,7 @@ impl VarBiMap {
         &self.bwd
     }
 
-    /// Lends the map to be changed together with its inverse.
+    /// Lends the map for changes. The inverse changes along with it.
     pub fn fwd_mut(&mut self) -> VarBiMapMut<'_>
         ensures same { result.map.ghost_name ≡ self.entry.ghost_name }
         ensures map { result.map.now ≡ self.old }
@@ -201,7 +201,7 @@ impl VarBiMap {
         }
     }
 
-    /// Lends the inverse to be changed together with the map.
+    /// Lends the inverse for changes. The map changes along with it.
     pub fn bwd_mut(&mut self) -> VarBiMapMut<'_>
         ensures same { result.map.ghost_name ≡ self.entry.ghost_name }
         ensures map { result.map.now ≡ self.old }
@@ -239,7 +239,7 @@ impl VarBiMap {
     }
 }
 
-/// One of the two maps of a `VarBiMap`, lent to be changed together with the other.
+/// One of the two maps of a `VarBiMap`, lent for changes. The other one changes along with it.
 #[derive(Drop)]
 pub struct VarBiMapMut<'a> {
     /// Both maps.

@@ -189,7 +189,7 @@ impl Iterator for Vsids {
 
     /// Removes and returns the available variable with the highest activity, or `None` if no variable is available.
     ///
-    /// Of equal activities the lowest index wins. The variable is unavailable from now on.
+    /// Among equal activities the lowest index wins. The variable is unavailable from now on.
     fn next(&mut self) -> Option<Var> {
         if self.available == 0 {
             return None;

@@ -27,7 +27,7 @@ pub record Placed (heap : List Entry) (positions : List ℕ) : Type 0 where
   pub placed : (v : ℕ) → v < length heap → get_or positions v 0 < length heap
   pub variable : (v : ℕ) → v < length heap → var_at heap (get_or positions v 0) ≡ v
 
--- the order of variables: by activity, and of equal activities the lower index is greater
+-- the order of variables: by activity, and for equal activities the lower index is greater
 abbrev pub rank : Entry → ℕ
 rank e = e.key * var_limit + (var_limit - 1 - e.var)
 

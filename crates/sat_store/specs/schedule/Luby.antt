@@ -7,7 +7,7 @@ luby_below zero t = 0
 luby_below (suc k) t =
     if t == 2 ^ suc k - 1 then 2 ^ k else (if nat_lt t (2 ^ k) then luby_below k t else luby_below k (t - 2 ^ k + 1))
 
--- term t of the sequence, from 1 on
+-- term t of the sequence, counting from 1
 unfoldable pub luby : ℕ → ℕ
 luby t = luby_below t t
 

@@ -146,9 +146,9 @@ impl ClauseAlloc {
         })
     }
 
-    /// Appends a copy of a clause of another buffer.
+    /// Appends a copy of a clause from another buffer.
     ///
-    /// It is never `StoreFull` if this buffer is no longer than the offset of that clause.
+    /// Never returns `StoreFull` if this buffer is no longer than the offset of that clause.
     pub fn copy_clause(
         &mut self,
         from: &ClauseAlloc,
@@ -173,7 +173,7 @@ impl ClauseAlloc {
         })
     }
 
-    /// Removes all words from a clause on. If the clause is the last one, only that clause is removed.
+    /// Removes a clause and all words after it. If the clause is the last one, only that clause is removed.
     pub fn truncate(&mut self, cref: ClauseRef)
         ensures { self.new ≡ take cref self.old }
     {
@@ -284,7 +284,7 @@ impl ClauseAlloc {
     }
 }
 
-/// Appends the codes of literals to the words. Capacity for them must be reserved.
+/// Appends the codes of literals to the words. Capacity for them must have been reserved.
 fn push_lits(words: &mut Vec<u32>, lits: &[Lit])
     requires { vec_len words.old + length lits.now ≤ vec_capacity words.old }
     ensures words { words.new.items ≡ words.old.items ++ lits.now }

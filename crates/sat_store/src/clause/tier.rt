@@ -23,7 +23,7 @@ impl Tier {
         4
     }
 
-    /// Returns the tier with this number, from 0 on, or `None` if there is none.
+    /// Returns the tier with this number, counting from 0, or `None` if there is none.
     pub fn from_index(index: usize) -> Option<Tier>
         ensures { MatchOption result (4 ≤ index) (λ tier. index_of tier ≡ index) }
     {
@@ -36,7 +36,7 @@ impl Tier {
         }
     }
 
-    /// Returns the number of the tier, from 0 on.
+    /// Returns the number of the tier, counting from 0.
     pub fn index(self) -> usize
         ensures { result ≡ index_of self }
     {

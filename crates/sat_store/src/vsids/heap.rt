@@ -168,7 +168,7 @@ pub(super) fn heapify(heap: &mut Vec<Entry>, positions: &mut Vec<u32>, available
     }
 }
 
-/// Removes the variable at a position from the heap, so that one variable less is available.
+/// Removes the variable at a position from the heap, so that one fewer variable is available.
 pub(super) fn take_out(heap: &mut Vec<Entry>, positions: &mut Vec<u32>, available: usize, at: usize)
     requires heap { IsHeap heap.old.items positions.old.items available }
     requires at { at < available }
@@ -189,7 +189,7 @@ pub(super) fn take_out(heap: &mut Vec<Entry>, positions: &mut Vec<u32>, availabl
     sift_down(heap, positions, last, at);
 }
 
-/// Inserts the variable at a position after the heap, so that one variable more is available.
+/// Inserts the variable at a position after the heap, so that one more variable is available.
 pub(super) fn put_in(heap: &mut Vec<Entry>, positions: &mut Vec<u32>, available: usize, at: usize)
     requires heap { IsHeap heap.old.items positions.old.items available }
     requires behind { available ≤ at }
@@ -203,7 +203,7 @@ pub(super) fn put_in(heap: &mut Vec<Entry>, positions: &mut Vec<u32>, available:
     sift_up(heap, positions, available + 1, available);
 }
 
-/// Appends new variables with activity 0 until there are `count`. Capacity for them must be reserved.
+/// Appends new variables with activity 0 until there are `count`. Capacity for them must have been reserved.
 pub(super) fn add_variables(heap: &mut Vec<Entry>, positions: &mut Vec<u32>, count: usize)
     requires heap_room { count ≤ vec_capacity heap.old }
     requires positions_room { count ≤ vec_capacity positions.old }
