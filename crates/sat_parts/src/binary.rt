@@ -254,7 +254,7 @@ impl BinaryClauses {
         Ok(())
     }
 
-    /// Returns the literals that a literal implies by binary clauses.
+    /// Returns the literals that a literal implies through binary clauses.
     pub fn implied(&self, lit: Lit) -> &[Lit]
         requires { lit < length self.now.implied }
         ensures { result.now ≡ implied_by self.now.implied lit }

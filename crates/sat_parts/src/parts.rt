@@ -50,7 +50,7 @@ pub fn grow(alloc: Global, parts: &mut Parts, count: usize) -> Result<(), AllocE
     parts.vsids.set_var_count(count)
 }
 
-/// Returns parts without variables and clauses. The first propagation builds the watch lists.
+/// Returns parts without variables or clauses. The first propagation builds the watch lists.
 pub fn no_parts(alloc: Global) -> Parts
     ensures holds { PartsInvariant result }
     ensures none { result.assignment.current ≡ [] }

@@ -24,7 +24,7 @@ use crate::prop::watch::{Watchlists, enable_watchlists};
 use sat_store::ClauseAlloc;
 use std::alloc::{AllocError, Global};
 
-/// Propagates all literals of the queue, each over the binary clauses and then over the long ones.
+/// Propagates all literals in the queue, each over the binary clauses and then over the long ones.
 ///
 /// Builds the watch lists first if they are disabled. Returns `Ok(Ok(()))` if every literal was propagated, and
 /// `Ok(Err(conflict))` if a clause is falsified. If memory runs out, the parts must not be used again.

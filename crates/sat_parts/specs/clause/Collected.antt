@@ -48,7 +48,7 @@ FollowsFirst live refs' n (Long o) r =
     ((k : ℕ) × ((k < n) × (get_or live k 0 ≡ o) × (r ≡ Long (get_or refs' k 0))))
     ⊎ ((r ≡ Long o) × ((k : ℕ) → k < n → get_or live k 0 ≢ o))
 
--- the reasons of the literals of the trail follow the first n clauses; nothing else of the nodes changed
+-- the reasons of the literals on the trail name the copies of the first n clauses; nothing else in the nodes changed
 pub record AreFollowed (live refs' lits : List ℕ) (n : ℕ) (nodes nodes' : List ImplNode) : Type 0 where
   pub size : length nodes' ≡ length nodes
   pub levels : (v : ℕ) → (node_of nodes' v).level ≡ (node_of nodes v).level
@@ -57,12 +57,12 @@ pub record AreFollowed (live refs' lits : List ℕ) (n : ℕ) (nodes nodes' : Li
   pub reasons : (i : ℕ) → i < length lits →
       FollowsFirst live refs' n (node_of nodes (variable (get_or lits i 0))).reason (node_of nodes' (variable (get_or lits i 0))).reason
 
--- the reasons of the literals of the trail follow all clauses
+-- the reasons of the literals on the trail name the copies of all clauses
 abbrev pub FollowsAll : (live refs' lits : List ℕ) (nodes nodes' : List ImplNode) → Type 0
 FollowsAll live refs' lits nodes nodes' = AreFollowed live refs' lits (length live) nodes nodes'
 
--- garbage was collected: the new list has exactly the live clauses, in order; the buffer has only their words; and every reason of
--- a literal of the trail names the copy of its clause
+-- garbage was collected: the new list has exactly the live clauses, in order; the buffer has only their words; and every reason of a
+-- literal on the trail names the copy of its clause
 pub record Collects (words : List ℕ) (db : Db) (nodes : List ImplNode) (lits words' : List ℕ) (db' : Db) (nodes' : List ImplNode) : Type 0 where
   pub copies : Copies words (live_refs words db.refs) words' db'.refs
   pub holds : HoldsDb words' db'
@@ -77,7 +77,7 @@ pub record Collects (words : List ℕ) (db : Db) (nodes : List ImplNode) (lits w
   pub reasons : (i : ℕ) → i < length lits →
       FollowsClause (live_refs words db.refs) db'.refs (node_of nodes (variable (get_or lits i 0))).reason (node_of nodes' (variable (get_or lits i 0))).reason
 
--- the clause of every long reason of a literal of the trail is live and has the literal first
+-- the clause of every long reason of a literal on the trail is live and has the literal first
 abbrev pub AreFirsts : (words live lits : List ℕ) (nodes : List ImplNode) → Type 0
 AreFirsts words live lits nodes = (i o : ℕ) → i < length lits → (node_of nodes (variable (get_or lits i 0))).reason ≡ Long o → Contains live o × (lit_of words o 0 ≡ get_or lits i 0)
 

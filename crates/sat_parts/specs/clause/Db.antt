@@ -10,7 +10,7 @@ use Rattle.sat_parts.specs.declared.prop.graph.Reason.TheVariants.{Long}
 use Rattle.sat_parts.specs.prop.Values.{IsTrueLit}
 use Rattle.sat_parts.specs.prop.Graphs.{node_of}
 
--- the references in the order of addition, the number of clauses of every tier, and the number of words of deleted clauses
+-- the references in the order in which they were added, the number of clauses of every tier, and the number of words of deleted clauses
 pub record Db : Type 0 where
   pub refs : List ℕ
   pub counts : List ℕ
@@ -28,7 +28,7 @@ is_live words o = not (header_at words o).deleted
 abbrev pub live_refs : List ℕ → List ℕ → List ℕ
 live_refs words refs = filter (is_live words) refs
 
--- whether the clause at o is live and of this tier
+-- whether the clause at o is live and in this tier
 abbrev pub is_live_of : List ℕ → Tier → ℕ → Bool
 is_live_of words tier o = is_live words o && (index_of (header_at words o).tier == index_of tier)
 
@@ -55,11 +55,11 @@ pub record HoldsDb (words : List ℕ) (db : Db) : Type 0 where
   pub few : length db.refs < 2 ^ 64
   pub long : (o : ℕ) → Contains db.refs o → 3 ≤ length (lits_at words o)
 
--- the numbers with one clause of this tier more
+-- the numbers with one more clause of this tier
 abbrev pub tier_count_more : Tier → List ℕ → List ℕ
 tier_count_more tier counts = set counts (index_of tier) (get_or counts (index_of tier) 0 + 1)
 
--- the numbers with one clause of this tier less
+-- the numbers with one fewer clause of this tier
 abbrev pub tier_count_less : Tier → List ℕ → List ℕ
 tier_count_less tier counts = set counts (index_of tier) (get_or counts (index_of tier) 0 - 1)
 
@@ -89,7 +89,7 @@ pub record DeletesClause (words : List ℕ) (db : Db) (words' : List ℕ) (db' :
   pub refs : db'.refs ≡ db.refs
   pub live : live_refs words' db'.refs ≡ without o (live_refs words db.refs)
 
--- the clause at o is now of this tier, and no other clause changed
+-- the clause at o is now in this tier, and no other clause changed
 pub record MovesClause (words : List ℕ) (db : Db) (words' : List ℕ) (db' : Db) (o : ℕ) (tier : Tier) : Type 0 where
   pub put : PutsHeader words words' db.refs o (record (header_at words o) { tier = tier })
   pub holds : HoldsDb words' db'

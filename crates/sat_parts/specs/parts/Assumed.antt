@@ -48,7 +48,7 @@ AreTrueFromTo p ls from to = (k : ℕ) → from ≤ k → k < to → IsTrueLit p
 abbrev pub IsUntrueAt : Parts → List ℕ → (at l : ℕ) → Type 0
 IsUntrueAt p ls at l = (at < length ls) × (get_or ls at 0 ≡ l) × (IsTrueLit p.assignment.current l → ⊥)
 
--- every literal of the trail above level 0 that has no clause as its reason is among these
+-- every literal on the trail above level 0 that has no clause as its reason is among these
 abbrev pub AreDecided : List ℕ → State → Type 0
 AreDecided ls s = (i : ℕ) → i < length s.trail.lits → 0 < level s (lit_at s i) → is_unit_reason (node s (lit_at s i)).reason ≡ true → Contains ls (lit_at s i)
 

@@ -43,7 +43,7 @@ pub record IsBare (s : State) (l : ℕ) : Type 0 where
   pub bottom : level s l ≡ 0
   pub none : is_unit_reason (node s l).reason ≡ true
 
--- the literal is a unit: it is of level 0 and has no clause as its reason, or it was taken off the trail
+-- the literal is a unit: it is at level 0 and has no clause as its reason, or it was taken off the trail
 abbrev pub IsUnitLit : State → ℕ → Type 0
 IsUnitLit s l = IsRemoved s l ⊎ IsBare s l
 
@@ -102,7 +102,7 @@ AddsNothing p p' = SameClauses p p' × AddsNoUnit (state p) (state p')
 abbrev pub KeepsLevels : Parts → Parts → Type 0
 KeepsLevels p p' = (top : ℕ) → KeepsTo top (state p) (state p')
 
--- there is one level more
+-- there is one more level
 abbrev pub OpensLevel : Parts → Parts → Type 0
 OpensLevel p p' = length p'.trail.starts ≡ length p.trail.starts + 1
 

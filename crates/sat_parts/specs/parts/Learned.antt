@@ -7,7 +7,7 @@ use Rattle.sat_parts.specs.prop.Values.{IsFalseLit, IsOpenLit}
 use Rattle.sat_parts.specs.prop.State.{State, level, current_level}
 use Rattle.sat_parts.specs.prop.Ready.{AreAllFalse}
 
--- the result of an analysis: all literals are false and above level 0; only the first is of the current level, and the second is of
+-- the result of conflict analysis: all literals are false and above level 0; only the first is at the current level, and the second is at
 -- the highest level of the others, to which the search backtracks
 pub record IsAnalyzedClause (s : State) (ls : List ℕ) (to : ℕ) : Type 0 where
   pub some : 1 ≤ length ls

@@ -30,11 +30,11 @@ AreReady words live implied values q = (v : ℕ) → v < length values → value
 abbrev pub KeepsPicks : (values : List (Option Bool)) (q q' : Queue) (v : ℕ) → Type 0
 KeepsPicks values q q' v = (u : ℕ) → u ≢ v → value_of values u ≡ None → may_pick q u ≡ true → may_pick q' u ≡ true
 
--- the literals of the trail at level 0 have no clause as their reason
+-- the literals on the trail at level 0 have no clause as their reason
 abbrev pub UnitsAreUncaused : State → Type 0
 UnitsAreUncaused s = (i : ℕ) → i < length s.trail.lits → level s (lit_at s i) ≡ 0 → (node s (lit_at s i)).reason ≡ NoCause
 
--- the invariant of all parts, where propagation is complete for the literals of levels below `top`
+-- the invariant of all parts, where propagation is complete for the literals at levels below `top`
 pub record IsSoundBelow (words : List ℕ) (db : Db) (w : Watching) (b : Binaries) (a : Values) (g : List ImplNode) (t : Trailed) (q : Queue) (top : ℕ) : Type 0 where
   pub held : HoldsDb words db
   pub asks : PropagationInvariant words db.refs w b.implied (state_of a g t) top
@@ -43,7 +43,7 @@ pub record IsSoundBelow (words : List ℕ) (db : Db) (w : Watching) (b : Binarie
   pub queue : length q.available ≡ length a.current
   pub ready : AreReady words (live_refs words db.refs) b.implied a.current q
 
--- above level 0 the trail has no literals of level 0; at level 0 all literals of the trail are in the queue
+-- above level 0 the trail has no literals of level 0; at level 0 all literals on the trail are in the queue
 pub record IsBased (t : Trailed) : Type 0 where
   pub above : 0 < length t.starts → get_or t.starts 0 0 ≡ 0
   pub bottom : length t.starts ≡ 0 → t.head ≡ 0

@@ -46,11 +46,11 @@ pub record IsPicked (p : Parts) (v : ℕ) : Type 0 where
   pub there : v < length p.assignment.current
   pub unset : value_of p.assignment.current v ≡ None
 
--- the invariant, where propagation is complete for the literals of levels below `top`
+-- the invariant, where propagation is complete for the literals at levels below `top`
 abbrev pub HoldsBelow : ℕ → Parts → Type 0
 HoldsBelow top p = IsSoundBelow p.clauses p.db p.watchlists p.binary p.assignment p.graph p.trail p.vsids top
 
--- the queue is empty: every literal of the trail was propagated
+-- the queue is empty: every literal on the trail was propagated
 abbrev pub IsFullyPropagated : Parts → Type 0
 IsFullyPropagated p = p.trail.head ≡ length p.trail.lits
 

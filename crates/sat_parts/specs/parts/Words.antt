@@ -15,7 +15,7 @@ use Rattle.sat_parts.specs.parts.Whole.{state}
 abbrev pub Begins : List Letter → List Letter → Type 0
 Begins u v = (w : List Letter) × (v ≡ u ++ w)
 
--- the letters of the literals of the trail
+-- the letters of the literals on the trail
 abbrev pub trail_letters : Trailed → List Letter
 trail_letters t = letters t.starts t.lits 0
 

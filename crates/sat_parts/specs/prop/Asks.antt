@@ -15,10 +15,10 @@ use Rattle.sat_parts.specs.prop.State.{State, level, current_level, HasLeftQueue
 use Rattle.sat_parts.specs.prop.Reasons.{HaveFirsts, PropagatesOn}
 use Rattle.sat_parts.specs.prop.Ready.{AreWatched, AreSettled, AreImplied, AreLists, IsUnitFixpoint, IsConflict}
 
--- no two clauses share words, and the live ones are over the variables; enabled watch lists watch their first two literals (disabled
--- ones may have anything); values, nodes and trail agree; literals in the queue are of the current level; long reasons have their
--- literals first; and a clause with a watched literal that is false by a literal that has left the queue, of a level below `top`, has
--- a true literal of the same level or lower
+-- no two clauses share words, and the live ones are over the variables; enabled watch lists watch their first two literals (disabled ones
+-- may have anything); values, nodes and trail agree; literals in the queue are at the current level; long reasons have their literals
+-- first; and a clause with a watched literal that is false by a literal that has left the queue, at a level below `top`, has a true literal
+-- at the same level or lower
 pub record PropagationInvariant (words refs : List ℕ) (w : Watching) (implied : List (List ℕ)) (s : State) (top : ℕ) : Type 0 where
   pub laid : HoldsClauses words refs
   pub clauses : AreClauses words (live_refs words refs) (length s.values)
@@ -44,7 +44,7 @@ IsOwnBinary (Binary ls) lit l m = (m ≡ lit) × (negated (get_or ls 0 0) ≡ l)
 IsOwnBinary (Long o) lit l m = ⊥
 
 -- the same before an unassigned literal becomes true by its reason: the clause of the reason may have been just added, and not yet
--- propagated, if its false watched literals are of the current level
+-- propagated, if its false watched literals are at the current level
 pub record EnqueuePrecondition (lit : ℕ) (reason : Reason) (words refs : List ℕ) (w : Watching) (implied : List (List ℕ)) (s : State) (top : ℕ) : Type 0 where
   pub laid : HoldsClauses words refs
   pub clauses : AreClauses words (live_refs words refs) (length s.values)
@@ -65,8 +65,8 @@ pub record EnqueuePrecondition (lit : ℕ) (reason : Reason) (words refs : List 
 abbrev pub PropagationPrecondition : (words refs : List ℕ) (w : Watching) (implied : List (List ℕ)) (s : State) → Type 0
 PropagationPrecondition words refs w implied s = PropagationInvariant words refs w implied s (current_level s + 1)
 
--- what propagation ensures: the literals that it assigned have reasons; and either the invariant, with an empty queue and no unit or
--- falsified clause, or a falsified clause, and the invariant once the current level is undone
+-- What propagation ensures: the literals that it assigned have reasons. Without a conflict, the invariant holds, with an empty queue and no
+-- unit or falsified clause. After a conflict, a clause is falsified, and the invariant holds once the current level is undone.
 pub record PropagationResult (refs : List ℕ) (implied : List (List ℕ)) (words : List ℕ) (s : State) (words' : List ℕ) (s' : State) (w : Watching) (r : Result (Unit {0}) Conflict) : Type 0 where
   pub moves : PropagatesOn (live_refs words refs) implied words s words' s'
   pub live : live_refs words' refs ≡ live_refs words refs

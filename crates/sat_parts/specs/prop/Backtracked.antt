@@ -14,8 +14,8 @@ use Rattle.sat_parts.specs.prop.Reasons.{AreInTurn}
 use Rattle.sat_parts.specs.prop.Ready.{state_of}
 use Rattle.sat_parts.specs.prop.Asks.{PropagationInvariant, EnqueuePrecondition, PropagationPrecondition}
 
--- undoing the levels above this one gives what propagation requires, if its invariant held for the literals of levels below a higher
--- `top`: after complete propagation, and after a conflict once its level is undone
+-- undoing the levels above this one gives what propagation requires, if its invariant held for the literals at levels below a higher `top`:
+-- after complete propagation, and after a conflict once its level is undone
 abbrev pub BacktrackPreservesInvariant : (level : ℕ) (a : Values) (t : Trailed) (a' : Values) (t' : Trailed) → Type 0
 BacktrackPreservesInvariant level a t a' t' =
     (words refs : List ℕ) (w : Watching) (implied : List (List ℕ)) (nodes : List ImplNode) (top : ℕ) → level < top →
@@ -41,8 +41,8 @@ NewLevelPreservesInvariant t t' =
     (a : Values) (words refs : List ℕ) (w : Watching) (implied : List (List ℕ)) (nodes : List ImplNode) → t.head ≡ length t.lits →
     PropagationPrecondition words refs w implied (state_of a nodes t) → PropagationPrecondition words refs w implied (state_of a nodes t')
 
--- what remains when the levels above `top` are undone: exactly the literals that were true at that level or lower, those of the trail
--- at their positions; the others are unassigned
+-- what remains when the levels above `top` are undone: exactly the literals that were true at that level or lower, those on the trail at
+-- their positions; the others are unassigned
 pub record KeepsLow (top : ℕ) (s s' : State) : Type 0 where
   pub agrees : StateIsConsistent s'
   pub low_kept : (l : ℕ) → IsTrueLit s.values l → level s l ≤ top → IsTrueLit s'.values l
@@ -55,6 +55,6 @@ pub record KeepsLow (top : ℕ) (s s' : State) : Type 0 where
   pub places : (i : ℕ) → i < length s'.trail.lits → lit_at s' i ≡ lit_at s i
   pub low_places : (i : ℕ) → i < length s.trail.lits → level s (lit_at s i) ≤ top → i < length s'.trail.lits
 
--- the same for values and a trail, whatever nodes they agree with
+-- the same for values and a trail, for any nodes that agree with them
 abbrev pub KeepsBelow : (top : ℕ) (a : Values) (t : Trailed) (a' : Values) (t' : Trailed) → Type 0
 KeepsBelow top a t a' t' = (nodes : List ImplNode) → StateIsConsistent (state_of a nodes t) → KeepsLow top (state_of a nodes t) (state_of a' nodes t')

@@ -21,7 +21,7 @@ with_implied l m implied = set implied l (implied_by implied l ++ m ∷ [])
 abbrev pub without_last_implied : ℕ → List (List ℕ) → List (List ℕ)
 without_last_implied l implied = set implied l (take (length (implied_by implied l) - 1) (implied_by implied l))
 
--- the clauses with one more: if one of its literals is false, the other is implied
+-- the clauses and one more: if one of its literals is false, the other is implied
 abbrev pub with_binary : ℕ → ℕ → Binaries → Binaries
 with_binary a b x = record {
   implied = with_implied (negated b) a (with_implied (negated a) b x.implied);

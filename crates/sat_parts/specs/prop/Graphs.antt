@@ -5,7 +5,7 @@ use Rattle.sat_parts.specs.declared.prop.graph.ImplNode.{ImplNode}
 use Rattle.sat_parts.specs.declared.prop.graph.Reason.{Reason}
 use Rattle.sat_parts.specs.declared.prop.graph.Reason.TheVariants.{Unit as NoCause, Binary, Long}
 
--- whether the reason is no clause: the literal is a unit, a decision or an assumption
+-- whether the reason is not a clause: the literal is a unit, a decision or an assumption
 abbrev pub is_unit_reason : Reason → Bool
 is_unit_reason NoCause = true
 is_unit_reason (Binary _) = false

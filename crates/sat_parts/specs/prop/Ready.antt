@@ -37,8 +37,8 @@ pub record AreWatched (words live : List ℕ) (lists : List (List Watch)) (count
   pub good : (l p : ℕ) → p < length (watches_of lists l) → IsSoundWatch words live (get_or (watches_of lists l) p no_watch)
   pub both : (o i : ℕ) → Contains live o → i < 2 → HasWatch (watches_of lists (negated (lit_of words o i))) o
 
--- if one of the first two literals of a live clause is false by a due literal that has left the queue, the clause has a true literal
--- of the same level or lower
+-- if one of the first two literals of a live clause is false by a due literal that has left the queue, the clause has a true literal at the
+-- same level or lower
 abbrev pub AreSettled : (words live : List ℕ) (s : State) (due : ℕ → Type 0) → Type 0
 AreSettled words live s due =
     (o i : ℕ) → Contains live o → i < 2 → HasLeftQueue s (negated (lit_of words o i)) → due (negated (lit_of words o i)) →
@@ -63,8 +63,8 @@ pub record AreLists (implied : List (List ℕ)) (count : ℕ) : Type 0 where
   pub room : length implied ≡ 2 * count
   pub below : (l k : ℕ) → k < length (implied_by implied l) → get_or (implied_by implied l) k 0 < 2 * count
 
--- what propagation requires, for the literals of levels below `top`: one more than the current level to go on, the current level to
--- go on once that level is undone
+-- what propagation requires, for the literals at levels below `top`: one more than the current level to go on, the current level to go on
+-- once that level is undone
 pub record ReadyBelow (words live : List ℕ) (lists : List (List Watch)) (implied : List (List ℕ)) (s : State) (top : ℕ) : Type 0 where
   pub long : LongReady words live lists s (λ l. level s l < top)
   pub ranges : AreLists implied (length s.values)
@@ -97,8 +97,8 @@ IsConflict words live implied values (Binary ls) =
     × IsFalseLit values (get_or ls 1 0)
 IsConflict words live implied values (Long o) = Contains live o × AreAllFalse values (lits_at words o)
 
--- what propagation ensures: the literals that it assigned have reasons; and either a state that is ready again, with an empty queue
--- and no unit or falsified clause, or a falsified clause and a state that is ready once its level is undone
+-- What propagation ensures: the literals that it assigned have reasons. Without a conflict, the state is ready again, with an empty queue
+-- and no unit or falsified clause. After a conflict, a clause is falsified, and the state is ready once its level is undone.
 pub record Propagated (live : List ℕ) (implied : List (List ℕ)) (words : List ℕ) (s : State) (words' : List ℕ) (s' : State) (lists : List (List Watch)) (r : Result (Unit {0}) Conflict) : Type 0 where
   pub moves : PropagatesOn live implied words s words' s'
   pub outcome : MatchResult r

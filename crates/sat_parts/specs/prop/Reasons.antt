@@ -1,4 +1,4 @@
--- Why the literals of the trail are true.
+-- Why the literals on the trail are true.
 use Rattle.std.specs.Prelude.{ℕ, ◌≡◌, false, ◌<◌, ◌≤◌, ◌⊎◌, List, [], length, slice_index_or as get_or}
 use Rattle.std.specs.List.{Contains}
 use Rattle.sat_base.specs.values.Literals.{negated}

@@ -46,7 +46,7 @@ pub record IsBefore (s : State) (bound l : ℕ) : Type 0 where
 abbrev pub HasLeftQueue : State → ℕ → Type 0
 HasLeftQueue s l = IsBefore s s.trail.head l ⊎ IsRemoved s l
 
--- values, nodes and trail agree: the literals of the trail are true, their nodes have their positions and levels, and every other true
+-- values, nodes and trail agree: the literals on the trail are true, their nodes have their positions and levels, and every other true
 -- literal was taken off the trail as a unit
 pub record StateIsConsistent (s : State) : Type 0 where
   pub trail : IsTrail s.trail
@@ -57,7 +57,7 @@ pub record StateIsConsistent (s : State) : Type 0 where
   pub levels : (i : ℕ) → i < length s.trail.lits → LevelIs s.trail.starts i (level s (lit_at s i))
   pub known : (l : ℕ) → IsTrueLit s.values l → IsBefore s (length s.trail.lits) l ⊎ IsRemoved s l
 
--- every literal of the queue is of the current level
+-- every literal in the queue is at the current level
 abbrev pub IsQueueCurrent : State → Type 0
 IsQueueCurrent s = (i : ℕ) → s.trail.head ≤ i → i < length s.trail.lits → level s (lit_at s i) ≡ current_level s
 

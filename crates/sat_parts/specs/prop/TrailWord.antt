@@ -58,7 +58,7 @@ pub record IsLevelled (s : State) : Type 0 where
   pub caused : (i k : ℕ) → k < length s.trail.starts → get_or s.trail.starts k 0 ≤ i → i < length s.trail.lits → BeginsNoLevel s.trail.starts i →
       is_unit_reason (node s (lit_at s i)).reason ≡ false
 
--- the state after an unassigned literal was decided on a new level
+-- the state after an unassigned literal was decided at a new level
 abbrev pub decided_on : ℕ → State → State
 decided_on l s = enqueued l NoCause (record s { trail = with_level s.trail })
 

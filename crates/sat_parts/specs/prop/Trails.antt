@@ -28,13 +28,13 @@ pub record IsTrail (t : Trailed) : Type 0 where
   pub small : t.room ≤ var_limit
   pub counted : length t.starts < 2 ^ 32
 
--- the literal at position i is of this level
+-- the literal at position i is at this level
 pub record LevelIs (starts : List ℕ) (i level : ℕ) : Type 0 where
   pub within : level ≤ length starts
   pub begun : (k : ℕ) → k < level → get_or starts k 0 ≤ i
   pub not_begun : (k : ℕ) → level ≤ k → k < length starts → i < get_or starts k 0
 
--- the empty trail, without levels and capacity
+-- the empty trail, without levels or capacity
 abbrev pub no_trail : Trailed
 no_trail = record { lits = []; head = 0; starts = []; cleared = 0; room = 0 }
 

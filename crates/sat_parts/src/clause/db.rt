@@ -22,7 +22,7 @@ use std::marker::Model;
 /// The number of words of a clause before its literals.
 const HEADER_LEN: usize = 3;
 
-/// The list of the long clauses, in the order of addition, and the number of clauses of every tier.
+/// The long clauses, in the order in which they were added, and the number of clauses of every tier.
 ///
 /// A deleted clause stays in the list until garbage is collected. Contracts see a `Db`; `HoldsDb` states that it lists
 /// the clauses of a buffer.
@@ -61,7 +61,7 @@ impl ClauseDb {
         self.count_by_tier[tier.index()]
     }
 
-    /// Returns all clauses of the list, including deleted ones, in the order of addition.
+    /// Returns all clauses of the list, including deleted ones, in the order in which they were added.
     pub fn refs(&self) -> &[ClauseRef]
         ensures { result.now ≡ self.now.refs }
     {

@@ -10,7 +10,7 @@ use sat_store::{ClauseAlloc, ClauseRef};
 
 /// Deletes the live clauses for which `keep` returns false, and disables the watch lists.
 ///
-/// Calls `keep` once for every live clause, in the order of addition.
+/// Calls `keep` once for every live clause, in the order in which the clauses were added.
 pub fn filter_clauses<F: FnMut(&ClauseAlloc, ClauseRef) -> bool>(
     clauses: &mut ClauseAlloc,
     db: &mut ClauseDb,

@@ -78,7 +78,7 @@ fn move_reason(graph: &mut ImplGraph, lit: Lit, from: ClauseRef, to: ClauseRef)
 
 /// Replaces every live clause that is the reason of its first literal by its copy.
 ///
-/// The trail is not read: it states which reasons the contract speaks of.
+/// The trail is not read: it states which reasons the contract is about.
 fn move_reasons(
     clauses: &ClauseAlloc,
     db: &ClauseDb,
@@ -143,7 +143,7 @@ fn put_copied(copied: Copied, clauses: &mut ClauseAlloc, db: &mut ClauseDb)
 
 /// Collects garbage if deleted clauses have more than half of the words of the buffer.
 ///
-/// Moves the live clauses to a new buffer, in order, updates the reasons of the literals of the trail, and disables the
+/// Moves the live clauses to a new buffer, in order, updates the reasons of the literals on the trail, and disables the
 /// watch lists. If memory runs out, nothing changes.
 pub fn collect_garbage(
     alloc: Global,

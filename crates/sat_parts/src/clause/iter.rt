@@ -28,7 +28,7 @@ impl<'a> Model for ClausesIter<'a> {
     ghost invariant = { λ i. AreClausePlaces i.clauses.now i.refs.now };
 }
 
-/// Returns an iterator over the live clauses, in the order of addition.
+/// Returns an iterator over the live clauses, in the order in which they were added.
 pub fn clauses_iter<'a>(clauses: &'a ClauseAlloc, db: &'a ClauseDb) -> ClausesIter<'a>
     requires { HoldsDb clauses.now db.now }
     ensures rest { result ≡ live_refs clauses.now db.now.refs }

@@ -48,7 +48,7 @@ pub fn reduce_mids(clauses: &mut ClauseAlloc, db: &mut ClauseDb)
     }
 }
 
-/// Whether a clause is live and of a tier.
+/// Whether a clause is live and in a tier.
 fn is_of_tier(clauses: &ClauseAlloc, cref: ClauseRef, tier: Tier) -> bool
     requires { IsClause clauses.now cref }
     ensures { result ≡ is_live_of clauses.now tier cref }
@@ -60,7 +60,7 @@ fn is_of_tier(clauses: &ClauseAlloc, cref: ClauseRef, tier: Tier) -> bool
     header.tier().index() == tier.index()
 }
 
-/// Returns the live clauses of a tier, in the order of addition.
+/// Returns the live clauses of a tier, in the order in which they were added.
 fn clauses_of_tier(
     alloc: Global,
     clauses: &ClauseAlloc,
@@ -80,7 +80,7 @@ fn clauses_of_tier(
     Ok(list)
 }
 
-/// Marks a clause if it is live and of a tier.
+/// Marks a clause if it is live and in a tier.
 fn mark_one(clauses: &mut ClauseAlloc, _db: &ClauseDb, cref: ClauseRef, tier: Tier)
     requires db { HoldsDb clauses.old _db.now }
     requires there { Contains _db.now.refs cref }
@@ -112,7 +112,7 @@ fn mark_tier(clauses: &mut ClauseAlloc, db: &ClauseDb, tier: Tier)
     }
 }
 
-/// Marks and returns the live clauses of a tier, each once and in the order of addition.
+/// Marks and returns the live clauses of a tier, each once and in the order in which they were added.
 ///
 /// If memory runs out, nothing changes.
 pub fn dedup_and_mark_by_tier(

@@ -16,8 +16,8 @@ use std::alloc::{AllocError, Global};
 
 /// The literals that an ask assumes.
 ///
-/// Before any decision they are made true in order, each on a level of its own. A literal that is already true gets no
-/// level.
+/// Before any decision they are made true in order, each at a level of its own. A literal that is already true gets
+/// no level.
 #[derive(Drop)]
 pub struct Assumptions {
     /// All assumptions.
@@ -33,7 +33,7 @@ pub struct Assumptions {
 pub enum EnqueueAssumption {
     /// All assumptions are true.
     Done,
-    /// One assumption became true, on a level of its own.
+    /// One assumption became true, at a level of its own.
     Enqueued,
     /// This assumption is false.
     Conflict(Lit),
@@ -125,7 +125,7 @@ fn begin_level(parts: &mut Parts, assumptions: &mut Assumptions, lit: Lit) -> Re
     assume(parts, lit)
 }
 
-/// Makes the next assumption true that is not true yet, if there is one and it is not false.
+/// Makes true the next assumption that is not true yet, if there is one and it is not false.
 pub fn enqueue_assumption(
     parts: &mut Parts,
     assumptions: &mut Assumptions,
@@ -155,7 +155,7 @@ pub fn enqueue_assumption(
     }
 }
 
-/// Undoes all decisions, and keeps the levels of assumptions.
+/// Undoes all decisions, but keeps the levels of assumptions.
 pub fn restart(parts: &mut Parts, assumptions: &Assumptions)
     requires holds { PartsInvariant parts.old }
     requires placed { ArePlaced assumptions.now (state parts.old) }

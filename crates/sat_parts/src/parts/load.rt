@@ -161,7 +161,7 @@ fn load_sorted(parts: &mut Parts, lits: &[Lit], kept: usize) -> Result<Loaded, S
 /// Loads a clause at level 0.
 ///
 /// The false literals before the first true one move to the end, in order, and the units that falsify them return to
-/// the queue. The clause is stored in this order, unless a literal is true or it has less than two literals.
+/// the queue. The clause is stored in this order, unless a literal is true or it has fewer than two literals.
 pub fn load(parts: &mut Parts, given: &[Lit], sorting: &mut Sorting) -> Result<Loaded, StoreError>
     requires holds { PartsInvariant parts.old }
     requires bottom { parts.old.trail.starts ≡ [] }

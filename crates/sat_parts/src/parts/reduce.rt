@@ -12,7 +12,7 @@ use crate::parts::Parts;
 use sat_store::{ClauseAlloc, ClauseRef, Tier};
 use std::alloc::{AllocError, Global};
 
-/// Whether a clause is live and of tier Local.
+/// Whether a clause is live and in tier Local.
 fn is_local(clauses: &ClauseAlloc, cref: ClauseRef) -> bool
     requires { IsClause clauses.now cref }
     ensures { result ≡ is_live_of clauses.now Tier.Local cref }
@@ -24,7 +24,7 @@ fn is_local(clauses: &ClauseAlloc, cref: ClauseRef) -> bool
     header.tier().index() == 3
 }
 
-/// Fills a list with the live clauses of tier Local, in the order of addition.
+/// Fills a list with the live clauses of tier Local, in the order in which they were added.
 fn find_locals(parts: &Parts, list: &mut Vec<ClauseRef>) -> Result<(), AllocError>
     requires holds { PartsInvariant parts.now }
     ensures { OnOk result (list.new.items ≡ filter (is_live_of parts.now.clauses Tier.Local) parts.now.db.refs) }
@@ -74,7 +74,8 @@ fn take_clauses(ranks: &[(u128, ClauseRef)], list: &mut Vec<ClauseRef>) -> Resul
     Ok(())
 }
 
-/// Fills a list with the live clauses of tier Local, lowest activity first. Of equal activities the older comes first.
+/// Fills a list with the live clauses of tier Local, lowest activity first. Among equal activities the older clause
+/// comes first.
 pub fn list_locals(
     alloc: Global,
     parts: &Parts,

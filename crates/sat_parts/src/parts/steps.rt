@@ -25,7 +25,7 @@ use sat_base::{Lit, Var};
 use sat_store::{ClauseHeader, StoreError, Vsids};
 use std::alloc::{AllocError, Global};
 
-/// Propagates all literals of the queue. After a conflict, the invariant holds again once the current level is undone.
+/// Propagates all literals in the queue. After a conflict, the invariant holds again once the current level is undone.
 pub fn propagate_all(alloc: Global, parts: &mut Parts) -> Result<Result<(), Conflict>, AllocError>
     requires holds { HoldsBelow (length parts.old.trail.starts + 1) parts.old }
     ensures holds { IfOk result (λ r. MatchResult r (λ _. HoldsBelow (length parts.new.trail.starts + 1) parts.new)
@@ -257,7 +257,7 @@ pub fn make_decision(parts: &mut Parts) -> Result<bool, AllocError>
     }
 }
 
-/// Makes an unassigned literal true as an assumption, on a level of its own.
+/// Makes an unassigned literal true as an assumption, at a level of its own.
 pub fn assume(parts: &mut Parts, lit: Lit) -> Result<(), AllocError>
     requires holds { PartsInvariant parts.old }
     requires done { IsFullyPropagated parts.old }

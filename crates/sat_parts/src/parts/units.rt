@@ -12,7 +12,7 @@ use crate::parts::Parts;
 use crate::{ImplGraph, Reason, Trail, enqueue_assignment};
 use sat_base::Lit;
 
-/// Marks the literals of the trail as units that were taken off it.
+/// Marks the literals on the trail as units that were taken off it.
 fn mark_removed(graph: &mut ImplGraph, trail: &Trail)
     requires { HaveNodes graph.old trail.now.lits }
     ensures { graph.new ≡ removed trail.now.lits graph.old }

@@ -44,7 +44,7 @@ pub fn fast_option_eq(a: Option<bool>, b: Option<bool>) -> bool
 }
 
 impl Assignment {
-    /// Returns an assignment of no variables. Never allocates.
+    /// Returns an assignment without variables. Never allocates.
     pub fn new(alloc: Global) -> Assignment
         ensures current { result.current ≡ [] }
         ensures last { result.last ≡ [] }

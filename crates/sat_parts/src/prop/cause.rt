@@ -11,7 +11,8 @@ use sat_store::{ClauseAlloc, Lits, LitsIter};
 use std::iter::FusedIterator;
 use std::marker::Model;
 
-/// The literals of a reason or a conflict: its own, or those of a long clause. Contracts see their list.
+/// The literals of a reason or a conflict: those that it holds itself, or those of a long clause. Contracts see
+/// their list.
 #[derive(Drop)]
 pub struct CauseLits<'a> {
     own: &'a [Lit],
@@ -60,8 +61,8 @@ impl<'a> CauseLits<'a> {
         }
     }
 
-    /// Returns the literals in two parts, one of which is empty: its own, and those of its long clause.
-    #[inline(always)] // called for each reason that an analysis looks at
+    /// Returns two lists, one of which is empty: the literals that it holds itself, and those of its long clause.
+    #[inline(always)] // called for each reason that conflict analysis looks at
     pub fn parts(&self) -> (&'a [Lit], &Lits<'a>)
         ensures { result.0.now ++ result.1.now ≡ self.now }
     {

@@ -19,7 +19,7 @@ pub enum Reason {
 }
 
 impl Reason {
-    /// Whether there is no clause: the literal is a unit, a decision or an assumption.
+    /// Whether the reason is not a clause: the literal is a unit, a decision or an assumption.
     pub fn is_unit(&self) -> bool
         ensures { result ≡ is_unit_reason self.now }
     {
@@ -67,7 +67,7 @@ impl Model for ImplGraph {
 }
 
 impl ImplGraph {
-    /// Returns a graph of no variables. Never allocates.
+    /// Returns a graph without variables. Never allocates.
     pub fn new(alloc: Global) -> ImplGraph
         ensures { result ≡ [] }
     {

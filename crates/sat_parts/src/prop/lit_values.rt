@@ -45,7 +45,7 @@ fn lit_value(value: Option<bool>, positive: bool) -> LitValue
 }
 
 impl LitValues {
-    /// Returns the values of no literals. Never allocates.
+    /// Returns an empty list of values. Never allocates.
     pub(crate) fn new(alloc: Global) -> LitValues
         ensures { result.codes.items ≡ [] }
     {

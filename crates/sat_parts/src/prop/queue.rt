@@ -1,4 +1,4 @@
-//! Propagation of all literals of the queue.
+//! Propagation of all literals in the queue.
 ghost use Rattle.std.specs.Prelude.{ℕ, List, ◌≡◌, IfOk};
 ghost use Rattle.sat_parts.specs.prop.Ready.{state_of, IsReadyToPropagate, Propagated};
 
@@ -13,7 +13,7 @@ use crate::prop::watch::Watchlists;
 use sat_store::ClauseAlloc;
 use std::alloc::{AllocError, Global};
 
-/// Propagates all literals of the queue, each over the binary clauses and then over the long ones.
+/// Propagates all literals in the queue, each over the binary clauses and then over the long ones.
 ///
 /// The list of clauses is not read: it states which clauses are live. If memory runs out, the parts must not be used
 /// again.

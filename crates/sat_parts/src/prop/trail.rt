@@ -97,7 +97,7 @@ impl Trail {
         Some(head)
     }
 
-    /// Puts all literals of the trail back into the queue.
+    /// Puts all literals on the trail back into the queue.
     pub fn reset_queue(&mut self)
         ensures { self.new ≡ record self.old { head = 0 } }
     {
@@ -151,7 +151,7 @@ impl Trail {
         self.decisions.len()
     }
 
-    /// Returns the number of literals that were cleared or are of level 0. It saturates at 2^64 - 1.
+    /// Returns the number of literals that were cleared or are at level 0. It saturates at 2^64 - 1.
     pub fn top_level_assignment_count(&self) -> usize
         ensures { result ≡ min (first_start self.now + self.now.cleared) (2 ^ 64 - 1) }
     {
@@ -182,7 +182,7 @@ pub fn enqueue_assignment(
     requires value { variable lit < length assignment.old.current }
     requires node { variable lit < length graph.old }
     requires open { IsOpenLit assignment.old.current lit }
-    // Where the parts agree, there is room for each open literal.
+    // If the parts agree, there is room for every open literal.
     requires room { StateIsConsistent (state_of assignment.old graph.old trail.old) ⊎ (length trail.old.lits < trail.old.room) }
     ensures value { assignment.new ≡ made_true lit assignment.old }
     ensures node { graph.new ≡ with_node (variable lit) (node_at trail.old reason) graph.old }

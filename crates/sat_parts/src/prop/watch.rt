@@ -151,7 +151,7 @@ impl Watchlists {
     ghost use Rattle.std.specs.Borrow.{sem};
     ghost use Rattle.sat_parts.specs.prop.Lending.{LendsList};
 
-    /// Returns enabled lists for no literals. Never allocates.
+    /// Returns enabled watch lists without any literals. Never allocates.
     pub fn new(alloc: Global) -> Watchlists
         ensures lists { result.lists ≡ [] }
         ensures enabled { result.enabled ≡ true }
@@ -193,7 +193,7 @@ impl Watchlists {
         self.enabled = false;
     }
 
-    /// Lends the watches of a literal to be changed.
+    /// Lends the watches of a literal for writing.
     pub fn watched_by_mut(&mut self, lit: Lit) -> &mut WatchList
         requires { lit < length self.old.lists }
         ensures value { result.now ≡ watches_of self.old.lists lit }
@@ -289,8 +289,8 @@ impl Watchlists {
     }
 }
 
-/// Creates the lists of all literals. Capacity for them must be reserved.
-#[inline(never)] // called at the first watch, and at the first after new variables
+/// Creates the lists of all literals. Capacity for them must have been reserved.
+#[inline(never)] // called for the first watch, and for the first one after variables were added
 fn widen(alloc: Global, watches: &mut Vec<WatchList>, count: usize)
     requires { HasListRoom count (vec_capacity watches.old) watches.old.items }
     ensures lists { watches.new.items ≡ widened count watches.old.items }
