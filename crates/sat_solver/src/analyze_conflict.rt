@@ -1,4 +1,4 @@
-//! Conflict analysis: the clause that a conflict teaches, and the assumptions that fail together.
+//! Conflict analysis: the clause learned from a conflict, and the assumptions that fail together.
 pub mod analyze;
 pub mod laws;
 pub mod learn;

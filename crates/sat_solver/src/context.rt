@@ -1,4 +1,4 @@
-//! What a search works on, and what a solver works on.
+//! The data of a search, and the data of a solver.
 ghost use Rattle.std.specs.Prelude.{◌≡◌, []};
 ghost use Rattle.sat_solver.specs.session.Session.{nothing};
 ghost use Rattle.sat_solver.specs.cdcl.Joint.{IsSearch};
@@ -22,7 +22,7 @@ pub struct Scratch {
     pub units: Vec<(Lit, ClauseHash)>,
 }
 
-/// What a search works on, apart from its proof.
+/// The data of a search, apart from its proof.
 #[derive(Drop)]
 pub struct Search {
     pub alloc: Global,
@@ -38,7 +38,7 @@ pub struct Search {
     pub failed: Lit,
 }
 
-/// What a solver works on, apart from its names.
+/// The data of a solver, apart from its names.
 #[derive(Drop)]
 pub struct Core<W: CountedWrite + Drop, P: ProofProcessor = Nobody> {
     pub proof: Proof<W, P>,

@@ -65,9 +65,9 @@ fn delete_true<W: CountedWrite + Drop, P: ProofProcessor>(
     Ok(true)
 }
 
-/// Loads a clause, at level 0, that the last step added. One with a true literal and another literal is deleted at
-/// once. Returns whether the formula may still be satisfiable: after an empty clause, or one whose only literal is
-/// false, it is not, and unsat is recorded.
+/// Loads the clause that the last step added, at level 0. A clause with a true literal and at least one other literal
+/// is deleted at once. Returns whether the formula may still be satisfiable: after an empty clause, or one whose only
+/// literal is false, it is not, and unsat is recorded.
 pub fn load_clause<W: CountedWrite + Drop, P: ProofProcessor>(
     proof: &mut Proof<W, P>,
     search: &mut Search,

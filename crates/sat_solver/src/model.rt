@@ -57,7 +57,7 @@ fn push_value(
     Ok(())
 }
 
-/// Replaces the content of a list by a literal for every proof variable in use, in increasing order.
+/// Replaces the content of a list with a literal for every proof variable in use, in increasing order.
 pub fn model_lits(
     variables: &Variables,
     values: &[Option<bool>],
@@ -93,7 +93,7 @@ fn push_named(
     Ok(())
 }
 
-/// Replaces the content of a list by a literal for every name in use, in increasing order.
+/// Replaces the content of a list with a literal for every name in use, in increasing order.
 pub fn named_lits(
     variables: &Variables,
     values: &[Option<bool>],

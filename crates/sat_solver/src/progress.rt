@@ -1,4 +1,4 @@
-//! How far a solver has come.
+//! The progress of a solver.
 
 /// Counts of a solver. They saturate at 2^64-1.
 #[derive(Clone, Copy, Debug, Drop, PartialEq, Eq)]

@@ -242,7 +242,7 @@ impl<W: CountedWrite + Drop, P: ProofProcessor> Proof<W, P> {
         false
     }
 
-    /// Writes any step. This is a call of its own, since an error of a target is large.
+    /// Writes any step. This is a separate function, since an error of a target is large.
     #[inline(never)]
     fn put_long(
         &mut self,
@@ -298,7 +298,7 @@ impl<W: CountedWrite + Drop, P: ProofProcessor> Proof<W, P> {
     }
 
     /// Passes the same step to target and checker, with its hashes shortened to the width for the clauses after it. A
-    /// step at whose text the target fails is not checked.
+    /// step is not checked if the target fails while its text is written.
     #[inline(always)]
     fn record<'s>(
         &mut self,
@@ -440,7 +440,7 @@ impl<W: CountedWrite + Drop, P: ProofProcessor> Proof<W, P> {
         }
     }
 
-    /// Makes the checker announce what waits.
+    /// Makes the checker announce what is pending.
     fn take_delayed(&mut self) -> Result<(), ProofError>
         ensures steps { steps_of self.new ≡ steps_of self.old }
         ensures listening { audience self.new ≡ audience self.old }
@@ -455,7 +455,8 @@ impl<W: CountedWrite + Drop, P: ProofProcessor> Proof<W, P> {
         Ok(())
     }
 
-    /// Writes pending bytes to the open target, if any, and flushes it. Then the checker, if any, announces what waits.
+    /// Writes pending bytes to the open target, if any, and flushes it. Then the checker, if any, announces what
+    /// is pending.
     pub fn flush(&mut self) -> Result<(), ProofError>
         ensures keeps { HasAllowedSteps self.old → HasAllowedSteps self.new }
         ensures flushes { FlushesOrFails W.seen result self.old self.new }
@@ -498,7 +499,7 @@ impl<W: CountedWrite + Drop, P: ProofProcessor> Proof<W, P> {
         self.cause
     }
 
-    /// Returns the error of a listener. It is returned once.
+    /// Returns the error of a listener. It is returned only once.
     pub fn take_complaint(&mut self) -> Option<anyhow::Error>
         ensures gives { result ≡ self.old.made.complaint }
         ensures same { self.new ≡ without_complaint self.old }
@@ -506,7 +507,7 @@ impl<W: CountedWrite + Drop, P: ProofProcessor> Proof<W, P> {
         self.made.take_complaint()
     }
 
-    /// Returns the checker's listeners in the order in which they were added, also after a failure. The checker has
+    /// Returns the checker's listeners in the order in which they were added, even after a failure. The checker has
     /// none afterwards.
     pub fn take_processors(&mut self, alloc: Global) -> Vec<P>
         ensures handed { HandsBackListeners self.old result.items }

@@ -103,7 +103,7 @@ impl<W: CountedWrite + Drop, P: ProofProcessor> Solver<W, P> {
         }
     }
 
-    /// Returns the number of rounds (not of proof steps) so far, over all calls of `solve`, also after a failed call.
+    /// Returns the number of rounds (not of proof steps) so far, over all calls of `solve`, even after a failed call.
     /// A round ends in a conflict or an answer. The number saturates at 2^64-1.
     pub fn steps(&self) -> u64
         ensures { result ≡ rounds_in self.now }

@@ -35,7 +35,7 @@ pub struct Variables {
     /// The variable that each index of the search has, or had last.
     pub globals: Vec<Var>,
 
-    /// What is stored of each variable, indexed by variable.
+    /// What is stored for each variable, indexed by variable.
     pub var_data: Vec<VarData>,
 
     /// Names that were used and are not in use.

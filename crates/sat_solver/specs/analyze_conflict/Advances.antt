@@ -33,8 +33,8 @@ pub record StaysOpen (words live : List ℕ) (implied : List (List ℕ)) (l : �
   pub not_false : is_among reached (negated l) ≡ false
   pub no_conflict : (c : List ℕ) → IsStored words live implied c → IsFalsified reached c → ⊥
 
--- whichever stored clauses are unit in turn under the units and the negations of its other literals: the first literal of a learned clause
--- stays open, and no stored clause is falsified
+-- the first literal of a learned clause stays open, and no stored clause is falsified, whichever stored clauses are unit in turn under the units and
+-- the negations of its other literals
 abbrev pub LearnedAdvances : Type 0
 LearnedAdvances =
     (words refs : List ℕ) (watching : Watching) (implied : List (List ℕ)) (s : State) (conflict : List ℕ) (w : Work) (back : ℕ) (units : List ℕ) (picked : List (List ℕ)) (reached : List ℕ) →

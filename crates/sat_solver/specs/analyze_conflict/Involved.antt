@@ -40,8 +40,8 @@ pub record HasOther (words : List ℕ) (s : State) (conflict resolved : List ℕ
 abbrev pub AreNeeded : (words : List ℕ) (s : State) (conflict resolved : List ℕ) → Type 0
 AreNeeded words s conflict resolved = (k : ℕ) → k < length resolved → HasOther words s conflict (take k resolved) (get_or resolved k 0)
 
--- The resolved literals are the used ones of the current level, from the end of the trail on. Every variable that was met is listed once.
--- Long clauses that took part are listed, the falsified one first.
+-- The resolved literals are the used ones of the current level, going backwards from the end of the trail. Every variable that was met is listed
+-- once. Long clauses that took part are listed, the falsified one first.
 pub record IsResolution (words : List ℕ) (s : State) (e : Conflict) (w : Work) : Type 0 where
   pub resolved : List ℕ
   pub falling : (j k : ℕ) → j < k → k < length resolved → depth s (get_or resolved k 0) < depth s (get_or resolved j 0)

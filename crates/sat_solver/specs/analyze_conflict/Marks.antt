@@ -125,7 +125,7 @@ pub record ResolutionInvariant (words : List ℕ) (s : State) (ls : List ℕ) (w
   pub uses : AreUsed words s (current_level s) w at
   pub start : AreCovered s (current_level s) w at ls
 
--- the resolvent of the falsified clause with the reasons from this position of the trail on
+-- the resolvent of the falsified clause with the reasons starting at this position of the trail
 abbrev pub IsResolvent : (words : List ℕ) (s : State) (e : Conflict) (w : Work) (at : ℕ) → Type 0
 IsResolvent words s e w at = ResolutionInvariant words s (falsified words e) w at
 

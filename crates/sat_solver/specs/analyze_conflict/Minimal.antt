@@ -39,7 +39,7 @@ pub record MinimizationInvariant (words : List ℕ) (s : State) (conflict : List
   pub causes : (k : ℕ) → k < at → AreMarked s first w (causes_at words s (get_or w.used k 0))
   pub start : AreMarked s first w conflict
 
--- a used literal from this position on has this variable
+-- a used literal at this position or later has this variable
 pub record IsNewUse (used : List ℕ) (from v : ℕ) : Type 0 where
   pub place : ℕ
   pub behind : from ≤ place
@@ -102,7 +102,7 @@ pub record Minimal (words : List ℕ) (s : State) (conflict : List ℕ) (first l
   pub only : (v : ℕ) → get_or w.flags v false ≡ true → HasVariable rest v ⊎ IsNewUse w.used low v
   pub apart : (l : ℕ) → Contains w.used l → Contains rest (negated l) → ⊥
 
--- takes back the marks of a search: literals used from position `top` on are removed, and all but the first of them are unflagged
+-- undoes the marks of a search: the used literals starting at position `top` are removed, and all but the first of them are unflagged
 pub record Undoes (top : ℕ) (w w' : Work) : Type 0 where
   pub clause : w'.clause ≡ w.clause
   pub met : w'.met ≡ w.met
@@ -148,7 +148,7 @@ depth_key nodes l = depth_in nodes l * 2 ^ 29 + l
 abbrev pub keyed_lit : ℕ → ℕ
 keyed_lit key = key % 2 ^ 29
 
--- the first literals of the list are sorted by falling depth, and no later one is deeper than any of these
+-- the first literals of the list are sorted by descending depth, and no later one is deeper than any of these
 pub record FallsBefore (nodes : List ImplNode) (ls : List ℕ) (resolved : ℕ) : Type 0 where
   pub within : resolved ≤ length ls
   pub falling : (j k : ℕ) → j ≤ k → k < resolved → depth_in nodes (get_or ls k 0) ≤ depth_in nodes (get_or ls j 0)

@@ -25,8 +25,8 @@ pub record Work : Type 0 where
 abbrev pub worked : (clause used met involved core : List ℕ) (flags : List Bool) (pending : ℕ) → Work
 worked clause used met involved core flags pending = record { clause = clause; used = used; met = met; involved = involved; core = core; flags = flags; pending = pending }
 
--- meets a false literal: nothing changes at level 0 or if it is flagged already; otherwise it is counted at level `top` or above, and added
--- to the clause below it
+-- meets a false literal: nothing changes at level 0 or if it is flagged already; otherwise it is counted if its level is `top` or above, and added to
+-- the clause if its level is below `top`
 abbrev pub with_met_literal : (nodes : List ImplNode) (top r : ℕ) → Work → Work
 with_met_literal nodes top r w =
     if (node_of nodes (variable r)).level == 0 then w

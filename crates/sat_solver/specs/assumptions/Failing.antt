@@ -19,7 +19,7 @@ pub record IsChosen (s : State) (at l : ℕ) : Type 0 where
   pub above : 0 < level s l
   pub free : is_unit_reason (node s l).reason ≡ true
 
--- the assumption that failed, and then chosen literals from this position of the trail on, the last first
+-- the assumption that failed, and then chosen literals starting at this position of the trail, the last first
 pub record IsCoreFrom (s : State) (failed : ℕ) (core : List ℕ) (at : ℕ) : Type 0 where
   pub some : 0 < length core
   pub first : get_or core 0 0 ≡ failed

@@ -24,8 +24,8 @@ IsKept (errors.ProofIoError cause) p = p.cause ≡ Some cause
 IsKept (errors.ProofProcessorError cause) p = p.made.complaint ≡ Some cause
 IsKept e p = Unit {0}
 
--- If the checker has missed a step that was made, then because the target or the checker failed at it, and this error says so. On an
--- allocation failure it has missed none, unless the checker itself ran out of memory.
+-- If the checker has missed a step that was made, that is because the target or the checker failed at it, and this error says so. On an allocation
+-- failure it has missed none, unless the checker itself ran out of memory.
 abbrev pub NamesLoss : {W L : Type 0} {G : Ghosts L} → SolverError → Proof W L G → Proof W L G → Type 0
 NamesLoss (errors.ProofIoError cause) old new = Unit {0}
 NamesLoss (errors.ProofProcessorError cause) old new = Unit {0}

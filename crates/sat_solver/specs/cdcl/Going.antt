@@ -63,8 +63,8 @@ IsFaultOr full e = ⊥
 abbrev pub IsFault : SolverError → Type 0
 IsFault = IsFaultOr ⊥
 
--- these steps were made; if a call of the target failed, it failed at their text. `CounterEnd` and a listener's fault come only from the
--- solver's own checker
+-- these steps were made; if a call of the target failed, it failed while their text was written. `CounterEnd` and a listener's fault come only from
+-- the solver's own checker
 abbrev pub EmitsUpToFault : {A W L : Type 0} {G : Ghosts L} → (W → Writer) → Result A SolverError → List Step → Proof W L G → Proof W L G → Type 0
 EmitsUpToFault seen (Ok x) steps old new = EmitsChecked seen steps old new
 EmitsUpToFault seen (Err (errors.ProofIoError cause)) steps old new = FailsToEmit seen steps old new

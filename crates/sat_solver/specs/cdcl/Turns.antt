@@ -70,7 +70,7 @@ StopSays (Falsified e) s c = IsStopped s c e
 StopSays Complete s c = IsSearch s c × IsComplete c.assumptions.lits.items c.parts
 StopSays (Failed l) s c = IsSearch s c × IsFailing c.assumptions.lits.items c.parts l
 
--- what holds after a turn: one level more, or the search stopped
+-- what holds after a turn: one more level, or the search stopped
 abbrev pub TurnSays : Option FoundConflict → Session → Search → Search → Type 0
 TurnSays None s c c' = IsSearch s c' × (length c'.parts.trail.starts ≡ length c.parts.trail.starts + 1)
 TurnSays (Some stop) s c c' = StopSays stop s c'

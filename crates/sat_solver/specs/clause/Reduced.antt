@@ -45,7 +45,7 @@ pub record DeletesIf (deleted : Bool) (o : ℕ) (s : Session) (c c' : Search) : 
   pub others : (p : ℕ) → p ≢ o → IsLearnedLong c.parts p → IsLearnedLong c'.parts p
   pub tried : DeletesUnlessReason deleted o c.parts c'.parts
 
--- the search is the same but for its clauses, and the word of the trail is unchanged or extended
+-- the search is the same except for its clauses, and the word of the trail is unchanged or extended
 pub record ReductionEffect (s : Session) (c c' : Search) : Type 0 where
   pub search : IsSearch s c'
   pub moved : SameVarsAndAssumptions c c'
@@ -57,7 +57,7 @@ ReductionBySteps Changes seen r p p' c c' = EmitsSteps seen r p p' (λ _ _. Redu
 
 -- TIER LOCAL
 
--- the first n clauses of the list, in order, that are no reason; all of these if there are fewer
+-- the first n clauses of the list, in order, that are not reasons; all of these if there are fewer
 abbrev pub AreFirstFree : Parts → (list : List ℕ) (n : ℕ) (free : List ℕ) → Type 0
 AreFirstFree p [] n free = free ≡ []
 AreFirstFree p (o ∷ os) zero free = free ≡ []
@@ -100,7 +100,7 @@ ReducesMids false p p' = p' ≡ p
 
 -- COLLECTION
 
--- if deleted clauses take more than half of the buffer, the live ones were moved together, in order, and no room is lost any more
+-- if deleted clauses take up more than half of the buffer, the live ones were moved together, in order, and no room is lost any more
 pub record CollectsWhereDue (p p' : Parts) : Type 0 where
   pub due : length p.clauses / 2 < p.db.garbage → MovesLongClauses p p' × (p'.db.garbage ≡ 0)
   pub not_due : p.db.garbage ≤ length p.clauses / 2 → p' ≡ p

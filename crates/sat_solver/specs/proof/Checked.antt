@@ -25,7 +25,7 @@ abbrev pub is_end : Step → Bool
 is_end End = true
 is_end step = false
 
--- the steps without ends of proofs
+-- the steps that are not ends of proofs
 abbrev pub unended : List Step → List Step
 unended [] = []
 unended (step ∷ earlier) = kept_if (not (is_end step)) step (unended earlier)
@@ -123,7 +123,7 @@ module _ {L : Type 0} (takes : L → Notice → Result Unit Error → L → Type
   abbrev pub TakesWidth : Result (Unit {0}) CheckerError → Checked L → Checked L → Type 0
   TakesWidth result old new = (added : List L) (steps : List Step) → MayAll steps → IsFed old added steps → OkOrCause result (IsFedBy (AreGivenAndWidth steps) new added) (FailsWhileHeard added (listeners_of (who_listens new)) steps)
 
-  -- no unit conflict waits for its id any more
+  -- no unit conflict is waiting for its id any more
   abbrev pub TakesDelayed : Result (Unit {0}) CheckerError → Checked L → Checked L → Type 0
   TakesDelayed result old new = (added : List L) (steps : List Step) → IsFed old added steps
       → OkOrCause result (IsFed new added steps × KernelIsSettled (kernel_of new.checker)) (FailsWhileHeard added (listeners_of (who_listens new)) steps)

@@ -29,7 +29,7 @@ abbrev pub bytes_line : List ℕ → List ℕ
 bytes_line [] = 0 ∷ []
 bytes_line (l ∷ ls) = number_bytes (l + 2) ++ bytes_line ls
 
--- what is before a clause; in the decimal format nothing is before a derived one
+-- what comes before a clause: in the decimal format, nothing before a derived one
 abbrev pub mark : (binary deleted : Bool) → List ℕ
 mark false false = []
 mark false true = codes "d "

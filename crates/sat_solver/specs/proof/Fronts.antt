@@ -36,7 +36,7 @@ pub record FrontSince (f : ProofFormat) (from given : Writer) (before now : List
   pub behind : now ≡ later ++ (steps ++ before)
   pub front : FrontText f from given steps
 
--- these steps were made, and the target received their text, or a call of it failed at the text of the first of them
+-- these steps were made, and the target received their text, or a call of it failed while writing the text of the first of them
 abbrev pub TargetTakesFront : Target → List Step → Target → Type 0
 TargetTakesFront old steps new = TargetTakes old steps new ⊎ ((later : List Step) × (first : List Step) × (steps ≡ later ++ first) × TargetFails old first new)
 

@@ -29,7 +29,7 @@ module _ {L : Type 0} (takes : L → Notice → Result Unit Error → L → Type
   Hears = HearsEach takes reads_nothing
 
   module _ (begun now : Processing L Nobody) (written : List Step) where
-    -- every announcement of these steps was heard once, in order; the empty clause of a unit conflict may still wait
+    -- every announcement of these steps was heard once, in order; the empty clause of a unit conflict may still be pending
     abbrev pub HeardAll : Type 0
     HeardAll = HearsSince Hears [] (notices_after written) begun now ⊎ HearsSince Hears [] (all_notices_after written) begun now
 

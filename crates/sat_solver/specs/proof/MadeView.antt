@@ -33,12 +33,12 @@ made_is_checked m = is_some (made_audience m)
 abbrev pub made_is_lost : {L : Type 0} {G : Ghosts L} → Made L G → Bool
 made_is_lost m = m.lost
 
--- the checker, if there is one, has missed no step, and no unit conflict waits in it
+-- the checker, if there is one, has missed no step, and no unit conflict is pending in it
 abbrev pub IsUpToDate : {L : Type 0} → Bool → Option (Checked L) → Type 0
 IsUpToDate lost None = Unit {0}
 IsUpToDate lost (Some own) = (lost ≡ false) × KernelIsSettled (kernel_of own.checker)
 
--- the checker, if there is one, has received every step, and nothing waits in it
+-- the checker, if there is one, has received every step, and nothing is pending in it
 abbrev pub MadeIsReported : {L : Type 0} {G : Ghosts L} → Made L G → Type 0
 MadeIsReported m = IsUpToDate m.lost m.own
 
@@ -106,7 +106,7 @@ OkOrComplains (Err fault) m = MadeComplains fault m × IsComplaint fault m.compl
 abbrev pub ComplainsOr : {L : Type 0} {G : Ghosts L} → (lost : Bool) → CheckFault → Made L G → Type 0
 ComplainsOr lost fault m = (MadeComplains fault m × IsComplaint fault m.complaint) ⊎ ((lost ≡ true) × (fault ≡ checks.OutOfMemory))
 
--- what an answer says of a checker that may have failed before
+-- what an answer says about a checker that may have failed before
 abbrev pub OkOrComplainsUnless : {L : Type 0} {G : Ghosts L} → (lost : Bool) → Result (Unit {0}) CheckFault → Made L G → Type 0
 OkOrComplainsUnless lost (Ok x) m = Unit {0}
 OkOrComplainsUnless lost (Err fault) m = ComplainsOr lost fault m

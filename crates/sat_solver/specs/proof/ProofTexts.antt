@@ -36,8 +36,8 @@ pub record BrokeText (f : ProofFormat) (from given : Writer) (steps : List Step)
 abbrev pub ClosedIsText : Type 0
 ClosedIsText = (f : ProofFormat) (from given : Writer) (steps : List Step) (last : Step) (t : Target) → TargetTakes (Open f nothing_counted (empty_sink from)) steps t → TakesAll t (last ∷ []) given → TookText f from given (last ∷ steps)
 
--- a target that is returned after one of its calls failed at the text of these steps has received a prefix of it, and that call
--- was the last
+-- a target that is returned after one of its calls failed while writing the text of these steps has received a prefix of it, and that call was
+-- the last
 abbrev pub BrokenIsFront : Type 0
 BrokenIsFront = (f : ProofFormat) (from given : Writer) (steps : List Step) (t : Target) → TargetFails (Open f nothing_counted (empty_sink from)) steps t → GivesWriter t (Some given) → BrokeText f from given steps
 

@@ -1,4 +1,4 @@
--- What contracts say of a proof that a solver writes: its steps, and where their text is written. Lists of steps have the newest first.
+-- What contracts say about a proof that a solver writes: its steps, and where their text is written. Lists of steps have the newest first.
 use Rattle.std.specs.Prelude.{◌≡◌, ◌⊎◌, Bool, true, false, Option, None, Some, List, [], ◌∷◌, ◌++◌, Result, Ok, Err}
 use Rattle.sat_base.specs.device.Device.{Writer, WriterTakes, WriterBreaks}
 use Rattle.sat_base.specs.device.Sink.{Sink, SinkIsFlushed}
@@ -74,7 +74,7 @@ audience p = mades.made_audience p.made
 abbrev pub is_lost : {W L : Type 0} {G : Ghosts L} → Proof W L G → Bool
 is_lost p = mades.made_is_lost p.made
 
--- the checker, if there is one, has received every step, and nothing waits in it
+-- the checker, if there is one, has received every step, and nothing is pending in it
 abbrev pub AllStepsReported : {W L : Type 0} {G : Ghosts L} → Proof W L G → Type 0
 AllStepsReported p = mades.MadeIsReported p.made
 
@@ -139,7 +139,7 @@ pub record SinkFailsAt (f : ProofFormat) (c : Counting) (s : Sink) (steps : List
   pub cuts : TruncatesHashes c steps written counting
   pub breaks : WriterBreaks s.writer w (s.waiting ++ text_in f written)
 
--- one call of an open target failed at the text of these steps
+-- one call of an open target failed while writing the text of these steps
 abbrev pub TargetFails : Target → List Step → Target → Type 0
 TargetFails Closed steps new = ⊥
 TargetFails (Open f c s) steps new = (w : Writer) × (new ≡ Broken w) × SinkFailsAt f c s steps w
@@ -151,7 +151,7 @@ pub record EmitsExactly {W L : Type 0} {G : Ghosts L} (seen : W → Writer) (ste
   pub listening : audience new ≡ audience old
   pub target : TargetTakes (target_of seen old) steps (target_of seen new)
 
--- these steps were made, and a call of the target failed at their text
+-- these steps were made, and a call of the target failed while their text was written
 pub record FailsToEmit {W L : Type 0} {G : Ghosts L} (seen : W → Writer) (steps : List Step) (old new : Proof W L G) : Type 0 where
   pub history : steps_of new ≡ steps ++ steps_of old
   pub listening : audience new ≡ audience old
@@ -211,7 +211,7 @@ pub record Drains {W L : Type 0} {G : Ghosts L} (seen : W → Writer) (old new :
   pub listening : audience new ≡ audience old
   pub target : Flushed (target_of seen old) (target_of seen new)
 
--- and the checker has announced what waited
+-- and the checker has announced what was pending
 pub record FlushesAndNotifies {W L : Type 0} {G : Ghosts L} (seen : W → Writer) (old new : Proof W L G) : Type 0 where
   pub history : steps_of new ≡ steps_of old
   pub listening : audience new ≡ audience old
@@ -228,7 +228,7 @@ FlushesTarget seen (Err (Write e)) old new = FailsToEmit seen [] old new × (new
 FlushesTarget seen (Err OutOfMemory) old new = ⊥
 FlushesTarget seen (Err (Check fault)) old new = ⊥
 
--- the result of a flush, after which the checker announces what waited
+-- the result of a flush, after which the checker announces what was pending
 abbrev pub FlushesOrFails : {W L : Type 0} {G : Ghosts L} → (W → Writer) → Result (Unit {0}) ProofError → Proof W L G → Proof W L G → Type 0
 FlushesOrFails seen (Ok x) old new = FlushesAndNotifies seen old new
 FlushesOrFails seen (Err (Write e)) old new = FailsToEmit seen [] old new × (new.cause ≡ Some e)
@@ -269,7 +269,7 @@ pub record ClosesOne {W L : Type 0} {G : Ghosts L} (seen : W → Writer) (given 
   pub target : target_of seen new ≡ Closed
   pub reported : AllStepsReported new
 
--- the result of closing a proof: an error is at the text of the last step, or at what was pending
+-- the result of closing a proof: an error occurs while writing the text of the last step, or what was pending
 abbrev pub ClosesTarget : {W L : Type 0} {G : Ghosts L} → (W → Writer) → Result (Option W) ProofError → Proof W L G → Proof W L G → Type 0
 ClosesTarget seen (Ok None) old new = ClosesNone seen old new
 ClosesTarget seen (Ok (Some given)) old new = ClosesOne seen given old new

@@ -1,4 +1,4 @@
--- How far an ask has come.
+-- The progress of an ask.
 use Rattle.std.specs.Prelude.{ℕ, ◌≡◌, ◌+◌, ◌-◌, ◌*◌, ◌^◌, ◌≤◌, ◌⊎◌, List}
 use Rattle.sat_parts.specs.prop.TrailWord.{Letter}
 use Rattle.sat_store.specs.schedule.Luby.{luby}

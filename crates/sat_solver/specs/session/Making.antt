@@ -14,6 +14,6 @@ ComesBySteps seen old new = (steps : List Step) × EmitsExactly seen steps old n
 abbrev pub ComesByCheckedSteps : {W L : Type 0} {G : Ghosts L} → (W → Writer) → Proof W L G → Proof W L G → Type 0
 ComesByCheckedSteps seen old new = (steps : List Step) × EmitsChecked seen steps old new
 
--- steps were made, and a call of the target failed at their text
+-- steps were made, and a call of the target failed while their text was written
 abbrev pub BreaksEmitting : {W L : Type 0} {G : Ghosts L} → (W → Writer) → Proof W L G → Proof W L G → Type 0
 BreaksEmitting seen old new = (steps : List Step) × FailsToEmit seen steps old new

@@ -57,7 +57,7 @@ abbrev pub NamedUnsatIsRight : Type 0
 NamedUnsatIsRight = (j : ScriptState) (variable_of : ℕ → Option ℕ) (steps : List Step) (ask : List Literal)
     → MeansAcceptedClauses j variable_of steps → MayAll steps → (session_after steps).unsat ≡ true → IsRightCore j ask []
 
--- WHERE NO NAME WAS EVER HIDDEN
+-- IF NO NAME WAS EVER HIDDEN
 
 -- the same literals, in any order and with any repetitions
 abbrev pub SameLits : List ℕ → List ℕ → Type 0

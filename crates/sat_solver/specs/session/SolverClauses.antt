@@ -16,7 +16,7 @@ abbrev pub binaries_of : ℕ → List ℕ → List LiveClause
 binaries_of a [] = []
 binaries_of a (m ∷ ms) = if nat_lt a m then pair a m ∷ binaries_of a ms else binaries_of a ms
 
--- the binary clauses of the lists of implied literals, from this literal on
+-- the binary clauses of the lists of implied literals, starting with this literal
 abbrev pub binaries_from : ℕ → List (List ℕ) → List LiveClause
 binaries_from l [] = []
 binaries_from l (ms ∷ rest) = binaries_of (negated l) ms ++ binaries_from (l + 1) rest

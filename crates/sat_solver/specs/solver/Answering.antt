@@ -37,8 +37,7 @@ pub record BreaksCall {W L : Type 0} {G : Ghosts L} (seen : W → Writer) (e : S
 abbrev pub BreaksOff : {W L : Type 0} {G : Ghosts L} → (W → Writer) → SolverError → Core W L G → Core W L G → Type 0
 BreaksOff seen e a b = BreaksCall seen e a b × IsKept e b.proof
 
--- no step was made: a call of the target failed at pending bytes, or the solver's own checker failed at an announcement that waited
--- for its id
+-- no step was made: a call of the target failed at pending bytes, or the solver's own checker failed at a pending announcement
 abbrev pub FlushFails : {W L : Type 0} {G : Ghosts L} → (W → Writer) → SolverError → Proof W L G → Proof W L G → Type 0
 FlushFails seen (errors.ProofIoError cause) old new = FailsToEmit seen [] old new
 FlushFails seen errors.OutOfMemory old new = FailsCheck seen checks.OutOfMemory [] old new

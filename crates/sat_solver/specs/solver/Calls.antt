@@ -126,7 +126,7 @@ pub record StepsOfAsk {W L : Type 0} {G : Ghosts L} (seen : W → Writer) (old n
   pub asked : NotesAsk seen (proof_in new)
   pub rounds : answer_in old ≡ states.Unknown → MakesRounds seen old new
 
--- An ask was made. Assumptions are unchanged. The solver's own checker received all steps, and no announcement waits in it.
+-- An ask was made. Assumptions are unchanged. The solver's own checker received all steps, and no announcement is pending in it.
 pub record Answered {W L : Type 0} {G : Ghosts L} (seen : W → Writer) (old new : Solver W L G) : Type 0 where
   pub did : CallEffect seen old new (λ j. j) (λ j. due_for_answer (answer_in old) new)
   pub assumed : assumed_in new ≡ assumed_in old

@@ -15,7 +15,7 @@ use Rattle.sat_solver.specs.solver.Adding.{Added, AddsClause}
 use Rattle.sat_solver.specs.solver.Calls.{Refuses}
 use Rattle.sat_solver.specs.solver.View.{has_failed}
 
--- clauses were added, as by one call each
+-- clauses were added, as if by one call for each
 abbrev pub AddsAll : {W L : Type 0} {G : Ghosts L} → (W → Writer) → Solver W L G → List (List ℕ) → Solver W L G → Type 0
 AddsAll seen old [] new = new ≡ old
 AddsAll {W} {L} {G} seen old (c ∷ cs) new = (mid : Solver W L G) × Added seen old mid c × AddsAll seen mid cs new

@@ -68,7 +68,7 @@ ReportSays seen o outcome n a b core = ⊥
 abbrev pub ReportsOutcome : {W L : Type 0} {G : Ghosts L} → (W → Writer) → Result (Option State) SolverError → Outcome → Variables → Core W L G → Core W L G → List ℕ → Type 0
 ReportsOutcome seen r outcome n a b core = MatchResult r (λ o. ReportSays seen o outcome n a b core) (λ e. BreaksOff seen e a b)
 
--- the state that an answer leaves, or that of no answer
+-- the state after an answer, or `Unknown` if there is none
 abbrev pub state_found : Option State → State
 state_found None = states.Unknown
 state_found (Some state) = state

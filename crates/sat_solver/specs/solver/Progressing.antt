@@ -1,4 +1,4 @@
--- How far a solver has come.
+-- The progress of a solver.
 use Rattle.std.specs.Prelude.{ℕ, ◌≡◌, ◌/◌, ◌&&◌, not, false, Bool, Option, is_some, List, length, nat_lt, count_by}
 use Rattle.sat_store.specs.declared.clause.tier.Tier.{Tier}
 use Rattle.sat_store.specs.declared.clause.tier.Tier.TheVariants as tiers

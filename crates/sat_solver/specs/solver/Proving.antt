@@ -100,7 +100,7 @@ AddsProcessor seen (Err errors.TooLate) processor old new = Refuses old new ((ha
 AddsProcessor seen (Err errors.OutOfMemory) processor old new = Unheard seen old new
 AddsProcessor seen (Err e) processor old new = ⊥
 
--- the target is returned, with the last step; the solver's own checker has received all steps, and has announced what waited
+-- the target is returned, with the last step; the solver's own checker has received all steps, and has announced what was pending
 pub record ClosedOne {W L : Type 0} {G : Ghosts L} (seen : W → Writer) (given : W) (old new : Solver W L G) : Type 0 where
   pub going : has_failed old ≡ false
   pub whole : SolverInvariant new
@@ -119,7 +119,7 @@ pub record ClosedNone {W L : Type 0} {G : Ghosts L} (seen : W → Writer) (old n
   pub closes : ClosesNone seen (proof_in old) (proof_in new)
   pub same : OnlyProofDiffers old new
 
--- the target failed at the last step's text
+-- the target failed while the last step's text was written
 pub record ClosedBroken {W L : Type 0} {G : Ghosts L} (seen : W → Writer) (old new : Solver W L G) : Type 0 where
   pub going : has_failed old ≡ false
   pub failed : has_failed new ≡ true

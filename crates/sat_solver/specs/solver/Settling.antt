@@ -28,7 +28,7 @@ pub record Settled {W L : Type 0} {G : Ghosts L} (seen : W → Writer) (old new 
   pub times : AdvancesIn (steps_in old) (steps_in new) (learned_of new.state (new.clock.rounds - old.clock.rounds))
   pub known : (old.state ≡ states.Unknown → ⊥) → EmitsExactly seen [] old.core.proof new.core.proof × (new ≡ record old { core = record old.core { proof = new.core.proof } })
 
--- the same, or the call failed; if the answer was known, at a flush or in the solver's own checker
+-- the same, or the call failed: if the answer was known, it failed at a flush or in the solver's own checker
 abbrev pub AnswersOrBreaks : {W L : Type 0} {G : Ghosts L} → (W → Writer) → Result (Unit {0}) SolverError → Solver W L G → Solver W L G → Type 0
 AnswersOrBreaks seen (Ok x) old new = Settled seen old new
 AnswersOrBreaks seen (Err e) old new = BreaksOff seen e old.core new.core × CountsRounds old new × ((old.state ≡ states.Unknown → ⊥) → FlushFails seen e old.core.proof new.core.proof)

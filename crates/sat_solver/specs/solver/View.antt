@@ -29,7 +29,7 @@ has_failed s = s.failed
 abbrev pub is_used : {W L : Type 0} {G : Ghosts L} → Solver W L G → Bool
 is_used s = s.used
 
--- what is known of an answer
+-- what is known about an answer
 abbrev pub answer_in : {W L : Type 0} {G : Ghosts L} → Solver W L G → State
 answer_in s = s.state
 

@@ -1,4 +1,4 @@
--- The steps that delete a long clause, or replace it by what is left of it.
+-- The steps that delete a long clause, or replace it with what is left of it.
 use Rattle.std.specs.Prelude.{ℕ, ◌≡◌, Bool, ◌&&◌, nat_lt, List, ◌∷◌, length, Result, if◌then◌else◌}
 use Rattle.sat_base.specs.device.Device.{Writer}
 use Rattle.sat_base.specs.steps.Steps.{Deletion, Redundant, Simplified, Step, AtClause, DeleteClause}

@@ -1,4 +1,4 @@
--- How a clause looks at level 0.
+-- The status of a clause at level 0.
 use Rattle.std.specs.Prelude.{ℕ, ◌<◌}
 use Rattle.sat_parts.specs.clause.Stored.{lit_of, size_of}
 use Rattle.sat_parts.specs.prop.Values.{IsTrueLit, IsFalseLit, IsOpenLit}
@@ -18,7 +18,7 @@ HasFalse p o = (k : ℕ) × ((k < size_of p.clauses o) × IsFalseLit p.assignmen
 abbrev pub IsOpenClause : Parts → ℕ → Type 0
 IsOpenClause p o = (k : ℕ) → k < size_of p.clauses o → IsOpenLit p.assignment.current (lit_of p.clauses o k)
 
--- the clause looks this way under the current values, which are those of level 0
+-- the clause has this status under the current values, which are those of level 0
 abbrev pub LooksSo : Looks → Parts → ℕ → Type 0
 LooksSo Satisfied p o = HasTrue p o
 LooksSo Whole p o = IsOpenClause p o

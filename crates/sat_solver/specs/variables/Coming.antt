@@ -54,7 +54,7 @@ abbrev pub mode_said : Bool → Mode
 mode_said true = Sample
 mode_said false = Witness
 
--- the variable has another mode
+-- the variable's mode is not this one
 abbrev pub TurnsMode : Session → ℕ → Bool → Type 0
 TurnsMode s v sample = (s.variables v).mode ≢ mode_said sample
 

@@ -4,7 +4,7 @@ use Rattle.sat_base.specs.values.Literals.{var_limit}
 use Rattle.sat_solver.specs.variables.Counting.{count_to}
 use Rattle.sat_solver.specs.declared.variables.free.FreeIndices.{FreeIndices}
 
--- whether the node says that an index at or below it is free; past the list, no
+-- whether the node says that an index at or below it is free; false past the end of the list
 abbrev pub tree_node_at : List Bool → ℕ → Bool
 tree_node_at nodes q = get_or nodes q false
 
@@ -17,7 +17,7 @@ unfoldable pub doubled : ℕ → ℕ
 doubled zero = 1
 doubled (suc h) = 2 * doubled h
 
--- there is no leaf, or a power of two of them, within the limit of variables
+-- the number of leaves is 0 or a power of two, within the limit of variables
 pub data Powers (f : FreeIndices) : Type 0 where
   empty : f.room ≡ 0 → Powers f
   power : f.room ≡ doubled f.height → f.room ≤ var_limit → Powers f

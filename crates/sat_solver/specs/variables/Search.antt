@@ -68,8 +68,8 @@ KeepsUnits new from to = (u v : ℕ) (b : Bool) → global_of new u ≡ Some v �
 abbrev pub IsLeftOn : List Step → List ℕ → Valuation → Type 0
 IsLeftOn steps ls a = (b : Valuation) × Holds steps b × ((v : ℕ) → mentions ls v ≡ true → b v ≡ a v)
 
--- Everything that the search can see is unchanged; only units of variables without an index may be forgotten. Whatever an admitted
--- valuation says of the assumptions, an earlier one says, too.
+-- Everything that the search can see is unchanged; only units of variables without an index may be forgotten. Whatever an admitted valuation says
+-- about the assumptions, an earlier one says, too.
 pub record IsAlike (old new : Variables) (from to : List Step) : Type 0 where
   pub solvers : new.solver_from_global ≡ old.solver_from_global
   pub globals : new.globals ≡ old.globals

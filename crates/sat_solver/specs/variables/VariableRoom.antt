@@ -31,7 +31,7 @@ is_hidden_name n users u = not (is_some (global_of n u)) && is_listed users u
 abbrev pub hidden_count : Variables → List ℕ → ℕ
 hidden_count n users = count_to (names_used n) (is_hidden_name n users)
 
--- the same for the names of the literals from this position on
+-- the same for the names of the literals starting at this position
 abbrev pub hidden_behind : Variables → List ℕ → (at : ℕ) → ℕ
 hidden_behind n ls at = hidden_count n (users_in (drop at ls))
 

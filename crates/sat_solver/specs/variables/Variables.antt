@@ -1,4 +1,4 @@
--- What a solver stores of names, variables and indices: whether it is consistent, and whether it matches the proof and the judge.
+-- What a solver stores about names, variables and indices: whether it is consistent, and whether it matches the proof and the judge.
 use Rattle.std.specs.Prelude.{ℕ, ◌+◌, ◌<◌, ◌≤◌, ◌≡◌, ◌≢◌, Bool, true, false, not, ◌&&◌, Option, None, Some, is_some, List, length, get_or, nat_lt, if◌then◌else◌}
 use Rattle.std.specs.List.{AllByRecursion}
 use Rattle.sat_base.specs.values.Literals.{var_limit, coded}
@@ -19,7 +19,7 @@ use Rattle.sat_checker.specs.matching.Bridge.{Live, AreDistinctVariables}
 use Rattle.sat_solver.specs.variables.Live.{given, given_of}
 use Rattle.sat_solver.specs.declared.variables.Variables.{Variables}
 
--- what the solver stores of a proof variable; past its list the variable is not in use
+-- what the solver stores for a proof variable; a variable past the end of the list is not in use
 abbrev pub data_at : Variables → ℕ → VarData
 data_at n v = get_or n.var_data.items v unused_variable
 
@@ -67,7 +67,7 @@ pub record AreTidy (n : Variables) : Type 0 where
   -- a variable in use without a name is hidden
   pub hidden : (v : ℕ) → (data_at n v).deleted ≡ false → user_of n v ≡ None → (data_at n v).sampling_mode ≡ kept.Hide
   pub shown : (v u : ℕ) → user_of n v ≡ Some u → (data_at n v).sampling_mode ≢ kept.Hide
-  -- nothing is stored of a variable that is not in use
+  -- nothing is stored for a variable that is not in use
   pub gone : (v : ℕ) → (data_at n v).deleted ≡ true → data_at n v ≡ unused_variable
   -- no variable is of mode witness unless the flag says that one may be
   pub plain : n.witnessed ≡ false → (v : ℕ) → is_witness_kept (data_at n v).sampling_mode ≡ false
@@ -95,7 +95,7 @@ checker_mode kept.Sample = Sample
 checker_mode kept.Witness = Witness
 checker_mode kept.Hide = Hide
 
--- what the proof says of the variable
+-- what the proof says about the variable
 abbrev pub checker_variable_at : Variables → ℕ → Variable
 checker_variable_at n v =
     if (data_at n v).deleted then unknown

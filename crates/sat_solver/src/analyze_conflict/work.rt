@@ -26,7 +26,7 @@ pub struct Analysis {
     core: Vec<Lit>,
     flags: Vec<bool>,
 
-    /// Sort keys of used literals: a literal's code below its depth.
+    /// Sort keys of used literals: the depth in the high bits, and the literal's code in the low bits.
     keys: Vec<u64>,
     pending: usize,
 }
@@ -95,8 +95,8 @@ impl Analysis {
         &self.met
     }
 
-    /// Returns the long clauses that took part: the falsified one, and then the reasons of literals from the end of the
-    /// trail on.
+    /// Returns the long clauses that took part: the falsified one, and then the reasons of literals, going backwards
+    /// from the end of the trail.
     pub fn involved(&self) -> &[ClauseRef]
         ensures { result.now ≡ self.now.involved }
     {
@@ -294,7 +294,7 @@ impl Analysis {
         Ok(())
     }
 
-    /// Removes the used literals from position `top` on, and clears the flags of all but the first of them.
+    /// Removes the used literals starting at position `top`, and clears the flags of all but the first of them.
     pub(crate) fn undo(&mut self, top: usize)
         requires top { top < length self.old.used }
         requires flags { VariablesBelow self.old.used (length self.old.flags) }
@@ -312,15 +312,15 @@ impl Analysis {
         self.clause[at] = lit;
     }
 
-    /// Removes the literals of the clause from this position on.
+    /// Removes the literals of the clause, starting at this position.
     pub(crate) fn cut(&mut self, len: usize)
         ensures { self.new ≡ record self.old { clause = take len self.old.clause } }
     {
         self.clause.truncate(len);
     }
 
-    /// Moves a literal of the highest level, apart from the first literal, to second position. Returns this level, or 0
-    /// if there is no other literal.
+    /// Moves a literal of the highest level among all but the first to second position. Returns that level, or 0 if
+    /// there is no other literal.
     pub(crate) fn put_second(&mut self, graph: &ImplGraph) -> usize
         requires nodes { HaveNodes graph.now self.old.clause }
         ensures second { PutsSecond graph.now self.old.clause self.new.clause result }
@@ -332,7 +332,7 @@ impl Analysis {
         put_highest_second(&mut self.clause, graph)
     }
 
-    /// Puts the used literals, of which the first `resolved` were resolved, in trail order.
+    /// Puts the used literals in trail order. The first `resolved` of them were resolved.
     pub(crate) fn order_used(
         &mut self,
         graph: &ImplGraph,

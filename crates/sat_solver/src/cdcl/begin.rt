@@ -15,7 +15,7 @@ use sat_parts::parts::steps::propagate_all;
 /// Simplifies at level 0, if there are literals that were not used to simplify yet.
 ///
 /// Before that, it propagates, writes units, and takes them off the trail. Returns a falsified clause, or `None`.
-/// Without new literals at level 0, this takes no pass over the clauses.
+/// Without new literals at level 0, this makes no pass over the clauses.
 pub fn begin_round<W: CountedWrite + Drop, P: ProofProcessor>(
     proof: &mut Proof<W, P>,
     search: &mut Search,

@@ -164,7 +164,7 @@ fn learn_clause<W: CountedWrite + Drop, P: ProofProcessor>(
 
 /// Learns a clause from a conflict above level 0, with its step.
 ///
-/// Bumps the activity of the clauses and variables that the conflict met.
+/// Bumps the activity of the clauses and variables involved in the conflict.
 pub fn learn_from<W: CountedWrite + Drop, P: ProofProcessor>(
     proof: &mut Proof<W, P>,
     search: &mut Search,

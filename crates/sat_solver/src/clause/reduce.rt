@@ -1,4 +1,4 @@
-//! Deletes learned clauses that are used least, and compacts the clause buffer.
+//! Deletes the learned clauses that are used least, and compacts the clause buffer.
 ghost use Rattle.std.specs.Prelude.{◌≡◌, ◌-◌, ◌<◌, if◌then◌else◌, OnOk, Err, length, map};
 ghost use Rattle.sat_store.specs.clause.Buffer.{IsClause, lits_at};
 ghost use Rattle.sat_solver.specs.session.LiveClauses.{with_var};
@@ -25,7 +25,7 @@ use sat_parts::parts::reduce::list_locals;
 use sat_store::{ClauseRef, StoreError};
 use std::alloc::AllocError;
 
-/// Replaces the content of a list by the literals of a long clause, over proof variables.
+/// Replaces the content of a list with the literals of a long clause, over proof variables.
 pub fn map_clause(
     parts: &Parts,
     globals: &[Var],
@@ -46,7 +46,7 @@ pub fn map_clause(
     Ok(())
 }
 
-/// Deletes a learned clause that is no reason, and writes its step. Returns whether it did.
+/// Deletes a learned clause that is not a reason, and writes its step. Returns whether it did.
 fn delete_learned<W: CountedWrite + Drop, P: ProofProcessor>(
     proof: &mut Proof<W, P>,
     search: &mut Search,
@@ -83,7 +83,7 @@ fn left_after(left: usize, deleted: bool) -> usize
     if deleted { left - 1 } else { left }
 }
 
-/// If a reduction is due, deletes half of the clauses of tier Local: those that were used least, but no reasons.
+/// If a reduction is due, deletes half of the clauses of tier Local: those that were used least, but not reasons.
 fn reduce_locals<W: CountedWrite + Drop, P: ProofProcessor>(
     proof: &mut Proof<W, P>,
     search: &mut Search,
@@ -122,7 +122,7 @@ fn reduce_mids(search: &mut Search, is_due: bool)
     reduce_middle(&mut search.parts);
 }
 
-/// If deleted clauses take more than half of the buffer, moves the others together.
+/// If deleted clauses take up more than half of the buffer, moves the others together.
 fn collect_deleted(search: &mut Search) -> Result<(), StoreError>
     requires holds { PartsInvariant search.old.parts }
     ensures reduced { OnOk result ((s : Session) → IsSearch s search.old → ReductionEffect s search.old search.new) }

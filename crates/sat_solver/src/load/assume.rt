@@ -55,7 +55,7 @@ fn change_marks(
     Ok(())
 }
 
-/// Replaces the assumptions by others without a name of mode witness. `asked` has the earlier assumptions over proof
+/// Replaces the assumptions with others without a name of mode witness. `asked` has the earlier assumptions over proof
 /// variables, and afterwards the new ones.
 pub fn assume<W: StepLog>(
     variables: &mut Variables,

@@ -72,7 +72,7 @@ pub fn take_names<W: StepLog>(
     Ok(())
 }
 
-/// Replaces the content of a list by the literals over proof variables.
+/// Replaces the content of a list with the literals over proof variables.
 pub fn map_lits(globals: &[Var], lits: &[Lit], mapped: &mut Vec<Lit>) -> Result<(), AllocError>
     requires { VariablesBelow lits.now (length globals.now) }
     ensures { OnOk result (mapped.new.items ≡ map (with_var (λ x. slice_index_or globals.now x 0)) lits.now) }

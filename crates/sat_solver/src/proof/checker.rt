@@ -79,8 +79,8 @@ impl<P: ProofProcessor> Checked<P> {
         )
     }
 
-    /// Receives a step at the width to which its hashes were shortened; of an end only the width. A step that a solver
-    /// may write is never rejected.
+    /// Receives a step at the width to which its hashes were shortened; for the end of a proof, it receives only the
+    /// width. A step that a solver may write is never rejected.
     pub fn take(
         &mut self,
         bits: HashBits,
@@ -99,7 +99,7 @@ impl<P: ProofProcessor> Checked<P> {
         feed(&mut self.checker, cut)
     }
 
-    /// Gives a waiting unit conflict its id.
+    /// Gives a pending unit conflict its id.
     pub fn take_delayed(&mut self) -> Result<(), CheckerError>
         ensures takes { TakesDelayed P.takes result self.old self.new }
         ensures bits { self.new.bits ≡ self.old.bits }
@@ -129,7 +129,7 @@ impl<P: ProofProcessor> Checked<P> {
         roll
     }
 
-    /// Returns the listeners in the order in which they were added, also after a failure.
+    /// Returns the listeners in the order in which they were added, even after a failure.
     pub fn into_processors(self) -> Vec<P>
         ensures { result.items ≡ (listeners_of (who_listens self)).processors }
     {

@@ -42,7 +42,7 @@ fn put_bytes(text: &mut Vec<u8>, lits: &[Lit]) -> Result<(), AllocError>
     Ok(())
 }
 
-/// Writes what marks a deleted or a derived clause.
+/// Writes the mark of a deleted or a derived clause.
 fn put_mark(text: &mut Vec<u8>, binary: bool, deleted: bool) -> Result<(), AllocError>
     ensures { OnOk result (text.new.items ≡ text.old.items ++ mark binary deleted) }
 {

@@ -113,7 +113,7 @@ fn widen(clauses: u64, from: u32) -> u32
     bits
 }
 
-/// Returns the width, with two bits less each time that it is longer than needed.
+/// Returns the width, with two fewer bits each time that it is longer than needed.
 fn shorten(clauses: u64, from: u32) -> u32
     requires { from ≤ 64 }
     ensures value { result ≡ shortened 32 clauses from }

@@ -174,7 +174,8 @@ impl<P: ProofProcessor> Made<P> {
         self.take_checked(bits, step, cut)
     }
 
-    /// Records a step, and passes it to the checker. This is a call of its own, since an error of the checker is large.
+    /// Records a step, and passes it to the checker. This is a separate function, since an error of the checker
+    /// is large.
     #[inline(never)]
     fn take_checked(
         &mut self,
@@ -207,8 +208,8 @@ impl<P: ProofProcessor> Made<P> {
         }
     }
 
-    /// Makes the checker announce what waits for the next step. If a step was made that the checker has not received,
-    /// the call fails.
+    /// Makes the checker announce what is pending before the next step. If a step was made that the checker has not
+    /// received, the call fails.
     pub fn take_delayed(&mut self) -> Result<(), CheckFault>
         ensures steps { self.new.history.steps ≡ self.old.history.steps }
         ensures listening { made_audience self.new ≡ made_audience self.old }
@@ -234,7 +235,7 @@ impl<P: ProofProcessor> Made<P> {
         }
     }
 
-    /// Returns the error of a listener. It is returned once.
+    /// Returns the error of a listener. It is returned only once.
     pub fn take_complaint(&mut self) -> Option<anyhow::Error>
         ensures gives { result ≡ self.old.complaint }
         ensures same { self.new ≡ cleared_complaint self.old }
@@ -242,8 +243,8 @@ impl<P: ProofProcessor> Made<P> {
         self.complaint.take()
     }
 
-    /// Returns the listeners in the order in which they were added, also after a failure. There is
-    /// no checker afterwards.
+    /// Returns the listeners in the order in which they were added, even after a failure. There is no
+    /// checker afterwards.
     pub fn take_processors(&mut self, alloc: Global) -> Vec<P>
         ensures handed { MadeHandsBack self.old result.items }
         ensures whole { MadeHandsBackWhole self.old result.items }

@@ -18,7 +18,7 @@ use sat_parts::{CauseLits, Conflict, Parts, Reason};
 use sat_store::Lits;
 use std::alloc::AllocError;
 
-/// Replaces the content of a list by the literals over proof variables.
+/// Replaces the content of a list with the literals over proof variables.
 pub fn map_lits(globals: &[Var], lits: &[Lit], clause: &mut Vec<Lit>) -> Result<(), AllocError>
     requires { VariablesBelow lits.now (length globals.now) }
     ensures { OnOk result (clause.new.items ≡ map (with_var (global_of_index globals.now)) lits.now) }
@@ -73,7 +73,7 @@ fn reason_hash(parts: &Parts, lit: Lit) -> ClauseHash
     lit_hash(lit) ^ causes_hash(&reason.lits(&parts.clauses))
 }
 
-/// Replaces the content of a list by the hashes of the clauses that imply these literals.
+/// Replaces the content of a list with the hashes of the clauses that imply these literals.
 pub fn name_reasons(
     parts: &Parts,
     used: &[Lit],
@@ -92,7 +92,7 @@ pub fn name_reasons(
     Ok(())
 }
 
-/// Replaces the content of a list by the hashes of the clauses that an analysis names.
+/// Replaces the content of a list with the hashes of the clauses that an analysis names.
 pub fn name_clauses(
     parts: &Parts,
     used: &[Lit],
@@ -135,7 +135,7 @@ fn unit_of(parts: &Parts, globals: &[Var], lit: Lit) -> (Lit, ClauseHash)
     (map_lit(globals, lit), hash)
 }
 
-/// Replaces the content of a list by the units of the trail that have a clause as their reason.
+/// Replaces the content of a list with the units of the trail that have a clause as their reason.
 pub fn collect_units(
     parts: &Parts,
     globals: &[Var],

@@ -15,7 +15,7 @@ fn top_bits(hash: ClauseHash, bits: HashBits) -> ClauseHash
 }
 
 #[tactic(auto, using(crate::proofs::lemmas::session::CuttingLemmas::narrow_next))]
-/// Replaces the content of a list by the top bits of hashes.
+/// Replaces the content of a list with the top bits of hashes.
 pub fn narrow(
     narrowed: &mut Vec<ClauseHash>,
     hashes: &[ClauseHash],
@@ -30,7 +30,7 @@ pub fn narrow(
     Ok(())
 }
 
-/// Replaces the content of a list by units with the top bits of their hashes.
+/// Replaces the content of a list with these units and the top bits of their hashes.
 pub fn narrow_units(
     narrowed: &mut Vec<(Lit, ClauseHash)>,
     units: &[(Lit, ClauseHash)],

@@ -50,7 +50,7 @@ impl<W: CountedWrite + Drop, P: ProofProcessor> Solver<W, P> {
     /// Returns assumptions that contradict the clauses, or `None`.
     ///
     /// There are some after a `solve` that returned false, until a clause or assumptions are accepted. Once the clauses
-    /// alone are known to be unsatisfiable, even without a `solve`, it is always the empty list. Returns `None` after a
+    /// alone are known to be unsatisfiable, even without a `solve`, the list is always empty. Returns `None` after a
     /// failed call.
     pub fn failed_core(&self) -> Option<&[Lit]>
         requires { IsSolver self.now }

@@ -43,8 +43,8 @@ fn is_want(error: DimacsError) -> bool
 }
 
 impl<W: CountedWrite + Drop, P: ProofProcessor> Solver<W, P> {
-    /// Adds the clauses of a formula in order, as by one call each, up to the first that is refused. Those before it
-    /// remain. The formula's variable count introduces no name.
+    /// Adds the clauses of a formula in order, as if by one call for each, up to the first that is refused. Those
+    /// before it remain. The formula's variable count introduces no name.
     pub fn add_formula(&mut self, formula: &CnfFormula) -> Result<(), SolverError>
         requires { IsSolver self.old }
         ensures solver { IsSolver self.new }

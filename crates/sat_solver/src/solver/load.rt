@@ -54,7 +54,7 @@ pub fn take_clause<W: CountedWrite + Drop, P: ProofProcessor>(
     )
 }
 
-/// Replaces the assumptions by these, which have no name of mode witness.
+/// Replaces the assumptions with these, which have no name of mode witness.
 pub fn take_assumptions<W: CountedWrite + Drop, P: ProofProcessor>(
     core: &mut Core<W, P>,
     names: &mut Variables,

@@ -1,4 +1,4 @@
-//! How far a solver has come.
+//! The progress of a solver.
 ghost use Rattle.std.specs.Prelude.{◌≡◌, false, slice_index_or};
 ghost use Rattle.sat_solver.specs.variables.Variables.{AreTidy};
 ghost use Rattle.sat_solver.specs.solver.Progressing.{is_open_at, open_vars, open_in, GoesOnIn, CountsClausesIn};

@@ -61,7 +61,8 @@ impl<W: CountedWrite + Drop, P: ProofProcessor> Solver<W, P> {
 
     /// Adds a listener to the solver's own checker, which is started if there is none.
     ///
-    /// Returns `TooLate` as `enable_self_checking` does. Then the listener is dropped, and also if memory runs out.
+    /// Returns `TooLate` when `enable_self_checking` does. In that case, or if memory runs out, the listener
+    /// is dropped.
     pub fn add_proof_processor(&mut self, processor: P) -> Result<(), SolverError>
         requires { IsSolver self.old }
         ensures solver { IsSolver self.new }

@@ -34,7 +34,7 @@ fn name_lit(names: &Variables, lit: Lit) -> Lit
     }
 }
 
-/// Replaces the content of a list by the literals over names for these of the search.
+/// Replaces the content of a list with the literals over names for these of the search.
 fn name_lits(names: &Variables, lits: &[Lit], named: &mut Vec<Lit>) -> Result<(), AllocError>
     ensures { OnOk result (named.new.items ≡ map (lit_over_names names.now) lits.now) }
 {

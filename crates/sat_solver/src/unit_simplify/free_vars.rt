@@ -104,8 +104,8 @@ fn free_unmarked(parts: &mut Parts, used: &Vec<bool>)
     }
 }
 
-/// Releases, in order, the indices that no clause has and no assumption. Stores their units; hidden
-/// variables are deleted.
+/// Releases, in order, the indices that neither a clause nor an assumption has. Stores their units; hidden variables
+/// are deleted.
 pub fn free_indices<S: StepLog>(
     variables: &mut Variables,
     writer: &mut S,

@@ -47,8 +47,8 @@ fn delete_true<W: CountedWrite + Drop, P: ProofProcessor>(
     Ok(())
 }
 
-/// Deletes a live long clause if a unit satisfies it. If units falsify some of its literals, replaces it by
-/// what is left.
+/// Deletes a live long clause if a unit satisfies it. If units falsify some of its literals, replaces it with what
+/// is left.
 fn simplify_clause<W: CountedWrite + Drop, P: ProofProcessor>(
     proof: &mut Proof<W, P>,
     search: &mut Search,

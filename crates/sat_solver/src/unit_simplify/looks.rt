@@ -1,4 +1,4 @@
-//! How long clauses look at level 0.
+//! The status of long clauses at level 0.
 ghost use Rattle.std.specs.Prelude.{ℕ, ◌<◌};
 ghost use Rattle.sat_parts.specs.clause.Stored.{lit_of, size_of};
 ghost use Rattle.sat_parts.specs.prop.Values.{IsTrueLit, IsFalseLit};
@@ -8,7 +8,7 @@ ghost use Rattle.sat_solver.specs.unit_simplify.Looks.{LooksSo};
 use sat_parts::Parts;
 use sat_store::ClauseRef;
 
-/// How a clause looks.
+/// The status of a clause.
 #[derive(Clone, Copy)]
 pub enum Looks {
     /// A literal is true.
@@ -37,7 +37,7 @@ fn look_on(parts: &Parts, cref: ClauseRef, from: usize) -> Looks
     Looks::Shorter
 }
 
-/// Returns how a clause looks under the values. Its literals are visited up to the first true one.
+/// Returns the status of a clause under the values. Its literals are visited up to the first true one.
 pub fn look(parts: &Parts, cref: ClauseRef) -> Looks
     requires holds { PartsInvariant parts.now }
     requires live { HasClause parts.now cref }

@@ -1,4 +1,4 @@
-//! The steps of clauses that are deleted or lose literals.
+//! The steps of clauses that are deleted or strengthened.
 ghost use Rattle.std.specs.Prelude.{◌≡◌, ◌&&◌, true, nat_lt};
 ghost use Rattle.sat_base.specs.steps.StepViews.{deletion_of};
 ghost use Rattle.sat_base.specs.steps.Steps.{Simplified};
@@ -23,7 +23,7 @@ pub fn deletion_for(redundant: bool, other: DeleteClauseProof) -> DeleteClausePr
     other
 }
 
-/// Returns the flag of the step by which a clause loses literals: redundant only if the clause was, and three or more
+/// Returns whether the step that strengthens a clause is redundant: only if the clause was redundant and at least three
 /// literals are left.
 fn left_redundant(redundant: bool, len: usize) -> bool
     ensures { result ≡ (redundant && nat_lt 2 len) }

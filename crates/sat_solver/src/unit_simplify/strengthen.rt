@@ -69,7 +69,7 @@ fn name_cut(search: &mut Search, cref: ClauseRef, part: &mut Vec<Lit>) -> Result
     Ok(len)
 }
 
-/// Replaces a clause by its first literals.
+/// Replaces a clause with its first literals.
 fn replace(parts: &mut Parts, cref: ClauseRef, len: usize) -> Result<(), AllocError>
     requires holds { PartsInvariant parts.old }
     requires flat { HasEmptyTrail parts.old }
@@ -89,7 +89,7 @@ fn replace(parts: &mut Parts, cref: ClauseRef, len: usize) -> Result<(), AllocEr
     Ok(())
 }
 
-/// Replaces a clause by what is left of it, if some of its literals are false and none is true.
+/// Replaces a clause with what is left of it, if some of its literals are false and none is true.
 pub fn cut_clause<W: CountedWrite + Drop, P: ProofProcessor>(
     proof: &mut Proof<W, P>,
     search: &mut Search,

@@ -69,7 +69,7 @@ fn child(nodes: &Vec<bool>, at: usize) -> usize
     2 * at + 1
 }
 
-/// Extends the list by cleared nodes.
+/// Extends the list with cleared nodes.
 pub(crate) fn widen(nodes: &mut Vec<bool>, count: usize) -> Result<(), AllocError>
     requires more { length nodes.old.items ≤ count }
     ensures size { OnOk result (length nodes.new.items ≡ count) }

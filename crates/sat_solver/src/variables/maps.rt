@@ -21,7 +21,7 @@ pub(crate) fn link(map: &mut VarBiMap, from: Var, into: Var) -> Result<(), Alloc
 }
 
 #[tactic(auto, using(crate::proofs::lemmas::variables::MapLemmas::pushed))]
-/// Replaces what is stored of a variable; its index is at most the length of the list.
+/// Replaces what is stored for a variable; its index is at most the length of the list.
 pub(crate) fn put_data(list: &mut Vec<VarData>, var: Var, new: VarData) -> Result<(), AllocError>
     requires within { var ≤ length list.old.items }
     ensures put { OnOk result ((v : ℕ) → slice_index_or list.new.items v unused_variable ≡
@@ -64,7 +64,7 @@ pub(crate) fn unlink(map: &mut VarBiMap, from: Var, into: Var)
     let _inverse = map.fwd();
 }
 
-/// Replaces what is stored of a variable.
+/// Replaces what is stored for a variable.
 pub(crate) fn set_data(list: &mut Vec<VarData>, var: Var, new: VarData)
     requires within { var < length list.old.items }
     ensures put { (v : ℕ) → slice_index_or list.new.items v unused_variable ≡
