@@ -32,7 +32,7 @@ kernel_of c = c.kernel
 abbrev pub seen_of : {P T : Type 0} → Checker P T → CheckerView (Processing P T)
 seen_of c = seen c.kernel c.processing
 
--- the view of a checker, with a processor that one call lends besides
+-- the view of a checker, with an additional processor that one call lends
 abbrev pub seen_with : {V P T : Type 0} → V → Checker P T → CheckerView (Hearers V (Processing P T))
 seen_with own c = seen c.kernel (hearers own c.processing)
 
@@ -44,7 +44,7 @@ has_failed c = c.kernel.failed
 abbrev pub looks_of : {L : Type 0} → CheckerView L → ℕ
 looks_of c = c.kernel.looks
 
--- no unit conflict waits for the id of its empty clause
+-- no unit conflict is waiting for the id of its empty clause
 abbrev pub IsSettled : {L : Type 0} → CheckerView L → Type 0
 IsSettled c = kernels.KernelIsSettled c.kernel
 
@@ -80,12 +80,12 @@ module _ {L : Type 0} (Hears : L → Notice → Result Unit ProcessingError → 
     pub stands : HasAccepted new steps
     pub failed : has_failed new ≡ true
 
-  -- the checker failed, and has announced what waited, and no more
+  -- the checker failed, and has announced what was pending, and no more
   pub record FailsRefusing (new : CheckerView L) (steps : List Step) : Type 0 where
     pub fails : Fails new steps
     pub heard : HearsSince Hears before (all_notices_after steps) begun new.listeners
 
-  -- the checker failed, and has announced nothing more, or only what waited
+  -- the checker failed, and has announced nothing more, or only what was pending
   pub record FailsBeforeStep (new : CheckerView L) (steps : List Step) : Type 0 where
     pub fails : Fails new steps
     pub heard : HearsSince Hears before (notices_after steps) begun new.listeners ⊎ HearsSince Hears before (all_notices_after steps) begun new.listeners
@@ -111,7 +111,8 @@ module _ {L : Type 0} (Hears : L → Notice → Result Unit ProcessingError → 
     pub stands : HasAccepted new (step ∷ steps)
     pub goes_on : has_failed new ≡ false
 
-  -- What the result for a step means after these accepted steps. A refused step is one that the definition refuses; `CounterEnd` is returned only if the last id or count was given.
+  -- What the result for a step means after these accepted steps. A refused step is one that the definition refuses; `CounterEnd` is returned only if
+  -- the last id or count was used.
   abbrev pub AnswersStep : Result Unit CheckerError → CheckerView L → Step → CheckerView L → List Step → Type 0
   AnswersStep (Ok x) old step new steps = (has_failed old ≡ false) × Takes new step steps
   AnswersStep (Err errors.CheckFailed) old step new steps = (has_failed old ≡ false) × (Accepts (ready_after steps) step → ⊥) × FailsRefusing new steps
@@ -123,7 +124,7 @@ module _ {L : Type 0} (Hears : L → Notice → Result Unit ProcessingError → 
   AnswersStep (Err errors.IoError) old step new steps = ⊥
   AnswersStep (Err errors.ParseError) old step new steps = ⊥
 
-  -- What the result means when a pending unit conflict is settled after these steps. The empty clause gets no id only if the last one was given.
+  -- What the result means when a pending unit conflict is settled after these steps. The empty clause gets no id only if the last one was assigned.
   abbrev pub AnswersDelayed : Result Unit CheckerError → CheckerView L → CheckerView L → List Step → Type 0
   AnswersDelayed (Ok x) old new steps = (has_failed old ≡ false) × (looks_of new ≡ looks_of old) × HasAccepted new steps × (has_failed new ≡ false) × IsSettled new
   AnswersDelayed (Err errors.CounterEnd) old new steps = (has_failed old ≡ false) × (looks_of new ≡ looks_of old) × IsSpent (ready_after steps) × FailsBeforeStep new steps

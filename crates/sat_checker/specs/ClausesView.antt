@@ -27,7 +27,8 @@ abbrev pub after_additions : List (List ℕ) → List Step → List Step
 after_additions clauses earlier = taken_after (additions clauses) earlier
 
 module _ {L : Type 0} (Hears : L → Notice → Result Unit ProcessingError → L → Type 0) (before : List Notice) (begun : L) where
-  -- What the result for clauses means: they are added as if by calls of their own, up to the first that isn't accepted. A refused one does not change the checker.
+  -- What the result for clauses means: they are added as if by one call for each, up to the first that isn't accepted. A refused one does not change
+  -- the checker.
   abbrev pub AnswersClauses : Result Unit CheckerError → CheckerView L → CheckerView L → List (List ℕ) → List Step → Type 0
   AnswersClauses (Ok x) old new clauses earlier = AddsFirstClauses old new clauses clauses [] earlier × StandsUnfailed Hears before begun new (after_additions clauses earlier)
   AnswersClauses (Err errors.CheckFailed) old new clauses earlier =

@@ -15,7 +15,7 @@ count_in false c = irredundant_count c
 abbrev pub count_of : Bool → List ℕ → List StoredClause → ℕ
 count_of redundant set clauses = count_in redundant (clause_with set clauses)
 
--- what steps say of clauses, units, variables, names, the width of hashes and assumptions: no ids, no order, no pending unit conflict
+-- what steps say about clauses, units, variables, names, the width of hashes and assumptions: no ids, no order, no pending unit conflict
 pub record ProofState : Type 0 where
   pub counts : Bool → List ℕ → ℕ  -- of each set of literals, redundant (true) or irredundant
   pub units : ℕ → Bool
@@ -47,7 +47,7 @@ stored_state f = record {
 abbrev pub contents : Stored → Contents
 contents f = record { state = stored_state f; ended = f.ended; var_deleted = f.var_deleted }
 
--- are both redundant, or both irredundant?
+-- whether both are redundant, or both irredundant
 abbrev pub same_side : Bool → Bool → Bool
 same_side true redundant = redundant
 same_side false redundant = not redundant
@@ -60,30 +60,30 @@ more_if b n = if b then n + 1 else n
 abbrev pub less_if : Bool → ℕ → ℕ
 less_if b n = if b then n - 1 else n
 
--- one count more of this set, as redundant (true) or as irredundant
+-- one more count of this set, as redundant (true) or as irredundant
 abbrev pub one_more : Bool → List ℕ → ProofState → ProofState
 one_more redundant set c = record c { counts = λ r other. more_if (same_side redundant r && same_literals set other) (c.counts r other) }
 
--- one count less of this set, as redundant (true) or as irredundant
+-- one fewer count of this set, as redundant (true) or as irredundant
 abbrev pub one_less : Bool → List ℕ → ProofState → ProofState
 one_less redundant set c = record c { counts = λ r other. less_if (same_side redundant r && same_literals set other) (c.counts r other) }
 
--- a unit: nothing if it is one already, unsat if its negation is one
+-- adds a unit: changes nothing if it is one already, and records unsat if its negation is one
 abbrev pub unit_more : ℕ → ProofState → ProofState
 unit_more l c = if c.units l then c else (if c.units (negated l) then record c { unsat = true } else record c { units = λ m. l == m || c.units m })
 
--- all of these units, from left to right
+-- adds all of these units, from left to right
 abbrev pub units_more : List ℕ → ProofState → ProofState
 units_more [] c = c
 units_more (l ∷ ls) c = units_more ls (unit_more l c)
 
--- a sorted set of literals
+-- adds a sorted set of literals
 abbrev pub set_more : Bool → List ℕ → ProofState → ProofState
 set_more redundant [] c = record c { unsat = true }
 set_more redundant (l ∷ []) c = unit_more l c
 set_more redundant (l ∷ m ∷ ls) c = one_more redundant (l ∷ m ∷ ls) c
 
--- a clause: a tautology changes nothing
+-- adds a clause; a tautology changes nothing
 abbrev pub clause_more : Bool → List ℕ → ProofState → ProofState
 clause_more redundant clause c = if is_tautology clause then c else set_more redundant (canonical clause) c
 
@@ -148,7 +148,7 @@ abbrev pub deleted_after : Step → Bool → Bool
 deleted_after (DeleteVar v) deleted = true
 deleted_after step deleted = deleted
 
--- what a step makes of the contents
+-- the contents after a step
 abbrev pub contents_after : Step → Contents → Contents
 contents_after step c = record { state = state_after step c.state; ended = ended_after step c.ended; var_deleted = deleted_after step c.var_deleted }
 

@@ -1,4 +1,4 @@
--- What contracts see of a formula's text whose clauses are added: which text was read, and what the result means.
+-- What contracts see when the clauses of a text are added: which text was read, and what the result means.
 use Rattle.std.specs.Prelude.{ℕ, ◌≡◌, ◌⊎◌, true, List, [], ◌++◌, Result, Ok, Err, IfErr}
 use Rattle.sat_base.specs.device.Device.{Reader, GaveFront, GaveEnough, ReadFails}
 use Rattle.sat_base.specs.text.Tokenizing.{held}

@@ -1,4 +1,4 @@
--- No id and no count of a new checker reaches its end, whatever it reads.
+-- A new checker never exhausts its ids or counts, whatever it reads.
 use Rattle.std.specs.Prelude.{ℕ, ◌≤◌, List, [], ◌∷◌, ◌++◌, length}
 use Rattle.sat_base.specs.steps.Steps.{Step}
 use Rattle.sat_base.specs.steps.StepText.{SpellsSteps}
@@ -6,11 +6,11 @@ use Rattle.sat_checker.specs.Accepts.{stored_after, ready_after}
 use Rattle.sat_checker.specs.ProofView.{most_bytes, taken_after}
 use Rattle.sat_checker.specs.Spent.{SpentBy}
 
--- steps give no more ids than they have bytes
+-- steps assign no more ids than they have bytes
 abbrev pub IdsWithinBytes : Type 0
 IdsWithinBytes = (steps : List Step) (text : List ℕ) → SpellsSteps steps text → (ready_after (taken_after steps [])).next_id ≤ length text
 
--- no steps that a reader can give reach the end of ids or counts
+-- no steps that a reader can provide exhaust the ids or counts
 abbrev pub NoneIsSpent : Type 0
 NoneIsSpent = (steps : List Step) (step : Step) (text : List ℕ) → SpellsSteps (steps ++ step ∷ []) text → length text ≤ most_bytes
     → SpentBy step (stored_after (taken_after steps [])) → ⊥

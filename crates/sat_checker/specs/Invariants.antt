@@ -21,7 +21,7 @@ EachOnce (c ∷ cs) = (clause_with c.literals cs ≡ None) × EachOnce cs
 abbrev pub EachCounted : List StoredClause → Type 0
 EachCounted = AllByRecursion (λ c. 0 < c.irredundant + c.redundant)
 
--- clauses are in order of ids, all of which were given
+-- clauses are in order of ids, all of which were assigned
 pub record IdsRise (f : Stored) : Type 0 where
   pub rising : IsIncreasing (map (λ c. c.id) f.clauses)
   pub given : AllByRecursion (λ id. id < f.next_id) (map (λ c. c.id) f.clauses)
@@ -71,7 +71,7 @@ ContentsFollow = (f : Stored) (step : Step) → EachOnce f.clauses → contents 
 abbrev pub ContentsAreSettled : Type 0
 ContentsAreSettled = (f : Stored) → contents (settled f) ≡ contents f
 
--- the contents of what steps leave are what the steps make, one by one, of the contents before the first
+-- the contents of what steps leave are the initial contents, changed by the steps one by one
 abbrev pub ContentsOfSteps : Type 0
 ContentsOfSteps = (steps : List Step) → contents (ready_after steps) ≡ contents_of steps
 
@@ -105,7 +105,7 @@ leaves_last step = false
 abbrev pub LastStays : Type 0
 LastStays = (f : Stored) (step : Step) → leaves_last step ≡ true → last_literals (effect step f).last (effect step f) ≡ last_literals f.last f
 
--- neither does settling a unit conflict
+-- settling a unit conflict does not change it either
 abbrev pub LastIsSettled : Type 0
 LastIsSettled = (f : Stored) → last_literals (settled f).last (settled f) ≡ last_literals f.last f
 
@@ -113,21 +113,21 @@ LastIsSettled = (f : Stored) → last_literals (settled f).last (settled f) ≡ 
 abbrev pub Supported : List ℕ → List StoredClause → List ℕ → Type 0
 Supported us cs ls = (list_any (is_among us) ls ≡ true) ⊎ (0 < irredundant_count (clause_with ls cs))
 
--- what is known of the last irredundant clause stored, if it is still there
+-- what is known about the last irredundant clause stored, if it is still there
 abbrev pub LastHolds : Last → Bool → List ℕ → List StoredClause → Type 0
 LastHolds NoneYet unsat us cs = Unit {0}
 LastHolds (Empty id) unsat us cs = unsat ≡ true
 LastHolds (UnitClause id) unsat us cs = Unit {0}
 LastHolds (LongClause id) unsat us cs = (ls : List ℕ) → clause_numbered id cs ≡ Some ls → Supported us cs ls
 
--- the id of the last irredundant clause stored was given
+-- the id of the last irredundant clause stored was assigned
 abbrev pub LastBelow : ℕ → Last → Type 0
 LastBelow n NoneYet = Unit {0}
 LastBelow n (Empty id) = id < n
 LastBelow n (UnitClause id) = Unit {0}
 LastBelow n (LongClause id) = id < n
 
--- clauses are in order of ids, which were given, and what is known of the last irredundant clause stored holds
+-- clauses are in order of ids, which were assigned, and what is known about the last irredundant clause stored holds
 pub record Orderly (f : Stored) : Type 0 where
   pub increasing : IsIncreasing (map (λ c. c.id) f.clauses)
   pub below : AllByRecursion (λ i. i < f.next_id) (map (λ c. c.id) f.clauses)

@@ -22,7 +22,7 @@ kernel_has_failed k = k.failed
 abbrev pub kernel_looks : Kernel → ℕ
 kernel_looks k = k.looks
 
--- no unit conflict waits for the id of its empty clause
+-- no unit conflict is waiting for the id of its empty clause
 abbrev pub KernelIsSettled : Kernel → Type 0
 KernelIsSettled k = k.state.formula.status.conflict ≡ None
 
@@ -57,7 +57,8 @@ pub record AcceptsStep (new : Kernel) (step : Step) (steps : List Step) : Type 0
   pub stands : HasAccepted new (step ∷ steps)
   pub goes_on : kernel_has_failed new ≡ false
 
--- What the result for a step means after these accepted steps. A refused step is one that the definition refuses; `CounterEnd` is returned only if the last id or count was given.
+-- What the result for a step means after these accepted steps. A refused step is one that the definition refuses; `CounterEnd` is returned only if
+-- the last id or count was used.
 abbrev pub AnswersStep : Result Unit CheckerError → Kernel → Step → Kernel → List Step → Type 0
 AnswersStep (Ok x) old step new steps = (kernel_has_failed old ≡ false) × AcceptsStep new step steps
 AnswersStep (Err errors.CheckFailed) old step new steps = (kernel_has_failed old ≡ false) × (Accepts (ready_after steps) step → ⊥) × Fails new steps
@@ -96,7 +97,7 @@ ChecksStep result old step new = (steps : List Step) → HasAccepted old steps �
 abbrev pub LooksAtMost : Kernel → Step → Kernel → Type 0
 LooksAtMost old step new = (steps : List Step) → HasAccepted old steps → kernel_looks new ≤ kernel_looks old + most_looks (ready_after steps) step
 
--- What the result means when a pending unit conflict is settled after these steps. The empty clause gets no id only if the last one was given.
+-- What the result means when a pending unit conflict is settled after these steps. The empty clause gets no id only if the last one was assigned.
 abbrev pub AnswersDelayed : Result Unit CheckerError → Kernel → Kernel → List Step → Type 0
 AnswersDelayed (Ok x) old new steps = (kernel_has_failed old ≡ false) × (kernel_looks new ≡ kernel_looks old) × HasAccepted new steps × (kernel_has_failed new ≡ false) × KernelIsSettled new
 AnswersDelayed (Err errors.CounterEnd) old new steps = (kernel_has_failed old ≡ false) × (kernel_looks new ≡ kernel_looks old) × IsSpent (ready_after steps) × Fails new steps

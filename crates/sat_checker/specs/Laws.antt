@@ -44,7 +44,7 @@ KnownStays = (f : Stored) (step : Step) (v : ℕ) → is_known v f ≡ true → 
 abbrev pub DeletedIsNameless : Type 0
 DeletedIsNameless = (f : Stored) (v : ℕ) → Accepts f (DeleteVar v) → name_of v f ≡ None
 
--- no two variables have one name
+-- no two variables have the same name
 abbrev pub NamesApart : Type 0
 NamesApart = (steps : List Step) (v w name : ℕ) → AcceptsAll steps → name_of v (ready_after steps) ≡ Some name → name_of w (ready_after steps) ≡ Some name → v ≡ w
 
@@ -62,7 +62,7 @@ has_delete_var (step ∷ earlier) = has_delete_var earlier
 abbrev pub DeletionIsSeen : Type 0
 DeletionIsSeen = (steps : List Step) → (ready_after steps).var_deleted ≡ has_delete_var steps
 
--- an empty clause that is the last irredundant one stored has an id that was given
+-- an empty clause that is the last irredundant one stored has an id that was assigned
 abbrev pub EmptyIsGiven : Type 0
 EmptyIsGiven = (steps : List Step) (id : ℕ) → AcceptsAll steps → (ready_after steps).last ≡ Empty id → id < (ready_after steps).next_id
 

@@ -10,7 +10,8 @@ use Rattle.sat_checker.specs.Stored.{Stored, is_unit, hash_by}
 use Rattle.sat_checker.specs.Storing.{clause_with}
 use Rattle.sat_checker.specs.Accepts.{PassesByHashes}
 
--- Every clause in turn has no other literal than one that isn't false so far, and that one is true from then on; of the last clause all are false. Nothing is asked of the one literal: it may be true or false already.
+-- In every clause but the last, all literals but one are false so far, and that one is true from then on; in the last, all are false. Nothing is
+-- required of that one literal: it may already be true or false.
 abbrev pub LeadsToConflict : (ℕ → Bool) → List (List ℕ) → Type 0
 LeadsToConflict holds [] = ⊥
 LeadsToConflict holds (c ∷ []) = AllByRecursion (λ l. holds (negated l) ≡ true) c

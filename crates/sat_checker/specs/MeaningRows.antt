@@ -1,4 +1,4 @@
--- Worked rows of what steps mean, of what is satisfied, and of looks.
+-- Worked examples of what steps mean, of what is satisfied, and of looks.
 use Rattle.std.specs.Prelude.{ℕ, ◌==◌, ◌≡◌, true, false, List, [], ◌∷◌, map}
 use Rattle.sat_base.specs.values.Clauses.{Valuation}
 use Rattle.sat_base.specs.steps.Steps.{Redundant, Step, DeleteVar, AddClause, AtClause, UnitClauses, DeleteClause, FailedAssumptions, End}
@@ -29,17 +29,17 @@ EitherHolds =
 abbrev pub FourHaveNone : Type 0
 FourHaveNone = (a : Valuation) → HoldsBehind four_clauses a → ⊥
 
--- [1], and then its variable is deleted: it may be false, also if [2] is added then
+-- [1], after which its variable is deleted: it may be false, even if [2] is added then
 abbrev pub DeletedIsFree : Type 0
 DeletedIsFree =
     HoldsBehind (AddClause (0 ∷ []) ∷ DeleteVar 0 ∷ []) none_true × HoldsBehind (AddClause (0 ∷ []) ∷ DeleteVar 0 ∷ AddClause (2 ∷ []) ∷ []) (only 1)
     × (HoldsBehind (AddClause (0 ∷ []) ∷ DeleteVar 0 ∷ AddClause (2 ∷ []) ∷ []) none_true → ⊥)
 
--- derived clauses, and those that are deleted, ask for nothing
+-- derived clauses and deleted ones require nothing
 abbrev pub OnlyAddedAsk : Type 0
 OnlyAddedAsk = HoldsBehind (AtClause false (0 ∷ []) [] ∷ AddClause (2 ∷ []) ∷ DeleteClause (2 ∷ []) Redundant ∷ []) (only 1)
 
--- a stored clause asks for a true literal, a redundant one for nothing, and a unit for itself
+-- a stored clause requires a true literal, a redundant one requires nothing, and a unit requires itself
 abbrev pub StoredAsk : Type 0
 StoredAsk =
     Satisfies (ready_by (AddClause (0 ∷ 2 ∷ []) ∷ [])) (only 0)

@@ -91,7 +91,7 @@ module _ {L : Type 0} (Hears : L → Notice → Result Unit ProcessingError → 
       (passed : List Step) × (rest : List ℕ) × NoReadFailed from to
       × ((ReadsProofPart old new from to earlier passed [] rest × BeginsWithStep rest × FailsBeforeStep Hears before begun new (taken_after passed earlier))
       ⊎ ((step : Step) × ReadsProofPart old new from to earlier passed (step ∷ []) rest × StarvesAt Hears before begun new step (taken_after passed earlier)))
-  -- the last id or count was given before
+  -- the last id or count was already used
   AnswersProof (Err errors.CounterEnd) old new from to earlier =
       (passed : List Step) × (step : Step) × (rest : List ℕ) × ReadsProofPart old new from to earlier passed (step ∷ []) rest × NoReadFailed from to
       × SpentBy step (stored_after (taken_after passed earlier)) × FailsBeforeStep Hears before begun new (taken_after passed earlier)

@@ -22,7 +22,7 @@ UnitInTurn assumed (clause ∷ []) = IsFalsified assumed clause
 UnitInTurn assumed (clause ∷ next ∷ rest) =
     (open_literal : ℕ) × IsUnit assumed clause open_literal × UnitInTurn (open_literal ∷ assumed) (next ∷ rest)
 
--- xs can be had from ys by leaving some out
+-- xs is ys with some elements left out
 abbrev pub IsSubsequence : List (List ℕ) → List (List ℕ) → Type 0
 IsSubsequence [] ys = Unit {0}
 IsSubsequence (x ∷ xs) [] = ⊥

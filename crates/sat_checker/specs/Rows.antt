@@ -1,4 +1,4 @@
--- Worked rows: steps in the order of a certificate, whether they are accepted, and what they leave.
+-- Worked examples: steps in the order of a certificate, whether they are accepted, and what they leave.
 use Rattle.std.specs.Prelude.{ℕ, ◌≡◌, true, false, Option, Some, None, List, [], ◌∷◌, ◌++◌, map}
 use Rattle.sat_base.specs.values.Hashes.{hash_of}
 use Rattle.sat_base.specs.steps.Steps.{Redundant, Simplified, Satisfied, Step, SolverVarName, UserVarName, DeleteVar, ChangeSamplingMode, AddClause, AtClause, UnitClauses, DeleteClause, ChangeHashBits, Model, Assumptions, FailedAssumptions, End}
@@ -43,7 +43,7 @@ abbrev pub named_again : List Step
 named_again =
     UserVarName 0 (Some 0) ∷ AddClause (0 ∷ []) ∷ UserVarName 0 None ∷ ChangeSamplingMode 0 true ∷ UserVarName 0 (Some 0) ∷ AddClause (1 ∷ []) ∷ End ∷ []
 
--- all are accepted, and the second clause contradicts that unit
+-- all are accepted, and the second clause contradicts the stored unit
 abbrev pub NamedAgain : Type 0
 NamedAgain = AllAccepted named_again × ((left_by named_again).unsat ≡ true)
 
@@ -147,7 +147,7 @@ abbrev pub UnitForgotten : Type 0
 UnitForgotten = let steps : List Step = AddClause (0 ∷ []) ∷ DeleteVar 0 ∷ AddClause (1 ∷ []) ∷ [] in
     AllAccepted steps × ((left_by steps).units ≡ record { id = 1; literal = 1 } ∷ []) × ((left_by steps).unsat ≡ false) × ((left_by steps).var_deleted ≡ true)
 
--- a variable stays that is in a clause, that has a name, that is assumed, or that is unknown
+-- a variable is not deleted if it is in a clause, has a name, is assumed, or is unknown
 abbrev pub InClause : Type 0
 InClause = LastRefused (AddClause (0 ∷ 2 ∷ []) ∷ []) (DeleteVar 0)
 
@@ -203,7 +203,7 @@ ModelAgainstUnit = LastRefused for_a_model (Model (1 ∷ 2 ∷ 5 ∷ []))
 abbrev pub ModelWithoutClause : Type 0
 ModelWithoutClause = LastRefused for_a_model (Model (1 ∷ []))
 
--- 1 and -1 are of one variable
+-- 1 and -1 are of the same variable
 abbrev pub ModelTwice : Type 0
 ModelTwice = LastRefused for_a_model (Model (0 ∷ 1 ∷ []))
 
@@ -247,7 +247,7 @@ UnitsTurned = LastRefused for_units (UnitClauses ((4, hash_of (3 ∷ 4 ∷ [])) 
 abbrev pub ByDuplicate : Type 0
 ByDuplicate = AllAccepted (AddClause (0 ∷ 2 ∷ []) ∷ AddClause (0 ∷ 2 ∷ 4 ∷ []) ∷ AddClause (2 ∷ 0 ∷ []) ∷ DeleteClause (0 ∷ 2 ∷ 4 ∷ []) Simplified ∷ [])
 
--- two counts, one after the other
+-- a clause with both counts, which loses the irredundant one
 abbrev pub twice_counted : List Step
 twice_counted = AddClause (0 ∷ []) ∷ AddClause (0 ∷ 2 ∷ []) ∷ AtClause true (0 ∷ 2 ∷ []) [] ∷ DeleteClause (0 ∷ 2 ∷ []) Satisfied ∷ []
 
@@ -294,6 +294,6 @@ EmptyBefore = LastRefused two_clauses (AtClause false (0 ∷ []) (5 ∷ hash_of 
 abbrev pub LastBehindConflict : Type 0
 LastBehindConflict = AllAccepted (AddClause (0 ∷ []) ∷ AddClause (2 ∷ 4 ∷ 6 ∷ []) ∷ AddClause (2 ∷ 4 ∷ []) ∷ AddClause (1 ∷ []) ∷ DeleteClause (2 ∷ 4 ∷ 6 ∷ []) Simplified ∷ [])
 
--- [1] is the last one, which is no part of [2, 3]
+-- [1] is the last one, which is not a part of [2, 3]
 abbrev pub LastUnit : Type 0
 LastUnit = LastRefused (AddClause (2 ∷ 4 ∷ []) ∷ AddClause (0 ∷ []) ∷ AddClause (1 ∷ []) ∷ []) (DeleteClause (2 ∷ 4 ∷ []) Simplified)

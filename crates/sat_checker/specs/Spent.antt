@@ -1,19 +1,19 @@
--- When a number that the checker would store is past 64 bits.
+-- When a number that the checker would store does not fit in 64 bits.
 use Rattle.std.specs.Prelude.{ℕ, ◌≤◌, ◌^◌, ◌⊎◌, List}
 use Rattle.sat_base.specs.steps.Steps.{Step}
 use Rattle.sat_checker.specs.Stored.{Stored}
 use Rattle.sat_checker.specs.Storing.{clause_with, irredundant_count, redundant_count, settled}
 use Rattle.sat_checker.specs.Accepts.{Accepts, effect}
 
--- a count of a stored clause is past 64 bits
+-- a count of a stored clause does not fit in 64 bits
 pub record CountSpent (f : Stored) : Type 0 where
   pub literals : List ℕ
   pub past : (2 ^ 64 ≤ irredundant_count (clause_with literals f.clauses)) ⊎ (2 ^ 64 ≤ redundant_count (clause_with literals f.clauses))
 
--- the last id, 2^64-2, was given, and one more would be; or a count is past 64 bits
+-- the last id, 2^64-2, was assigned, and one more would be; or a count does not fit in 64 bits
 abbrev pub IsSpent : Stored → Type 0
 IsSpent f = (2 ^ 64 ≤ f.next_id) ⊎ CountSpent f
 
--- a number is past 64 bits once a pending unit conflict is settled, or in what the step, which would be accepted, leaves
+-- a number does not fit in 64 bits once a pending unit conflict is settled, or in what the step, which would be accepted, leaves
 abbrev pub SpentBy : Step → Stored → Type 0
 SpentBy step f = IsSpent (settled f) ⊎ (Accepts (settled f) step × IsSpent (effect step (settled f)))

@@ -6,7 +6,7 @@ use Rattle.sat_base.specs.values.Clauses.{Valuation, clause_true, EachTrue}
 use Rattle.sat_base.specs.values.Hashes.{hash_of}
 use Rattle.sat_checker.specs.LiteralSets.{is_among}
 
--- a clause of two literals or more, sorted, without repeats, no tautology, and how often it is stored as irredundant and as redundant
+-- a clause of two literals or more, sorted, without repeats, not a tautology, and how often it is stored as irredundant and as redundant
 pub record StoredClause : Type 0 where
   pub id : ℕ
   pub literals : List ℕ
@@ -89,7 +89,7 @@ name_of v f = (f.variables v).name
 abbrev pub unit_literals : Stored → List ℕ
 unit_literals f = map (λ u. u.literal) f.units
 
--- is the literal a stored unit?
+-- whether the literal is a stored unit
 abbrev pub is_unit : Stored → ℕ → Bool
 is_unit f = is_among (unit_literals f)
 

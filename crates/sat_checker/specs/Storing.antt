@@ -4,7 +4,7 @@ use Rattle.sat_base.specs.values.Literals.{variable, negated}
 use Rattle.sat_checker.specs.LiteralSets.{is_among, is_tautology, canonical, same_literals}
 use Rattle.sat_checker.specs.Stored.{StoredClause, StoredUnit, Variable, unknown, Last, NoneYet, Empty, UnitClause, LongClause, Stored, is_unit}
 
--- a clause with one count more
+-- a clause with one more count
 abbrev pub with_count : Bool → StoredClause → StoredClause
 with_count redundant c = if redundant then record c { redundant = c.redundant + 1 } else record c { irredundant = c.irredundant + 1 }
 
@@ -12,7 +12,7 @@ with_count redundant c = if redundant then record c { redundant = c.redundant + 
 abbrev pub new_clause : Bool → ℕ → List ℕ → StoredClause
 new_clause redundant id literals = with_count redundant (record { id = id; literals = literals; irredundant = 0; redundant = 0 })
 
--- one count more of the clause with these literals, which is added after the others if it isn't there
+-- one more count of the clause with these literals, which is added after the others if it isn't there
 abbrev pub with_stored_clause : Bool → ℕ → List ℕ → List StoredClause → List StoredClause
 with_stored_clause redundant id literals [] = new_clause redundant id literals ∷ []
 with_stored_clause redundant id literals (c ∷ cs) =
@@ -32,7 +32,7 @@ abbrev pub redundant_count : Option StoredClause → ℕ
 redundant_count None = 0
 redundant_count (Some c) = c.redundant
 
--- a clause with one count less
+-- a clause with one fewer count
 abbrev pub without_count : Bool → StoredClause → StoredClause
 without_count redundant c = if redundant then record c { redundant = c.redundant - 1 } else record c { irredundant = c.irredundant - 1 }
 
@@ -40,7 +40,7 @@ without_count redundant c = if redundant then record c { redundant = c.redundant
 abbrev pub unless_gone : StoredClause → List StoredClause
 unless_gone c = if c.irredundant == 0 && c.redundant == 0 then [] else c ∷ []
 
--- one count less of the clause with these literals
+-- one fewer count of the clause with these literals
 abbrev pub without_clause : Bool → List ℕ → List StoredClause → List StoredClause
 without_clause redundant literals [] = []
 without_clause redundant literals (c ∷ cs) =
@@ -113,15 +113,15 @@ abbrev pub with_canonical : Bool → List ℕ → Stored → Stored
 with_canonical redundant literals f =
     let g : Stored = with_set redundant literals f in if redundant then g else record g { last = place_of f.next_id literals g f.last }
 
--- a derived clause: a tautology isn't stored
+-- stores a derived clause, unless it is a tautology
 abbrev pub with_stored : Bool → List ℕ → Stored → Stored
 with_stored redundant clause f = if is_tautology clause then f else with_canonical redundant (canonical clause) f
 
--- an input clause gets an id in any case
+-- an input clause always gets an id
 abbrev pub with_input : List ℕ → Stored → Stored
 with_input clause f = let g : Stored = with_stored false clause f in record g { next_id = max g.next_id (f.next_id + 1) }
 
--- all of these units, from left to right
+-- adds all of these units, from left to right
 abbrev pub with_units : List ℕ → Stored → Stored
 with_units [] f = f
 with_units (l ∷ ls) f = with_units ls (with_unit l f)

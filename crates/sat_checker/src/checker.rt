@@ -34,7 +34,7 @@ pub struct Checker<P: ProofProcessor = Nobody, T: ProofTranscriptProcessor = Nob
 }
 
 impl Checker<Nobody, Nobody> {
-    /// Makes a checker without listeners, which has accepted nothing yet. It does not allocate.
+    /// Creates a checker without listeners, which has accepted nothing yet. It does not allocate.
     pub fn new(alloc: Global) -> Checker<Nobody, Nobody>
         ensures stands { HasAccepted (kernel_of result) [] }
         ensures goes_on { kernel_has_failed (kernel_of result) ≡ false }
@@ -59,7 +59,7 @@ impl Checker<Nobody, Nobody> {
 }
 
 impl<P: ProofProcessor, T: ProofTranscriptProcessor> Checker<P, T> {
-    /// Makes a checker like `new`, for processors and transcripts of these types. It has no listener yet.
+    /// Creates a checker like `new`, for processors and transcripts of these types. It has no listener yet.
     pub fn notifying(alloc: Global) -> Checker<P, T>
         ensures stands { HasAccepted (kernel_of result) [] }
         ensures goes_on { kernel_has_failed (kernel_of result) ≡ false }
@@ -73,7 +73,8 @@ impl<P: ProofProcessor, T: ProofTranscriptProcessor> Checker<P, T> {
         }
     }
 
-    /// Makes a checker like `notifying`, with the listeners that another checker returned. Both lists keep their order.
+    /// Creates a checker like `notifying`, with the listeners that another checker returned. Both lists keep
+    /// their order.
     pub fn with_listeners(alloc: Global, listeners: Processors<P, T>) -> Checker<P, T>
         ensures stands { HasAccepted (kernel_of result) [] }
         ensures goes_on { kernel_has_failed (kernel_of result) ≡ false }
@@ -136,8 +137,8 @@ impl<P: ProofProcessor, T: ProofTranscriptProcessor> Checker<P, T> {
         processing.into_processors()
     }
 
-    /// Adds a clause of the formula, unless it has a variable that is hidden or a witness. A refused clause changes
-    /// nothing.
+    /// Adds a clause of the formula, unless it has a variable that is hidden or a witness. A refused clause
+    /// changes nothing.
     pub fn add_clause(&mut self, clause: &[Lit]) -> Result<(), CheckerError>
         ensures checks { ChecksClause (HearsEach P.takes T.reads)
             result (seen_of self.old) clause.now (seen_of self.new) }
@@ -177,7 +178,7 @@ impl<P: ProofProcessor, T: ProofTranscriptProcessor> Checker<P, T> {
         self.kernel.records.unsat
     }
 
-    /// Whether no unit conflict waits for its id. `self_check_delayed_steps` gives it one.
+    /// Whether no unit conflict is waiting for its id. `self_check_delayed_steps` gives it one.
     pub fn is_settled(&self) -> bool
         ensures { IsTrue result ↔ kernels.KernelIsSettled (kernel_of self.now) }
     {
@@ -214,7 +215,7 @@ impl<P: ProofProcessor, T: ProofTranscriptProcessor> Checker<P, T> {
         self.kernel.state.variables.data(var).known
     }
 
-    /// Returns the number of literals of stored clauses that were looked at, at most 2^64-1.
+    /// Returns how many literals of stored clauses were looked at, at most 2^64-1.
     pub fn looks(&self) -> u64
         ensures { result ≡ min (kernel_looks (kernel_of self.now)) (2 ^ 64 - 1) }
     {

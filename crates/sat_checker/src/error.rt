@@ -25,7 +25,7 @@ pub enum CheckerError {
     /// Memory ran out.
     #[error("out of memory")]
     OutOfMemory,
-    /// The last id, 2^64-2, was given, or a clause was stored 2^64-1 times.
+    /// The last id, 2^64-2, was assigned, or a clause was stored 2^64-1 times.
     #[error("a counter is at its end")]
     CounterEnd,
     /// The checker has failed before.

@@ -1,4 +1,4 @@
-//! The stored formula: clauses, units, and what is recorded of them.
+//! The stored formula: clauses, units, and what is recorded about them.
 ghost use Rattle.std.specs.Prelude.{◌≡◌, ◌+◌, ◌-◌, ◌≤◌, ◌*◌, [], ◌∷◌, length, IfOk, OnOk, OnErr, IsErrOf};
 ghost use Rattle.std.specs.Prelude.{ℕ, List, None, IsTrue, ◌↔◌, MatchBool, MatchResult, map, not, ◌&&◌, false};
 ghost use Rattle.std.specs.Prelude.{if◌then◌else◌};
@@ -54,7 +54,7 @@ pub(crate) struct Formula {
 }
 
 impl Formula {
-    /// Makes a formula without clauses, and with hashes of 64 bits.
+    /// Creates an empty formula with 64-bit hashes.
     pub fn new(alloc: Global) -> Formula
         ensures { KeepsFormula result nothing_stored }
     {
@@ -67,7 +67,7 @@ impl Formula {
         }
     }
 
-    /// Files the stored clauses by the current hashes, if they wait for it. It does not allocate.
+    /// Files the stored clauses by the current hashes, if they are waiting for it. It does not allocate.
     #[inline(always)]
     pub fn file(&mut self, looks: &mut Looks)
         ensures kept { (f : Stored) → KeepsFormula (refiled_in self.old) f → KeepsFormula self.new f }
@@ -76,7 +76,7 @@ impl Formula {
         self.store.file(looks);
     }
 
-    /// Checks by propagation, under hashes, a clause of these literals, or of their negations. The ids of clauses and
+    /// Checks a clause of these literals, or of their negations, by propagation under hashes. The ids of clauses and
     /// units do not matter. What it notes is kept, if a listener needs it.
     pub fn check(
         &mut self,
@@ -120,7 +120,7 @@ impl Formula {
         Ok(())
     }
 
-    /// Stores a unit. If that fails, the units stay.
+    /// Stores a unit. If that fails, the units are unchanged.
     pub fn store_unit(&mut self, lit: Lit) -> Result<(), StoreError>
         ensures stored { FormulaEffect result self.old (with_unit lit) self.new }
         ensures kept { OnErr result ((f : Stored) → ChecksAs self.old f → ChecksAs self.new f) }
@@ -251,7 +251,7 @@ impl Formula {
         self.store_canonical(redundant, literals, looks)
     }
 
-    /// Stores the sorted literals of a clause of the formula, which gets an id in any case.
+    /// Stores the sorted literals of a clause of the formula, which always gets an id.
     pub fn store_input(&mut self, literals: &[Lit], looks: &mut Looks) -> Result<(), StoreError>
         requires { IsIncreasing literals.now }
         ensures stored { (clause : List ℕ) → literals.now ≡ canonical clause
@@ -288,8 +288,8 @@ impl Formula {
         Ok(())
     }
 
-    /// Checks a unit under its one hash, and stores it. Returns whether it passes. It does if it can't be noted or
-    /// stored.
+    /// Checks a unit under its one hash, and stores it. Returns whether it passes. An error is returned only if it
+    /// would pass.
     fn store_checked(
         &mut self,
         lit: Lit,
@@ -379,7 +379,7 @@ impl Formula {
         Ok(true)
     }
 
-    /// Removes one count of sorted literals. Returns whether they had one.
+    /// Removes one count of the clause with these sorted literals. Returns whether it had one.
     fn take_count(&mut self, redundant: bool, literals: &[Lit], looks: &mut Looks) -> bool
         ensures decides { (f : Stored) → KeepsFormula self.old f
             → TakesCount result redundant literals.now f (KeepsFormula self.new (with_less redundant literals.now f)) }
@@ -388,14 +388,14 @@ impl Formula {
         self.store.delete_clause(redundant, literals, looks)
     }
 
-    /// Drops removed clauses, if there are too many. If memory runs out, all stay.
+    /// Drops removed clauses, if there are too many. If memory runs out, all are kept.
     pub fn compact(&mut self) -> Result<(), AllocError>
         ensures { (f : Stored) → KeepsFormula self.old f → KeepsFormula self.new f }
     {
         self.store.compact()
     }
 
-    /// Deletes a clause, which has these sorted literals, by this proof. Returns whether it may be deleted so.
+    /// Deletes the clause with these sorted literals by this proof. Returns whether that is allowed.
     pub fn delete(
         &mut self,
         clause: &[Lit],
@@ -414,7 +414,7 @@ impl Formula {
         }
     }
 
-    /// Deletes a redundant clause, which has these sorted literals.
+    /// Deletes the redundant clause with these sorted literals.
     fn delete_redundant(&mut self, clause: &[Lit], literals: &[Lit], looks: &mut Looks) -> bool
         requires { literals.now ≡ canonical clause.now }
         ensures decides { DeletionEffect result self.old (DeleteClause clause.now Redundant) self.new }
@@ -435,8 +435,8 @@ impl Formula {
         self.take_count(false, literals, looks)
     }
 
-    /// Whether the last irredundant clause stored is there, and its literals are some of these sorted literals, but not
-    /// all of them.
+    /// Whether the last irredundant clause is still stored, and its literals are a proper subset of these
+    /// sorted literals.
     fn has_last_within(&self, literals: &[Lit], looks: &mut Looks) -> bool
         requires { IsIncreasing literals.now }
         ensures part { (f : Stored) → KeepsFormula self.now f
@@ -469,7 +469,7 @@ impl Formula {
         self.take_count(false, literals, looks)
     }
 
-    /// Removes the unit of a variable, which is deleted.
+    /// Removes the unit of a variable that is being deleted.
     pub fn forget(&mut self, var: Var)
         ensures { (f : Stored) → KeepsFormula (refiled_in self.old) f
             → KeepsFormula (refiled_in self.new) (without_variable var f) }

@@ -15,7 +15,7 @@ pub struct ClauseHasher {
 }
 
 impl ClauseHasher {
-    /// Makes a hasher that keeps this many bits, without solver names.
+    /// Creates a hasher that keeps this many bits, without solver names.
     pub fn new(alloc: Global, bits: HashBits) -> ClauseHasher
         ensures width { width_of result ≡ bits }
         ensures names { (v : ℕ) → solver_name_of result v ≡ None }

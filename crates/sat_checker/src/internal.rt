@@ -12,7 +12,7 @@ pub trait SelfChecker {
     /// Relates the state before a call, the step, the result, and the state after it.
     ghost checks: { Self → Step → Result (Unit {0}) ErrorOfChecker → Self → Type 0 };
 
-    /// Relates the state before what is delayed is settled, the result, and the state after it.
+    /// Relates the state before settling what is delayed, the result, and the state after it.
     ghost settles: { Self → Result (Unit {0}) ErrorOfChecker → Self → Type 0 };
 
     /// Checks the next step, and accepts it if it passes.

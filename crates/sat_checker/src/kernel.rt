@@ -107,7 +107,7 @@ pub enum StepRefusal {
     CheckFailed,
     /// Memory ran out.
     OutOfMemory,
-    /// The last id, 2^64-2, was given, or a clause was stored 2^64-1 times.
+    /// The last id, 2^64-2, was assigned, or a clause was stored 2^64-1 times.
     CounterEnd,
 }
 
@@ -134,7 +134,7 @@ pub(crate) struct Kernel {
 }
 
 impl Kernel {
-    /// Makes a kernel that has accepted no step. It does not allocate.
+    /// Creates a kernel that has accepted no step. It does not allocate.
     pub fn new(alloc: Global) -> Kernel
         ensures stands { HasAccepted result [] }
         ensures goes_on { kernel_has_failed result ≡ false }
@@ -265,8 +265,8 @@ impl Kernel {
         self.settle_conflict(own, others)
     }
 
-    /// Gives the empty clause of a pending unit conflict the next id, and announces it. It is only called if one is
-    /// pending.
+    /// Gives the empty clause of a pending unit conflict the next id, and announces it. It is only called if one
+    /// is pending.
     #[inline(never)]
     fn settle_conflict<O: ProofProcessor, P: ProofProcessor, T: ProofTranscriptProcessor>(
         &mut self,
@@ -367,7 +367,7 @@ impl Kernel {
         self.notify(was, own, others)
     }
 
-    /// Notifies the listeners of what was noted of an accepted step, which is recorded.
+    /// Notifies the listeners of what was noted about an accepted step, which is recorded.
     #[inline(never)]
     fn notify<O: ProofProcessor, P: ProofProcessor, T: ProofTranscriptProcessor>(
         &mut self,

@@ -29,8 +29,8 @@ pub fn propagations_run_to_conflict()
     ensures deleted { DeletionsRest }
 {}
 
-/// What is stored was announced under its id, and so was what an empty clause of a conflict and a simplified deletion
-/// name.
+/// What is stored was announced under its id, and so was what an empty clause of a conflict and a simplified
+/// deletion name.
 pub fn ids_are_announced()
     ensures stored { IdsAreAnnounced }
     ensures delayed { ConflictIsAnnounced }
@@ -47,7 +47,7 @@ pub fn nobody_answers_a_fault<P: ProofProcessor, T: ProofTranscriptProcessor>()
     ensures { NoListenerNoFault P.takes T.reads }
 {}
 
-/// Worked rows of what derived clauses rest on, at widths 64, 8 and 0.
+/// Worked examples of what derived clauses rest on, at widths 64, 8 and 0.
 pub fn rows_of_propagations()
     ensures refuted { RefutedAnnounced }
     ensures at_zero { RefutedAtZeroAnnounced }
@@ -59,13 +59,13 @@ pub fn rows_of_propagations()
     ensures alone { UnitAlone }
 {}
 
-/// Worked rows of unit conflicts, whose empty clause is announced later.
+/// Worked examples of unit conflicts, whose empty clause is announced later.
 pub fn rows_of_conflicts()
     ensures contradiction { Contradiction }
     ensures unit_behind { ConflictAndUnitAnnounced }
 {}
 
-/// Worked rows of input clauses.
+/// Worked examples of input clauses.
 pub fn rows_of_inputs()
     ensures fresh { InputNew }
     ensures duplicate { InputDuplicate }
@@ -75,7 +75,7 @@ pub fn rows_of_inputs()
     ensures unsat { InputBehindUnsat }
 {}
 
-/// Worked rows of derived clauses.
+/// Worked examples of derived clauses.
 pub fn rows_of_derived()
     ensures fresh { DerivedNew }
     ensures irredundant { DerivedIrredundant }
@@ -85,7 +85,7 @@ pub fn rows_of_derived()
     ensures tautology { DerivedTautology }
 {}
 
-/// Worked rows of deleted clauses.
+/// Worked examples of deleted clauses.
 pub fn rows_of_deleted()
     ensures redundant { RedundantGone }
     ensures redundant_stays { RedundantStays }
@@ -96,7 +96,7 @@ pub fn rows_of_deleted()
     ensures satisfied_stays { SatisfiedStays }
 {}
 
-/// Worked rows of names, modes, models and cores.
+/// Worked examples of names, modes, models and cores.
 pub fn rows_of_users()
     ensures name { NameNew }
     ensures known { NameOfKnown }
@@ -112,7 +112,7 @@ pub fn rows_of_users()
     ensures others { OthersAnnounce }
 {}
 
-/// Worked rows of transcripts.
+/// Worked examples of transcripts.
 pub fn rows_of_transcripts()
     ensures name { NameNewRead }
     ensures known { NameOfKnownRead }

@@ -16,7 +16,7 @@ pub fn named_clauses_pass()
     ensures order { HashOfAnyOrder }
 {}
 
-/// What every step makes of the contents of what is stored: counts of clauses, units, names and settings.
+/// How every step changes the contents of what is stored: counts of clauses, units, names and settings.
 pub fn contents_follow_steps()
     ensures step { ContentsFollow }
     ensures settled { ContentsAreSettled }
@@ -41,8 +41,8 @@ pub fn last_was_derived()
     ensures settled { LastIsSettled }
 {}
 
-/// Steps do not give more ids than they have bytes. So none of those that a reader can give to a new checker reaches
-/// the end of ids or counts.
+/// Steps assign no more ids than they have bytes. So no steps that a reader can provide to a new checker exhaust the
+/// ids or counts.
 pub fn bytes_bound_ids()
     ensures ids { IdsWithinBytes }
     ensures spent { NoneIsSpent }

@@ -59,7 +59,7 @@ pub fn clauses_read_are_first()
     ensures read { ReadAreFirst }
 {}
 
-/// Worked rows of hashes, of names, and of what is stored.
+/// Worked examples of hashes, of names, and of what is stored.
 pub fn rows_of_storing()
     ensures hashes { HashesOfOneTwo }
     ensures end { EndAloneAccepted }
@@ -70,7 +70,7 @@ pub fn rows_of_storing()
     ensures unit_behind { ConflictAndUnit }
 {}
 
-/// Worked rows of clauses that are derived, at widths 64, 8 and 0.
+/// Worked examples of clauses that are derived, at widths 64, 8 and 0.
 pub fn rows_of_deriving()
     ensures refuted { Refuted }
     ensures at_zero { RefutedAtZero }
@@ -80,7 +80,7 @@ pub fn rows_of_deriving()
     ensures solver_names { SolverNamesHash }
 {}
 
-/// Worked rows of deletions, of clauses and of variables.
+/// Worked examples of deletions, of clauses and of variables.
 pub fn rows_of_deleting()
     ensures part { SimplifiedByPart }
     ensures itself { SimplifiedByItself }
@@ -93,7 +93,7 @@ pub fn rows_of_deleting()
     ensures unknown { Unknown }
 {}
 
-/// Worked rows of names and modes.
+/// Worked examples of names and modes.
 pub fn rows_of_names()
     ensures witness { WitnessAdded }
     ensures hidden { HiddenAdded }
@@ -103,7 +103,7 @@ pub fn rows_of_names()
     ensures none { NoNameTaken }
 {}
 
-/// Worked rows of models and cores.
+/// Worked examples of models and cores.
 pub fn rows_of_answers()
     ensures model { Modelled }
     ensures unit { ModelAgainstUnit }
@@ -113,7 +113,7 @@ pub fn rows_of_answers()
     ensures not_assumed { NotAssumed }
 {}
 
-/// Worked rows of hashes over solver names, of units in one step, and of empty buckets.
+/// Worked examples of hashes over solver names, of units in one step, and of empty buckets.
 pub fn rows_of_buckets()
     ensures by_name { BySolverName }
     ensures name_left { ByNameLeft }
@@ -123,7 +123,7 @@ pub fn rows_of_buckets()
     ensures before { EmptyBefore }
 {}
 
-/// Worked rows of counts, and of the last irredundant clause.
+/// Worked examples of counts, and of the last irredundant clause.
 pub fn rows_of_counts()
     ensures duplicate { ByDuplicate }
     ensures counts { TwoCounts }
@@ -132,7 +132,7 @@ pub fn rows_of_counts()
     ensures unit { LastUnit }
 {}
 
-/// Worked rows of steps that leave little.
+/// Worked examples of steps with little effect.
 pub fn rows_of_effects()
     ensures unsat { BehindUnsat }
     ensures tautologies { Tautologies }
@@ -140,7 +140,7 @@ pub fn rows_of_effects()
     ensures unknown { UnknownMode }
 {}
 
-/// Worked rows of what steps mean, of what satisfies the stored formula, and of looks.
+/// Worked examples of what steps mean, of what satisfies the stored formula, and of looks.
 pub fn rows_of_meaning()
     ensures either { EitherHolds }
     ensures four { FourHaveNone }

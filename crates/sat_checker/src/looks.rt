@@ -29,7 +29,7 @@ impl Model for Looks {
 }
 
 impl Looks {
-    /// Makes a count of zero.
+    /// Creates a count of zero.
     pub fn new() -> Looks
         ensures { result ≡ 0 }
     {

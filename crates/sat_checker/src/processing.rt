@@ -23,7 +23,7 @@ pub trait ProofProcessor: Drop {
     /// Relates the value before a call, the announcement, the result, and the value after it.
     ghost takes: { Self → Notice → Result (Unit {0}) Cause → Self → Type 0 };
 
-    /// Receives an announcement, and what can be looked up about variables meanwhile.
+    /// Receives an announcement, and what can be looked up about variables during the call.
     fn process_step(
         &mut self,
         step: &CheckedProofStep<'_>,
@@ -107,7 +107,7 @@ fn notify_all<T: ProofTranscriptProcessor>(
     }
 }
 
-/// Notifies the transcripts of what they say of an announcement, if anything.
+/// Notifies the transcripts of what they say about an announcement, if anything.
 fn transcribe<T: ProofTranscriptProcessor>(
     made: &mut Transcript,
     transcripts: &mut [T],
@@ -143,7 +143,7 @@ pub struct Processing<P: ProofProcessor, T: ProofTranscriptProcessor> {
 }
 
 impl<P: ProofProcessor, T: ProofTranscriptProcessor> Processing<P, T> {
-    /// Makes listeners without any processor or transcript. It does not allocate.
+    /// Creates listeners without any processor or transcript. It does not allocate.
     pub fn new(alloc: Global) -> Processing<P, T>
         ensures { listeners_of result ≡ record { processors = []; transcripts = [] } }
     {
@@ -154,7 +154,7 @@ impl<P: ProofProcessor, T: ProofTranscriptProcessor> Processing<P, T> {
         }
     }
 
-    /// Makes listeners of these lists, in their order. It does not allocate.
+    /// Creates listeners of these lists, in their order. It does not allocate.
     pub fn again(alloc: Global, listeners: Processors<P, T>) -> Processing<P, T>
         ensures { listeners_of result
             ≡ record { processors = listeners.processors.items; transcripts = listeners.transcripts.items } }

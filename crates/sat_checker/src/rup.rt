@@ -202,7 +202,7 @@ fn deny_in_room(assigned: &mut Assigned, literals: &[Lit], negate: bool) -> bool
 }
 
 /// Checks a clause after memory ran out for what it assumes: literals that there is no room for are in no stored
-/// clause. Its notes are of no use.
+/// clause. Its notes are meaningless.
 #[inline(never)]
 pub(crate) fn check_in_room(
     clauses: &Clauses,
@@ -234,7 +234,7 @@ pub(crate) fn check_in_room(
     found
 }
 
-/// Checks by propagation a clause of these literals, or of their negations, over what is assigned. What it assumes
+/// Checks a clause of these literals, or of their negations, by propagation over what is assigned. What it assumes
 /// stays assumed after that. If the clause passes by a conflict, the notes explain what the conflict rests on, unless
 /// they are incomplete. It runs out of memory only if there is no room for the literals of a stored clause.
 pub(crate) fn check_clause_with_hashes(

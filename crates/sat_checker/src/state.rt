@@ -29,7 +29,7 @@ use crate::variables::Variables;
 use sat_base::{ClauseHash, DeleteClauseProof, HashBits, Lit, ProofStep, Var};
 use std::alloc::Global;
 
-/// All that steps are judged by.
+/// Everything that steps are judged by.
 #[derive(Drop)]
 pub(crate) struct State {
     pub(crate) alloc: Global,
@@ -112,7 +112,7 @@ impl State {
         Ok(true)
     }
 
-    /// Stores a clause of the formula, which may be added, and notes what it announces.
+    /// Stores an input clause that may be added, and notes what it announces.
     fn store_input(
         &mut self,
         clause: &[Lit],
@@ -329,7 +329,7 @@ impl State {
         !self.formula.store.mention(var)
     }
 
-    /// Makes a state in which nothing is stored.
+    /// Creates a state in which nothing is stored.
     pub fn new(alloc: Global) -> State
         ensures { KeepsStored result nothing_stored }
     {

@@ -35,7 +35,7 @@ use std::alloc::{AllocError, Global};
 pub enum StoreError {
     /// Memory ran out.
     OutOfMemory,
-    /// The last id was given, or a count is at 2^64-1.
+    /// The last id was assigned, or a count is at 2^64-1.
     CounterEnd,
 }
 
@@ -71,12 +71,12 @@ pub struct Found {
 pub struct Store {
     pub clauses: Clauses,
     pub hasher: ClauseHasher,
-    /// Whether the clauses wait to be filed by the current hashes.
+    /// Whether the clauses are waiting to be filed by the current hashes.
     pub stale: bool,
 }
 
 impl Store {
-    /// Makes a store without clauses, and with hashes of 64 bits.
+    /// Creates an empty store with 64-bit hashes.
     pub fn new(alloc: Global) -> Store
         ensures kept { KeepsClauses result nothing_stored }
         ensures ids { slot_ids result.clauses ≡ [] }
@@ -88,8 +88,8 @@ impl Store {
         }
     }
 
-    /// Files the clauses by the current hashes, if they wait for it. Hashes are looked up only after this. It does not
-    /// allocate.
+    /// Files the clauses by the current hashes, if they are waiting for it. Hashes are looked up only after this. It
+    /// does not allocate.
     #[inline(always)]
     pub fn file(&mut self, looks: &mut Looks)
         ensures filed { self.new ≡ refiled self.old }
@@ -126,7 +126,7 @@ impl Store {
         ensures placed { IfOk result (λ placed. PlacesIds self.old.clauses self.new.clauses id placed.is_new) }
         ensures counted { IfOk result (λ placed. (f : Stored) → KeepsClauses self.old f
             → store_count_in false (clause_with literals.now f.clauses) ≡ placed.irredundant) }
-        // A count has reached its end.
+        // A count is at its maximum.
         ensures full { result ≡ Err StoreError.CounterEnd → (f : Stored) → KeepsClauses self.old f
             → 2 ^ 64 ≤ store_count_in redundant (clause_with literals.now f.clauses) + 1 }
         ensures looks { LooksOver (KeepsClauses self.old) literal_count looks.old looks.new }
@@ -170,7 +170,7 @@ impl Store {
         })
     }
 
-    /// Removes one count of sorted literals without repeats. Returns whether they had one.
+    /// Removes one count of the clause with these sorted literals, without repeats. Returns whether it had one.
     pub fn delete_clause(&mut self, redundant: bool, literals: &[Lit], looks: &mut Looks) -> bool
         ensures deleted { (f : Stored) → KeepsClauses self.old f
             → TakesCount result redundant literals.now f (KeepsClauses self.new (with_less redundant literals.now f)) }
@@ -189,7 +189,7 @@ impl Store {
     }
 
     /// Drops the removed clauses, if they are more than half of all, or fill more than half of the buffer. This changes
-    /// the places of others. If memory runs out, all stay.
+    /// the places of others. If memory runs out, all are kept.
     pub fn compact(&mut self) -> Result<(), AllocError>
         ensures kept { (f : Stored) → KeepsClauses self.old f → KeepsClauses self.new f }
         ensures ids { KeepsIds self.old.clauses self.new.clauses }
@@ -228,8 +228,8 @@ impl Store {
         Ok(())
     }
 
-    /// Whether the clause with this id is not removed, and its literals are some of these sorted literals, but not all
-    /// of them. Ids increase by place.
+    /// Whether the clause with this id is not removed, and its literals are a proper subset of these sorted literals.
+    /// Ids increase by place.
     pub fn has_strict_part(&self, id: u64, literals: &[Lit], looks: &mut Looks) -> bool
         requires { IsIncreasing literals.now }
         ensures part { IsIncreasing (slot_ids self.now.clauses) → MatchBool result
@@ -247,8 +247,8 @@ impl Store {
         is_subset(self.clauses.literals(place, looks), literals, true)
     }
 
-    /// Whether the clause with this id is not removed, and its literals are some of the assumed ones, but not all of
-    /// them. Ids increase by place.
+    /// Whether the clause with this id is not removed, and its literals are a proper subset of the assumed ones. Ids
+    /// increase by place.
     pub fn has_part_assumed(&self, id: u64, assigned: &Assigned, looks: &mut Looks) -> bool
         ensures part { IsIncreasing (slot_ids self.now.clauses) → MatchBool result
             (IsStrictSubset (clause_numbered id (live self.now.clauses)) assigned.now.literals)

@@ -74,7 +74,7 @@ fn take_out(assigned: &mut Assigned, places: &mut LitNumbers, lit: Lit)
 }
 
 impl Units {
-    /// Makes a list without units.
+    /// Creates a list without units.
     pub fn new(alloc: Global) -> Units
         ensures { result ≡ record { units = []; room = [] } }
     {
@@ -204,8 +204,8 @@ impl Units {
         false
     }
 
-    /// Checks by propagation, under hashes and over the units, a clause of these literals, or of their negations. The
-    /// units stay. The notes say which clauses it used.
+    /// Checks a clause of these literals, or of their negations, by propagation under hashes and over the units. The
+    /// units are unchanged. The notes say which clauses it used.
     #[tactic(auto, using(crate::proofs::lemmas::store::Keeping::checking))]
     pub fn check(
         &mut self,
@@ -245,7 +245,7 @@ impl Units {
         answer
     }
 
-    /// Whether units pass in turn after the first of them, over the units, which stay.
+    /// Whether units pass in turn after the first of them, over the units, which are unchanged.
     pub fn pass_in_turn(
         &mut self,
         store: &Store,

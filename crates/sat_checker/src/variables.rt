@@ -81,7 +81,7 @@ pub struct Variables {
 }
 
 impl Variables {
-    /// Makes a table in which no variable is known.
+    /// Creates a table in which no variable is known.
     pub fn new(alloc: Global) -> Variables
         ensures variables { (v : ℕ) → variable_at result v ≡ unknown }
         ensures holders { (name : ℕ) → holder_at result name ≡ None }
@@ -128,7 +128,7 @@ impl Variables {
         near[index].known
     }
 
-    /// Makes an unknown variable a sampling one.
+    /// Makes an unknown variable known, as a sampling one.
     #[inline(always)]
     pub fn ensure_var(&mut self, var: Var) -> Result<(), AllocError>
         ensures variables { OnOk result
@@ -162,7 +162,7 @@ impl Variables {
         )
     }
 
-    /// Makes unknown variables of the literals sampling ones.
+    /// Makes the variables of the literals known; unknown ones become sampling ones.
     #[tactic(auto, using(crate::proofs::lemmas::variables::Keeping::ensuring))]
     pub fn ensure_vars(&mut self, literals: &[Lit]) -> Result<(), AllocError>
         ensures variables { OnOk result ((v : ℕ) →
@@ -175,7 +175,7 @@ impl Variables {
         Ok(())
     }
 
-    /// Makes unknown variables of the literals sampling ones.
+    /// Makes the variables of the literals known; unknown ones become sampling ones.
     pub fn learn(&mut self, literals: &[Lit]) -> Result<(), AllocError>
         ensures { OnOk result ((g : ℕ → Variable) → KeepsVariables self.old g
             → KeepsVariables self.new (λ v. known_if (is_among (map variable literals.now) v) (g v))) }
@@ -183,7 +183,7 @@ impl Variables {
         self.ensure_vars(literals)
     }
 
-    /// Makes unknown variables of units sampling ones.
+    /// Makes the variables of units known; unknown ones become sampling ones.
     pub fn learn_units(&mut self, units: &[(Lit, ClauseHash)]) -> Result<(), AllocError>
         ensures { OnOk result ((g : ℕ → Variable) → KeepsVariables self.old g
             → KeepsVariables self.new (λ v. known_if (is_among (map variable (map (λ u. u.0) units.now)) v) (g v))) }
@@ -194,7 +194,7 @@ impl Variables {
         Ok(())
     }
 
-    /// Makes an unknown variable a sampling one.
+    /// Makes an unknown variable known, as a sampling one.
     pub fn learn_var(&mut self, var: Var) -> Result<(), AllocError>
         ensures { OnOk result ((g : ℕ → Variable) → KeepsVariables self.old g
             → KeepsVariables self.new (λ v. known_if (is_among (var ∷ []) v) (g v))) }
@@ -202,8 +202,8 @@ impl Variables {
         self.ensure_var(var)
     }
 
-    /// Gives a variable a name. Returns whether it may have it: the name is free, and the variable has none and isn't
-    /// hidden.
+    /// Gives a variable a name. Returns whether it may have it: the name is free, and the variable has none and
+    /// isn't hidden.
     pub fn add_user_mapping(&mut self, var: Var, name: Var) -> Result<bool, AllocError>
         ensures answers { IfOk result (VariablesAnswer self.old (UserVarName var (Some name)) self.new) }
         ensures judged { OnErr result (VariablesAllow self.old (UserVarName var (Some name))) }

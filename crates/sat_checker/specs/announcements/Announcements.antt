@@ -9,7 +9,7 @@ use Rattle.sat_checker.specs.Storing.{clause_with, unit_id, with_unit}
 use Rattle.sat_checker.specs.Accepts.{stored_after, ready_after}
 use Rattle.sat_checker.specs.announcements.Needed.{true_unit, propagations}
 
--- what is announced of a variable that has a name
+-- what is announced about a variable that has a name
 pub record UserVariable : Type 0 where
   pub name : ℕ
   pub sampling : Bool  -- false is witness
@@ -79,7 +79,7 @@ abbrev pub input : List ℕ → Stored → List Announcement
 input clause f =
     let literals : List ℕ = canonical clause in if is_tautology clause then TautologicalClause f.next_id literals ∷ [] else input_set f.next_id literals (id_of_set literals f)
 
--- is it only stored as redundant?
+-- whether it is stored only as redundant
 abbrev pub redundant_alone : Option StoredClause → Bool
 redundant_alone None = false
 redundant_alone (Some c) = c.irredundant == 0
@@ -149,7 +149,7 @@ delayed_by id (Some units) = AtClause id false [] (units.0 ∷ units.1 ∷ []) �
 abbrev pub delayed : Stored → List Announcement
 delayed f = delayed_by f.next_id f.conflict
 
--- An announcement, and the variables that can be looked up meanwhile: those from before the step.
+-- An announcement, and the variables that can be looked up during it: those from before the step.
 pub record Notice : Type 0 where
   pub announcement : Announcement
   pub variables : ℕ → Variable
@@ -158,7 +158,7 @@ pub record Notice : Type 0 where
 abbrev pub notices_over : Stored → List Announcement → List Notice
 notices_over f = map (λ a. record { announcement = a; variables = f.variables })
 
--- What is announced of accepted steps, in order. The empty clause of a unit conflict comes before the next step.
+-- What is announced for accepted steps, in order. The empty clause of a unit conflict comes before the next step.
 abbrev pub notices_after : List Step → List Notice
 notices_after [] = []
 notices_after (step ∷ earlier) = notices_after earlier ++ notices_over (stored_after earlier) (delayed (stored_after earlier)) ++ notices_over (ready_after earlier) (announced (ready_after earlier) step)

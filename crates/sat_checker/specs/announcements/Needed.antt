@@ -31,7 +31,7 @@ abbrev pub conflict_causes : List ℕ → List StoredClause → ConflictCauses
 conflict_causes assumed [] = record { literals = []; clauses = [] }
 conflict_causes assumed (c ∷ cs) = causes_by (verdict assumed c.literals) c assumed (λ more. conflict_causes more cs)
 
--- the stored clauses of the named buckets, in the order named and by id in every bucket
+-- the stored clauses of the named buckets, in the order in which they are named, and by id within each bucket
 abbrev pub clauses_named : List ℕ → Stored → List StoredClause
 clauses_named [] f = []
 clauses_named (hash ∷ hashes) f = filter (λ c. hash_by f.solver_names f.width c.literals == hash) f.clauses ++ clauses_named hashes f
@@ -44,7 +44,7 @@ needed_units denied g = filter (λ u. is_among g.literals u.literal && not (is_a
 abbrev pub conflict_ids : List ℕ → ConflictCauses → List StoredUnit → List ℕ
 conflict_ids denied g units = map (λ u. u.id) (needed_units denied g units) ++ map (λ c. c.id) g.clauses
 
--- this one, or the other if it is none
+-- this one, or the other if this is none
 abbrev pub or_else : {A : Type 0} → Option A → Option A → Option A
 or_else None y = y
 or_else (Some x) y = Some x
@@ -59,7 +59,9 @@ abbrev pub unit_alone : Option ℕ → List ℕ → List ℕ
 unit_alone (Some id) ids = id ∷ []
 unit_alone None ids = ids
 
--- The ids that a clause rests on which passed the check under the hashes: none if it has both signs of a variable; the unit that satisfies it, of the lowest literal; or the units that are needed, by increasing id, and then the clauses that are needed, in the order of the walk, the falsified one last.
+-- For a clause that passed the check under the hashes, the ids that it rests on: none if it has both signs of a variable; the unit that satisfies it,
+-- of the lowest literal; or the units that are needed, by increasing id, and then the clauses that are needed, in the order of the walk, the
+-- falsified one last.
 abbrev pub propagations : Stored → List ℕ → List ℕ → List ℕ
 propagations f clause hashes =
     let denied : List ℕ = map negated clause in

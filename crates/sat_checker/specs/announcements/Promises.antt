@@ -58,7 +58,7 @@ pub record IsConflictCauses (assumed : List ℕ) (cs : List StoredClause) (g : C
   pub literals : (m : ℕ) → (is_among g.literals m ≡ true) ↔ IsNeededLiteral reasons last m
   pub clauses : g.clauses ≡ map (λ r. r.clause) (filter (λ r. is_among g.literals r.literal) reasons) ++ last ∷ []
 
--- what a clause rests on that passes by a conflict: no unit is true in it, and it has no variable with both signs
+-- what a clause that passes by a conflict rests on: no unit is true in it, and it has no variable with both signs
 abbrev pub ConflictIsFollowedBackwards : Type 0
 ConflictIsFollowedBackwards = (steps : List Step) (front clause hashes : List ℕ) → AcceptsAll steps → PassesByHashes (with_units front (ready_after steps)) clause hashes →
     is_tautology clause ≡ false → list_any (is_among (unit_literals (with_units front (ready_after steps)))) clause ≡ false →
@@ -66,7 +66,7 @@ ConflictIsFollowedBackwards = (steps : List Step) (front clause hashes : List �
     let assumed : List ℕ = map negated clause ++ unit_literals f in
     (propagations f clause hashes ≡ conflict_ids (map negated clause) (conflict_causes assumed (clauses_named hashes f)) f.units) × IsConflictCauses assumed (clauses_named hashes f) (conflict_causes assumed (clauses_named hashes f)))
 
--- one with both signs of a variable rests on nothing
+-- a clause with both signs of a variable rests on nothing
 abbrev pub TautologiesRestOnNothing : Type 0
 TautologiesRestOnNothing = (f : Stored) (clause hashes : List ℕ) → is_tautology clause ≡ true → propagations f clause hashes ≡ []
 

@@ -1,4 +1,4 @@
--- Worked rows: what accepted steps announce, in the order of a certificate, and the transcript of it.
+-- Worked examples: what accepted steps announce, in the order of a certificate, and the transcript of it.
 use Rattle.std.specs.Prelude.{◌≡◌, true, false, Some, None, List, [], ◌∷◌, ◌++◌, map}
 use Rattle.sat_base.specs.values.Hashes.{hash_of}
 use Rattle.sat_base.specs.steps.Steps.{Step, Redundant, Simplified, Satisfied, SolverVarName, UserVarName, DeleteVar, ChangeSamplingMode, ChangeHashBits, End}
@@ -9,7 +9,7 @@ use Rattle.sat_checker.specs.announcements.Announcements as announcements
 use Rattle.sat_checker.specs.announcements.Transcripts.{Transcribed, transcripts}
 use Rattle.sat_checker.specs.announcements.Transcripts as transcript
 
--- without the variables that can be looked up meanwhile
+-- without the variables that can be looked up
 abbrev pub announcements_of : List Notice → List Announcement
 announcements_of = map (λ t. t.announcement)
 
@@ -29,7 +29,7 @@ transcribed_by ss = transcripts (all_notices_after (behind ss []))
 abbrev pub LastAnnounces : List Step → Step → List Announcement → Type 0
 LastAnnounces before last reported = AllAccepted (before ++ last ∷ []) × (announcements_by (before ++ last ∷ []) ≡ announcements_by before ++ reported)
 
--- what the transcript says of the last step
+-- what the transcript says about the last step
 abbrev pub LastReads : List Step → Step → List Transcribed → Type 0
 LastReads before last read = AllAccepted (before ++ last ∷ []) × (transcripts (notices_after (behind (before ++ last ∷ []) [])) ≡ transcripts (notices_after (behind before [])) ++ read)
 
@@ -82,7 +82,7 @@ ConflictAndUnitAnnounced = all_announcements_by conflict_and_unit
     ≡ AddClause 0 (0 ∷ []) ∷ AddClause 1 (1 ∷ 2 ∷ []) ∷ AddClause 2 (1 ∷ 3 ∷ []) ∷ AtClause 3 false (1 ∷ []) (1 ∷ 2 ∷ []) ∷ AtClause 4 false (1 ∷ []) (1 ∷ 2 ∷ [])
     ∷ AtClause 5 false (4 ∷ []) (0 ∷ 1 ∷ 2 ∷ []) ∷ AtClause 6 false [] (0 ∷ 3 ∷ []) ∷ []
 
--- the four ways of [1, 2] as an input clause: new, stored before, also if it was only stored as redundant, and a tautology; and one more once unsat is recorded
+-- the four ways of [1, 2] as an input clause: new, stored before (even if only as redundant), and a tautology; and one more once unsat is recorded
 abbrev pub InputNew : Type 0
 InputNew = LastAnnounces [] (steps.AddClause (2 ∷ 0 ∷ 0 ∷ [])) (AddClause 0 (0 ∷ 2 ∷ []) ∷ [])
 
@@ -106,11 +106,12 @@ InputUnitAgain = LastAnnounces (steps.AddClause (0 ∷ []) ∷ []) (steps.AddCla
 abbrev pub InputTautology : Type 0
 InputTautology = LastAnnounces [] (steps.AddClause (2 ∷ 1 ∷ 0 ∷ [])) (TautologicalClause 0 (0 ∷ 1 ∷ 2 ∷ []) ∷ [])
 
--- once unsat is recorded, nothing is announced of an input clause
+-- once unsat is recorded, nothing is announced for an input clause
 abbrev pub InputBehindUnsat : Type 0
 InputBehindUnsat = LastAnnounces (steps.AddClause [] ∷ []) (steps.AddClause (0 ∷ 1 ∷ [])) []
 
--- a derived clause that is new, one that becomes irredundant, and those of which nothing is announced: a clause or unit stored before, and a tautology
+-- a derived clause that is new, one that becomes irredundant, and those for which nothing is announced: a clause or unit stored before, and
+-- a tautology
 abbrev pub DerivedNew : Type 0
 DerivedNew = LastAnnounces (steps.AddClause (0 ∷ []) ∷ []) (steps.AtClause true (2 ∷ 0 ∷ []) []) (AtClause 1 true (0 ∷ 2 ∷ []) (0 ∷ []) ∷ [])
 
@@ -163,7 +164,7 @@ SimplifiedByEmpty = LastAnnounces (steps.AddClause (0 ∷ 2 ∷ []) ∷ steps.Ad
 abbrev pub SatisfiedStays : Type 0
 SatisfiedStays = LastAnnounces (steps.AddClause (0 ∷ []) ∷ steps.AddClause (0 ∷ 2 ∷ []) ∷ steps.AddClause (0 ∷ 2 ∷ []) ∷ []) (steps.DeleteClause (0 ∷ 2 ∷ []) Satisfied) []
 
--- names: of an unknown variable, of a known one, removed; and a solver's name
+-- names: given to an unknown variable, given to a known one, and removed; and a solver's name
 abbrev pub NameNew : Type 0
 NameNew = LastAnnounces [] (UserVarName 0 (Some 7)) (UserVar 0 (Some (record { name = 7; sampling = true; is_new = true })) ∷ [])
 
@@ -187,7 +188,7 @@ NameRemoved = LastAnnounces named_seven (UserVarName 0 None) (UserVar 0 None ∷
 abbrev pub SolverNameSet : Type 0
 SolverNameSet = LastAnnounces [] (SolverVarName 0 (Some 7)) []
 
--- modes: of a variable that has a name, and the same again; of one that has none
+-- modes: for a variable that has a name, the same mode again, and for a variable that has none
 abbrev pub ModeChanged : Type 0
 ModeChanged = LastAnnounces named_seven (ChangeSamplingMode 0 false) (UserVar 0 (Some (record { name = 7; sampling = false; is_new = false })) ∷ [])
 
@@ -231,7 +232,7 @@ UnitsFirst = LastAnnounces units_and_clauses (steps.AtClause true (8 ∷ 14 ∷ 
 abbrev pub UnitsHeld : Type 0
 UnitsHeld = LastAnnounces units_and_clauses (steps.AtClause true (8 ∷ 1 ∷ 3 ∷ []) (0 ∷ [])) (AtClause 6 true (1 ∷ 3 ∷ 8 ∷ []) (2 ∷ 3 ∷ 5 ∷ []) ∷ [])
 
--- a clause that is passed, [6, 7] under not 6, isn't needed
+-- a clause that is passed over, [6, 7] under not 6, isn't needed
 abbrev pub PassedNotNeeded : Type 0
 PassedNotNeeded = LastAnnounces units_and_clauses (steps.AtClause true (8 ∷ 10 ∷ []) (0 ∷ [])) (AtClause 6 true (8 ∷ 10 ∷ []) (0 ∷ 1 ∷ 2 ∷ 3 ∷ 5 ∷ []) ∷ [])
 
@@ -267,7 +268,7 @@ InputsRead = LastReads [] (steps.AddClause (2 ∷ 0 ∷ 0 ∷ [])) (transcript.A
 abbrev pub RefutedRead : Type 0
 RefutedRead = transcribed_by refuted ≡ transcript.AddClause (0 ∷ 2 ∷ []) ∷ transcript.AddClause (0 ∷ 3 ∷ []) ∷ transcript.AddClause (1 ∷ 2 ∷ []) ∷ transcript.AddClause (1 ∷ 3 ∷ []) ∷ transcript.Unsat ∷ []
 
--- nothing is said of a clause that becomes irredundant, of a deleted one, or of a deleted variable
+-- nothing is said about a clause that becomes irredundant, a deleted one, or a deleted variable
 abbrev pub OthersRead : Type 0
 OthersRead = LastReads as_redundant (steps.AtClause false (2 ∷ 0 ∷ []) []) [] × LastReads as_redundant (steps.DeleteClause (2 ∷ 0 ∷ []) Redundant) []
     × LastReads (as_redundant ++ steps.AtClause false (0 ∷ 2 ∷ []) [] ∷ []) (steps.DeleteClause (0 ∷ 2 ∷ []) Satisfied) []

@@ -1,4 +1,4 @@
--- What a transcript says of an announcement, in user's names.
+-- What a transcript says about an announcement, in user's names.
 use Rattle.std.specs.Prelude.{ℕ, ◌+◌, ◌*◌, ◌%◌, List, [], ◌∷◌, Option, None, Some, if◌then◌else◌}
 use Rattle.sat_base.specs.values.Literals.{variable}
 use Rattle.sat_checker.specs.Stored.{Mode, Variable}

@@ -42,8 +42,7 @@ AgreesOn room xs ys = (l : ℕ) → is_among room l ≡ true → is_among xs l �
 abbrev pub signed : Bool → List ℕ → List ℕ
 signed negate literals = if negate then map negated literals else literals
 
--- the negations of a clause's literals are assumed as far as there is room for them, and the clause doesn't pass by
--- itself
+-- the negations of a clause's literals are assumed as far as there is room for them, and the clause doesn't pass by itself
 pub record DeniedInRoom (old : LiteralsAndRoom) (clause : List ℕ) (new : LiteralsAndRoom) : Type 0 where
   pub agrees : AgreesOn old.room new.literals (map negated clause ++ old.literals)
   pub no_unit : list_any (is_among old.literals) clause ≡ false

@@ -30,6 +30,6 @@ module _ {L : Type 0} (Hears : L → Notice → Result Unit ProcessingError → 
       (answer ≡ Err error) × (mid : CheckerView L) × AddsClauses Hears (Ok tt) old mid clauses × (new ≡ with_flag (is_out_of_memory error) mid)
   AnswersRead (Err (refused.Checker error)) answer old new clauses = AddsClauses Hears (Err error) old new clauses
 
-  -- the clauses that waited are added, and the parser's result is passed on
+  -- the pending clauses are added, and the parser's result is passed on
   abbrev pub AddsRead : Result Unit CheckerDimacsError → Result Unit DimacsError → Progress → CheckerView L → CheckerView L → Type 0
   AddsRead result answer parser old new = (clauses : List (List ℕ)) × (clauses_read parser ≡ parser.taken ++ clauses) × AnswersRead result answer old new clauses

@@ -1,4 +1,4 @@
--- What the stored formula's parts have of the definition's state.
+-- How the parts of the stored formula represent the definition's state.
 use Rattle.std.specs.Prelude.{ℕ, ◌≡◌, ◌<◌, ◌≤◌, Bool, List, map, Option, Result, Ok, Err}
 use Rattle.std.specs.List.{AllByRecursion}
 use Rattle.std.specs.Bool.{MatchBool}
@@ -26,11 +26,11 @@ pub record RestOfStored : Type 0 where
   pub ended : Bool
   pub var_deleted : Bool
 
--- what is recorded of the definition's stored formula
+-- what is recorded about the definition's stored formula
 abbrev pub standing_of : Stored → RestOfStored
 standing_of f = record { unsat = f.unsat; conflict = f.conflict; last = f.last; next_id = f.next_id; ended = f.ended; var_deleted = f.var_deleted }
 
--- the last irredundant clause stored, as the code has it
+-- the last irredundant clause stored, as the code represents it
 abbrev pub last_in : LastClause → Last
 last_in code.NoneYet = NoneYet
 last_in (code.Empty id) = Empty id
@@ -52,7 +52,7 @@ LastUnitIsPut (code.Empty id) units next_id = Unit {0}
 LastUnitIsPut (code.Single id l) units next_id = (id < next_id) × AllByRecursion (IsIdOfUnit id l) units
 LastUnitIsPut (code.Long id) units next_id = Unit {0}
 
--- what is known of ids: those of the clauses by place, those of the units, and the last irredundant clause's
+-- what is known about ids: those of the clauses by place, those of the units, and the last irredundant clause's
 pub record AreNumbered (ids : List ℕ) (units : List StoredUnit) (last : LastClause) (next_id : ℕ) : Type 0 where
   pub of_clauses : AreIdsInOrder ids next_id
   pub of_units : AreIdsInOrder (map (λ u. u.id) units) next_id
@@ -67,7 +67,7 @@ pub record KeepsParts (formula : Formula) (kept : List StoredClause) (solver_nam
   pub room : HasStoredRoom formula.units.room kept
   pub marks : HasStoredRoom formula.marks.room kept
 
--- it has what is stored, but for the variables and what is assumed
+-- it has what is stored, except for the variables and what is assumed
 abbrev pub KeepsFormula : Formula → Stored → Type 0
 KeepsFormula formula f = KeepsParts formula f.clauses f.solver_names f.width f.units (standing_of f)
 
@@ -75,7 +75,7 @@ KeepsFormula formula f = KeepsParts formula f.clauses f.solver_names f.width f.u
 abbrev pub refiled_in : Formula → Formula
 refiled_in formula = record formula { store = refiled formula.store }
 
--- `Ok` means that this is stored; `CounterEnd` means that a number would be past 64 bits in what the definition stores
+-- `Ok` means that this is stored; `CounterEnd` means that a number would not fit in 64 bits in what the definition stores
 abbrev pub KeepsOrSpends : {T : Type 0} → Result T StoreError → Type 0 → Stored → Type 0
 KeepsOrSpends (Ok x) kept g = kept
 KeepsOrSpends (Err OutOfMemory) kept g = Unit {0}

@@ -1,4 +1,4 @@
--- What an index of pairs has of slots.
+-- How an index of pairs represents slots.
 use Rattle.std.specs.Prelude.{ℕ, ◌≡◌, ◌+◌, ◌<◌, ◌==◌, not, filter, List, [], ◌∷◌, length, if◌then◌else◌}
 use Rattle.std.specs.List.{AllByRecursion}
 use Rattle.sat_checker.specs.inner.PairView.{Indexed, AreInOrder, places_in, mixed}
@@ -14,7 +14,7 @@ abbrev pub pairs_from : ℕ → List Slot → List Pair
 pairs_from place [] = []
 pairs_from place (s ∷ ss) = if is_gone s then pairs_from (place + 1) ss else (record { hash = mixed s.hash; place = place }) ∷ pairs_from (place + 1) ss
 
--- the pairs of all clauses that are not removed, from the first place on
+-- the pairs of all clauses that are not removed, starting at the first place
 abbrev pub pairs_of : List Slot → List Pair
 pairs_of slots = pairs_from 0 slots
 

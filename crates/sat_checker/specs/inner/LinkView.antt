@@ -17,12 +17,12 @@ link_at links at = slice_index_or links at (record { hash = 0; next = 0 })
 abbrev pub pair_at : List Link → ℕ → Pair
 pair_at links at = record { hash = (link_at links at).hash; place = at }
 
--- the pairs that are linked from a place on, at most this many
+-- the pairs that are linked starting at a place, at most this many
 abbrev pub chain : List Link → ℕ → ℕ → List Pair
 chain links zero at = []
 chain links (suc n) at = if at == nowhere then [] else pair_at links at ∷ chain links n (link_at links at).next
 
--- all pairs that are linked from a place on
+-- all pairs that are linked starting at a place
 abbrev pub rest : List Link → ℕ → List Pair
 rest links at = chain links (length links) at
 
@@ -49,7 +49,7 @@ top_of shift count hash = min (hash / 2 ^ shift) (count - 1)
 abbrev pub head_at : List ℕ → ℕ → ℕ
 head_at heads top = slice_index_or heads top 0
 
--- the pairs of a top, from its head on
+-- the pairs of a top, starting at its head
 abbrev pub part_at : List ℕ → List Link → ℕ → List Pair
 part_at heads links top = rest links (head_at heads top)
 
@@ -63,7 +63,7 @@ pub record IsWalk (links : List Link) (at : ℕ) : Type 0 where
   pub leads : LinksPairs links at (rest links at)
   pub in_order : AreInOrder (rest links at)
 
--- these pairs are linked from a place on; all of them have this top
+-- these pairs are linked starting at a place; all of them have this top
 pub record IsPairChain (links : List Link) (shift count top at : ℕ) (ps : List Pair) : Type 0 where
   pub leads : LinksPairs links at ps
   pub short : length ps ≤ length links

@@ -1,10 +1,10 @@
--- What a list of literals says of clauses, as a test.
+-- What a list of literals says about clauses, as a test.
 use Rattle.std.specs.Prelude.{ℕ, ◌+◌, ◌==◌, Bool, true, ◌||◌, ◌&&◌, List, [], ◌∷◌, length, if◌then◌else◌}
 use Rattle.std.specs.List.{list_any}
 use Rattle.sat_checker.specs.LiteralSets.{is_among}
 use Rattle.sat_checker.specs.Stored.{StoredClause}
 
--- has every clause that is stored as irredundant one of the literals?
+-- whether every clause that is stored as irredundant has one of the literals
 abbrev pub are_all_true : List ℕ → List StoredClause → Bool
 are_all_true ls [] = true
 are_all_true ls (c ∷ cs) = (c.irredundant == 0 || list_any (is_among ls) c.literals) && are_all_true ls cs

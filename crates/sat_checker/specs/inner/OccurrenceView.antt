@@ -1,4 +1,4 @@
--- How often literals occur in clauses, and what is stored of it.
+-- How often literals occur in clauses, and how that is stored.
 use Rattle.std.specs.Prelude.{ℕ, ◌≡◌, ◌+◌, ◌==◌, List, [], ◌∷◌, if◌then◌else◌}
 use Rattle.sat_base.specs.values.Tables.{value_at}
 use Rattle.sat_checker.specs.inner.IndexView.{IndexesSlots}

@@ -3,11 +3,11 @@ use Rattle.std.specs.Prelude.{ℕ, ◌+◌, ◌*◌, ◌/◌, ◌%◌, ◌^◌, 
 use Rattle.std.specs.List.{AllByRecursion}
 use Rattle.sat_checker.specs.declared.store.links.Pair.{Pair}
 
--- the hash by which the index files another: no two are mixed to one, and what is past 64 bits stays
+-- the hash by which the index files another: no two are mixed to one, and what does not fit in 64 bits stays
 unfoldable pub mixed : ℕ → ℕ
 mixed hash = hash * 0xBF58476D1CE4E5B9 % 2 ^ 64 + hash / 2 ^ 64 * 2 ^ 64
 
--- the order of pairs: by hashes, and for equal hashes by places
+-- the order of pairs: by hash, then by place
 pub record IsPairBefore (p q : Pair) : Type 0 where
   pub hash : p.hash ≤ q.hash
   pub place : p.hash ≡ q.hash → p.place < q.place
@@ -17,7 +17,7 @@ abbrev pub AreInOrder : List Pair → Type 0
 AreInOrder [] = Unit {0}
 AreInOrder (p ∷ ps) = AllByRecursion (IsPairBefore p) ps × AreInOrder ps
 
--- is a pair before another, by hashes, and for equal hashes by places?
+-- whether a pair is before another: by hash, then by place
 abbrev pub is_before : Pair → Pair → Bool
 is_before p q = nat_lt p.hash q.hash || (p.hash == q.hash && nat_lt p.place q.place)
 
@@ -48,16 +48,16 @@ first_of (p ∷ ps) = Some p
 abbrev pub places_behind : ℕ → List ℕ → List ℕ
 places_behind place = filter (nat_lt place)
 
--- the places from this one on
+-- the places that are at least this one
 abbrev pub from_on : Option ℕ → List ℕ → List ℕ
 from_on None places = []
 from_on (Some place) places = filter (nat_le place) places
 
--- do two pairs have one place?
+-- whether two pairs have the same place
 abbrev pub same_place : Pair → Pair → Bool
 same_place p q = p.place == q.place
 
--- what contracts see of an index: its pairs, and how many places were given
+-- what contracts see of an index: its pairs, and how many places were assigned
 pub record Indexed : Type 0 where
   pub pairs : List Pair
   pub places : ℕ

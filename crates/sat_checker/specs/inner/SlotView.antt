@@ -33,7 +33,7 @@ unstored id hash literals = slot_with id 0 0 hash literals
 abbrev pub slot_at : List Slot → ℕ → Slot
 slot_at slots place = slice_index_or slots place (unstored 0 0 [])
 
--- the literals of the clause at a place, also if it is removed
+-- the literals of the clause at a place, even if it is removed
 abbrev pub literals_at : List Slot → ℕ → List ℕ
 literals_at slots place = (slot_at slots place).clause.literals
 
@@ -45,11 +45,11 @@ all_lits = map (λ s. s.clause.literals)
 abbrev pub slot_count : Bool → Slot → ℕ
 slot_count redundant s = if redundant then s.clause.redundant else s.clause.irredundant
 
--- the clause at a place has one count more
+-- the clause at a place has one more count
 abbrev pub with_count_at : Bool → ℕ → List Slot → List Slot
 with_count_at redundant place slots = slice_set slots place (record (slot_at slots place) { clause = with_count redundant (slot_at slots place).clause })
 
--- the clause at a place has one count less, and is removed if that was its last
+-- the clause at a place has one fewer count, and is removed if that was its last
 abbrev pub without_count_at : Bool → ℕ → List Slot → List Slot
 without_count_at redundant place slots = slice_set slots place (record (slot_at slots place) { clause = without_count redundant (slot_at slots place).clause })
 
@@ -118,7 +118,7 @@ places_from place hash (s ∷ ss) = if is_filed hash s then place ∷ places_fro
 abbrev pub places_of : ℕ → List Slot → List ℕ
 places_of hash slots = places_from 0 hash slots
 
--- are these the literals at the place?
+-- whether these are the literals at the place
 abbrev pub is_same_at : List Slot → List ℕ → ℕ → Bool
 is_same_at slots literals place = same_literals (literals_at slots place) literals
 

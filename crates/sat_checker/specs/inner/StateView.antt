@@ -1,4 +1,4 @@
--- What the checker's state stores of the definition's, and when its result for a step is right.
+-- How the checker's state represents the definition's, and when its result for a step is right.
 use Rattle.std.specs.Prelude.{ℕ, ◌≡◌, Bool, List, Result}
 use Rattle.sat_checker.specs.Storing.{with_stored, with_input, with_literals_known}
 use Rattle.sat_base.specs.steps.Steps.{Step}

@@ -1,4 +1,4 @@
--- What the store has of the definition's state.
+-- How the store represents the definition's state.
 use Rattle.std.specs.Prelude.{ℕ, ◌<◌, ◌≡◌, Bool, false, not, List, [], ◌∷◌, ◌++◌, Option, None, Some, is_some, if◌then◌else◌}
 use Rattle.std.specs.List.{AllByRecursion}
 use Rattle.sat_checker.specs.Stored.{Stored, StoredClause, hash_by}
@@ -26,7 +26,7 @@ pub record KeepsHashed (store : Store) (kept : List StoredClause) (solver_names 
 abbrev pub KeepsClauses : Store → Stored → Type 0
 KeepsClauses store f = KeepsHashed store f.clauses f.solver_names f.width
 
--- the store with all clauses filed by the current hashes, if they wait for it
+-- the store with all clauses filed by the current hashes, if they are waiting for it
 abbrev pub refiled : Store → Store
 refiled store = record store { clauses = (if store.stale then hashed_anew store.hasher store.clauses else store.clauses); stale = false }
 
@@ -34,7 +34,7 @@ refiled store = record store { clauses = (if store.stale then hashed_anew store.
 abbrev pub store_count_in : Bool → Option StoredClause → ℕ
 store_count_in redundant c = if redundant then redundant_count c else irredundant_count c
 
--- these literals have one count less
+-- these literals have one fewer count
 abbrev pub with_less : Bool → List ℕ → Stored → Stored
 with_less redundant literals f = record f { clauses = without_clause redundant literals f.clauses }
 

@@ -1,4 +1,4 @@
--- What the code stores of variables.
+-- What the code stores about variables.
 use Rattle.std.specs.Prelude.{ℕ, ◌≡◌, ◌↔◌, Bool, true, if◌then◌else◌, List, Option, None, Some}
 use Rattle.std.specs.Bool.{MatchBool}
 use Rattle.std.specs.List.{AllByRecursion}
@@ -13,21 +13,21 @@ use Rattle.sat_checker.specs.declared.variables.SamplingMode.TheVariants as code
 use Rattle.sat_checker.specs.declared.variables.VarData.{VarData}
 use Rattle.sat_checker.specs.declared.variables.Variables.{Variables}
 
--- a mode as the code has it
+-- a mode as the code represents it
 abbrev pub mode_in : SamplingMode → Mode
 mode_in code.Sample = stored.Sample
 mode_in code.Witness = stored.Witness
 mode_in code.Hide = stored.Hide
 
--- a variable as the code has it
+-- a variable as the code represents it
 abbrev pub variable_of_data : VarData → Variable
 variable_of_data d = record { known = d.known; mode = mode_in d.mode; name = d.name }
 
--- what the code has of a variable that no step has made known
+-- what the code stores for a variable that no step has made known
 abbrev pub unknown_data : VarData
 unknown_data = record { known = stored.unknown.known; mode = code.Sample; name = None }
 
--- what is stored of a variable, or an unknown one if nothing is
+-- what is stored for a variable, or an unknown one if nothing is
 abbrev pub variable_at : Variables → ℕ → Variable
 variable_at vs v = variable_of_data (value_at unknown_data vs.data v)
 

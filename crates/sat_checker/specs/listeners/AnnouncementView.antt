@@ -1,4 +1,4 @@
--- What an announcement of the code says, and the variables that may be looked up meanwhile.
+-- What an announcement of the code says, and the variables that may be looked up during it.
 use Rattle.std.specs.Prelude.{ℕ, ◌==◌, Bool, true, false, Option, None, Some, if◌then◌else◌}
 use Rattle.std.specs.Borrow.{Bor}
 use Rattle.std.specs.Option.{option_map}
@@ -18,7 +18,7 @@ abbrev pub is_sampling : CheckedSamplingMode → Bool
 is_sampling modes.Sample = true
 is_sampling modes.Witness = false
 
--- what is announced of a variable that has a name, as the code has it
+-- what is announced about a variable that has a name, as the code represents it
 abbrev pub announced_user : CheckedUserVar → UserVariable
 announced_user u = record { name = u.user_var; sampling = is_sampling u.sampling_mode; is_new = u.new_var }
 

@@ -19,7 +19,7 @@ stored_as changes.Neither id redundant literals ids = []
 abbrev pub change_in : Bool → Placed → Change
 change_in redundant p = if p.is_new then changes.New else if redundant then changes.Neither else if p.irredundant == 0 then changes.Irredundant p.id else changes.Neither
 
--- a clause with these literals is deleted, which was stored in this way
+-- a clause with these literals, which was stored in this way, is deleted
 abbrev pub deletion_announced : List ℕ → Deletion → List Announcement
 deletion_announced literals d = if d.redundant then redundant_deleted (found_in literals d.stored) else irredundant_deleted (one d.from) (found_in literals d.stored)
 

@@ -1,4 +1,4 @@
--- What an announcement that waits will say.
+-- What a pending announcement will say.
 use Rattle.std.specs.Prelude.{ℕ, ◌<◌, List, [], length, slice_index_or}
 use Rattle.std.specs.Option.{option_map}
 use Rattle.sat_checker.specs.announcements.Announcements.{Announcement, UserVar, DeleteVar, AddClause, DuplicatedClause, TautologicalClause, AtClause, MakeIrredundant, DeleteClause, DeleteAtClause, Model, Assumptions, FailedAssumptions}

@@ -1,4 +1,4 @@
--- What is noted of a step.
+-- What is noted about a step.
 use Rattle.std.specs.Prelude.{ℕ, ◌≡◌, ◌++◌, Bool, List, Result, IfOk, IsTrue}
 use Rattle.sat_base.specs.steps.Steps.{Step}
 use Rattle.sat_checker.specs.Stored.{Stored}

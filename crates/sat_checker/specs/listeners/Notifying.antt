@@ -37,7 +37,7 @@ abbrev pub SomeRead : {C : Type 0} → (Transcribed → Result Unit Error → C 
 SomeRead Reads None cause before after = ⊥
 SomeRead Reads (Some step) cause before after = SomeNotified (Reads step) cause before after
 
--- What the result says of the transcripts, for which this is the step. Memory is needed only if there is a transcript.
+-- What the result says about the transcripts, for which this is the step. Memory is needed only if there is a transcript.
 abbrev pub Transcribes : {C : Type 0} → (Transcribed → Result Unit Error → C → C → Type 0) → Option Transcribed → Result Unit ProcessingError → List C → List C → Type 0
 Transcribes Reads said (Ok x) before after = AllRead Reads said before after
 Transcribes Reads said (Err OutOfMemory) before after = (0 < length before) × (after ≡ before)

@@ -10,11 +10,11 @@ use Rattle.sat_checker.specs.declared.error.CheckerError.TheVariants as errors
 use Rattle.sat_checker.specs.declared.processing.Processing.{Processing}
 use Rattle.sat_checker.specs.declared.processing.ProcessingError.{ProcessingError}
 
--- the processors and the transcripts that were added, as the code has them
+-- the processors and the transcripts that were added, as the code represents them
 abbrev pub listeners_of : {P T : Type 0} → Processing P T → Listeners P T
 listeners_of p = record { processors = p.processors.items; transcripts = p.transcripts.items }
 
--- Every processor hears this, and every transcript what it says of it.
+-- Every processor hears this, and every transcript what it says about it.
 abbrev pub HearsEach : {P T : Type 0} → (P → Notice → Result Unit Error → P → Type 0) → (T → Transcribed → Result Unit Error → T → Type 0) → Processing P T → Notice → Result Unit ProcessingError → Processing P T → Type 0
 HearsEach Takes Reads old t result new = Notifies (λ r b d. Takes b t r d) (λ said r b d. Reads b said r d) (transcript t.variables t.announcement) result (listeners_of old) (listeners_of new)
 

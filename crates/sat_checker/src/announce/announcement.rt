@@ -1,4 +1,4 @@
-//! What the checker announces of the steps that it accepts.
+//! What the checker announces about the steps that it accepts.
 ghost use Rattle.std.specs.Prelude.{◌≡◌};
 ghost use Rattle.sat_checker.specs.announcements.Transcripts.{user_from_proof_var};
 ghost use Rattle.sat_checker.specs.inner.NotifyingSteps.{put_back, was_of};
@@ -17,7 +17,7 @@ pub enum CheckedSamplingMode {
     Witness,
 }
 
-/// What is announced of a variable that has a name.
+/// What is announced about a variable that has a name.
 #[derive(Clone, Copy)]
 pub struct CheckedUserVar {
     pub user_var: Var,

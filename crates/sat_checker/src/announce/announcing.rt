@@ -74,7 +74,7 @@ pub(crate) fn change_of(redundant: bool, placed: Placed) -> Change
     Change::Neither
 }
 
-/// Returns the mode that is announced of a variable with a name.
+/// Returns the mode that is announced for a variable with a name.
 fn checked_mode(mode: SamplingMode) -> CheckedSamplingMode
     ensures { is_sampling result ≡ is_sample (mode_in mode) }
 {
@@ -107,7 +107,7 @@ impl LastClause {
     }
 }
 
-/// Whether the mode is `Sample`, or, if that is not asked, `Witness`.
+/// Whether the mode is `Sample`; if `sampling` is false, whether it is `Witness`.
 fn has_mode(mode: SamplingMode, sampling: bool) -> bool
     ensures { result ≡ (if sampling then is_sample (mode_in mode) else has_witness_mode (mode_in mode)) }
 {
@@ -119,8 +119,8 @@ fn has_mode(mode: SamplingMode, sampling: bool) -> bool
 }
 
 impl News {
-    /// Adds the announcement of a clause of the formula that gets this id. Its sorted literals have both signs of a
-    /// variable, or are stored under an id or not.
+    /// Adds the announcement of an input clause that gets this id. `literals` are sorted; `same` is the id under which
+    /// they are already stored, if any.
     pub fn input(
         &mut self,
         id: u64,

@@ -1,4 +1,4 @@
-//! Announcements that wait until their step is accepted.
+//! Announcements that are held until their step is accepted.
 ghost use Rattle.std.specs.Prelude.{true, ◌≡◌, ◌<◌, ◌++◌, ◌∷◌, [], length, slice_index_or, take, OnOk, OnErr};
 ghost use Rattle.std.specs.Option.{option_map};
 ghost use Rattle.sat_checker.specs.announcements.Announcements as announcements;
@@ -113,7 +113,7 @@ impl Model for News {
 }
 
 impl News {
-    /// Makes a list without announcements. It does not allocate.
+    /// Creates a list without announcements. It does not allocate.
     pub fn new(alloc: Global) -> News
         ensures { result ≡ [] }
     {

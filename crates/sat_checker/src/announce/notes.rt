@@ -1,4 +1,4 @@
-//! What a step announces, noted if there is a listener. The notes of a step that is refused are of no use.
+//! What a step announces, noted if there is a listener. The notes of a refused step are meaningless.
 ghost use Rattle.std.specs.Prelude.{ℕ, Bool, false, ◌≡◌, ◌∷◌, [], List, OnOk, IsTrue, map};
 ghost use Rattle.sat_base.specs.steps.Steps.{DeleteClause, FailedAssumptions};
 ghost use Rattle.sat_base.specs.steps.StepViews.{deletion_of};
@@ -40,7 +40,7 @@ pub(crate) struct Notes {
 }
 
 impl Notes {
-    /// Makes notes of nothing, without a listener.
+    /// Creates empty notes, without a listener.
     pub fn new(alloc: Global) -> Notes
         ensures hears { result.hears ≡ false }
         ensures none { result.news ≡ [] }
@@ -165,7 +165,7 @@ impl Notes {
 }
 
 impl Formula {
-    /// Notes what a clause of the formula, which has these sorted literals, announces.
+    /// Notes what an input clause with these sorted literals announces.
     pub fn note_input(
         &self,
         literals: &[Lit],
@@ -187,7 +187,7 @@ impl Formula {
             .input(self.status.next_id, literals, both_signs, same)
     }
 
-    /// Returns what the deletion of a clause, which has these sorted literals, announces.
+    /// Returns what deleting the clause with these sorted literals announces.
     #[inline(always)]
     pub fn deletion(
         &self,
@@ -211,8 +211,8 @@ impl Formula {
         self.deletion_heard(literals, proof, looks)
     }
 
-    /// Returns what a deletion announces: the id of its clause, and of the one that it was simplified from. There is a
-    /// listener.
+    /// Returns what a deletion announces: the id of its clause, and of the one that it was simplified from. It is only
+    /// called if there is a listener.
     #[inline(never)]
     fn deletion_heard(
         &self,
@@ -244,8 +244,8 @@ impl Formula {
         }
     }
 
-    /// Lists the ids of the clauses that a derived clause rests on, which passed the last propagation check, if there
-    /// is a listener. `literals` are its sorted literals.
+    /// If there is a listener, lists the ids of the clauses that a derived clause rests on. The clause passed the last
+    /// propagation check. `literals` are its sorted literals.
     #[inline(always)]
     pub fn note_propagations(
         &self,
@@ -288,7 +288,7 @@ impl Formula {
         }
     }
 
-    /// Notes what storing a unit announces, which passed the last propagation check.
+    /// Notes what is announced when a unit that passed the last propagation check is stored.
     pub fn note_unit(
         &self,
         lit: Lit,
@@ -320,7 +320,7 @@ impl Formula {
             .derived(change, id, false, &[lit], notes.rests_on.ids())
     }
 
-    /// Notes what a core announces, whose negation passed the last propagation check.
+    /// Notes what is announced for a core whose negation passed the last propagation check.
     pub fn note_core(
         &self,
         core: &[Lit],

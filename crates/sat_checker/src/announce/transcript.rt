@@ -52,7 +52,7 @@ pub struct Transcript {
 }
 
 impl Transcript {
-    /// Makes a transcript. It does not allocate.
+    /// Creates a transcript. It does not allocate.
     pub fn new(alloc: Global) -> Transcript
         ensures { result.lits.items ≡ [] }
     {
@@ -61,7 +61,7 @@ impl Transcript {
         }
     }
 
-    /// Returns what a transcript says of the announcement, if anything.
+    /// Returns what a transcript says about the announcement, if anything.
     pub fn transcript_step(
         &mut self,
         step: &CheckedProofStep<'_>,

@@ -22,7 +22,7 @@ const PIECE: usize = 4096;
 /// A reader is read at most this many times.
 const MAX_READS: u64 = 1 << 48;
 
-/// Whether the checker has failed after this error, since memory ran out.
+/// Whether the checker has failed after this error, because memory ran out.
 fn is_want(error: DimacsError) -> bool
     ensures { result ≡ is_out_of_memory error }
 {
@@ -36,9 +36,9 @@ fn is_want(error: DimacsError) -> bool
 }
 
 impl<P: ProofProcessor, T: ProofTranscriptProcessor> Checker<P, T> {
-    /// Adds the clauses of a formula's text in DIMACS CNF, in order, while it reads the text in chunks of 4,096 bytes.
-    /// The clauses before a fault, or before a clause that is refused, remain. If the text can't be read, the checker
-    /// continues.
+    /// Adds the clauses of a formula's text in DIMACS CNF, in order, while it reads the text in chunks of 4,096
+    /// bytes. The clauses before a fault, or before a clause that is refused, remain. If the text can't be read, the
+    /// checker continues.
     pub fn add_dimacs_cnf<R: CountedRead>(
         &mut self,
         reader: &mut R,

@@ -34,7 +34,7 @@ fn unread_error(error: StepError) -> CheckerError
     }
 }
 
-/// Whether the checker has failed after this error, since memory ran out.
+/// Whether the checker has failed after this error, because memory ran out.
 fn is_final(error: StepError) -> bool
     ensures { result ≡ is_final error }
 {

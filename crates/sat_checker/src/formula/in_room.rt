@@ -48,8 +48,8 @@ impl Formula {
         }
     }
 
-    /// Judges a model after memory ran out: the literals are no model of what is stored, or the result is
-    /// `OutOfMemory`.
+    /// Judges a model after memory ran out: either the literals are not a model of what is stored, or the result
+    /// is `OutOfMemory`.
     fn fail_if_met(&mut self, literals: &[Lit], looks: &mut Looks) -> Result<bool, AllocError>
         requires { self.old.status.unsat ≡ false }
         ensures exact { IfOk result (λ fits. (f : Stored) → KeepsFormula (refiled_in self.old) f
@@ -68,7 +68,7 @@ impl Formula {
         Ok(false)
     }
 
-    /// Marks those of the literals that there is room for, and no others.
+    /// Marks the literals that there is room for, and no others.
     fn mark_in_room(&mut self, literals: &[Lit])
         ensures marked { (l : ℕ) → is_among self.new.marks.literals l
             ≡ (is_among self.old.marks.room l && is_among literals.now l) }
@@ -91,8 +91,8 @@ impl Formula {
         !self.units.are_contradicted(literals) && self.store.are_satisfied(&self.marks, looks)
     }
 
-    /// Judges a deletion after memory ran out: the clause may not be deleted by this proof, or the result is
-    /// `OutOfMemory`.
+    /// Judges a deletion after memory ran out: the clause may not be deleted by this proof, or the result
+    /// is `OutOfMemory`.
     pub fn fail_if_deletable(
         &mut self,
         clause: &[Lit],
@@ -132,7 +132,7 @@ impl Formula {
         self.may_delete_marked(clause, proof, looks)
     }
 
-    /// Whether a clause, whose literals are exactly the marked ones, may be deleted by this proof.
+    /// Whether the clause of exactly the marked literals may be deleted by this proof.
     fn may_delete_marked(&self, clause: &[Lit], proof: DeleteClauseProof, looks: &mut Looks) -> bool
         requires { (l : ℕ) → is_among self.now.marks.literals l ≡ is_among clause.now l }
         ensures exact { (f : Stored) → KeepsFormula self.now f
@@ -151,7 +151,7 @@ impl Formula {
         }
     }
 
-    /// Whether a clause, whose literals are exactly the marked ones, is stored as redundant, or as irredundant.
+    /// Whether the clause of exactly the marked literals is stored as redundant, or as irredundant.
     fn marked_has_count(&self, redundant: bool, clause: &[Lit], looks: &mut Looks) -> bool
         requires { (l : ℕ) → is_among self.now.marks.literals l ≡ is_among clause.now l }
         ensures found { (f : Stored) → KeepsFormula self.now f
@@ -162,8 +162,7 @@ impl Formula {
         self.store.assumed_count(redundant, &self.marks, looks) > 0
     }
 
-    /// Whether the last irredundant clause stored is there, and its literals are some of the marked ones, but not all
-    /// of them.
+    /// Whether the last irredundant clause is still stored, and its literals are a proper subset of the marked ones.
     fn has_last_marked(&self, looks: &mut Looks) -> bool
         ensures part { (f : Stored) → KeepsFormula self.now f
             → MatchBool result (IsStrictSubset (last_literals f.last f) self.now.marks.literals)

@@ -1,4 +1,4 @@
-//! What only contracts see of looks at literals. It has no bytes, and its functions do nothing at run time.
+//! What only contracts see of looks at literals. It is zero-sized, and its functions do nothing at run time.
 ghost use Rattle.std.specs.Prelude.{◌≡◌, ◌+◌, ℕ};
 ghost use Rattle.std.specs.Borrow.{ftrue};
 
@@ -15,7 +15,7 @@ impl Model for LookTally {
 }
 
 impl LookTally {
-    /// Makes a count of zero.
+    /// Creates a count of zero.
     pub(crate) fn new() -> LookTally
         ensures { result.seen ≡ 0 }
     {

@@ -43,7 +43,7 @@ fn stands_first(units: &[(Lit, ClauseHash)], lit: Lit) -> bool
     false
 }
 
-/// Whether the literal has no room, and is one of the units before.
+/// Whether the literal has no room, and is one of the earlier units.
 fn came_in(assigned: &Assigned, before: &[(Lit, ClauseHash)], lit: Lit) -> bool
     ensures { result ≡ (not (is_among assigned.now.room lit) && stands_first (map (λ u. u.0) before.now) lit) }
 {

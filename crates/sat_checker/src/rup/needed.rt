@@ -89,7 +89,7 @@ fn list_units(
 }
 
 impl Needed {
-    /// Makes a list without marks and ids.
+    /// Creates a list without marks and ids.
     pub fn new(alloc: Global) -> Needed
         ensures marked { result.marked.literals ≡ [] }
         ensures none { result.ids.items ≡ [] }
@@ -193,8 +193,8 @@ impl Needed {
         ids.extend_from_slice(&self.ids)
     }
 
-    /// Lists the ids of the units that are needed, by increasing id, and then those of the clauses, the falsified one
-    /// last.
+    /// Lists the ids of the units that are needed, by increasing id, and then those of the clauses, the falsified
+    /// one last.
     pub fn list(
         &mut self,
         denied: &Assigned,

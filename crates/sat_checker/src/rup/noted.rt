@@ -1,4 +1,4 @@
-//! What only contracts see of the notes of a walk, also if memory ran out for one. It has no bytes, and its functions
+//! What only contracts see of the notes of a walk, even if memory ran out for one. It is zero-sized, and its functions
 //! do nothing at run time.
 ghost use Rattle.std.specs.Prelude.{◌≡◌, ◌++◌, ◌∷◌, [], List};
 ghost use Rattle.std.specs.Borrow.{ftrue};
@@ -17,7 +17,7 @@ impl Model for Noted {
 }
 
 impl Noted {
-    /// Makes notes without a reason.
+    /// Creates notes without reasons.
     pub(crate) fn new() -> Noted
         ensures { result.reasons ≡ [] }
     {

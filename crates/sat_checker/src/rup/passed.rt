@@ -14,12 +14,12 @@ pub(crate) struct Reason {
 }
 
 /// The reasons in the order in which they were noted, and the place of the clause that was falsified. Contracts see all
-/// reasons, also if memory ran out for one.
+/// reasons, even if memory ran out for one.
 #[derive(Drop)]
 pub(crate) struct Passed {
     reasons: Vec<Reason>,
     conflict: Option<usize>,
-    /// Whether the notes are of no use, since no listener needs them, or memory ran out for one of them or for what the
+    /// Whether the notes are unusable, since no listener needs them, or memory ran out for one of them or for what the
     /// walk started from.
     lost: bool,
     /// Whether no listener needs the notes.
@@ -39,7 +39,7 @@ impl Model for Passed {
 }
 
 impl Passed {
-    /// Makes notes without a reason.
+    /// Creates notes without reasons.
     pub fn new(alloc: Global) -> Passed
         ensures { result ≡ record { reasons = []; conflict = None; lost = false } }
     {
@@ -99,7 +99,7 @@ impl Passed {
         self.lost = true;
     }
 
-    /// Whether the notes are of no use.
+    /// Whether the notes are unusable.
     pub fn is_lost(&self) -> bool
         ensures { result ≡ self.now.lost }
     {
@@ -113,7 +113,7 @@ impl Passed {
         self.conflict
     }
 
-    /// Lends the reasons, if the notes are of use.
+    /// Lends the reasons, if the notes are usable.
     pub fn reasons(&self) -> &[Reason]
         requires { self.now.lost ≡ false }
         ensures { result.now ≡ self.now.reasons }

@@ -1,5 +1,5 @@
-//! The ids of the clauses that a clause rests on which passed the propagation check. They are listed if a listener
-//! needs them.
+//! For a clause that passed the propagation check: the ids of the clauses that it rests on. They are listed only if a
+//! listener needs them.
 ghost use Rattle.std.specs.Prelude.{ℕ, List, ◌≡◌, ◌+◌, ◌++◌, [], map, OnOk, false};
 ghost use Rattle.sat_base.specs.values.Literals.{negated};
 ghost use Rattle.sat_checker.specs.LiteralSets.{canonical};
@@ -30,7 +30,7 @@ pub(crate) struct Propagations {
 }
 
 impl Propagations {
-    /// Makes an empty list.
+    /// Creates an empty list.
     pub fn new(alloc: Global) -> Propagations
         ensures { result.ids.items ≡ [] }
     {
@@ -85,7 +85,7 @@ impl Propagations {
         self.list_conflict(store, units, passed, clause, looks)
     }
 
-    /// Lists what the conflict rests on that was noted under the negated clause.
+    /// Lists what the conflict noted under the negated clause rests on.
     fn list_conflict(
         &mut self,
         store: &Store,

@@ -26,7 +26,7 @@ impl Model for LitSet {
 }
 
 impl LitSet {
-    /// Makes an empty set.
+    /// Creates an empty set.
     pub fn new(alloc: Global) -> LitSet
         ensures { result ≡ [] }
     {
@@ -35,7 +35,7 @@ impl LitSet {
         }
     }
 
-    /// Holds these literals instead of the current ones. After an error it is empty.
+    /// Replaces the current literals with these. After an error, the set is empty.
     #[tactic(auto, using(crate::proofs::lemmas::sets::Canonical::canonical_increasing))]
     pub fn replace(&mut self, literals: &[Lit]) -> Result<(), AllocError>
         ensures { OnOk result (self.new ≡ canonical literals.now) }

@@ -18,7 +18,7 @@ pub(crate) enum LastClause {
     Long(u64),
 }
 
-/// What is recorded of the stored formula.
+/// What is recorded about the stored formula.
 #[derive(Clone, Copy)]
 pub(crate) struct Status {
     pub(crate) unsat: bool,
@@ -39,7 +39,7 @@ pub(crate) struct Records {
 }
 
 impl Status {
-    /// Makes a status in which nothing is recorded.
+    /// Creates a status in which nothing is recorded.
     pub fn new() -> Status
         ensures { standing_in result ≡ standing_of nothing_stored }
     {

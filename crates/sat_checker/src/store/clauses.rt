@@ -55,7 +55,7 @@ impl Model for Clauses {
 }
 
 impl Clauses {
-    /// Makes a list without clauses.
+    /// Creates a list without clauses.
     pub fn new(alloc: Global) -> Clauses
         ensures { result ≡ [] }
     {
@@ -211,7 +211,7 @@ impl Clauses {
         0
     }
 
-    /// Adds a clause with one count after the others. If memory runs out, all stay, or none is left.
+    /// Appends a clause with one count. If memory runs out, all are kept, or none is left.
     pub fn push(
         &mut self,
         id: u64,
@@ -275,7 +275,7 @@ impl Clauses {
     }
 
     /// Drops the removed clauses, if they are more than half of all, or fill more than half of the buffer. The places
-    /// are numbered again. If memory runs out, they stay.
+    /// are numbered again. If memory runs out, the removed clauses are kept.
     pub fn compact(&mut self) -> Result<(), AllocError>
         ensures left { MayDrop self.old self.new }
         ensures few { OnOk result (2 * gone_count self.new ≤ length self.new) }
@@ -297,7 +297,7 @@ pub(crate) fn all_bits() -> HashBits
     HashBits::new(64).unwrap()
 }
 
-/// Adds a clause with one count after the others.
+/// Appends a clause with one count.
 fn add(
     slots: &mut Slots,
     index: &mut SortedPairs,
@@ -321,8 +321,8 @@ fn add(
     Ok(())
 }
 
-/// Files the clauses that are not removed by the places that they have once the others are dropped, from the last to
-/// the first.
+/// Files the clauses that are not removed, from the last to the first, under the places that they have once the others
+/// are dropped.
 fn file_standing(slots: &Slots, index: &SortedPairs, next: &mut SortedPairs)
     requires filed { IndexesSlots index.now slots.now }
     requires none { next.old.pairs ≡ [] }
@@ -341,7 +341,7 @@ fn file_standing(slots: &Slots, index: &SortedPairs, next: &mut SortedPairs)
     }
 }
 
-/// Drops the removed clauses, and files the others by their new places. If memory runs out, all stay.
+/// Drops the removed clauses, and files the others by their new places. If memory runs out, all are kept.
 fn drop_gone(alloc: Global, slots: &mut Slots, index: &mut SortedPairs) -> Result<(), AllocError>
     requires { IndexesSlots index.old slots.old }
     ensures left { OnOk result (slots.new ≡ slots_present slots.old) }

@@ -1,4 +1,4 @@
-//! What only contracts see of a stored clause's hash, which is in the index. It has no bytes.
+//! What only contracts see of a stored clause's hash, which is in the index. It is zero-sized.
 ghost use Rattle.std.specs.Prelude.{◌≡◌, ℕ};
 ghost use Rattle.std.specs.Borrow.{ftrue};
 

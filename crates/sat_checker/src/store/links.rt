@@ -38,7 +38,7 @@ pub(crate) fn top(hash: ClauseHash, shift: u32, count: usize) -> usize
     top.min(count - 1)
 }
 
-/// Returns the first place of a hash, from a place on.
+/// Returns the first place of a hash, searching from a place.
 #[inline(always)]
 pub(crate) fn first_from(links: &[Link], from: u32, hash: ClauseHash) -> Option<usize>
     requires { IsWalk links.now from }
@@ -59,7 +59,7 @@ pub(crate) fn first_from(links: &[Link], from: u32, hash: ClauseHash) -> Option<
     None
 }
 
-/// Returns the last place whose hash is at most this one, from a place on.
+/// Returns the last place whose hash is at most this one, searching from a place.
 fn last_up_to(links: &[Link], from: u32, hash: ClauseHash) -> Option<usize>
     requires { IsWalk links.now from }
     ensures { result ≡ last_or None (up_to hash (rest links.now from)) }
@@ -77,7 +77,7 @@ fn last_up_to(links: &[Link], from: u32, hash: ClauseHash) -> Option<usize>
     last
 }
 
-/// Returns the last place whose hash is below this one, from a place on.
+/// Returns the last place whose hash is below this one, searching from a place.
 fn last_below(links: &[Link], from: u32, hash: ClauseHash) -> Option<usize>
     requires { IsWalk links.now from }
     ensures { result ≡ last_or None (below hash (rest links.now from)) }
@@ -95,7 +95,7 @@ fn last_below(links: &[Link], from: u32, hash: ClauseHash) -> Option<usize>
     last
 }
 
-/// Returns the place before this one, from a place on.
+/// Returns the place before this one, searching from a place.
 fn place_before(links: &[Link], from: u32, place: usize) -> Option<usize>
     requires walk { IsWalk links.now from }
     requires inside { place < length links.now }
@@ -145,7 +145,7 @@ pub(crate) fn put(
     Ok(())
 }
 
-/// Removes the pair of a place.
+/// Removes the pair at a place.
 pub(crate) fn take(heads: &mut [u32], links: &mut [Link], shift: u32, place: usize)
     requires linked { AreLinked heads.old links.old shift }
     requires some { 0 < length heads.old }
@@ -169,7 +169,7 @@ pub(crate) fn take(heads: &mut [u32], links: &mut [Link], shift: u32, place: usi
     }
 }
 
-/// Lists the pairs from a place on.
+/// Lists the pairs, starting at a place.
 fn list_from(links: &[Link], from: u32, list: &mut Vec<Pair>) -> Result<(), AllocError>
     requires { IsWalk links.now from }
     ensures { OnOk result (list.new.items ≡ list.old.items ++ rest links.now from) }
@@ -222,7 +222,7 @@ pub(crate) fn link_all(heads: &mut [u32], links: &mut [Link], shift: u32, pairs:
     }
 }
 
-/// Links a pair whose place is before all that are linked.
+/// Links a pair whose place is before those of all linked pairs.
 pub(crate) fn link_before(heads: &mut [u32], links: &mut [Link], shift: u32, pair: Pair)
     requires linked { AreLinked heads.old links.old shift }
     requires some { 0 < length heads.old }

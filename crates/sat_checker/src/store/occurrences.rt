@@ -13,7 +13,7 @@ pub struct Occurrences {
 }
 
 impl Occurrences {
-    /// Makes counts of zero.
+    /// Creates counts of zero.
     pub fn new(alloc: Global) -> Occurrences
         ensures { (l : ℕ) → count_at result l ≡ 0 }
     {

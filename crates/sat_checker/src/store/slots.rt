@@ -104,7 +104,7 @@ impl Model for Slots {
 }
 
 impl Slots {
-    /// Makes a list without clauses.
+    /// Creates a list without clauses.
     pub fn new(alloc: Global) -> Slots
         ensures { result ≡ [] }
     {
@@ -122,7 +122,7 @@ impl Slots {
         self.entries.len()
     }
 
-    /// Lends the literals at a place, which counts as a look at each of them. There is no other way to them.
+    /// Lends the literals at a place, which counts as a look at each of them. There is no other way to access them.
     #[inline(always)]
     pub fn literals(&self, place: usize, looks: &mut Looks) -> &[Lit]
         requires { place < length self.now }
@@ -178,7 +178,7 @@ impl Slots {
         self.count(place, false) == 0 && self.count(place, true) == 0
     }
 
-    /// Adds a clause with these counts after the others.
+    /// Appends a clause with these counts.
     pub fn push(
         &mut self,
         id: u64,
@@ -203,7 +203,7 @@ impl Slots {
         Ok(())
     }
 
-    /// Adds those clauses of another list that are not removed after these. Their literals are not looked at.
+    /// Appends the clauses of another list that are not removed. Their literals are not looked at.
     pub fn push_standing(&mut self, others: &Slots) -> Result<(), AllocError>
         ensures { OnOk result (self.new ≡ self.old ++ slots_present others.now) }
     {

@@ -29,7 +29,7 @@ fn shift_for(places: usize) -> u32
         .max(LEAST_SHIFT)
 }
 
-/// Makes heads of no pairs.
+/// Creates heads without pairs.
 fn no_heads(alloc: Global, shift: u32) -> Result<Vec<u32>, AllocError>
     requires few { 33 ≤ shift }
     requires below { shift < 64 }
@@ -96,7 +96,7 @@ fn make_heads(
     Ok(shift)
 }
 
-/// Pairs by hashes, and for equal hashes by places. Contracts see the list of them.
+/// Pairs ordered by hash, then by place. Contracts see the list of them.
 #[derive(Drop)]
 pub struct SortedPairs {
     alloc: Global,
@@ -118,7 +118,7 @@ impl Model for SortedPairs {
 }
 
 impl SortedPairs {
-    /// Makes a list without pairs.
+    /// Creates a list without pairs.
     pub fn new(alloc: Global) -> SortedPairs
         ensures { result ≡ record { pairs = []; places = 0 } }
     {
@@ -130,7 +130,7 @@ impl SortedPairs {
         }
     }
 
-    /// Returns how many places were given.
+    /// Returns how many places were assigned.
     pub fn places(&self) -> usize
         ensures count { result ≡ self.now.places }
         ensures few { self.now.places ≤ nowhere }
@@ -191,7 +191,7 @@ impl SortedPairs {
         Ok(())
     }
 
-    /// Removes the pair of a place. The place is not given again.
+    /// Removes the pair at a place. The place is not reused.
     pub fn remove(&mut self, place: usize)
         requires { place < self.old.places }
         ensures { self.new ≡ record self.old { pairs = without_pair place self.old.pairs } }
@@ -202,7 +202,7 @@ impl SortedPairs {
         take(&mut self.heads, &mut self.links, self.shift, place);
     }
 
-    /// Removes all pairs. The places stay.
+    /// Removes all pairs. The places remain.
     pub fn clear(&mut self)
         ensures { self.new ≡ record { pairs = []; places = self.old.places } }
     {

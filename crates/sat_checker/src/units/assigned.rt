@@ -47,7 +47,7 @@ impl Model for Assigned {
 }
 
 impl Assigned {
-    /// Makes a set without assumed literals and without room.
+    /// Creates a set without assumed literals and without room.
     pub fn new(alloc: Global) -> Assigned
         ensures { result ≡ record { literals = []; room = [] } }
     {
@@ -83,7 +83,7 @@ impl Assigned {
         let _ = &self.room;
     }
 
-    /// Sets how many marks may be in one list, which is faster than a tree.
+    /// Sets how many marks may be in one list; a list is faster than a tree.
     pub fn allow(&mut self, limit: usize)
         ensures { self.new ≡ self.old }
     {

@@ -13,7 +13,7 @@ pub(crate) struct LitNumbers {
 }
 
 impl LitNumbers {
-    /// Makes a table without numbers.
+    /// Creates a table without numbers.
     pub fn new(alloc: Global) -> LitNumbers
         ensures { (l : ℕ) → number_at result l ≡ None }
     {

@@ -1,5 +1,5 @@
-//! What only contracts see of the literals that there is room for. It has no bytes, and its functions do nothing at run
-//! time.
+//! What only contracts see of the literals that there is room for. It is zero-sized, and its functions do nothing at
+//! run time.
 ghost use Rattle.std.specs.Prelude.{ℕ, ◌≡◌, ◌∷◌, [], List};
 ghost use Rattle.std.specs.Borrow.{ftrue};
 
@@ -16,7 +16,7 @@ impl Model for Roomy {
 }
 
 impl Roomy {
-    /// Makes a list without literals.
+    /// Creates a list without literals.
     pub(crate) fn new() -> Roomy
         ensures { result.literals ≡ [] }
     {

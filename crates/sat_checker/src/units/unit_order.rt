@@ -1,4 +1,4 @@
-//! What only contracts see of the order in which units were stored. It has no bytes, and its functions do nothing at
+//! What only contracts see of the order in which units were stored. It is zero-sized, and its functions do nothing at
 //! run time.
 ghost use Rattle.std.specs.Prelude.{◌≡◌, ◌++◌, ◌∷◌, [], List, filter, not, ◌==◌};
 ghost use Rattle.std.specs.Borrow.{ftrue};
@@ -17,7 +17,7 @@ impl Model for UnitOrder {
 }
 
 impl UnitOrder {
-    /// Makes a list without units.
+    /// Creates a list without units.
     pub(crate) fn new() -> UnitOrder
         ensures { result.units ≡ [] }
     {

@@ -31,7 +31,7 @@ pub(crate) fn assume_apart(assigned: &mut Assigned, literals: &[Lit]) -> Result<
     Ok(true)
 }
 
-/// Assumes those of the literals that there is room for. It does not allocate.
+/// Assumes the literals that there is room for. It does not allocate.
 pub(crate) fn assume_roomy(assigned: &mut Assigned, literals: &[Lit])
     requires { assigned.old.literals ≡ [] }
     ensures marked { (l : ℕ) → is_among assigned.new.literals l
@@ -78,7 +78,7 @@ pub(crate) fn has_just_assumed(assigned: &Assigned, clause: &[Lit]) -> bool
     clause.len() == assumed.len() && are_assumed(assigned, clause)
 }
 
-/// Whether the sorted literals of a clause are some of the assumed ones, but not all of them.
+/// Whether the sorted literals of a clause are a proper subset of the assumed ones.
 pub(crate) fn is_strictly_assumed(assigned: &Assigned, clause: &[Lit]) -> bool
     requires { IsIncreasing clause.now }
     ensures { result ≡ (is_part clause.now assigned.now.literals && not (is_part assigned.now.literals clause.now)) }
