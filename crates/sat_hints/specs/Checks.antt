@@ -23,7 +23,7 @@ LastIsNotFalsified assumed [] = Unit {0}
 LastIsNotFalsified assumed (clause ∷ []) = IsFalsified assumed clause → ⊥
 LastIsNotFalsified assumed (clause ∷ next ∷ rest) = (l : ℕ) × IsUnit assumed clause l × LastIsNotFalsified (l ∷ assumed) (next ∷ rest)
 
--- a line that is in order, whose clauses are all present, and which assumes no two signs of a variable
+-- a line that is in order, whose clauses are all present, and which does not assume both signs of a variable
 pub record TriesLine (earlier : List Line) (line : Line) (Fails : List ℕ → List (List ℕ) → Type 0) : Type 0 where
   pub in_order : IsInOrder earlier line
   pub clauses : List (List ℕ)
@@ -33,19 +33,19 @@ pub record TriesLine (earlier : List Line) (line : Line) (Fails : List ℕ → L
   pub consistent : is_tautology assumed ≡ false
   pub fails : Fails assumed clauses
 
--- Why a line is at fault after earlier ones, the first reason of these: its id is not above all before,
+-- Why a line is at fault after earlier ones, the first reason of these: its id is not above all earlier ones,
 abbrev pub IsFaultOf : List Line → Line → HintWhy → Type 0
 IsFaultOf earlier line IdOrder = IsInOrder earlier line → ⊥
 -- a clause that it names is not present,
 IsFaultOf earlier line UnknownId = IsInOrder earlier line × (clauses_under (named_ids line) earlier ≡ None)
--- these do not run into a conflict,
+-- these do not lead to a conflict,
 IsFaultOf earlier line NotUnit = TriesLine earlier line SomeIsNotUnit
 IsFaultOf earlier line NotFalsified = TriesLine earlier line LastIsNotFalsified
 -- or the variable that it makes new is in use.
 IsFaultOf earlier line VarInUse = UsesVariable earlier line
 IsFaultOf earlier line Syntax = ⊥
 
--- why bytes are: before all these, they are no line
+-- why bytes are at fault: before all these reasons, they are not a line
 abbrev pub IsAtFault : List Line → List ℕ → HintWhy → Type 0
 IsAtFault earlier bytes Syntax = (line : Line) → SpellsLine bytes line → ⊥
 IsAtFault earlier bytes why = (line : Line) × SpellsLine bytes line × IsFaultOf earlier line why
@@ -72,7 +72,7 @@ pub record IsProof (text : List ℕ) (empty : Bool) (cores lines : ℕ) : Type 0
   pub counts_cores : cores ≡ held (count_of_cores all)
   pub counts_lines : lines ≡ held (length all)
 
--- what a verdict says of a text
+-- what a verdict says about a text
 abbrev pub Judges : HintVerdict → List ℕ → Type 0
 Judges (Proved empty cores lines) text = IsProof text empty cores lines
 Judges (Bad line why) text = IsBadAt text line why

@@ -1,4 +1,4 @@
--- What an answer to a certificate means that is turned into a hint text.
+-- What an answer means when a certificate is turned into a hint text.
 use Rattle.std.specs.Prelude.{ℕ, ◌≡◌, ◌≢◌, ◌⊎◌, List, [], ◌∷◌, ◌++◌, Result, Ok, Err}
 use Rattle.std.specs.List.{AllByRecursion}
 use Rattle.sat_base.specs.device.Device.{Reader, Writer, IsOver, ReadFails, WriterTakes, WriterBreaks}
@@ -50,7 +50,7 @@ RefusesBy errors.CheckFailed from to passed = (step : Step) × (rest : List ℕ)
 RefusesBy errors.ProofIncomplete from to passed = (rest : List ℕ) × GaveAcceptedSteps from to passed [] rest × IsOver to × IsProperFront SpellsStep rest
 -- or no step can follow a byte
 RefusesBy errors.ParseError from to passed = (rest : List ℕ) × GaveAcceptedSteps from to passed [] rest × IsFirstBadByte SpellsStep rest
--- ids and counts do not come to their end within the bytes that a reader gives
+-- the bytes that a reader provides do not exhaust ids or counts
 RefusesBy errors.CounterEnd from to passed = ⊥
 RefusesBy errors.IoError from to passed = ⊥
 RefusesBy errors.OutOfMemory from to passed = ⊥
@@ -63,7 +63,7 @@ abbrev pub Converts : Result (Unit {0}) HintError → Reader → Reader → Writ
 Converts (Ok x) from to old new = (passed : List Step) × (rest : List ℕ) × IsAccepted from to passed rest
     × Judges (hint_verdict (End ∷ taken_after passed [])) (hint_text (End ∷ taken_after passed []))
     × WriterTakes old new (hint_text (End ∷ taken_after passed []))
--- this never comes,
+-- this is never returned,
 Converts (Err HasDeleteVar) from to old new = ⊥
 -- the checker refuses a step, a byte or the end,
 Converts (Err (Refused e)) from to old new = (passed : List Step) × NoReadFailed from to × RefusesBy e from to passed

@@ -5,13 +5,13 @@ use Rattle.sat_checker.specs.LiteralSets.{mentions, canonical, is_tautology}
 use Rattle.sat_checker.specs.Propagation.{UnitInTurn}
 use Rattle.sat_hints.specs.Lines.{Line, Input, Derived, Gone, Core, Fresh}
 
--- is the clause a unit over the variable?
+-- whether the clause is a unit over the variable
 abbrev pub is_unit_over : ℕ → List ℕ → Bool
 is_unit_over v [] = false
 is_unit_over v (l ∷ []) = variable l == v
 is_unit_over v (l ∷ m ∷ ls) = false
 
--- but for a unit over the variable
+-- the clause, or none if it is a unit over the variable
 abbrev pub unless_unit_over : ℕ → Option (List ℕ) → Option (List ℕ)
 unless_unit_over v None = None
 unless_unit_over v (Some clause) = if is_unit_over v clause then None else Some clause
@@ -25,7 +25,7 @@ clause_under id (Gone i ∷ earlier) = if id == i then None else clause_under id
 clause_under id (Core core ids ∷ earlier) = clause_under id earlier
 clause_under id (Fresh v ∷ earlier) = unless_unit_over v (clause_under id earlier)
 
--- with one more before
+-- the clause before the clauses, if all of them are present
 abbrev pub and_clauses : Option (List ℕ) → Option (List (List ℕ)) → Option (List (List ℕ))
 and_clauses None cs = None
 and_clauses (Some c) None = None
@@ -36,7 +36,7 @@ abbrev pub clauses_under : List ℕ → List Line → Option (List (List ℕ))
 clauses_under [] earlier = Some []
 clauses_under (id ∷ ids) earlier = and_clauses (clause_under id earlier) (clauses_under ids earlier)
 
--- the least id that may come: one more than the last that a clause came under
+-- the least id that the next clause may have: one more than that of the last one added
 abbrev pub least_id : List Line → ℕ
 least_id [] = 0
 least_id (Input id clause ∷ earlier) = id + 1
@@ -61,7 +61,7 @@ named_ids (Gone id) = id ∷ []
 named_ids (Core core ids) = ids
 named_ids (Fresh v) = []
 
--- what is assumed if clauses have to run into a conflict: a clause's negation, or a core
+-- what is assumed if clauses have to lead to a conflict: a clause's negation, or a core
 abbrev pub assumed_by : Line → Option (List ℕ)
 assumed_by (Input id clause) = None
 assumed_by (Derived id clause ids) = Some (map negated clause)
@@ -73,12 +73,12 @@ assumed_by (Fresh v) = None
 abbrev pub Conflicts : List ℕ → List (List ℕ) → Type 0
 Conflicts assumed clauses = (is_tautology assumed ≡ true) ⊎ UnitInTurn assumed clauses
 
--- so it is if something is assumed
+-- the same, if something is assumed
 abbrev pub ConflictsIf : Option (List ℕ) → List (List ℕ) → Type 0
 ConflictsIf None clauses = Unit {0}
 ConflictsIf (Some assumed) clauses = Conflicts assumed clauses
 
--- are there two literals or more?
+-- whether there are two literals or more
 abbrev pub is_long : List ℕ → Bool
 is_long [] = false
 is_long (l ∷ []) = false
@@ -92,7 +92,7 @@ pub record IsInNonUnitClause (v : ℕ) (earlier : List Line) : Type 0 where
   pub long : is_long clause ≡ true
   pub within : mentions clause v ≡ true
 
--- the line makes a variable new that is in use
+-- the variable that the line makes new is in use
 abbrev pub UsesVariable : List Line → Line → Type 0
 UsesVariable earlier (Input id clause) = ⊥
 UsesVariable earlier (Derived id clause ids) = ⊥
@@ -113,12 +113,12 @@ abbrev pub IsHintDerivation : List Line → Type 0
 IsHintDerivation [] = Unit {0}
 IsHintDerivation (line ∷ earlier) = IsHintDerivation earlier × FollowsLines earlier line
 
--- has the clause no literals?
+-- whether the clause has no literals
 abbrev pub is_empty : List ℕ → Bool
 is_empty [] = true
 is_empty (l ∷ ls) = false
 
--- is an empty clause derived?
+-- whether an empty clause is derived
 abbrev pub derives_empty : List Line → Bool
 derives_empty [] = false
 derives_empty (Input id clause ∷ earlier) = derives_empty earlier

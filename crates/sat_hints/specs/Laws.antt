@@ -107,7 +107,7 @@ abbrev pub AnnouncedAreProved : Type 0
 AnnouncedAreProved = (steps : List Step) → AcceptsAll steps → AllByRecursion FitsStep steps → (ready_after steps).next_id < 2 ^ 64 →
     Judges (hint_verdict steps) (hint_text steps)
 
--- A certificate in its bytes: accepted steps, none of them an end, and an end.
+-- The bytes of a certificate: accepted steps, none of them an end, and an end.
 pub record IsCertificate (steps : List Step) (text : List ℕ) : Type 0 where
   pub spelt : SpellsSteps (steps ++ End ∷ []) text
   pub unended : AllByRecursion (λ step. step ≢ End) steps

@@ -6,9 +6,9 @@ use thiserror::Error;
 /// Why a line is at fault: the first reason, in this order.
 #[derive(Clone, Copy, Debug, Drop, PartialEq, Eq)]
 pub enum HintWhy {
-    /// It is no line of a hint text, or the last one without its LF.
+    /// It is not a line of a hint text, or the last one without its LF.
     Syntax,
-    /// It gives a clause an ID that is not above those of all clauses before.
+    /// It gives a clause an ID that is not above those of all earlier clauses.
     IdOrder,
     /// It names an ID under which no clause is present.
     UnknownId,
@@ -16,7 +16,7 @@ pub enum HintWhy {
     NotUnit,
     /// The last clause that it names is not falsified, or it names none.
     NotFalsified,
-    /// It makes a variable new that is in a present clause of two literals or more.
+    /// The variable that it makes new is in a present clause of two literals or more.
     VarInUse,
 }
 
@@ -24,9 +24,10 @@ pub enum HintWhy {
 #[derive(Clone, Copy, Debug, Drop, PartialEq, Eq)]
 pub enum HintVerdict {
     /// It is a derivation. The fields say whether it derives an empty clause, and the numbers of its cores and of its
-    /// lines, both held at 2^64-1.
+    /// lines, both saturating at 2^64-1.
     Proved { empty: bool, cores: u64, lines: u64 },
-    /// It is none. The fields are the first line at fault, counted from 1 and held at 2^64-1, and the reason.
+    /// It is not a derivation. The fields are the first line at fault, counted from 1 and saturating at 2^64-1, and
+    /// the reason.
     Bad { line: u64, why: HintWhy },
 }
 

@@ -22,10 +22,10 @@ const PIECE: usize = 4096;
 /// The largest number of reads.
 const MAX_READS: u64 = 1 << 48;
 
-/// The line in hand, and the state after the lines before it.
+/// The current line, and the state after the lines before it.
 #[derive(Drop)]
 struct Checking {
-    /// The bytes of a line whose LF has not come yet.
+    /// The bytes of a line whose LF has not been read yet.
     held: Vec<u8>,
     /// The place in the line where they end.
     place: Place,
@@ -66,7 +66,7 @@ fn take_line(
 }
 
 impl Checking {
-    /// Returns a checker before the first byte. Does not allocate.
+    /// Returns a checker that has read nothing. Does not allocate.
     fn new(alloc: Global) -> Checking
         ensures ready { IsReadyJudge result.judge }
         ensures read { HasRead result [] }
@@ -94,7 +94,7 @@ impl Checking {
         Ok(why)
     }
 
-    /// Holds further bytes of a line. Returns that it is at fault if no line continues with them.
+    /// Holds further bytes of a line. Reports a fault if no line continues with them.
     fn hold(&mut self, bytes: &[u8]) -> Result<Option<HintWhy>, AllocError>
         requires ready { IsReadyJudge self.old.judge }
         requires inside { HasNoEnd bytes.now }
@@ -109,8 +109,8 @@ impl Checking {
         Ok(None)
     }
 
-    /// Holds the bytes after the last line that was read in place. They begin with no line, so an LF among them is a
-    /// fault.
+    /// Holds the bytes after the last line that was read in place. They do not begin with a line, so an LF among them
+    /// is a fault.
     fn hold_rest(&mut self, bytes: &[u8]) -> Result<Option<HintWhy>, AllocError>
         requires ready { IsReadyJudge self.old.judge }
         requires empty { self.old.held.items ≡ [] }
@@ -147,7 +147,7 @@ impl Checking {
         }
     }
 
-    /// Checks the next bytes of the text. Returns why the first line at fault is, if there is one.
+    /// Checks the next bytes of the text. Returns the reason for the first line at fault, if there is one.
     fn feed(&mut self, piece: &[u8]) -> Result<Option<HintWhy>, AllocError>
         requires { IsReadyJudge self.old.judge }
         ensures ready { IfOk result (λ why. IsReadyIf why self.new.judge) }

@@ -68,7 +68,7 @@ fn announced_line<'a>(step: &CheckedProofStep<'a>) -> Option<HintLine<'a>>
 }
 
 impl<W: CountedWrite> LineWriter<W> {
-    /// Puts the line of an announcement, if it has one.
+    /// Appends the line of an announcement, if it has one.
     fn put_announced(&mut self, step: &CheckedProofStep<'_>)
         ensures { PutsText (text_if (announced_line (announcement_of step.now))) (outlet W.seen self.old)
             (outlet W.seen self.new) }

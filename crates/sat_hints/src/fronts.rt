@@ -7,7 +7,7 @@ ghost use Rattle.sat_hints.specs.declared.fronts.Place.TheVariants.{Digits, Item
 use crate::numbers::with_digit;
 use sat_base::Var;
 
-/// What is still to come of a line.
+/// What is still expected of a line.
 #[derive(Clone, Copy)]
 pub(crate) enum Part {
     /// `ID LITS 0`
@@ -33,13 +33,13 @@ pub(crate) enum Part {
 pub(crate) enum Place {
     /// The line begins.
     Letter,
-    /// A space comes, and then this part.
+    /// A space is expected, and then this part.
     Space(Part),
-    /// This part comes.
+    /// This part is expected.
     Item(Part),
     /// The number with which this part begins has these digits so far, or none if that is 0.
     Digits(Part, u64),
-    /// The LF comes.
+    /// The LF is expected.
     Over,
 }
 

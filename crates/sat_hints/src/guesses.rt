@@ -13,7 +13,7 @@ const SPREAD: u64 = 4;
 const FIRST: u64 = 4096;
 
 /// Likely places by id. They may be wrong, and are tested. Ids that are far ahead of the number of clauses have none,
-/// so that the table takes at most a few numbers a clause.
+/// so that the table takes at most a few numbers per clause.
 #[derive(Drop)]
 pub(crate) struct Guesses {
     places: Vec<u32>,
@@ -48,7 +48,7 @@ impl Guesses {
         Ok(())
     }
 
-    /// Returns the position of an id among ids that rise, if it is there.
+    /// Returns the position of an id among increasing ids, if it is there.
     #[inline(always)]
     pub(crate) fn search(&self, ids: &[u64], id: u64) -> Result<usize, usize>
         ensures bound { IsSearchInRange result (length ids.now) }

@@ -23,7 +23,7 @@ pub(crate) struct Judge {
     standing: Standing,
     /// The assumed literals. There is room for the literals of present clauses, and for their negations.
     assumed: Assigned,
-    /// The literals of the next clause as a sorted set, if they do not rise.
+    /// The literals of the next clause as a sorted set, if they are not increasing.
     set: Vec<Lit>,
     least_id: u64,
     empty: bool,
@@ -31,7 +31,8 @@ pub(crate) struct Judge {
     lines: u64,
 }
 
-/// Returns the sorted set of the literals: the literals themselves if they rise, and otherwise a copy in the buffer.
+/// Returns the sorted set of the literals: the literals themselves if they are increasing, and otherwise a copy in
+/// the buffer.
 fn sorted_set<'a>(buffer: &'a mut Vec<Lit>, literals: &'a [Lit]) -> Result<&'a [Lit], AllocError>
     ensures { IfOk result (λ set. set.now ≡ canonical literals.now) }
 {
@@ -45,7 +46,7 @@ fn sorted_set<'a>(buffer: &'a mut Vec<Lit>, literals: &'a [Lit]) -> Result<&'a [
 }
 
 impl Judge {
-    /// Returns a judge before the first line. Does not allocate.
+    /// Returns a judge that has read no line. Does not allocate.
     pub(crate) fn new(alloc: Global) -> Judge
         ensures ready { IsReadyJudge result }
         ensures taken { HasTakenLines result [] }
@@ -61,7 +62,7 @@ impl Judge {
         }
     }
 
-    /// Stores a clause under an id that is above all before.
+    /// Stores a clause under an id that is above all earlier ones.
     fn store(&mut self, id: u64, clause: &[Lit]) -> Result<(), AllocError>
         requires ready { IsReadyJudge self.old }
         requires in_order { self.old.least_id ≤ id }
@@ -76,7 +77,7 @@ impl Judge {
         Ok(())
     }
 
-    /// Returns why the clauses under these ids do not run into a conflict under literals, or under their negations, or
+    /// Returns why the clauses under these ids do not lead to a conflict under literals, or under their negations, or
     /// `None` if they do.
     fn refute(&mut self, literals: &[Lit], negate: bool, ids: &[u64]) -> Option<HintWhy>
         requires { IsReadyJudge self.old }

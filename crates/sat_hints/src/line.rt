@@ -21,7 +21,7 @@ pub(crate) enum HintLine<'a> {
     Gone {
         id: u64,
     },
-    /// `f LITS 0 IDS 0`: literals that fail together. The clauses that are named run into a conflict if all literals
+    /// `f LITS 0 IDS 0`: literals that fail together. The clauses that are named lead to a conflict if all literals
     /// are true.
     Core {
         core: &'a [Lit],

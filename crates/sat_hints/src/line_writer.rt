@@ -11,8 +11,8 @@ use sat_base::{CountedWrite, Lit, MOST_DIGITS, Var, write_decimal};
 /// The largest number of pending bytes.
 const PIECE: usize = 4096;
 
-/// A writer, and bytes that are pending until there is no room for more, or no more bytes come. After a write has
-/// failed, nothing more is written.
+/// A writer, and bytes that are pending until there is no room for more, or the text ends. After a write has failed,
+/// nothing more is written.
 #[derive(Drop)]
 pub(crate) struct LineWriter<W> {
     writer: W,
@@ -22,9 +22,9 @@ pub(crate) struct LineWriter<W> {
     failed: bool,
 }
 
-// Every byte passes `put`.
+// Every byte goes through `put`.
 impl<W: CountedWrite> LineWriter<W> {
-    /// Returns a writer of lines without pending bytes.
+    /// Returns a line writer with no pending bytes.
     pub(crate) fn new(writer: W) -> LineWriter<W>
         ensures writer { (outlet W.seen result).sink.writer ≡ W.seen writer }
         ensures none { (outlet W.seen result).sink.waiting ≡ [] }
@@ -70,7 +70,7 @@ impl<W: CountedWrite> LineWriter<W> {
         self.len = 0;
     }
 
-    /// Puts a byte. If there is no room, the pending bytes are written out first.
+    /// Appends a byte. If there is no room, the pending bytes are written out first.
     #[inline(always)]
     fn put(&mut self, byte: u8)
         ensures { PutsText (byte ∷ []) (outlet W.seen self.old) (outlet W.seen self.new) }
@@ -86,7 +86,7 @@ impl<W: CountedWrite> LineWriter<W> {
         self.len += 1;
     }
 
-    /// Writes out the pending bytes, and puts a byte.
+    /// Writes out the pending bytes, and appends a byte.
     fn put_behind(&mut self, byte: u8)
         requires { self.old.failed ≡ false }
         ensures { PutsText (byte ∷ []) (outlet W.seen self.old) (outlet W.seen self.new) }
@@ -99,7 +99,7 @@ impl<W: CountedWrite> LineWriter<W> {
         self.len = 1;
     }
 
-    /// Puts bytes.
+    /// Appends bytes.
     fn put_all(&mut self, bytes: &[u8])
         ensures { PutsText bytes.now (outlet W.seen self.old) (outlet W.seen self.new) }
     {
@@ -108,7 +108,7 @@ impl<W: CountedWrite> LineWriter<W> {
         }
     }
 
-    /// Puts a number in decimal.
+    /// Appends a number in decimal.
     fn put_decimal(&mut self, number: u64)
         ensures { PutsText (decimal number) (outlet W.seen self.old) (outlet W.seen self.new) }
     {
@@ -122,7 +122,7 @@ impl<W: CountedWrite> LineWriter<W> {
         self.len = write_decimal(&mut self.bytes, self.len, number);
     }
 
-    /// Writes out the pending bytes, and puts a number in decimal.
+    /// Writes out the pending bytes, and appends a number in decimal.
     fn put_decimal_behind(&mut self, number: u64)
         requires { self.old.failed ≡ false }
         ensures { PutsText (decimal number) (outlet W.seen self.old) (outlet W.seen self.new) }
@@ -134,7 +134,7 @@ impl<W: CountedWrite> LineWriter<W> {
         self.len = write_decimal(&mut self.bytes, 0, number);
     }
 
-    /// Puts a number in decimal, and a space.
+    /// Appends a number in decimal, and a space.
     #[inline(always)]
     fn put_item(&mut self, number: u64)
         ensures { PutsText (decimal number ++ 32 ∷ []) (outlet W.seen self.old) (outlet W.seen self.new) }
@@ -151,7 +151,7 @@ impl<W: CountedWrite> LineWriter<W> {
         self.len = at + 1;
     }
 
-    /// Does what `put_item` does, if there may be no room for that many bytes.
+    /// Does what `put_item` does when there may not be room for that many bytes.
     #[inline(never)]
     fn put_item_behind(&mut self, number: u64)
         ensures { PutsText (decimal number ++ 32 ∷ []) (outlet W.seen self.old) (outlet W.seen self.new) }
@@ -160,7 +160,7 @@ impl<W: CountedWrite> LineWriter<W> {
         self.put(b' ');
     }
 
-    /// Puts the ID of an id, and a space.
+    /// Appends the ID of an id, and a space.
     #[inline(always)]
     fn put_id(&mut self, id: u64)
         ensures { PutsText (id_words (id ∷ [])) (outlet W.seen self.old) (outlet W.seen self.new) }
@@ -171,7 +171,7 @@ impl<W: CountedWrite> LineWriter<W> {
         }
     }
 
-    /// Puts the IDs of ids, each with a space.
+    /// Appends the IDs of ids, each with a space.
     fn put_ids(&mut self, ids: &[u64])
         ensures { PutsText (id_words ids.now) (outlet W.seen self.old) (outlet W.seen self.new) }
     {
@@ -185,7 +185,7 @@ impl<W: CountedWrite> LineWriter<W> {
         self.len = write_ids(&mut self.bytes, self.len, ids);
     }
 
-    /// Does what `put_ids` does, if there may be no room for all.
+    /// Does what `put_ids` does when there may not be room for all.
     fn put_each_id(&mut self, ids: &[u64])
         ensures { PutsText (id_words ids.now) (outlet W.seen self.old) (outlet W.seen self.new) }
     {
@@ -194,7 +194,7 @@ impl<W: CountedWrite> LineWriter<W> {
         }
     }
 
-    /// Puts the sign of a literal, if it is negative.
+    /// Appends the sign of a literal, if it is negative.
     #[inline(always)]
     fn put_sign(&mut self, literal: Lit)
         ensures { PutsText (sign_text literal) (outlet W.seen self.old) (outlet W.seen self.new) }
@@ -204,7 +204,7 @@ impl<W: CountedWrite> LineWriter<W> {
         }
     }
 
-    /// Puts the number of a literal, and a space.
+    /// Appends the number of a literal, and a space.
     #[inline(always)]
     fn put_literal(&mut self, literal: Lit)
         ensures { PutsText (literal_words (literal ∷ [])) (outlet W.seen self.old) (outlet W.seen self.new) }
@@ -213,7 +213,7 @@ impl<W: CountedWrite> LineWriter<W> {
         self.put_item(literal.index() as u64 + 1);
     }
 
-    /// Puts the numbers of literals, each with a space.
+    /// Appends the numbers of literals, each with a space.
     fn put_literals(&mut self, literals: &[Lit])
         ensures { PutsText (literal_words literals.now) (outlet W.seen self.old) (outlet W.seen self.new) }
     {
@@ -227,7 +227,7 @@ impl<W: CountedWrite> LineWriter<W> {
         self.len = write_literals(&mut self.bytes, self.len, literals);
     }
 
-    /// Does what `put_literals` does, if there may be no room for all.
+    /// Does what `put_literals` does when there may not be room for all.
     fn put_each_literal(&mut self, literals: &[Lit])
         ensures { PutsText (literal_words literals.now) (outlet W.seen self.old) (outlet W.seen self.new) }
     {
@@ -236,7 +236,7 @@ impl<W: CountedWrite> LineWriter<W> {
         }
     }
 
-    /// Puts `LITS 0 IDS 0` and LF.
+    /// Appends `LITS 0 IDS 0` and LF.
     fn put_both(&mut self, literals: &[Lit], ids: &[u64])
         ensures { PutsText (both_words literals.now ids.now) (outlet W.seen self.old) (outlet W.seen self.new) }
     {
@@ -246,7 +246,7 @@ impl<W: CountedWrite> LineWriter<W> {
         self.put_all(b"0\n");
     }
 
-    /// Puts a line `i`.
+    /// Appends a line `i`.
     fn put_input(&mut self, id: u64, clause: &[Lit])
         ensures { PutsText (line_text (Input id clause.now)) (outlet W.seen self.old) (outlet W.seen self.new) }
     {
@@ -256,7 +256,7 @@ impl<W: CountedWrite> LineWriter<W> {
         self.put_all(b"0\n");
     }
 
-    /// Puts a line `d`.
+    /// Appends a line `d`.
     fn put_derived(&mut self, id: u64, clause: &[Lit], ids: &[u64])
         ensures { PutsText (line_text (Derived id clause.now ids.now)) (outlet W.seen self.old)
             (outlet W.seen self.new) }
@@ -266,7 +266,7 @@ impl<W: CountedWrite> LineWriter<W> {
         self.put_both(clause, ids);
     }
 
-    /// Puts a line `x`.
+    /// Appends a line `x`.
     fn put_gone(&mut self, id: u64)
         ensures { PutsText (line_text (Gone id)) (outlet W.seen self.old) (outlet W.seen self.new) }
     {
@@ -275,7 +275,7 @@ impl<W: CountedWrite> LineWriter<W> {
         self.put_all(b"0\n");
     }
 
-    /// Puts a line `f`.
+    /// Appends a line `f`.
     fn put_core(&mut self, core: &[Lit], ids: &[u64])
         ensures { PutsText (line_text (Core core.now ids.now)) (outlet W.seen self.old) (outlet W.seen self.new) }
     {
@@ -283,7 +283,7 @@ impl<W: CountedWrite> LineWriter<W> {
         self.put_both(core, ids);
     }
 
-    /// Puts a line `e`.
+    /// Appends a line `e`.
     fn put_fresh(&mut self, var: Var)
         ensures { PutsText (line_text (Fresh var)) (outlet W.seen self.old) (outlet W.seen self.new) }
     {
@@ -292,7 +292,7 @@ impl<W: CountedWrite> LineWriter<W> {
         self.put_all(b"0\n");
     }
 
-    /// Puts a line.
+    /// Appends a line.
     pub(crate) fn put_line(&mut self, line: &HintLine<'_>)
         ensures { PutsText (line_text (line_of_view line.now)) (outlet W.seen self.old) (outlet W.seen self.new) }
     {

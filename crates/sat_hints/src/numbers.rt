@@ -52,8 +52,8 @@ fn ends_number(number: u64, byte: u8, limit: u64) -> bool
     number <= limit
 }
 
-/// Returns the number from 1 to the limit with which the bytes begin, followed by a space, and the bytes after the
-/// space. A number with at most 19 digits is compared with the limit only at its end.
+/// Reads a number from 1 to the limit, and the space after it. Returns the number and the remaining bytes. A number
+/// with at most 19 digits is compared with the limit only at its end.
 #[inline(always)]
 pub(crate) fn read_number(bytes: &[u8], limit: u64) -> Option<(u64, &[u8])>
     requires { 9 ≤ limit }
@@ -101,7 +101,7 @@ fn read_long(bytes: &[u8], limit: u64) -> Option<(u64, &[u8])>
     None
 }
 
-/// Returns the id whose ID the bytes begin with, followed by a space, and the bytes after the space.
+/// Reads the ID of an id, and the space after it. Returns the id and the remaining bytes.
 #[inline(always)]
 pub(crate) fn read_id(bytes: &[u8]) -> Option<(u64, &[u8])>
     ensures { MatchOption result (NoWord id_text IsId bytes.now)
@@ -111,8 +111,7 @@ pub(crate) fn read_id(bytes: &[u8]) -> Option<(u64, &[u8])>
     Some((number - 1, rest))
 }
 
-/// Returns the index of the variable whose number the bytes begin with, followed by a space, and the bytes after the
-/// space.
+/// Reads the number of a variable, and the space after it. Returns the index of the variable and the remaining bytes.
 #[inline(always)]
 pub(crate) fn read_variable(bytes: &[u8]) -> Option<(usize, &[u8])>
     ensures { MatchOption result (NoWord id_text IsVariableIndex bytes.now)
@@ -122,7 +121,7 @@ pub(crate) fn read_variable(bytes: &[u8]) -> Option<(usize, &[u8])>
     Some((number as usize - 1, rest))
 }
 
-/// Returns the literal with which the bytes begin, followed by a space, and the bytes after the space.
+/// Reads a literal, and the space after it. Returns the literal and the remaining bytes.
 #[inline(always)]
 pub(crate) fn read_literal(bytes: &[u8]) -> Option<(Lit, &[u8])>
     ensures { MatchOption result (NoWord number_text IsLiteralCode bytes.now)

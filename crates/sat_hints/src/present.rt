@@ -24,7 +24,7 @@ pub(crate) struct Present {
 }
 
 impl Present {
-    /// Returns no clauses. Does not allocate.
+    /// Returns an empty collection of clauses. Does not allocate.
     pub(crate) fn new(alloc: Global) -> Present
         ensures store { IsStore result }
         ensures none { result.ids.items ≡ [] }
@@ -67,7 +67,7 @@ impl Present {
         self.clauses.get(place)
     }
 
-    /// Returns the number of clauses, with those that are removed.
+    /// Returns the number of clauses, including removed ones.
     pub(crate) fn len(&self) -> usize
         ensures { result ≡ length self.now.ids.items }
     {
@@ -87,7 +87,7 @@ impl Present {
         self.gone[place]
     }
 
-    /// Adds a clause, a sorted set, whose id is above all before.
+    /// Adds a clause, given as a sorted set, whose id is above all earlier ones.
     pub(crate) fn push(&mut self, id: u64, clause: &[Lit]) -> Result<(), AllocError>
         requires store { IsStore self.old }
         requires above { AllBelow self.old.ids.items id }
@@ -102,7 +102,7 @@ impl Present {
         Ok(())
     }
 
-    /// Removes the clause at a place, and drops the removed clauses if they are many.
+    /// Removes the clause at a place, and drops the removed clauses if there are many.
     pub(crate) fn remove(&mut self, place: usize) -> Result<(), AllocError>
         requires store { IsStore self.old }
         requires within { place < length self.old.clauses }
@@ -146,7 +146,7 @@ impl Present {
         Ok(())
     }
 
-    /// Adds the clauses that are present to others, in order.
+    /// Appends the present clauses to others, in order.
     fn keep_in(&self, kept: &mut Present) -> Result<(), AllocError>
         requires store { IsStore self.now }
         requires none { kept.old.ids.items ≡ [] }

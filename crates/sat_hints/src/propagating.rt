@@ -1,4 +1,4 @@
-//! Tests of whether clauses are unit in turn, and the last falsified. A lack of memory changes no answer.
+//! Tests of whether clauses are unit in turn, and the last falsified. Running out of memory changes no answer.
 ghost use Rattle.std.specs.Prelude.{◌≡◌, ◌≢◌, ◌⊎◌, [], true, false, None, MatchBool};
 ghost use Rattle.sat_checker.specs.LiteralSets.{is_among, is_tautology};
 ghost use Rattle.sat_checker.specs.inner.AssumedRoom.{AgreesOn, RoomStays, signed};
@@ -13,7 +13,7 @@ use sat_checker::rup::has;
 use sat_checker::{Assigned, Look, assume_if_roomy, look_at};
 
 /// Assumes literals, or their negations, as far as there is room for them. Returns whether both signs of a variable are
-/// among them, for which the negation of each is looked for among those before it.
+/// among them; to find out, searches for the negation of each literal among the earlier ones.
 #[inline(never)]
 fn assume_roomy(assumed: &mut Assigned, literals: &[Lit], negate: bool) -> bool
     requires { assumed.old.literals ≡ [] }
@@ -33,7 +33,7 @@ fn assume_roomy(assumed: &mut Assigned, literals: &[Lit], negate: bool) -> bool
     false
 }
 
-/// Assumes literals, or their negations. If memory runs out for one, which then is in no clause, it assumes those for
+/// Assumes literals, or their negations. If memory runs out for one, which is then in no clause, assumes those for
 /// which there is room. Returns whether both signs of a variable are among them.
 fn assume_all(assumed: &mut Assigned, literals: &[Lit], negate: bool) -> bool
     requires { assumed.old.literals ≡ [] }
@@ -61,7 +61,8 @@ fn assume_all(assumed: &mut Assigned, literals: &[Lit], negate: bool) -> bool
     false
 }
 
-/// Returns why a line is at fault whose clause is not unit in its turn, if it names clauses under these ids after that.
+/// Returns the fault of a line that names a clause that is not unit in its turn. `behind` are the ids that it names
+/// after that clause; if no clause is present under one of them, that is the fault.
 fn not_unit(standing: &Standing, behind: &[u64]) -> HintWhy
     requires { StandingInvariant standing.now }
     ensures { (standing_clauses standing.now behind.now ≡ None) × (result ≡ HintWhy.UnknownId)
@@ -73,7 +74,7 @@ fn not_unit(standing: &Standing, behind: &[u64]) -> HintWhy
     HintWhy::UnknownId
 }
 
-/// Returns why the clauses under these ids do not run into a conflict, or `None` if they do.
+/// Returns why the clauses under these ids do not lead to a conflict, or `None` if they do.
 fn follow(standing: &Standing, ids: &[u64], assumed: &mut Assigned) -> Option<HintWhy>
     requires standing { StandingInvariant standing.now }
     requires room { HasRoomForPresent assumed.old.room standing.now }
@@ -102,7 +103,7 @@ fn follow(standing: &Standing, ids: &[u64], assumed: &mut Assigned) -> Option<Hi
     }
 }
 
-/// Returns why the clauses under these ids do not run into a conflict under the literals, or under their negations, or
+/// Returns why the clauses under these ids do not lead to a conflict under the literals, or under their negations, or
 /// `None` if they do.
 fn conflict_under(
     standing: &Standing,

@@ -10,7 +10,7 @@ use crate::numbers::{read_id, read_literal, read_variable, take_text};
 use sat_base::{Lit, Var};
 use std::alloc::{AllocError, Global};
 
-/// The lists of the line in hand, whose memory is reused.
+/// The lists of the current line, whose memory is reused.
 #[derive(Drop)]
 pub(crate) struct Lists {
     literals: Vec<Lit>,
@@ -92,7 +92,7 @@ impl Lists {
         }
     }
 
-    /// Reads `LITS 0` and LF. Returns what comes after them, or `None` if the bytes begin otherwise.
+    /// Reads `LITS 0` and LF. Returns what comes after them, or `None` if the bytes begin differently.
     fn read_one<'a>(&mut self, bytes: &'a [u8]) -> Result<Option<&'a [u8]>, AllocError>
         ensures { IfOk result (λ found. MatchOption found
             ((ls : List ℕ) (tail : List ℕ) → BeginsWithOne bytes.now ls tail → ⊥)
@@ -102,7 +102,7 @@ impl Lists {
         Ok(take_text(rest, b"0\n"))
     }
 
-    /// Reads `LITS 0 IDS 0` and LF. Returns what comes after them, or `None` if the bytes begin otherwise.
+    /// Reads `LITS 0 IDS 0` and LF. Returns what comes after them, or `None` if the bytes begin differently.
     fn read_both<'a>(&mut self, bytes: &'a [u8]) -> Result<Option<&'a [u8]>, AllocError>
         ensures { IfOk result (λ found. MatchOption found
             ((ls : List ℕ) (ids : List ℕ) (tail : List ℕ) → BeginsWithBoth bytes.now ls ids tail → ⊥)
@@ -158,7 +158,7 @@ impl Lists {
     }
 
     /// Reads the line with which the bytes begin, with its LF, and stores its lists. Returns its head and what comes
-    /// after it, or `None` if the bytes begin with no line.
+    /// after it, or `None` if the bytes do not begin with a line.
     pub(crate) fn read_line<'a>(
         &mut self,
         bytes: &'a [u8],

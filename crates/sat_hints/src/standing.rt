@@ -20,7 +20,7 @@ pub(crate) struct Standing {
 }
 
 impl Standing {
-    /// Returns no clauses. Does not allocate.
+    /// Returns an empty collection of clauses. Does not allocate.
     pub(crate) fn new(alloc: Global) -> Standing
         ensures standing { StandingInvariant result }
         ensures none { result.present.ids.items ≡ [] }
@@ -71,7 +71,7 @@ impl Standing {
         Some(clause)
     }
 
-    /// Adds a clause, a sorted set, whose id is above all before.
+    /// Adds a clause, given as a sorted set, whose id is above all earlier ones.
     pub(crate) fn push(&mut self, id: u64, clause: &[Lit]) -> Result<(), AllocError>
         requires standing { StandingInvariant self.old }
         requires above { AllBelow self.old.present.ids.items id }

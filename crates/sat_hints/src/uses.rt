@@ -12,7 +12,7 @@ use sat_checker::store::occurrences::Occurrences;
 use std::alloc::{AllocError, Global};
 
 /// The number of times that every literal is in the present clauses of two literals or more. Counting begins with the
-/// first variable that becomes new, so a text in which no variable becomes new pays nothing.
+/// first variable that becomes new, so a text in which no variable becomes new incurs no cost.
 #[derive(Drop)]
 pub(crate) struct Uses {
     counting: bool,
@@ -89,7 +89,7 @@ fn count_all(counts: &mut Occurrences, present: &Present) -> Result<(), AllocErr
 }
 
 impl Uses {
-    /// Returns no counts. Does not allocate.
+    /// Returns an empty table of counts. Does not allocate.
     pub(crate) fn new(alloc: Global) -> Uses
         ensures none { (l : ℕ) → uses_at result l ≡ 0 }
         ensures not { result.counting ≡ false }
@@ -100,7 +100,7 @@ impl Uses {
         }
     }
 
-    /// Counts a clause that is added, a sorted set.
+    /// Counts a clause that is added, given as a sorted set.
     pub(crate) fn add(&mut self, clause: &[Lit]) -> Result<(), AllocError>
         requires increasing { IsIncreasing clause.now }
         requires few { (l : ℕ) → uses_at self.old l + times_long l clause.now < 2 ^ 64 }

@@ -39,7 +39,7 @@ times_at p l = times_kept l p.clauses p.gone.items
 abbrev pub AllBelow : List ℕ → ℕ → Type 0
 AllBelow ids bound = (i : ℕ) → i < length ids → slice_index ids i < bound
 
--- each id has a clause, which is a sorted set, and the ids rise
+-- each id has a clause, which is a sorted set, and the ids increase
 pub record IsStore (p : Present) : Type 0 where
   pub clauses : length p.clauses ≡ length p.ids.items
   pub gone : length p.gone.items ≡ length p.ids.items

@@ -17,7 +17,7 @@ unit_failure falsified more = Some NotUnit
 unit_failure (opens l) more = more l
 unit_failure rests more = Some NotUnit
 
--- why clauses do not run into a conflict, if they do not
+-- why clauses do not lead to a conflict, if they do not
 abbrev pub refutation_failure : List ℕ → List (List ℕ) → Option HintWhy
 refutation_failure assumed [] = Some NotFalsified
 refutation_failure assumed (c ∷ []) = falsified_failure (verdict assumed c)
@@ -27,7 +27,7 @@ refutation_failure assumed (c ∷ d ∷ cs) = unit_failure (verdict assumed c) (
 abbrev pub AreJustAssumed : List ℕ → List ℕ → Type 0
 AreJustAssumed ls assumed = (l : ℕ) → is_among assumed l ≡ is_among ls l
 
--- why literals, or their negations, and clauses do not run into a conflict, if they do not
+-- why literals, or their negations, and clauses do not lead to a conflict, if they do not
 abbrev pub WhyNoConflict : List ℕ → List (List ℕ) → Option HintWhy → Type 0
 WhyNoConflict assumed clauses why =
     ((is_tautology assumed ≡ true) × (why ≡ None)) ⊎ ((is_tautology assumed ≡ false) × (why ≡ refutation_failure assumed clauses))

@@ -1,4 +1,4 @@
--- What may still come of a line whose prefix was read.
+-- What may still follow in a line whose prefix was read.
 use Rattle.std.specs.Prelude.{ℕ, ◌-◌, ◌^◌, ◌==◌, ◌≡◌, Option, None, Some, List, ◌∷◌, ◌++◌, decimal, codes, if◌then◌else◌}
 use Rattle.sat_base.specs.values.Literals.{var_limit}
 use Rattle.sat_hints.specs.Lines.{Line, AreIds, id_words, SpellsLine}
@@ -49,7 +49,7 @@ IsPartOfLine Lists bytes = (ls : List ℕ) × (ids : List ℕ) × IsBoth bytes l
 IsPartOfLine Ids bytes = (ids : List ℕ) × AreIds ids × (bytes ≡ id_words ids ++ codes "0\n")
 IsPartOfLine End bytes = bytes ≡ codes "0\n"
 
--- the bytes are what comes of a line from this place on
+-- the bytes are the rest of a line from this place
 abbrev pub IsRestOfLine : Place → List ℕ → Type 0
 IsRestOfLine Letter bytes = (line : Line) × SpellsLine bytes line
 IsRestOfLine (Space part) bytes = (rest : List ℕ) × (bytes ≡ 32 ∷ rest) × IsPartOfLine part rest
@@ -57,7 +57,7 @@ IsRestOfLine (Item part) bytes = IsPartOfLine part bytes
 IsRestOfLine (Digits part number) bytes = Numbered (limit_of part) (IsPartOfLine (next_of part)) number bytes
 IsRestOfLine Over bytes = bytes ≡ codes "\n"
 
--- there is such a place, and the bytes are what comes of a line from it on
+-- there is such a place, and the bytes are the rest of a line from it
 abbrev pub IsLeftIf : Option Place → List ℕ → Type 0
 IsLeftIf None bytes = ⊥
 IsLeftIf (Some place) bytes = IsRestOfLine place bytes

@@ -35,18 +35,18 @@ pub record HasRead (c : Checking) (text : List ℕ) : Type 0 where
   pub derivation : IsHintDerivation lines
   pub taken : HasTakenLines c.judge lines
 
--- A line at fault is in the text, and whatever comes the verdict is this one.
+-- A line at fault is in the text, and whatever follows, the verdict is this one.
 pub record HasFault (c : Checking) (text : List ℕ) (why : HintWhy) : Type 0 where
   pub count : ℕ
   pub number : c.judge.lines ≡ held count
   pub bad : (rest : List ℕ) → Judges (Bad (held (count + 1)) why) (text ++ rest)
 
--- it goes on after a text, or has met a fault
+-- it continues after a text, or has met a fault
 abbrev pub HasReadOrFault : Option HintWhy → Checking → List ℕ → Type 0
 HasReadOrFault None c text = HasRead c text
 HasReadOrFault (Some why) c text = HasFault c text why
 
--- the judge can go on, unless there is a fault
+-- the judge can continue, unless there is a fault
 abbrev pub IsReadyIf : Option HintWhy → Judge → Type 0
 IsReadyIf None judge = IsReadyJudge judge
 IsReadyIf (Some why) judge = Unit {0}

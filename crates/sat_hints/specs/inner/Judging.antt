@@ -14,7 +14,7 @@ use Rattle.sat_hints.specs.declared.answer.HintWhy.TheVariants.{UnknownId}
 use Rattle.sat_hints.specs.declared.standing.Standing.{Standing}
 use Rattle.sat_hints.specs.declared.judging.Judge.{Judge}
 
--- it can go on
+-- it can continue
 pub record IsReadyJudge (j : Judge) : Type 0 where
   pub standing : StandingInvariant j.standing
   pub below : AllBelow j.standing.present.ids.items j.least_id
@@ -22,7 +22,7 @@ pub record IsReadyJudge (j : Judge) : Type 0 where
   pub nothing : j.assumed.literals ≡ []
   pub room : HasRoomForPresent j.assumed.room j.standing
 
--- it has taken these lines
+-- it has accepted these lines
 pub record HasTakenLines (j : Judge) (lines : List Line) : Type 0 where
   pub clauses : (id : ℕ) → standing_clause j.standing id ≡ clause_under id lines
   pub least : j.least_id ≡ least_id lines
@@ -30,7 +30,7 @@ pub record HasTakenLines (j : Judge) (lines : List Line) : Type 0 where
   pub counts_cores : j.cores ≡ held (count_of_cores lines)
   pub counts_lines : j.lines ≡ held (length lines)
 
--- what it keeps from line to line is the same, but for more room
+-- what it keeps from line to line is the same, except for more room
 pub record IsSame (old new : Judge) : Type 0 where
   pub standing : new.standing ≡ old.standing
   pub nothing : new.assumed.literals ≡ []
@@ -40,12 +40,12 @@ pub record IsSame (old new : Judge) : Type 0 where
   pub cores : new.cores ≡ old.cores
   pub lines : new.lines ≡ old.lines
 
--- why assumed literals and the clauses under these ids do not run into a conflict, if they do not
+-- why assumed literals and the clauses under these ids do not lead to a conflict, if they do not
 abbrev pub WhyNotRefuted : Standing → List ℕ → List ℕ → Option HintWhy → Type 0
 WhyNotRefuted s assumed ids why =
     ((standing_clauses s ids ≡ None) × (why ≡ Some UnknownId)) ⊎ ((clauses : List (List ℕ)) × (standing_clauses s ids ≡ Some clauses) × WhyNoConflict assumed clauses why)
 
--- why the clauses that were looked up do not run into a conflict under assumed literals, if they do not
+-- why the clauses that were looked up do not lead to a conflict under assumed literals, if they do not
 abbrev pub refutation_failure_of : List ℕ → Option (List (List ℕ)) → Option HintWhy
 refutation_failure_of assumed None = Some UnknownId
 refutation_failure_of assumed (Some clauses) = refutation_failure assumed clauses
@@ -60,11 +60,11 @@ pub record StoresClause (old new : Judge) (id : ℕ) (clause : List ℕ) : Type 
   pub cores : new.cores ≡ old.cores
   pub lines : new.lines ≡ old.lines
 
--- whatever lines were taken, this one may follow them
+-- whatever lines were accepted, this one may follow them
 abbrev pub MayFollow : Judge → Line → Type 0
 MayFollow old line = (lines : List Line) → HasTakenLines old lines → FollowsLines lines line
 
--- the line was taken, but not numbered
+-- the line was accepted, but not counted
 pub record HasTakenOne (old new : Judge) (lines : List Line) (line : Line) : Type 0 where
   pub follows : FollowsLines lines line
   pub clauses : (id : ℕ) → standing_clause new.standing id ≡ clause_under id (line ∷ lines)
@@ -72,7 +72,7 @@ pub record HasTakenOne (old new : Judge) (lines : List Line) (line : Line) : Typ
   pub says_empty : new.empty ≡ derives_empty (line ∷ lines)
   pub counts_cores : new.cores ≡ held (count_of_cores (line ∷ lines))
 
--- one line was taken, but not numbered, or is at fault for this reason
+-- one line was accepted, but not counted, or is at fault for this reason
 abbrev pub TakesOne : Option HintWhy → Judge → Judge → Line → Type 0
 TakesOne None old new line = IsReadyJudge new × (new.lines ≡ old.lines) × ((lines : List Line) → HasTakenLines old lines → HasTakenOne old new lines line)
 TakesOne (Some why) old new line = (new.lines ≡ old.lines) × ((lines : List Line) → HasTakenLines old lines → IsFaultOf lines line why)

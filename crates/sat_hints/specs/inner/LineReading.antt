@@ -29,15 +29,15 @@ abbrev pub number_digits_so_far : ℕ → List ℕ
 number_digits_so_far zero = []
 number_digits_so_far (suc n) = decimal (suc n)
 
--- no number goes on with this byte
+-- no number continues with this byte
 abbrev pub NoDigit : ℕ → ℕ → ℕ → Type 0
 NoDigit limit number byte = (n : ℕ) (more : List ℕ) → IsNumberUpTo limit n → decimal n ≡ number_digits_so_far number ++ (byte ∷ more) → ⊥
 
--- the byte is no space, or no number up to the limit has ended before it
+-- the byte is not a space, or no number up to the limit has ended before it
 abbrev pub EndsNone : ℕ → ℕ → ℕ → Type 0
 EndsNone number byte limit = byte ≡ 32 → (number ≡ 0) ⊎ (limit < number)
 
--- the bytes begin with no word and a space
+-- the bytes do not begin with a word and a space
 abbrev pub NoWord : (ℕ → List ℕ) → (ℕ → Type 0) → List ℕ → Type 0
 NoWord word P bytes = (x : ℕ) (tail : List ℕ) → P x → bytes ≡ word x ++ (32 ∷ tail) → ⊥
 
@@ -87,6 +87,6 @@ line_with (head.Fresh var) ls ids = Fresh var
 abbrev pub BeginsWithHintLine : List ℕ → Line → List ℕ → Type 0
 BeginsWithHintLine bytes line rest = IsLine line × (bytes ≡ line_text line ++ rest)
 
--- they begin with no line
+-- they do not begin with a line
 abbrev pub BeginsWithNoLine : List ℕ → Type 0
 BeginsWithNoLine bytes = (line : Line) (rest : List ℕ) → BeginsWithHintLine bytes line rest → ⊥

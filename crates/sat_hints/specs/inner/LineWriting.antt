@@ -15,7 +15,7 @@ pub record Outlet : Type 0 where
 abbrev pub outlet : {W : Type 0} → (W → Writer) → LineWriter W → Outlet
 outlet seen w = record { sink = record { writer = seen w.writer; waiting = take w.len w.bytes }; failed = w.failed }
 
--- a text was put after the pending bytes, or a write has failed so far
+-- a text was appended to the pending bytes, or a write has failed so far
 abbrev pub PutBy : Bool → List ℕ → Sink → Sink → Type 0
 PutBy false text old new = AddsToSink old new text
 PutBy true text old new = SinkFails old new text
@@ -33,6 +33,6 @@ sign_text l = if is_positive l then [] else codes "-"
 abbrev pub both_words : List ℕ → List ℕ → List ℕ
 both_words literals ids = literal_words literals ++ (codes "0 " ++ (id_words ids ++ codes "0\n"))
 
--- a text was put after the pending bytes, unless a write had failed before
+-- a text was appended to the pending bytes, unless a write had failed before
 abbrev pub PutsText : List ℕ → Outlet → Outlet → Type 0
 PutsText text old new = PutFrom old.failed text old new
