@@ -1,10 +1,11 @@
 #!/usr/bin/env python3
 """Measures the program and writes its figures into docs/SPEED.md and docs/pictures:
 
-    speed.py [--keep FOLDER] [--only PART] [--checker CHECKS FOLLOWER PLAIN FOLDER] [PROGRAM]
+    speed.py [--keep FOLDER] [--only PART] [--beside WORDS] [--checker CHECKS FOLLOWER PLAIN FOLDER] [PROGRAM]
 
 It measures the proved program, crates/certify_cli/out/certify_cli, which `rt run` in crates/certify_cli leaves, and refuses if a source is
-newer. If PROGRAM is given, it measures that, and the document states that it was not proved.
+newer. If PROGRAM is given, it measures that, and the document states that it was not proved. The document names the commit of this checkout,
+the processors that the program may use, and what else ran, if WORDS say so.
 
     formulas   bench/solver/run.sh and pictures.py: `run`, `confirm` and MiniSat over forty formulas, stopped after 60 seconds
     large      bench/solver/large.py: texts of a million commands
@@ -119,11 +120,15 @@ def checker(text):
     return "\n".join(rows) + "\n"
 
 
-def machine(program):
+def machine(program, beside):
     """Says what was measured, and where."""
     model = re.search(r"model name\s*: (.*)", output(["cat", "/proc/cpuinfo"]))
     what = "the proved program" if program == PROVED else "a program that was compiled without proof"
-    return f"Measured: {what}, on {os.cpu_count()} processors ({model[1].strip() if model else 'unknown'}), load average {os.getloadavg()[2]:.1f}.\n"
+    commit = output(["git", "-C", TOP, "log", "-1", "--format=%h", "--", "crates"]).strip()
+    if output(["git", "-C", TOP, "status", "--porcelain", "--", "crates"]):
+        commit += " with changes"
+    where = f"{len(os.sched_getaffinity(0))} of {os.cpu_count()} processors ({model[1].strip() if model else 'unknown'})"
+    return f"Measured: {what} of commit {commit}, on {where}, load average {os.getloadavg()[2]:.1f}{f', {beside}' if beside else ''}.\n"
 
 
 def replace(part, lines):
@@ -147,12 +152,14 @@ def newer(program):
 
 
 def main():
-    parts, keep, tools, words = ["formulas", "large", "scale", "memory"], None, None, sys.argv[1:]
+    parts, keep, beside, tools, words = ["formulas", "large", "scale", "memory"], None, None, None, sys.argv[1:]
     while words and words[0].startswith("--"):
         if words[0] == "--keep":
             keep, words = os.path.abspath(words[1]), words[2:]
         elif words[0] == "--only":
             parts, words = [words[1]], words[2:]
+        elif words[0] == "--beside":
+            beside, words = words[1], words[2:]
         elif words[0] == "--checker":
             tools, words = words[1:5], words[5:]
             parts.append("checker")
@@ -174,7 +181,7 @@ def main():
                     file.write(text)
             replace(part, show(part, path))
             print(f"{part}: written", flush=True)
-    replace("machine", machine(program))
+    replace("machine", machine(program, beside))
 
 
 if __name__ == "__main__":
