@@ -7,7 +7,7 @@ It measures the proved program, crates/certify_cli/out/certify_cli, which `rt ru
 newer. If PROGRAM is given, it measures that, and the document states that it was not proved. The document names the commit of this checkout,
 the processors that the program may use, and what else ran, if WORDS say so.
 
-    formulas   bench/solver/run.sh and pictures.py: `run`, `confirm` and MiniSat over forty formulas, stopped after 60 seconds
+    formulas   bench/solver/run.sh and pictures.py: `run`, `confirm` and MiniSat over forty formulas, stopped after 20 seconds
     large      bench/solver/large.py: texts of a million commands
     scale      bench/scale.py: how time grows with the text
     memory     bench/memory/run.sh: the texts that need the most memory for each byte
@@ -28,7 +28,7 @@ TOP = os.path.dirname(BENCH)
 PROVED = os.path.join(TOP, "crates/certify_cli/out/certify_cli")
 DOCUMENT = os.path.join(TOP, "docs/SPEED.md")
 PICTURES = os.path.join(TOP, "docs/pictures")
-LIMIT = "60"
+LIMIT = "20"
 
 
 def output(command, **more):
