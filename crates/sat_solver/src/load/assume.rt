@@ -13,7 +13,8 @@ ghost use Rattle.sat_solver.specs.variables.Failing.{EmitsOrFails, FailsOnlyByFa
 ghost use Rattle.sat_solver.specs.variables.VariableRoom.{users_in};
 ghost use Rattle.sat_parts.specs.clause.Glue.{VariablesBelow};
 
-use crate::load::literals::{Taken, map_lits, take_names};
+use crate::load::literals::{Taken, take_names};
+use crate::proof::map_step::map_lits;
 use crate::variables::Variables;
 use crate::variables::error::NameError;
 use crate::variables::log::StepLog;

@@ -12,7 +12,8 @@ ghost use Rattle.sat_checker.specs.LiteralSets.{is_tautology};
 ghost use Rattle.sat_solver.specs.variables.Failing.{IsFailure, EmitsOrFails, FailsOnlyByFault};
 ghost use Rattle.sat_solver.specs.variables.VariableRoom.{users_in};
 
-use crate::load::literals::{Taken, map_lits, take_names};
+use crate::load::literals::{Taken, take_names};
+use crate::proof::map_step::map_lits;
 use crate::variables::Variables;
 use crate::variables::error::NameError;
 use crate::variables::log::StepLog;

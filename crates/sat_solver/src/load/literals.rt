@@ -1,19 +1,17 @@
 //! Introduces the names of literals, and gives their variables indices.
-ghost use Rattle.std.specs.Prelude.{◌≡◌, ◌<◌, [], OnOk, length, map, slice_index_or};
-ghost use Rattle.sat_solver.specs.session.LiveClauses.{with_var};
+ghost use Rattle.std.specs.Prelude.{◌≡◌, [], OnOk};
 ghost use Rattle.sat_solver.specs.load.Literals.{BringsLiterals};
 ghost use Rattle.sat_solver.specs.variables.Calls.{NamesInvariant};
 ghost use Rattle.sat_solver.specs.variables.Failing.{EmitsOrFails, FailsOnlyByFault};
 ghost use Rattle.sat_solver.specs.variables.VariableRoom.{users_in};
-ghost use Rattle.sat_parts.specs.clause.Glue.{VariablesBelow};
 
 use crate::variables::Variables;
 use crate::variables::error::NameError;
 use crate::variables::log::StepLog;
 use crate::variables::solver_vars::{Given, solver_from_global};
 use crate::variables::user_vars::global_from_user;
-use sat_base::{Lit, Var};
-use std::alloc::{AllocError, Global};
+use sat_base::Lit;
+use std::alloc::Global;
 
 /// What a call over literals leaves for the search.
 #[derive(Drop)]
@@ -68,19 +66,6 @@ pub fn take_names<W: StepLog>(
         let global = global_from_user(variables, writer, lit.var())?;
         let solver = solver_from_global(variables, writer, global, &mut taken.given)?;
         taken.order.push(solver.lit(lit.is_positive()))?;
-    }
-    Ok(())
-}
-
-/// Replaces the content of a list with the literals over proof variables.
-pub fn map_lits(globals: &[Var], lits: &[Lit], mapped: &mut Vec<Lit>) -> Result<(), AllocError>
-    requires { VariablesBelow lits.now (length globals.now) }
-    ensures { OnOk result (mapped.new.items ≡ map (with_var (λ x. slice_index_or globals.now x 0)) lits.now) }
-{
-    mapped.clear();
-    for lit in lits {
-        let var = globals[lit.index()];
-        mapped.push(Lit::from_var(var, lit.is_positive()))?;
     }
     Ok(())
 }

@@ -19,14 +19,14 @@ use sat_store::Lits;
 use std::alloc::AllocError;
 
 /// Replaces the content of a list with the literals over proof variables.
-pub fn map_lits(globals: &[Var], lits: &[Lit], clause: &mut Vec<Lit>) -> Result<(), AllocError>
+pub fn map_lits(globals: &[Var], lits: &[Lit], mapped: &mut Vec<Lit>) -> Result<(), AllocError>
     requires { VariablesBelow lits.now (length globals.now) }
-    ensures { OnOk result (clause.new.items ≡ map (with_var (global_of_index globals.now)) lits.now) }
+    ensures { OnOk result (mapped.new.items ≡ map (with_var (global_of_index globals.now)) lits.now) }
 {
-    clause.clear();
+    mapped.clear();
     for lit in lits {
         let var = globals[lit.index()];
-        clause.push(Lit::from_var(var, lit.is_positive()))?;
+        mapped.push(Lit::from_var(var, lit.is_positive()))?;
     }
     Ok(())
 }

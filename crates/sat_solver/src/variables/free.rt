@@ -85,9 +85,7 @@ fn copy_leaves(nodes: &mut Vec<bool>, room: usize)
     requires size { length nodes.old.items ≡ 4 * room }
     ensures { CopiesLeaves nodes.old.items nodes.new.items room }
 {
-    for index in 0..room {
-        nodes[2 * room + index] = nodes[room + index];
-    }
+    nodes.as_mut_slice().copy_within(room..2 * room, 2 * room);
 }
 
 impl FreeIndices {

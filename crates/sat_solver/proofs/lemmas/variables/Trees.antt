@@ -286,13 +286,6 @@ pub record Renews (room : ℕ) (first nodes : List Bool) (from : ℕ) : Type 0 w
 
 -- LEAVES MOVE
 
--- so many leaves were copied
-pub record Copies (first nodes : List Bool) (room index : ℕ) : Type 0 where
-  pub size : length nodes ≡ length first
-  pub there : (i : ℕ) → i < index → tree_node_at nodes (2 * room + i) ≡ tree_node_at first (room + i)
-  pub kept : (q : ℕ) → q < 2 * room → tree_node_at nodes q ≡ tree_node_at first q
-  pub past : (q : ℕ) → 3 * room ≤ q → tree_node_at nodes q ≡ tree_node_at first q
-
 -- in a list of twice the length the leaves are the same
 pub grown : (f g h : FreeIndices) (wide : List Bool) → IsTree f → f.room ≡ doubled f.height → length wide ≡ 4 * f.room → ((q : ℕ) → tree_node_at wide q ≡ tree_node_at f.nodes.items q) → CopiesLeaves wide g.nodes.items f.room → g.room ≡ 2 * f.room → ((i : ℕ) → is_free h i ≡ is_free g i) → (i : ℕ) → is_free h i ≡ is_free f i
 grown f g h wide tree p size same c room leaves i = leaves i ∙ ap (λ r. tree_node_at g.nodes.items (r + i)) room ∙ elim (cases_lt i f.room) [
