@@ -91,7 +91,7 @@ impl<W: CountedWrite + Drop, P: ProofProcessor> Solver<W, P> {
                 model: Vec::new(alloc),
                 failed_core: Vec::new(alloc),
             },
-            state: State::default(),
+            state: State::Unknown,
             failed: false,
             used: false,
             loading: Loading {

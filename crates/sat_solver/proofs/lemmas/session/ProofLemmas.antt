@@ -298,7 +298,7 @@ close_gives seen (Some w) a b c d open_yet p q h = record {
   asked = h.asked ∙ q.asked ∙ p.asked;
   takes = takes_all (target_of seen a) (target_of seen b) (target_of seen c) (Some (seen w)) (seen w) (End ∷ []) open_yet p.target q.target h.gives refl;
   target = h.target;
-  told = subst (λ (m : Made _ _). mades.MadeIsReported m) (sym h.made) q.told;
+  reported = subst (λ (m : Made _ _). mades.MadeIsReported m) (sym h.made) q.reported;
 }
 
 -- SINCE THE OPENING
