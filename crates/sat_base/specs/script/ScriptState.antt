@@ -80,7 +80,7 @@ abbrev pub without_name : ℕ → ScriptState → ScriptState
 without_name name j = record j { in_use = filter (λ n. not (n.name == name)) j.in_use }
 
 -- The literal over identities. Its name is in use, so the 0 never counts: an ask and a clause introduce their names first, a model lists
--- the names in use, and a core has literals of the ask.
+-- the names in use, and a core has literals of the ask. Law `judge_laws` says so (`NamesAreInUse`).
 abbrev pub over : ScriptState → Literal → ℕ
 over j l = coded (unwrap_or (identity_of j l.name) 0) l.positive
 

@@ -1,10 +1,10 @@
 -- What every script preserves of the judge's state.
-use Rattle.std.specs.Prelude.{ℕ, ◌+◌, ◌≤◌, ◌<◌, ◌≡◌, ◌↔◌, false, Some, List, [], ◌∷◌, length, map, nat_lt, if◌then◌else◌}
+use Rattle.std.specs.Prelude.{ℕ, ◌+◌, ◌≤◌, ◌<◌, ◌≡◌, ◌↔◌, false, Some, List, [], ◌∷◌, length, map, nat_lt, unwrap_or, if◌then◌else◌}
 use Rattle.std.specs.List.{AllByRecursion}
-use Rattle.sat_base.specs.values.Literals.{var_limit, variable}
+use Rattle.sat_base.specs.values.Literals.{coded, var_limit, variable}
 use Rattle.sat_base.specs.values.Clauses.{Valuation, literal_true, EachHolds}
-use Rattle.sat_base.specs.script.Script.{Literal, Command, Among}
-use Rattle.sat_base.specs.script.ScriptState.{ScriptState, Named, identity_of, over, after_script, start}
+use Rattle.sat_base.specs.script.Script.{Literal, Command, Among, names_of}
+use Rattle.sat_base.specs.script.ScriptState.{ScriptState, Named, identity_of, over, for_each, bring_in, after_script, start, IsRightModel, IsRightCore}
 
 -- the names strictly increase
 abbrev pub NamesIncrease : List Named → Type 0
@@ -42,8 +42,25 @@ abbrev pub Increase : List ℕ → Type 0
 Increase [] = Unit {0}
 Increase (x ∷ xs) = AllByRecursion (λ y. x < y) xs × Increase xs
 
+-- these names are in use
+abbrev pub AreInUse : ScriptState → List ℕ → Type 0
+AreInUse j names = AllByRecursion (λ name. (i : ℕ) × (identity_of j name ≡ Some i)) names
+
 -- names that increase, and are all that are in use, are these in their order
 abbrev pub NamesAreListed : Type 0
 NamesAreListed = (j : ScriptState) (names : List ℕ) → NamesIncrease j.in_use → Increase names
     → ((name i : ℕ) → identity_of j name ≡ Some i → Among name names)
-    → AllByRecursion (λ name. (i : ℕ) × (identity_of j name ≡ Some i)) names → names ≡ map (λ n. n.name) j.in_use
+    → AreInUse j names → names ≡ map (λ n. n.name) j.in_use
+
+-- Why the identity 0, which `over` and `with_mode` have for a name that is not in use, never counts: both are only used for names in use.
+-- This holds in every state, even if no script leaves it.
+pub record NamesAreInUse : Type 0 where
+  -- Names are in use once they are introduced. `accepted` introduces the names of a clause or an ask before it uses `over`, and every other
+  -- name before it sets the mode.
+  pub introduced : (j : ScriptState) (names : List ℕ) → AreInUse (for_each bring_in names j) names
+  -- A right model has names in use, and so has a right core of an ask whose names were introduced.
+  pub model : (j : ScriptState) (ask line : List Literal) → IsRightModel j ask line → AreInUse j (names_of line)
+  pub core : (j : ScriptState) (ask core : List Literal) → AreInUse j (names_of ask) → IsRightCore j ask core → AreInUse j (names_of core)
+  -- For names in use, any other number instead of 0 gives the same literals.
+  pub zero_never_counts : (j : ScriptState) (ls : List Literal) (other : ℕ) → AreInUse j (names_of ls)
+      → map (over j) ls ≡ map (λ l. coded (unwrap_or (identity_of j l.name) other) l.positive) ls

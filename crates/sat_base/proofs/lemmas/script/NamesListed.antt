@@ -43,7 +43,7 @@ name_listed (n ∷ ns) name i e = go (eqb n.name name) refl e (name_listed ns na
     go true x f ih = inl (sym (eqb-true n.name name x))
     go false x f ih = inr (ih f)
 
-listed_name : (ns : List Named) (name : ℕ) → Among name (map (λ n. n.name) ns) → (i : ℕ) × (identity_in ns name ≡ Some i)
+pub listed_name : (ns : List Named) (name : ℕ) → Among name (map (λ n. n.name) ns) → (i : ℕ) × (identity_in ns name ≡ Some i)
 listed_name [] name m = absurd m
 listed_name (n ∷ ns) name m = go (eqb n.name name) refl m (listed_name ns name)
   where
