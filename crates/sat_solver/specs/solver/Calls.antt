@@ -136,7 +136,7 @@ pub record Answered {W L : Type 0} {G : Ghosts L} (seen : W → Writer) (old new
   pub reported : AllStepsReported (proof_in new)
   pub steps : StepsOfAsk seen old new
 
--- the answer that a state stands for; `Unknown` stands for none
+-- the answer that a state represents; `Unknown` represents none
 abbrev pub is_answer : State → Bool → Type 0
 is_answer states.Unknown sat = ⊥
 is_answer states.Sat sat = sat ≡ true
