@@ -66,7 +66,7 @@ impl<W: CountedWrite + Drop> Solver<W, Nobody> {
 }
 
 impl<W: CountedWrite + Drop, P: ProofProcessor> Solver<W, P> {
-    /// Creates a solver whose listeners are of type `P`. There are none yet.
+    /// Creates a solver whose listeners are of type `P`. There are none yet. Never allocates.
     pub fn notifying(alloc: Global) -> Solver<W, P>
         ensures { IsEmpty W.seen result }
     {

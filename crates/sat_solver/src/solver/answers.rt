@@ -47,11 +47,11 @@ impl<W: CountedWrite + Drop, P: ProofProcessor> Solver<W, P> {
         }
     }
 
-    /// Returns assumptions that contradict the clauses, or `None`.
+    /// Returns some of the assumptions that together contradict the clauses, or `None` if no such list is known.
     ///
-    /// There are some after a `solve` that returned false, until a clause or assumptions are accepted. Once the clauses
-    /// alone are known to be unsatisfiable, even without a `solve`, the list is always empty. Returns `None` after a
-    /// failed call.
+    /// The list is neither minimal nor sorted. One is known after a `solve` that returned false, until a clause or
+    /// assumptions are accepted. Once the clauses alone are known to be unsatisfiable, even without a `solve`, the list
+    /// is known and empty. Returns `None` after a failed call.
     pub fn failed_core(&self) -> Option<&[Lit]>
         requires { IsSolver self.now }
         ensures { MatchOption result (HasNoCore self.now) (λ core. IsCore self.now core.now) }

@@ -57,9 +57,10 @@ impl<W: CountedWrite + Drop, P: ProofProcessor> Solver<W, P> {
 
     /// Replaces the assumptions, whose names are introduced from left to right.
     ///
-    /// They hold for every later `solve`, until the next `assume`. Errors: `NotInDrat` if DRAT lines are written;
-    /// `WitnessVariable` if a name is of mode witness; `VariableLimit` if there is no variable for a name that would
-    /// be introduced.
+    /// They hold for every later `solve`, until the next `assume`. Unless the clauses alone are known to be
+    /// unsatisfiable, the answer is discarded, even if the assumptions are the same as before. Errors: `NotInDrat` if
+    /// DRAT lines are written; `WitnessVariable` if a name is of mode witness; `VariableLimit` if there is no variable
+    /// for a name that would be introduced.
     pub fn assume(&mut self, lits: &[Lit]) -> Result<(), SolverError>
         requires { IsSolver self.old }
         ensures solver { IsSolver self.new }

@@ -1,4 +1,5 @@
-//! `Solver` as a formula that can be extended.
+//! `Solver` as a formula that can be extended. `add_clause` and `new_var` are the solver's own calls, and `new_lit`
+//! returns the positive literal of `new_var`.
 ghost use Rattle.std.specs.Prelude.{Ok, Err};
 ghost use Rattle.sat_solver.specs.solver.Adding.{AddsClause};
 ghost use Rattle.sat_solver.specs.solver.Naming.{NamesNew};

@@ -11,7 +11,7 @@ use sat_checker::ProofProcessor;
 
 impl<W: CountedWrite + Drop, P: ProofProcessor> Solver<W, P> {
     /// Marks the solver as failed, and returns the error of a fault. Every later call fails.
-    pub fn fail(&mut self, fault: Fault) -> SolverError
+    pub(crate) fn fail(&mut self, fault: Fault) -> SolverError
         requires kept { IsKept fault self.old.core.proof }
         ensures error { result ≡ fault }
         ensures fails { self.new ≡ failed_with self.old }

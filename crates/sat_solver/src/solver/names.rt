@@ -140,7 +140,7 @@ impl<W: CountedWrite + Drop, P: ProofProcessor> Solver<W, P> {
     /// Gives every hidden variable that is still in use a name and mode witness. Returns the names.
     ///
     /// The variables are visited in increasing order, and each gets the name that `new_var` would return. The answer is
-    /// unchanged. If there is no such variable, a proof may still be opened.
+    /// unchanged. If there is no such variable, a proof may still be opened. If memory runs out, the solver has failed.
     pub fn observe_internal_vars(&mut self) -> Result<Vec<Var>, SolverError>
         requires { IsSolver self.old }
         ensures solver { IsSolver self.new }

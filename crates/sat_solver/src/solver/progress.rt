@@ -41,6 +41,9 @@ fn open_count(names: &Variables, values: &[Option<bool>]) -> u64
 
 impl<W: CountedWrite + Drop, P: ProofProcessor> Solver<W, P> {
     /// Returns the current number of rounds, restarts, variables without a value, and clauses by kind. Never allocates.
+    ///
+    /// After a failed call, only the numbers of rounds and restarts are exact. The numbers of clauses are not exact
+    /// either once the clauses are known to be unsatisfiable.
     pub fn progress(&self) -> Progress
         ensures conflicts { result.conflicts ≡ rounds_in self.now }
         ensures restarts { result.restarts ≡ restarts_in self.now }

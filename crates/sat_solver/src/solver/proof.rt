@@ -22,8 +22,9 @@ pub struct HandedBack<W, P> {
 impl<W: CountedWrite + Drop, P: ProofProcessor> Solver<W, P> {
     /// Writes all further steps to this target, in this format.
     ///
-    /// Returns `TooLate` after a clause, a name, assumptions or an ask, and while a proof is open. Then the
-    /// target is dropped.
+    /// Returns `TooLate` after a clause, a name, assumptions or an ask, and while a proof is open. Then the target is
+    /// dropped. While DRAT lines are written, `assume` returns `NotInDrat`, and so does `add_clause` after the first
+    /// `solve`.
     pub fn write_proof(&mut self, target: W, format: ProofFormat) -> Result<(), SolverError>
         requires { IsSolver self.old }
         ensures solver { IsSolver self.new }
@@ -61,8 +62,8 @@ impl<W: CountedWrite + Drop, P: ProofProcessor> Solver<W, P> {
 
     /// Adds a listener to the solver's own checker, which is started if there is none.
     ///
-    /// Returns `TooLate` when `enable_self_checking` does. In that case, or if memory runs out, the listener
-    /// is dropped.
+    /// Returns `TooLate` when `enable_self_checking` does. If memory runs out, the solver has failed. In both cases the
+    /// listener is dropped.
     pub fn add_proof_processor(&mut self, processor: P) -> Result<(), SolverError>
         requires { IsSolver self.old }
         ensures solver { IsSolver self.new }
@@ -110,10 +111,11 @@ impl<W: CountedWrite + Drop, P: ProofProcessor> Solver<W, P> {
         target
     }
 
-    /// Returns the listeners in the order in which they were added, and the target.
+    /// Returns the listeners in the order in which they were added, and the target. This works after a failure, too.
     ///
-    /// The target is returned as it is, if a proof is open or its target failed; its pending bytes are lost. This works
-    /// after a failure, too.
+    /// After two contradictory units, the empty clause that follows from them is announced by the next step or the next
+    /// `solve`; if there was neither, the listeners have not heard of it. The target is returned as it is, if a proof
+    /// is open or its target failed; its pending bytes are lost.
     pub fn into_processors(self) -> HandedBack<W, P>
         ensures target { GivesWriter (target_in W.seen self) (handed_writer W.seen result.target) }
         ensures front { HandsFront W.seen result.target self }

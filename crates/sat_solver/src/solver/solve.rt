@@ -46,8 +46,8 @@ impl<W: CountedWrite + Drop, P: ProofProcessor> Solver<W, P> {
     ///
     /// Returns `Interrupted` if the rounds that the parameters allow for this call are exhausted, or the count of all
     /// rounds is. If no clause and no assumptions were accepted since an answer, returns this answer again, without a
-    /// round or a step. Before it returns, an open target is flushed, and the solver's own checker, if any, has
-    /// received all steps and announced what was pending in it.
+    /// round or a step. Before it returns an answer or `Interrupted`, an open target is flushed, and the solver's own
+    /// checker, if any, has received all steps and announced what was pending in it.
     pub fn solve(&mut self) -> Result<bool, SolverError>
         requires { IsSolver self.old }
         ensures solver { IsSolver self.new }
