@@ -72,22 +72,22 @@ def line(*literals):
 # Scripts.
 
 def chain(n):
-    """Implications from one name to the next, the first name true."""
+    """Implications from one name to the next, and the first as a unit."""
     return join(line(-(i + 1), i + 2) for i in range(n)) + line(1) + b"a 0\n"
 
 
 def pairs(n):
-    """Two neighbouring names a clause."""
+    """Clauses of two neighbouring names each."""
     return join(line(2 * i + 1, 2 * i + 2) for i in range(n)) + b"a 0\n"
 
 
 def hides(n):
-    """One name made true and hidden, again and again."""
+    """One name is repeatedly made true and hidden."""
     return b"1 0\nh 1 0\n" * n + b"a 0\n"
 
 
 def falling(n):
-    """One clause, whose names an ask makes false in order."""
+    """One clause, and an ask that makes its names false in order."""
     return line(*range(1, n + 1)) + b"a " + line(*range(-1, -n, -1))
 
 
@@ -97,12 +97,12 @@ def listed(n):
 
 
 def open_hides(n):
-    """A clause, its name hidden and an ask, again and again: each ask has one more hidden variable to find a value for."""
+    """Repeated groups of a clause, an `h` command and an ask: each ask has one more hidden variable to assign."""
     return b"1 2 0\nh 1 0\na 0\n" * n
 
 
 def units_asked(n):
-    """Clauses of two literals, then a unit of a name of their own and an ask that contradicts it, as often as there are clauses."""
+    """Clauses of two literals, then as many units of new names, each contradicted by the next ask."""
     clauses = join(line(2 * i + 1, 2 * i + 2) for i in range(n))
     return clauses + join(line(2 * n + i) + b"a " + line(-2 * n - i) for i in range(1, n + 1))
 
@@ -110,45 +110,45 @@ def units_asked(n):
 # Certificates.
 
 def widths(n):
-    """The width changes as often as there are clauses."""
+    """The width changes once for each clause."""
     return join(add([2 * i + 1, 2 * i + 2]) for i in range(n)) + join(width(64 if i % 2 else 32) for i in range(n)) + END
 
 
 def renames(n):
-    """One variable of all clauses has another solver name, again and again."""
+    """A variable in every clause repeatedly gets another solver name."""
     return join(add([1, i + 2]) for i in range(n)) + join(solver_name(0, i % 2 * 5) for i in range(n)) + END
 
 
 def renames_all(n):
-    """Each variable has another solver name in turn."""
+    """Each variable in turn gets another solver name."""
     return join(add([i + 1, i + 2]) for i in range(n)) + join(solver_name(i, n + i + 1) for i in range(n)) + END
 
 
 def deletions(n):
-    """Units, whose variables are deleted in order."""
+    """Units, and then the deletion of their variables in order."""
     return join(add([i + 1]) for i in range(n)) + join(delete_var(i) for i in range(n)) + END
 
 
 def added_and_deleted(n):
-    """One variable has a unit and is deleted, again and again."""
+    """One variable repeatedly gets a unit and is deleted."""
     return (add([1]) + delete_var(0)) * n + END
 
 
 def widths_used(n):
-    """The width changes again and again, and a hash is named at each."""
+    """The width changes repeatedly, and a hash is named after each change."""
     clauses = join(add([2 * i + 1, 2 * i + 2]) for i in range(n))
     return clauses + (width(32) + derive([1, -1, 2], [0]) + width(64) + derive([1, -1, 2], [0])) * (n // 4) + END
 
 
 def narrow(n):
-    """Clauses added at width 0, where all have one hash."""
+    """Clauses added at width 0, where all have the same hash."""
     return width(0) + join(add([2 * i + 1, 2 * i + 2]) for i in range(n)) + END
 
 
 # Scripts with the answers and the certificate of their own.
 
 def narrow_confirmed(n):
-    """Clauses that no ask follows, and a certificate of width 0."""
+    """Clauses without any ask, and a certificate of width 0."""
     steps = join(user_name(2 * i) + user_name(2 * i + 1) + add([2 * i + 1, 2 * i + 2]) for i in range(n))
     return join(line(2 * i + 1, 2 * i + 2) for i in range(n)), b"", width(0) + steps + END
 

@@ -73,11 +73,13 @@ def scale(text):
     texts = importlib.util.module_from_spec(found)
     found.loader.exec_module(texts)
     rows = ["| Text | Call | Bytes read | Seconds | Exponent |", "|---|---|---|---|---|"]
+    described = set()
     for line in text.splitlines():
         name, call, count, seconds, exponent, above = re.match(r"(\w+) +(\w+) +(\d+) bytes .* ([\d.]+) s  exponent +(\S+)( above)?", line).groups()
-        what = getattr(texts, name).__doc__.rstrip(".")
+        what = f"`{name}`" if name in described else f"{getattr(texts, name).__doc__.rstrip('.')} (`{name}`)"
+        described.add(name)
         mark = "**" if above else ""
-        rows.append(f"| {what} (`{name}`) | `{call}` | {size(int(count))} | {float(seconds):.2f} | {mark}{exponent}{mark} |")
+        rows.append(f"| {what} | `{call}` | {size(int(count))} | {float(seconds):.2f} | {mark}{exponent}{mark} |")
     return "\n".join(rows) + "\n"
 
 
@@ -89,14 +91,14 @@ def memory(text):
         if found:
             call, name, count, peak, each = found.groups()
             most[call] = max(most.get(call, (0.0,)), (float(each), name, int(count), int(peak)))
-    rows = ["| Call | Text | Bytes read | Peak memory | For each byte, after the first 20 MB |", "|---|---|---|---|---|"]
+    rows = ["| Call | Text | Bytes read | Peak memory | Bytes of memory per byte, beyond 20 MB |", "|---|---|---|---|---|"]
     for call, (each, name, count, peak) in most.items():
         rows.append(f"| `{call}` | `{name}` | {size(count)} | {peak / 1024:.0f} MB | {each:.1f} |")
     return "\n".join(rows) + "\n"
 
 
 CALLS = ["confirm", "hints", "check", "check_proof", "follower", "plain"]
-CALLED = {"follower": "the follower of ids", "plain": "the plain checker"}
+CALLED = {"follower": "id checker", "plain": "plain checker"}
 
 
 def checker(text):
@@ -109,12 +111,12 @@ def checker(text):
             call, other, what, mean, each = ratio.groups()
             values = dict(zip(each.split()[::2], map(float, each.split()[1::2])))
             most = max(values, key=values.get)
-            means.setdefault((call, other), {})[what] = f"{mean}, at most {values[most]:.2f} ({most})"
+            means.setdefault((call, other), {})[what] = f"{mean}, {values[most]:.2f} ({most})"
         else:
             name, rest = line.split(": ", 1)
             found = dict((call, f"{float(s):.3f} s, {float(m):.0f} MB") for call, s, m in re.findall(r"(\w+) ([\d.]+) s ([\d.]+) MB", rest))
             proofs.append(f"| {name} | " + " | ".join(found[call] for call in CALLS) + " |")
-    rows = ["| Call | Compared with | Times its time | Times its memory |", "|---|---|---|---|"]
+    rows = ["| Call | Compared with | Time ratio: mean, highest | Memory ratio: mean, highest |", "|---|---|---|---|"]
     rows += [f"| `{call}` | {called(other)} | {each['seconds']} | {each['memory']} |" for (call, other), each in means.items()]
     rows += ["", "| Proof | " + " | ".join(map(called, CALLS)) + " |", "|---|" + "---|" * len(CALLS), *proofs]
     return "\n".join(rows) + "\n"

@@ -26,9 +26,9 @@ def clauses(names):
 
 
 TEXTS = {
-    "implications from each name to the next, and the first name": lambda: "".join(line(-i, i + 1) for i in range(1, COUNT)) + line(1),
+    "implications from each name to the next, and the first as a unit": lambda: "".join(line(-i, i + 1) for i in range(1, COUNT)) + line(1),
     "random clauses of three literals over 500,000 names": lambda: clauses(500_000),
-    "random clauses of three literals over 3,000 names": lambda: clauses(3_000),
+    "the same over 3,000 names": lambda: clauses(3_000),
     "units": lambda: "".join(line(i) for i in range(1, COUNT + 1)),
     "asks of one literal": lambda: "".join("a " + line(i % 2 + 1) for i in range(COUNT)),
 }
@@ -48,7 +48,7 @@ def main():
     program = os.path.abspath(sys.argv[1])
     with tempfile.TemporaryDirectory() as folder:
         os.chdir(folder)
-        print("| Text | `run` | `confirm` | MiniSat | `run` over MiniSat |\n|---|---|---|---|---|")
+        print("| Text | `run` | `confirm` | MiniSat | `run` / MiniSat |\n|---|---|---|---|---|")
         for name, make in TEXTS.items():
             text = make()
             commands = [[program, word, "in", "answers", "certificate"] for word in ("run", "confirm")]

@@ -48,7 +48,7 @@ fn begun(alloc: Global, parts: &mut Parts) -> Result<bool, StoreError>
     }
 }
 
-/// Decides an open literal and propagates. Answers whether that could be done, and without a conflict.
+/// Decides an unassigned literal and propagates. Returns whether that could be done without a conflict.
 fn advance(alloc: Global, parts: &mut Parts, lit: Lit) -> Result<bool, AllocError>
     requires holds { PartsInvariant parts.old }
     requires done { IsFullyPropagated parts.old }
