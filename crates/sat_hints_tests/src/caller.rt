@@ -10,7 +10,7 @@ use sat_checker::CheckerError;
 use sat_hints::{HintError, HintFault, HintVerdict, check, convert};
 use std::alloc::Global;
 
-/// Checks a text. One that is proved has its own verdict.
+/// Checks a text. A proved text has the verdict `Proved`, with its fields.
 fn verdict_on(alloc: Global, text: &[u8]) -> Result<HintVerdict, HintFault>
     ensures { (empty : Bool) (cores : ℕ) (lines : ℕ) → IsProof text.now empty cores lines
         → IfOk result (λ verdict. verdict ≡ HintVerdict.Proved empty cores lines) }
@@ -18,8 +18,8 @@ fn verdict_on(alloc: Global, text: &[u8]) -> Result<HintVerdict, HintFault>
     check(alloc, &mut Counted::new(text))
 }
 
-/// Converts a certificate, and checks the text that was written: it is proved, with the fields that the lines of the
-/// steps have. Where the steps are accepted, nothing but a device or memory stops that.
+/// Converts a certificate, and checks the text that was written. The verdict is `Proved`, with the fields of the steps'
+/// lines. If the steps are accepted, only a device fault or a lack of memory can prevent this.
 fn recheck<R: CountedRead>(
     alloc: Global,
     certificate: &mut R,

@@ -42,7 +42,7 @@ fn reads(buffer: &ClauseAlloc, cref: ClauseRef, numbers: &[i64]) -> bool
     true
 }
 
-/// Reverses a clause of three literals. The other one stays.
+/// Reverses a clause of three literals. The other clause is unchanged.
 fn reverse_three(buffer: &mut ClauseAlloc, cref: ClauseRef, other: ClauseRef)
     requires live { HoldsClauses buffer.old (cref ∷ other ∷ []) }
     requires differ { other ≢ cref }
