@@ -1,4 +1,5 @@
-//! What every accepted step announces, noted while it is judged, and how transcripts say it in the user's names.
+//! The announcements of accepted steps, which are noted while a step is checked, and their transcripts, which use the
+//! user's variable names.
 
 pub mod announcement;
 pub(crate) mod announcing;

@@ -25,8 +25,9 @@ use sat_base::{Lit, ProofStep, Var};
 use std::alloc::Global;
 
 /// A checker. It receives the clauses of a formula and the steps of a proof one after another, and notifies its
-/// processors and transcripts of what they announce. After it refuses a step, runs out of memory or ids, or gets a
-/// fault from a listener, it only returns `HasFailed`.
+/// processors and transcripts of the announcements. The checker has failed once it refuses a step, runs out of memory,
+/// exhausts a counter, or gets an error from a listener. From then on, every call that would add or check something
+/// returns `HasFailed`.
 #[derive(Drop)]
 pub struct Checker<P: ProofProcessor = Nobody, T: ProofTranscriptProcessor = Nobody> {
     pub(crate) kernel: Kernel,
@@ -34,7 +35,7 @@ pub struct Checker<P: ProofProcessor = Nobody, T: ProofTranscriptProcessor = Nob
 }
 
 impl Checker<Nobody, Nobody> {
-    /// Creates a checker without listeners, which has accepted nothing yet. It does not allocate.
+    /// Creates a checker without listeners, which has accepted no step yet. Does not allocate.
     pub fn new(alloc: Global) -> Checker<Nobody, Nobody>
         ensures stands { HasAccepted (kernel_of result) [] }
         ensures goes_on { kernel_has_failed (kernel_of result) ≡ false }
@@ -45,8 +46,8 @@ impl Checker<Nobody, Nobody> {
         Checker::notifying(alloc)
     }
 
-    /// Checks the next step, and accepts it if it passes. It judges as `self_check_step` does, notifies no listener,
-    /// and returns a small error.
+    /// Checks the next step, and accepts it if it passes. Gives the same verdict as `self_check_step`, but notifies no
+    /// listener and returns a small error.
     pub fn accept_step(&mut self, step: &ProofStep<'_>) -> Result<(), StepRefusal>
         ensures judges { kernels.ChecksStep (kernels.answer_of result)
             (kernel_of self.old) (step_of step.now) (kernel_of self.new) }
@@ -59,7 +60,8 @@ impl Checker<Nobody, Nobody> {
 }
 
 impl<P: ProofProcessor, T: ProofTranscriptProcessor> Checker<P, T> {
-    /// Creates a checker like `new`, for processors and transcripts of these types. It has no listener yet.
+    /// Creates a checker, as `new` does, for processors of type `P` and transcripts of type `T`. The checker has no
+    /// listener yet.
     pub fn notifying(alloc: Global) -> Checker<P, T>
         ensures stands { HasAccepted (kernel_of result) [] }
         ensures goes_on { kernel_has_failed (kernel_of result) ≡ false }
@@ -73,8 +75,8 @@ impl<P: ProofProcessor, T: ProofTranscriptProcessor> Checker<P, T> {
         }
     }
 
-    /// Creates a checker like `notifying`, with the listeners that another checker returned. Both lists keep
-    /// their order.
+    /// Creates a checker, as `notifying` does, with `listeners`, which another checker may have returned. Both lists
+    /// keep their order.
     pub fn with_listeners(alloc: Global, listeners: Processors<P, T>) -> Checker<P, T>
         ensures stands { HasAccepted (kernel_of result) [] }
         ensures goes_on { kernel_has_failed (kernel_of result) ≡ false }
@@ -108,7 +110,7 @@ impl<P: ProofProcessor, T: ProofTranscriptProcessor> Checker<P, T> {
         Ok(())
     }
 
-    /// Adds a transcript, which is notified of all its steps from now on. If memory runs out, the transcript is
+    /// Adds a transcript, which is notified of all transcript steps from now on. If memory runs out, the transcript is
     /// dropped, and the checker has failed.
     pub fn add_transcript(&mut self, transcript: T) -> Result<(), CheckerError>
         ensures { AddsListener result (kernel_of self.old) (kernel_of self.new)
@@ -127,7 +129,8 @@ impl<P: ProofProcessor, T: ProofTranscriptProcessor> Checker<P, T> {
         Ok(())
     }
 
-    /// Returns the listeners, both lists in the order in which they were added. It does so after a failure, too.
+    /// Returns the processors and the transcripts, each in the order in which they were added. This works even after
+    /// the checker has failed.
     pub fn into_processors(self) -> Processors<P, T>
         ensures processors { result.processors.items ≡ (listeners_of self.processing).processors }
         ensures transcripts { result.transcripts.items ≡ (listeners_of self.processing).transcripts }
@@ -137,8 +140,8 @@ impl<P: ProofProcessor, T: ProofTranscriptProcessor> Checker<P, T> {
         processing.into_processors()
     }
 
-    /// Adds a clause of the formula, unless it has a variable that is hidden or a witness. A refused clause
-    /// changes nothing.
+    /// Adds a clause of the formula. Unless unsat is recorded, refuses a clause that contains a hidden variable or a
+    /// witness. A refused clause changes nothing.
     pub fn add_clause(&mut self, clause: &[Lit]) -> Result<(), CheckerError>
         ensures checks { ChecksClause (HearsEach P.takes T.reads)
             result (seen_of self.old) clause.now (seen_of self.new) }
@@ -171,14 +174,16 @@ impl<P: ProofProcessor, T: ProofTranscriptProcessor> Checker<P, T> {
             .check_step(step, &mut nobody, false, &mut self.processing)
     }
 
-    /// Whether the steps so far leave no valuation: a clause among them is empty, or units contradict each other.
+    /// Whether unsat is recorded: the checker has an empty clause or a unit conflict, so the accepted steps rule out
+    /// every valuation.
     pub fn unsat(&self) -> bool
         ensures { (steps : List Step) → HasAccepted (kernel_of self.now) steps → result ≡ (ready_after steps).unsat }
     {
         self.kernel.records.unsat
     }
 
-    /// Whether no unit conflict is waiting for its id. `self_check_delayed_steps` gives it one.
+    /// Whether no unit conflict is pending. `self_check_delayed_steps` gives the empty clause of a pending conflict
+    /// an id.
     pub fn is_settled(&self) -> bool
         ensures { IsTrue result ↔ kernels.KernelIsSettled (kernel_of self.now) }
     {
@@ -199,7 +204,7 @@ impl<P: ProofProcessor, T: ProofTranscriptProcessor> Checker<P, T> {
         self.kernel.records.var_deleted
     }
 
-    /// Returns the user's name of a variable, unless the checker has failed.
+    /// Returns the user's name for a variable, if it has one. After the checker has failed, the result is unspecified.
     pub fn user_name(&self, var: Var) -> Option<Var>
         ensures { kernel_has_failed (kernel_of self.now) ≡ false
             → (steps : List Step) → HasAccepted (kernel_of self.now) steps → result ≡ name_of var (ready_after steps) }
@@ -207,7 +212,7 @@ impl<P: ProofProcessor, T: ProofTranscriptProcessor> Checker<P, T> {
         self.kernel.state.variables.data(var).name
     }
 
-    /// Whether the variable is known, unless the checker has failed.
+    /// Whether the variable is known. After the checker has failed, the result is unspecified.
     pub fn knows(&self, var: Var) -> bool
         ensures { kernel_has_failed (kernel_of self.now) ≡ false
             → (steps : List Step) → HasAccepted (kernel_of self.now) steps → result ≡ is_known var (ready_after steps) }
@@ -215,7 +220,7 @@ impl<P: ProofProcessor, T: ProofTranscriptProcessor> Checker<P, T> {
         self.kernel.state.variables.data(var).known
     }
 
-    /// Returns how many literals of stored clauses were looked at, at most 2^64-1.
+    /// Returns the number of looks at literals of stored clauses, saturating at 2^64-1.
     pub fn looks(&self) -> u64
         ensures { result ≡ min (kernel_looks (kernel_of self.now)) (2 ^ 64 - 1) }
     {

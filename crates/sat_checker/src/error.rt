@@ -7,28 +7,28 @@ use thiserror::Error;
 /// Why a proof, a step or a clause was not accepted.
 #[derive(Debug, Drop, Error)]
 pub enum CheckerError {
-    /// The text ends before `End`.
+    /// The proof's text ends before an `End` step.
     #[error("the proof ends before its end step")]
     ProofIncomplete,
-    /// The reader failed, or was read 2^48 times.
+    /// A read failed, or 2^48 reads were not enough.
     #[error("the proof can't be read")]
     IoError,
-    /// No step continues after a byte of the text.
+    /// The proof's text contains a byte with which no step can continue.
     #[error("the proof's text is no list of steps")]
     ParseError,
-    /// A step or a clause is refused.
+    /// A step or a clause was refused.
     #[error("a proof step is refused")]
     CheckFailed,
-    /// A processor or a transcript returned a fault.
+    /// A processor or a transcript returned an error.
     #[error("Error in proof processor: {cause}")]
     ProofProcessorError { cause: anyhow::Error },
     /// Memory ran out.
     #[error("out of memory")]
     OutOfMemory,
-    /// The last id, 2^64-2, was assigned, or a clause was stored 2^64-1 times.
+    /// The last id, 2^64-2, was already assigned, or a clause was already stored 2^64-1 times.
     #[error("a counter is at its end")]
     CounterEnd,
-    /// The checker has failed before.
+    /// The checker has failed in an earlier call.
     #[error("the checker has failed before")]
     HasFailed,
 }
@@ -50,7 +50,7 @@ impl From<StoreError> for CheckerError {
 /// Why not all of a formula's text was added.
 #[derive(Debug, Drop, Error)]
 pub enum CheckerDimacsError {
-    /// The text has a fault or can't be read, or memory ran out while it was read.
+    /// The text is malformed, exceeds a limit or can't be read, or memory ran out while it was read.
     #[error("{0}")]
     Dimacs(DimacsError),
     /// The checker did not accept a clause.

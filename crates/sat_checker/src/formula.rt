@@ -47,9 +47,9 @@ pub(crate) struct Formula {
     pub(crate) store: Store,
     pub(crate) units: Units,
     pub(crate) status: Status,
-    /// Marks of a model's literals, or of a clause's.
+    /// Marks on the literals of a model or of a clause.
     pub(crate) marks: Assigned,
-    /// What the last propagation check noted.
+    /// The notes of the last propagation check.
     pub(crate) passed: Passed,
 }
 
@@ -67,7 +67,7 @@ impl Formula {
         }
     }
 
-    /// Files the stored clauses by the current hashes, if they are waiting for it. It does not allocate.
+    /// Files the stored clauses under the current hashes, if that has not been done yet. Does not allocate.
     #[inline(always)]
     pub fn file(&mut self, looks: &mut Looks)
         ensures kept { (f : Stored) → KeepsFormula (refiled_in self.old) f → KeepsFormula self.new f }
@@ -76,8 +76,9 @@ impl Formula {
         self.store.file(looks);
     }
 
-    /// Checks a clause of these literals, or of their negations, by propagation under hashes. The ids of clauses and
-    /// units do not matter. What it notes is kept, if a listener needs it.
+    /// Checks the clause of `literals`, or of their negations if `negate` is true, by propagation over the clauses with
+    /// the hashes `hashes`. The result does not depend on the ids of clauses and units. If `hears` is true, the notes
+    /// on the check are kept for a listener.
     pub fn check(
         &mut self,
         literals: &[Lit],
@@ -88,7 +89,7 @@ impl Formula {
     ) -> Result<bool, AllocError>
         ensures exact { IfOk result (λ passes. (f : Stored) → ChecksAs self.old f
             → IsTrue passes ↔ PassesByHashes f (signed negate literals.now) hashes.now) }
-        // There is room for all that is assumed of stored clauses.
+        // Memory does not run out, since there is room for the literals of all stored clauses.
         ensures short { OnErr result ((f : Stored) → ChecksAs self.old f → ⊥) }
         ensures rest { ChecksBeside self.old self.new }
         ensures looks { LooksOver (ChecksAs self.old) (λ f. length hashes.now * literal_count f) looks.old looks.new }
@@ -107,7 +108,7 @@ impl Formula {
         )
     }
 
-    /// Gives the empty clause of a pending unit conflict the next id.
+    /// If a unit conflict is pending, gives its empty clause the next id.
     pub fn settle(&mut self) -> Result<(), StoreError>
         ensures settles { FormulaEffect result (refiled_in self.old) settled (refiled_in self.new) }
         ensures none { OnOk result (self.new.status.conflict ≡ None) }
@@ -120,7 +121,7 @@ impl Formula {
         Ok(())
     }
 
-    /// Stores a unit. If that fails, the units are unchanged.
+    /// Stores the literal `lit` as a unit. After an error, the units are unchanged.
     pub fn store_unit(&mut self, lit: Lit) -> Result<(), StoreError>
         ensures stored { FormulaEffect result self.old (with_unit lit) self.new }
         ensures kept { OnErr result ((f : Stored) → ChecksAs self.old f → ChecksAs self.new f) }
@@ -148,7 +149,7 @@ impl Formula {
         Ok(())
     }
 
-    /// Stores an empty clause, which is new every time.
+    /// Stores an empty clause, which always counts as new. Returns what this changes.
     fn store_empty(&mut self, redundant: bool) -> Result<Change, StoreError>
         ensures stored { FormulaEffect result self.old (with_canonical redundant []) self.new }
         ensures change { ChangesSet result redundant [] self.old }
@@ -159,7 +160,7 @@ impl Formula {
         Ok(Change::New)
     }
 
-    /// Stores a clause of one literal.
+    /// Stores a clause of one literal. Returns what this changes.
     fn store_single(&mut self, redundant: bool, lit: Lit) -> Result<Change, StoreError>
         ensures stored { FormulaEffect result self.old (with_canonical redundant (lit ∷ [])) self.new }
         ensures change { ChangesSet result redundant (lit ∷ []) self.old }
@@ -175,7 +176,7 @@ impl Formula {
         Ok(change)
     }
 
-    /// Makes room for all that is assumed of a clause.
+    /// Makes room for the literals of a clause and for their negations, so that these can be assumed and marked.
     fn make_room(&mut self, literals: &[Lit]) -> Result<(), AllocError>
         ensures room { OnOk result
             (HasClauseRoom self.new.units.room literals.now × HasClauseRoom self.new.marks.room literals.now) }
@@ -185,7 +186,7 @@ impl Formula {
         make_room_for(&mut self.marks, literals)
     }
 
-    /// Stores a clause of two literals or more.
+    /// Stores a clause of two literals or more. Returns what this changes.
     fn store_long(
         &mut self,
         redundant: bool,
@@ -209,7 +210,7 @@ impl Formula {
         }
     }
 
-    /// Stores sorted literals without repeats. Returns what that changes.
+    /// Stores the clause with the sorted literals `literals`, without repeats. Returns what this changes.
     pub fn store_canonical(
         &mut self,
         redundant: bool,
@@ -230,7 +231,7 @@ impl Formula {
         self.store_long(redundant, literals, looks)
     }
 
-    /// Stores the sorted literals of a clause, unless it is a tautology. Returns what that changes.
+    /// Stores the clause with the sorted literals `literals`, unless it is a tautology. Returns what this changes.
     pub fn store_clause(
         &mut self,
         redundant: bool,
@@ -251,7 +252,8 @@ impl Formula {
         self.store_canonical(redundant, literals, looks)
     }
 
-    /// Stores the sorted literals of a clause of the formula, which always gets an id.
+    /// Stores a clause of the formula, given by its sorted literals. An id is assigned even if the clause is a
+    /// tautology or already stored.
     pub fn store_input(&mut self, literals: &[Lit], looks: &mut Looks) -> Result<(), StoreError>
         requires { IsIncreasing literals.now }
         ensures stored { (clause : List ℕ) → literals.now ≡ canonical clause
@@ -264,8 +266,8 @@ impl Formula {
         self.status.take_id_if(unnumbered)
     }
 
-    /// Stores the sorted literals of a derived clause, and notes what that announces. The ids that the clause rests on
-    /// are listed before.
+    /// Stores a derived clause, given by its sorted literals, and notes its announcement. The ids of the clauses from
+    /// which it follows must already be listed in `notes`.
     pub fn store_derived(
         &mut self,
         redundant: bool,
@@ -288,8 +290,8 @@ impl Formula {
         Ok(())
     }
 
-    /// Checks a unit under its one hash, and stores it. Returns whether it passes. An error is returned only if it
-    /// would pass.
+    /// Checks the unit `lit` by propagation over the clauses with the hash `hash`, and stores the unit if it passes.
+    /// Returns whether the unit passes. Returns an error only if the unit would pass.
     fn store_checked(
         &mut self,
         lit: Lit,
@@ -314,7 +316,7 @@ impl Formula {
         Ok(true)
     }
 
-    /// Whether units pass in turn after the first of them. They are not stored.
+    /// Whether every unit after the first passes, given the units before it. The units are not stored.
     fn pass_in_turn(
         &mut self,
         units: &[(Lit, ClauseHash)],
@@ -330,7 +332,7 @@ impl Formula {
             .pass_in_turn(&self.store, units, &mut self.passed, looks)
     }
 
-    /// Returns a fault that occurred at the first of the units, unless one after it is refused.
+    /// Returns the error `fault`, which occurred at the first of the units, unless a later unit is refused.
     fn fail_unless_refused(
         &mut self,
         fault: StoreError,
@@ -350,7 +352,7 @@ impl Formula {
         Err(fault)
     }
 
-    /// Checks and stores units in turn. Returns whether all of them pass.
+    /// Checks and stores units, one after another. Returns whether all units pass.
     pub fn store_units(
         &mut self,
         units: &[(Lit, ClauseHash)],
@@ -379,7 +381,8 @@ impl Formula {
         Ok(true)
     }
 
-    /// Removes one count of the clause with these sorted literals. Returns whether it had one.
+    /// Removes one count of the clause with the sorted literals `literals`: a redundant count if `redundant` is true,
+    /// and an irredundant count otherwise. Returns whether the clause had such a count.
     fn take_count(&mut self, redundant: bool, literals: &[Lit], looks: &mut Looks) -> bool
         ensures decides { (f : Stored) → KeepsFormula self.old f
             → TakesCount result redundant literals.now f (KeepsFormula self.new (with_less redundant literals.now f)) }
@@ -388,14 +391,15 @@ impl Formula {
         self.store.delete_clause(redundant, literals, looks)
     }
 
-    /// Drops removed clauses, if there are too many. If memory runs out, all are kept.
+    /// Drops the removed clauses from memory if there are many. If memory runs out, all clauses are kept.
     pub fn compact(&mut self) -> Result<(), AllocError>
         ensures { (f : Stored) → KeepsFormula self.old f → KeepsFormula self.new f }
     {
         self.store.compact()
     }
 
-    /// Deletes the clause with these sorted literals by this proof. Returns whether that is allowed.
+    /// Deletes a clause for the reason `proof`. Returns whether the deletion is allowed. `literals` must be the sorted
+    /// literals of `clause`.
     pub fn delete(
         &mut self,
         clause: &[Lit],
@@ -414,7 +418,7 @@ impl Formula {
         }
     }
 
-    /// Deletes the redundant clause with these sorted literals.
+    /// Deletes a redundant clause. Returns whether the deletion is allowed.
     fn delete_redundant(&mut self, clause: &[Lit], literals: &[Lit], looks: &mut Looks) -> bool
         requires { literals.now ≡ canonical clause.now }
         ensures decides { DeletionEffect result self.old (DeleteClause clause.now Redundant) self.new }
@@ -423,7 +427,7 @@ impl Formula {
         self.take_count(true, literals, looks)
     }
 
-    /// Deletes an irredundant clause that a unit satisfies.
+    /// Deletes an irredundant clause that a unit satisfies. Returns whether the deletion is allowed.
     fn delete_satisfied(&mut self, clause: &[Lit], literals: &[Lit], looks: &mut Looks) -> bool
         requires { literals.now ≡ canonical clause.now }
         ensures decides { DeletionEffect result self.old (DeleteClause clause.now Satisfied) self.new }
@@ -435,8 +439,8 @@ impl Formula {
         self.take_count(false, literals, looks)
     }
 
-    /// Whether the last irredundant clause is still stored, and its literals are a proper subset of these
-    /// sorted literals.
+    /// Whether the last irredundant clause stored is still stored, and its literals are a proper subset of `literals`,
+    /// which must be sorted.
     fn has_last_within(&self, literals: &[Lit], looks: &mut Looks) -> bool
         requires { IsIncreasing literals.now }
         ensures part { (f : Stored) → KeepsFormula self.now f
@@ -457,7 +461,8 @@ impl Formula {
         }
     }
 
-    /// Deletes an irredundant clause that the last irredundant clause stored is a part of.
+    /// Deletes an irredundant clause whose literals properly include those of the last irredundant clause stored.
+    /// Returns whether the deletion is allowed.
     fn delete_simplified(&mut self, clause: &[Lit], literals: &[Lit], looks: &mut Looks) -> bool
         requires { literals.now ≡ canonical clause.now }
         ensures decides { DeletionEffect result self.old (DeleteClause clause.now Simplified) self.new }
@@ -469,7 +474,7 @@ impl Formula {
         self.take_count(false, literals, looks)
     }
 
-    /// Removes the unit of a variable that is being deleted.
+    /// Removes the unit of a variable that is being deleted, if there is one, and records that a variable was deleted.
     pub fn forget(&mut self, var: Var)
         ensures { (f : Stored) → KeepsFormula (refiled_in self.old) f
             → KeepsFormula (refiled_in self.new) (without_variable var f) }

@@ -7,7 +7,7 @@ ghost use Rattle.sat_checker.specs.inner.PairView.{mixed};
 use sat_base::{ClauseHash, HashBits, Lit, Table, Var, lit_hash};
 use std::alloc::{AllocError, Global};
 
-/// Computes hashes over the solver's names of variables, and keeps the topmost bits.
+/// A hasher of clauses, which uses the solver's names for variables and keeps the top bits of every hash.
 #[derive(Drop)]
 pub struct ClauseHasher {
     bits: HashBits,
@@ -15,7 +15,7 @@ pub struct ClauseHasher {
 }
 
 impl ClauseHasher {
-    /// Creates a hasher that keeps this many bits, without solver names.
+    /// Creates a hasher that keeps `bits` bits of every hash, without solver names.
     pub fn new(alloc: Global, bits: HashBits) -> ClauseHasher
         ensures width { width_of result ≡ bits }
         ensures names { (v : ℕ) → solver_name_of result v ≡ None }
@@ -26,14 +26,14 @@ impl ClauseHasher {
         }
     }
 
-    /// Returns the number of bits that are kept.
+    /// Returns how many bits of every hash are kept.
     pub(crate) fn bits(&self) -> HashBits
         ensures { result ≡ width_of self.now }
     {
         self.bits
     }
 
-    /// Sets the number of bits that are kept from now on.
+    /// Sets how many bits of every hash are kept from now on.
     pub fn set_bits(&mut self, bits: HashBits)
         ensures width { width_of self.new ≡ bits }
         ensures names { (v : ℕ) → solver_name_of self.new v ≡ solver_name_of self.old v }
@@ -41,7 +41,7 @@ impl ClauseHasher {
         self.bits = bits;
     }
 
-    /// Sets or removes the solver's name of a variable.
+    /// Sets the solver's name of a variable, or removes it if `name` is `None`.
     pub fn set_solver_name(&mut self, var: Var, name: Option<Var>) -> Result<(), AllocError>
         ensures width { width_of self.new ≡ width_of self.old }
         ensures names { OnOk result ((v : ℕ) → solver_name_of self.new v
@@ -50,14 +50,15 @@ impl ClauseHasher {
         self.solver_names.set(var.index(), name, None)
     }
 
-    /// Returns the solver's name of a variable.
+    /// Returns the solver's name of a variable, if it has one.
     pub(crate) fn solver_name(&self, var: Var) -> Option<Var>
         ensures { result ≡ solver_name_of self.now var }
     {
         self.solver_names.get(var.index(), None)
     }
 
-    /// Returns the literal with its variable's solver name, or the literal itself if there is none.
+    /// Returns the literal with its variable replaced by the variable's solver name, or the literal itself if there is
+    /// no such name.
     #[inline(always)]
     #[tactic(auto, using(crate::proofs::lemmas::sets::Hashing::named_literal))]
     fn solver_lit(&self, lit: Lit) -> Lit
@@ -82,11 +83,11 @@ impl ClauseHasher {
     }
 }
 
-/// An odd factor, so that different hashes stay different.
+/// An odd factor. Multiplication by an odd factor keeps different hashes different.
 const MIXER: u64 = 0xbf58_476d_1ce4_e5b9;
 
-/// Returns the hash by which the index files a hash. Its top bits depend on all bits, while hashes of neighbouring
-/// literals share many of theirs.
+/// Returns the mixed hash under which the index files `hash`. The top bits of a mixed hash depend on all bits of
+/// `hash`. Without mixing, hashes of neighbouring literals share many top bits.
 #[inline(always)]
 #[tactic(auto, using(crate::proofs::lemmas::pairs::Mixing::is_mixed))]
 pub(crate) fn mixed(hash: ClauseHash) -> ClauseHash
@@ -95,7 +96,7 @@ pub(crate) fn mixed(hash: ClauseHash) -> ClauseHash
     hash.wrapping_mul(MIXER)
 }
 
-/// Returns the topmost bits of a hash.
+/// Returns the top `bits` bits of a hash.
 fn top_bits(hash: ClauseHash, bits: HashBits) -> ClauseHash
     ensures { result ≡ hash / 2 ^ (64 - bits) }
 {

@@ -1,4 +1,4 @@
-//! The part of a checker that judges steps, and notifies listeners of what they announce.
+//! The part of a checker that checks steps, and notifies listeners of what the steps announce.
 ghost use Rattle.std.specs.Prelude.{List, ◌≤◌, ◌≡◌, true, false, [], None, Ok, Err, OnOk, IsTrue, MatchResult};
 ghost use Rattle.sat_base.specs.steps.StepViews.{step_of};
 ghost use Rattle.sat_checker.specs.KernelView as kernels;
@@ -26,7 +26,7 @@ use crate::variables::Variables;
 use sat_base::ProofStep;
 use std::alloc::Global;
 
-/// Returns the checker's error if not all listeners were notified.
+/// Returns the checker's error for an error that occurred while listeners were notified.
 fn fault(error: ProcessingError) -> CheckerError
     ensures { result ≡ fault_of error }
 {
@@ -38,7 +38,8 @@ fn fault(error: ProcessingError) -> CheckerError
     }
 }
 
-/// Returns the variable whose name or mode a step may change, with its current data, if a listener needs it.
+/// Returns the variable whose name or mode the step may change, with its current data. Without a listener,
+/// returns `None`.
 fn changed(variables: &Variables, step: &ProofStep<'_>, hears: bool) -> Option<Was>
     ensures { IsTrue hears → was_of result ≡ changed_by (variable_at variables.now) (step_of step.now) }
 {
@@ -65,7 +66,7 @@ fn changed(variables: &Variables, step: &ProofStep<'_>, hears: bool) -> Option<W
     }
 }
 
-/// Whether there is a listener: the caller's own processor, or one of the others.
+/// Whether there is a listener: the caller's own processor, or another listener.
 fn listens<P: ProofProcessor, T: ProofTranscriptProcessor>(
     has_own: bool,
     others: &Processing<P, T>,
@@ -76,7 +77,7 @@ fn listens<P: ProofProcessor, T: ProofTranscriptProcessor>(
     has_own || !others.is_quiet()
 }
 
-/// Notifies the listeners of announcements, in order, up to the first fault.
+/// Notifies the listeners of the announcements in `news`, in order, up to the first error.
 #[inline(always)]
 fn notify_news<O: ProofProcessor, P: ProofProcessor, T: ProofTranscriptProcessor>(
     news: &News,
@@ -98,20 +99,20 @@ fn notify_news<O: ProofProcessor, P: ProofProcessor, T: ProofTranscriptProcessor
     Ok(())
 }
 
-/// Why a step is not accepted, if no listener is notified.
+/// Why a step is not accepted when it is checked without notifying listeners.
 #[derive(Clone, Copy, Drop)]
 pub enum StepRefusal {
-    /// The checker has failed before.
+    /// The checker has failed in an earlier call.
     HasFailed,
-    /// The step is refused.
+    /// The step was refused.
     CheckFailed,
     /// Memory ran out.
     OutOfMemory,
-    /// The last id, 2^64-2, was assigned, or a clause was stored 2^64-1 times.
+    /// The last id, 2^64-2, was already assigned, or a clause was already stored 2^64-1 times.
     CounterEnd,
 }
 
-/// Returns why a step that could not be stored is not accepted.
+/// Returns the refusal for an error of the store.
 fn refusal(error: StoreError) -> StepRefusal
     ensures { step_error result ≡ failure_of error }
 {
@@ -134,7 +135,7 @@ pub(crate) struct Kernel {
 }
 
 impl Kernel {
-    /// Creates a kernel that has accepted no step. It does not allocate.
+    /// Creates a kernel that has accepted no step yet. Does not allocate.
     pub fn new(alloc: Global) -> Kernel
         ensures stands { HasAccepted result [] }
         ensures goes_on { kernel_has_failed result ≡ false }
@@ -150,8 +151,8 @@ impl Kernel {
         }
     }
 
-    /// Checks the next step, accepts it if it passes, and notifies the listeners of what it announces: first the
-    /// caller's own processor, if there is one.
+    /// Checks the next step, accepts it if it passes, and notifies the listeners of what it announces. If `has_own` is
+    /// true, `own`, the caller's processor, is notified first.
     pub fn check_step<O: ProofProcessor, P: ProofProcessor, T: ProofTranscriptProcessor>(
         &mut self,
         step: &ProofStep<'_>,
@@ -159,7 +160,7 @@ impl Kernel {
         has_own: bool,
         others: &mut Processing<P, T>,
     ) -> Result<(), CheckerError>
-        // Without a processor of the caller, `own` accepts everything and does not change.
+        // If the caller has no processor, `own` must accept everything and never change.
         requires { has_own ≡ false → (v : _) (t : Notice) → O.takes v t (Ok tt) v }
         ensures judges { kernels.ChecksStep result self.old (step_of step.now) self.new }
         ensures goes_on { OnOk result (kernel_has_failed self.new ≡ false) }
@@ -183,7 +184,7 @@ impl Kernel {
         }
     }
 
-    /// Checks the next step, and accepts it if it passes. It notifies no listener.
+    /// Checks the next step, and accepts it if it passes. Notifies no listener.
     pub fn accept_step(&mut self, step: &ProofStep<'_>) -> Result<(), StepRefusal>
         ensures judges { kernels.ChecksStep (kernels.answer_of result) self.old (step_of step.now) self.new }
         ensures looks { kernels.LooksAtMost self.old (step_of step.now) self.new }
@@ -200,7 +201,7 @@ impl Kernel {
         }
     }
 
-    /// Gives the empty clause of a pending unit conflict the next id. It notifies no listener.
+    /// If a unit conflict is pending, gives its empty clause the next id. Notifies no listener.
     fn settle_alone(&mut self) -> Result<(), StepRefusal>
         requires { kernel_has_failed self.old ≡ false }
         ensures judges { kernels.ChecksDelayed (kernels.answer_of result) self.old self.new }
@@ -218,7 +219,7 @@ impl Kernel {
         Ok(())
     }
 
-    /// Checks the next step, while no unit conflict is pending. It notifies no listener.
+    /// Checks the next step, and accepts it if it passes. No unit conflict may be pending. Notifies no listener.
     fn step_alone(&mut self, step: &ProofStep<'_>) -> Result<(), StepRefusal>
         requires well { kernel_has_failed self.old ≡ false }
         requires settled { self.old.state.formula.status.conflict ≡ None }
@@ -244,7 +245,7 @@ impl Kernel {
         }
     }
 
-    /// Gives the empty clause of a pending unit conflict the next id, and announces it.
+    /// If a unit conflict is pending, gives its empty clause the next id, and announces that clause.
     #[inline(always)]
     pub fn settle<O: ProofProcessor, P: ProofProcessor, T: ProofTranscriptProcessor>(
         &mut self,
@@ -265,8 +266,7 @@ impl Kernel {
         self.settle_conflict(own, others)
     }
 
-    /// Gives the empty clause of a pending unit conflict the next id, and announces it. It is only called if one
-    /// is pending.
+    /// Does what `settle` does if a unit conflict is pending.
     #[inline(never)]
     fn settle_conflict<O: ProofProcessor, P: ProofProcessor, T: ProofTranscriptProcessor>(
         &mut self,
@@ -304,7 +304,8 @@ impl Kernel {
         }
     }
 
-    /// Checks the next step, while no unit conflict is pending, with or without listeners.
+    /// Checks the next step, accepts it if it passes, and notifies the listeners if `hears` is true. No unit conflict
+    /// may be pending.
     fn step<O: ProofProcessor, P: ProofProcessor, T: ProofTranscriptProcessor>(
         &mut self,
         step: &ProofStep<'_>,
@@ -339,7 +340,7 @@ impl Kernel {
         }
     }
 
-    /// Records what an accepted step leaves, and notifies the listeners, if any, of what was noted.
+    /// Updates the records after an accepted step, and notifies the listeners, if there are any, of what was noted.
     #[inline(always)]
     fn take_in<O: ProofProcessor, P: ProofProcessor, T: ProofTranscriptProcessor>(
         &mut self,
@@ -360,14 +361,14 @@ impl Kernel {
         if !hears {
             return Ok(());
         }
-        // Without an announcement, no result has to be made for one.
+        // Without an announcement, `notify` is not called.
         if self.notes.news.is_empty() {
             return Ok(());
         }
         self.notify(was, own, others)
     }
 
-    /// Notifies the listeners of what was noted about an accepted step, which is recorded.
+    /// Notifies the listeners of what was noted about an accepted step. The records must already be updated.
     #[inline(never)]
     fn notify<O: ProofProcessor, P: ProofProcessor, T: ProofTranscriptProcessor>(
         &mut self,

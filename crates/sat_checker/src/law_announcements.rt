@@ -1,4 +1,4 @@
-//! What holds of announcements: every law is the contract of a function that does nothing.
+//! Laws about announcements. Every law is the contract of a function that does nothing.
 ghost use Rattle.sat_checker.specs.announcements.Promises.{ConflictIsAnnounced, ConflictIsFollowedBackwards};
 ghost use Rattle.sat_checker.specs.announcements.Promises.{DeletionsRest, IdsAreAnnounced, PropagationsInTurn};
 ghost use Rattle.sat_checker.specs.announcements.Promises.{SimplifiedIsAnnounced, TautologiesRestOnNothing};
@@ -21,7 +21,7 @@ ghost use Rattle.sat_checker.specs.listeners.ProcessingView.{NoListenerNoFault};
 use crate::announce::transcript::ProofTranscriptProcessor;
 use crate::processing::ProofProcessor;
 
-/// What a clause that passes the check rests on.
+/// States which clauses and units justify a clause that passes the propagation check.
 pub fn propagations_run_to_conflict()
     ensures in_turn { PropagationsInTurn }
     ensures exact { ConflictIsFollowedBackwards }
@@ -29,25 +29,25 @@ pub fn propagations_run_to_conflict()
     ensures deleted { DeletionsRest }
 {}
 
-/// What is stored was announced under its id, and so was what an empty clause of a conflict and a simplified
-/// deletion name.
+/// States that the ids of stored clauses were announced, and so were the ids to which the announcements of the empty
+/// clause of a conflict and of a simplified deletion refer.
 pub fn ids_are_announced()
     ensures stored { IdsAreAnnounced }
     ensures delayed { ConflictIsAnnounced }
     ensures simplified { SimplifiedIsAnnounced }
 {}
 
-/// In which order steps and delayed conflicts are announced.
+/// States the order in which steps and delayed conflicts are announced.
 pub fn announcements_are_in_order()
     ensures { NoticesInOrder }
 {}
 
-/// A fault, or an allocation failure during an announcement, only comes from a listener.
+/// States that without listeners, announcements cause no error and no allocation failure.
 pub fn nobody_answers_a_fault<P: ProofProcessor, T: ProofTranscriptProcessor>()
     ensures { NoListenerNoFault P.takes T.reads }
 {}
 
-/// Worked examples of what derived clauses rest on, at widths 64, 8 and 0.
+/// Worked examples of the clauses from which derived clauses follow, at widths 64, 8 and 0.
 pub fn rows_of_propagations()
     ensures refuted { RefutedAnnounced }
     ensures at_zero { RefutedAtZeroAnnounced }

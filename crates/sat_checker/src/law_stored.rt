@@ -1,5 +1,5 @@
-//! What makes a clause pass, what every step leaves of what is stored, and what always holds of it: every law is the
-//! contract of a function that does nothing.
+//! Laws about when a clause passes, how every step changes what is stored, and what always holds for it. Every law is
+//! the contract of a function that does nothing.
 ghost use Rattle.sat_checker.specs.FewBytes.{IdsWithinBytes, NoneIsSpent};
 ghost use Rattle.sat_checker.specs.Invariants.{AllClausesHold, AlwaysOrderly, AlwaysTidy, ContentsAreSettled};
 ghost use Rattle.sat_checker.specs.Invariants.{ContentsFollow, ContentsOfSteps, CountedIsStored, DerivedIsLast};
@@ -7,7 +7,8 @@ ghost use Rattle.sat_checker.specs.Invariants.{LastIsSettled, LastStays, Pending
 ghost use Rattle.sat_checker.specs.Invariants.{UnsatStays};
 ghost use Rattle.sat_checker.specs.Leading.{HashOfAnyOrder, LeadingPasses, LeadsOnMore, TurnsConflict, TurnsLead};
 
-/// Stored clauses that hashes name make a clause pass if they lead to a conflict, whatever else the buckets hold.
+/// States that a clause passes if hashes name stored clauses that lead to a conflict, whatever else the
+/// buckets contain.
 pub fn named_clauses_pass()
     ensures passes { LeadingPasses }
     ensures turns { TurnsLead }
@@ -16,7 +17,7 @@ pub fn named_clauses_pass()
     ensures order { HashOfAnyOrder }
 {}
 
-/// How every step changes the contents of what is stored: counts of clauses, units, names and settings.
+/// States how every step changes the contents of the checker: counts of clauses, units, names and settings.
 pub fn contents_follow_steps()
     ensures step { ContentsFollow }
     ensures settled { ContentsAreSettled }
@@ -25,7 +26,7 @@ pub fn contents_follow_steps()
     ensures counted { CountedIsStored }
 {}
 
-/// What holds of what is stored after every list of accepted steps.
+/// States what holds for the stored clauses and units after every list of accepted steps.
 pub fn stored_is_tidy()
     ensures tidy { AlwaysTidy }
     ensures unsat { UnsatStays }
@@ -33,7 +34,8 @@ pub fn stored_is_tidy()
     ensures clauses { AllClausesHold }
 {}
 
-/// Which clause is the last irredundant one stored, and what holds of it after every list of accepted steps.
+/// States which clause is the last irredundant one stored, and what holds for that clause after every list of
+/// accepted steps.
 pub fn last_was_derived()
     ensures orderly { AlwaysOrderly }
     ensures derived { DerivedIsLast }
@@ -41,8 +43,8 @@ pub fn last_was_derived()
     ensures settled { LastIsSettled }
 {}
 
-/// Steps assign no more ids than they have bytes. So no steps that a reader can provide to a new checker exhaust the
-/// ids or counts.
+/// States that steps assign no more ids than they have bytes. So no steps that a reader can provide to a new checker
+/// exhaust the ids or counts.
 pub fn bytes_bound_ids()
     ensures ids { IdsWithinBytes }
     ensures spent { NoneIsSpent }

@@ -1,4 +1,4 @@
-//! What holds of the definitions: every law is the contract of a function that does nothing.
+//! Laws about the definitions. Every law is the contract of a function that does nothing.
 ghost use Rattle.sat_checker.specs.DimacsView.{EndedStayFirst, ReadAreFirst};
 ghost use Rattle.sat_checker.specs.Laws.{CanonicalIsSortedSet, CoresAssumed, CoresFail, DeletedIsNameless};
 ghost use Rattle.sat_checker.specs.Laws.{DeletionIsSeen, EmptyIsGiven, FormulaIsFold, KnownStays, ModelsExtend};
@@ -17,7 +17,8 @@ ghost use Rattle.sat_checker.specs.Rows.{SolverNamesHash, StoredTwice, Tautologi
 ghost use Rattle.sat_checker.specs.Rows.{UnitForgotten, UnitsTurned, Unknown, UnknownMode, WithName, WitnessAdded};
 ghost use Rattle.sat_checker.specs.Rows.{WitnessNamed};
 
-/// What clauses as sets are: the sorted form, and both signs of a variable.
+/// States that the sorted form of a clause represents the set of its literals, and that a tautology contains both signs
+/// of a variable.
 pub fn clauses_are_sets()
     ensures sorted { CanonicalIsSortedSet }
     ensures signs { TautologyHasBothSigns }
@@ -25,20 +26,21 @@ pub fn clauses_are_sets()
     ensures same { SameLiteralsAreEqual }
 {}
 
-/// After every list of accepted steps, what is stored means what the steps mean.
+/// States that after every list of accepted steps, the valuations that satisfy the stored formula are exactly those
+/// that the steps allow. If unsat is recorded, there are none.
 pub fn stored_formula_is_fold()
     ensures fold { FormulaIsFold }
     ensures unsat { UnsatMeansNone }
 {}
 
-/// What accepted models and failed cores mean.
+/// States what accepted models and failed cores mean.
 pub fn answers_are_sound()
     ensures models { ModelsExtend }
     ensures cores { CoresFail }
     ensures assumed { CoresAssumed }
 {}
 
-/// Which variables are known, have names and were deleted.
+/// States which variables are known, have names, and were deleted.
 pub fn variables_are_kept()
     ensures named { NamedIsKnown }
     ensures stays { KnownStays }
@@ -48,12 +50,12 @@ pub fn variables_are_kept()
     ensures deletion { DeletionIsSeen }
 {}
 
-/// Which id the last irredundant clause stored has, if it is empty.
+/// States that if the last irredundant clause stored is empty, its id was assigned.
 pub fn last_id_was_given()
     ensures { EmptyIsGiven }
 {}
 
-/// The clauses that a text has up to some place are its first ones, whatever follows.
+/// States that the clauses read from a prefix of a text are the first clauses of the text, whatever follows.
 pub fn clauses_read_are_first()
     ensures ended { EndedStayFirst }
     ensures read { ReadAreFirst }
@@ -70,7 +72,7 @@ pub fn rows_of_storing()
     ensures unit_behind { ConflictAndUnit }
 {}
 
-/// Worked examples of clauses that are derived, at widths 64, 8 and 0.
+/// Worked examples of derived clauses, at widths 64, 8 and 0.
 pub fn rows_of_deriving()
     ensures refuted { Refuted }
     ensures at_zero { RefutedAtZero }
@@ -80,7 +82,7 @@ pub fn rows_of_deriving()
     ensures solver_names { SolverNamesHash }
 {}
 
-/// Worked examples of deletions, of clauses and of variables.
+/// Worked examples of deletions of clauses and of variables.
 pub fn rows_of_deleting()
     ensures part { SimplifiedByPart }
     ensures itself { SimplifiedByItself }
@@ -123,7 +125,7 @@ pub fn rows_of_buckets()
     ensures before { EmptyBefore }
 {}
 
-/// Worked examples of counts, and of the last irredundant clause.
+/// Worked examples of counts, and of the last irredundant clause stored.
 pub fn rows_of_counts()
     ensures duplicate { ByDuplicate }
     ensures counts { TwoCounts }

@@ -1,4 +1,5 @@
-//! A checker of proof steps: it accepts a step exactly if the rules accept it, and notifies listeners of what follows.
+//! A checker of proof steps. It accepts exactly the steps that the rules allow, and notifies listeners of
+//! their announcements.
 #![tactic(auto)]
 
 pub mod announce;

@@ -11,7 +11,7 @@ use crate::looks::tally::LookTally;
 use crate::processing::ProofProcessor;
 use std::marker::Model;
 
-/// The number of literals of stored clauses that were looked at. Contracts see it without a largest value.
+/// The number of looks at literals of stored clauses. In contracts, this number has no upper limit.
 #[derive(Drop)]
 pub struct Looks {
     held: u64,
@@ -39,7 +39,7 @@ impl Looks {
         }
     }
 
-    /// Returns the count, at most 2^64-1.
+    /// Returns the number of looks, saturating at 2^64-1.
     pub fn get(&self) -> u64
         ensures { result ≡ min self.now (2 ^ 64 - 1) }
     {
@@ -61,7 +61,7 @@ impl Looks {
         self.held = self.held.saturating_add(other.held);
     }
 
-    /// Adds this many looks.
+    /// Adds `more` looks.
     #[inline(always)]
     pub(crate) fn count(&mut self, more: usize)
         ensures { self.new ≡ self.old + more }

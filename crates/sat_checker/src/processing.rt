@@ -1,4 +1,4 @@
-//! Listeners: processors, and transcripts.
+//! Listeners: processors and transcripts.
 ghost use Rattle.std.specs.Prelude.{◌≡◌, ◌++◌, ◌∷◌, [], true, IfErr, OnOk, OnErr, Result, Some};
 ghost use Rattle.anyhow.specs.declared.error.Error.{Error as Cause};
 ghost use Rattle.sat_checker.specs.announcements.Announcements.{Notice};
@@ -20,10 +20,11 @@ use thiserror::Error;
 
 /// Receives what a checker announces.
 pub trait ProofProcessor: Drop {
-    /// Relates the value before a call, the announcement, the result, and the value after it.
+    /// Relates the processor before a call of `process_step`, the announcement, the result, and the processor after
+    /// the call.
     ghost takes: { Self → Notice → Result (Unit {0}) Cause → Self → Type 0 };
 
-    /// Receives an announcement, and what can be looked up about variables during the call.
+    /// Receives an announcement. During the call, variables can be looked up in `names`.
     fn process_step(
         &mut self,
         step: &CheckedProofStep<'_>,
@@ -32,7 +33,7 @@ pub trait ProofProcessor: Drop {
         ensures { takes self.old (notice_of step.now names.entry) result self.new };
 }
 
-/// Notifies the processors of an announcement, in order, up to the first fault.
+/// Notifies the processors of an announcement, in order, up to the first error.
 fn notify_processors<P: ProofProcessor>(
     processors: &mut [P],
     step: &CheckedProofStep<'_>,
@@ -52,7 +53,7 @@ fn notify_processors<P: ProofProcessor>(
     Ok(())
 }
 
-/// Notifies the transcripts of a step, in order, up to the first fault.
+/// Notifies the transcripts of a step, in order, up to the first error.
 fn notify_transcripts<T: ProofTranscriptProcessor>(
     transcripts: &mut [T],
     step: &ProofTranscriptStep<'_>,
@@ -77,7 +78,7 @@ pub enum ProcessingError {
     /// Memory ran out.
     #[error("out of memory")]
     OutOfMemory,
-    /// A processor or a transcript returned a fault.
+    /// A processor or a transcript returned an error.
     #[error("Error in proof processor: {cause}")]
     ProofProcessorError { cause: anyhow::Error },
 }
@@ -93,7 +94,7 @@ impl From<AllocError> for ProcessingError {
     }
 }
 
-/// Notifies the transcripts like `notify_transcripts`, with the error of an announcement.
+/// Notifies the transcripts of a step, as `notify_transcripts` does, but returns a `ProcessingError`.
 fn notify_all<T: ProofTranscriptProcessor>(
     transcripts: &mut [T],
     step: &ProofTranscriptStep<'_>,
@@ -107,7 +108,7 @@ fn notify_all<T: ProofTranscriptProcessor>(
     }
 }
 
-/// Notifies the transcripts of what they say about an announcement, if anything.
+/// Notifies the transcripts of the transcript step for an announcement, if there is one.
 fn transcribe<T: ProofTranscriptProcessor>(
     made: &mut Transcript,
     transcripts: &mut [T],
@@ -127,7 +128,7 @@ fn transcribe<T: ProofTranscriptProcessor>(
     }
 }
 
-/// Processors and transcripts, both in the order in which they were added.
+/// Processors and transcripts, each in the order in which they were added.
 #[derive(Drop)]
 pub struct Processors<P: ProofProcessor, T: ProofTranscriptProcessor> {
     pub processors: Vec<P>,
@@ -143,7 +144,7 @@ pub struct Processing<P: ProofProcessor, T: ProofTranscriptProcessor> {
 }
 
 impl<P: ProofProcessor, T: ProofTranscriptProcessor> Processing<P, T> {
-    /// Creates listeners without any processor or transcript. It does not allocate.
+    /// Creates an empty collection of listeners. Does not allocate.
     pub fn new(alloc: Global) -> Processing<P, T>
         ensures { listeners_of result ≡ record { processors = []; transcripts = [] } }
     {
@@ -154,7 +155,7 @@ impl<P: ProofProcessor, T: ProofTranscriptProcessor> Processing<P, T> {
         }
     }
 
-    /// Creates listeners of these lists, in their order. It does not allocate.
+    /// Creates a collection with the given listeners, in the given order. Does not allocate.
     pub fn again(alloc: Global, listeners: Processors<P, T>) -> Processing<P, T>
         ensures { listeners_of result
             ≡ record { processors = listeners.processors.items; transcripts = listeners.transcripts.items } }
@@ -170,7 +171,7 @@ impl<P: ProofProcessor, T: ProofTranscriptProcessor> Processing<P, T> {
         }
     }
 
-    /// Adds a processor. If memory runs out, it is dropped.
+    /// Adds a processor. If memory runs out, the processor is dropped.
     pub fn add_processor(&mut self, processor: P) -> Result<(), AllocError>
         ensures ok { OnOk result (listeners_of self.new
             ≡ record (listeners_of self.old) { processors = (listeners_of self.old).processors ++ processor ∷ [] }) }
@@ -180,7 +181,7 @@ impl<P: ProofProcessor, T: ProofTranscriptProcessor> Processing<P, T> {
         Ok(())
     }
 
-    /// Adds a transcript. If memory runs out, it is dropped.
+    /// Adds a transcript. If memory runs out, the transcript is dropped.
     pub fn add_transcript(&mut self, transcript: T) -> Result<(), AllocError>
         ensures ok { OnOk result (listeners_of self.new
             ≡ record (listeners_of self.old) { transcripts = (listeners_of self.old).transcripts ++ transcript ∷ [] }) }
@@ -197,8 +198,8 @@ impl<P: ProofProcessor, T: ProofTranscriptProcessor> Processing<P, T> {
         self.processors.is_empty() && self.transcripts.is_empty()
     }
 
-    /// Notifies the processors of an announcement, and then the transcripts of its transcript, in the order in which
-    /// they were added, up to the first fault.
+    /// Notifies the processors of an announcement, and then the transcripts of its transcript step, if there is one.
+    /// Both groups are notified in the order in which their members were added, up to the first error.
     #[inline(never)]
     pub fn step(
         &mut self,
@@ -213,7 +214,7 @@ impl<P: ProofProcessor, T: ProofTranscriptProcessor> Processing<P, T> {
         }
     }
 
-    /// Notifies the caller's own processor of an announcement, and then the others, as `step` does.
+    /// Notifies `own`, the caller's processor, of an announcement, and then the other listeners, as `step` does.
     #[inline(always)]
     pub fn step_with<O: ProofProcessor>(
         &mut self,
@@ -235,7 +236,7 @@ impl<P: ProofProcessor, T: ProofTranscriptProcessor> Processing<P, T> {
         }
     }
 
-    /// Returns the listeners, both lists in the order in which they were added.
+    /// Returns the processors and the transcripts, each in the order in which they were added.
     pub fn into_processors(self) -> Processors<P, T>
         ensures processors { result.processors.items ≡ (listeners_of self).processors }
         ensures transcripts { result.transcripts.items ≡ (listeners_of self).transcripts }
@@ -252,7 +253,7 @@ impl<P: ProofProcessor, T: ProofTranscriptProcessor> Processing<P, T> {
     }
 }
 
-/// A processor and a transcript that accepts everything and does nothing.
+/// A listener that accepts everything and does nothing. It is both a processor and a transcript.
 #[derive(Drop)]
 pub struct Nobody {}
 
@@ -278,7 +279,7 @@ impl ProofTranscriptProcessor for Nobody {
     }
 }
 
-/// Notifies all listeners of an announcement, while these variables can be looked up.
+/// Notifies all listeners of an announcement. During the call, they can look up the variables in `variables`.
 pub fn process_step<P: ProofProcessor, T: ProofTranscriptProcessor>(
     processing: &mut Processing<P, T>,
     variables: &Variables,

@@ -1,5 +1,5 @@
-//! The propagation check of a clause under the hashes that a step names: a walk over the clauses, which notes those
-//! that it uses.
+//! The propagation check of a clause: a walk over the stored clauses whose hashes a step lists, with notes on the
+//! clauses that were used.
 ghost use Rattle.std.specs.Prelude.{◌≡◌, ◌+◌, ◌*◌, ◌<◌, ◌≤◌, [], ◌∷◌, length, IfOk, if◌then◌else◌, None, Some, map};
 ghost use Rattle.std.specs.Prelude.{ℕ, true, false, IsTrue, ◌↔◌, ◌⊎◌, OnErr, MatchBool};
 ghost use Rattle.std.specs.List.{list_any};
@@ -29,8 +29,8 @@ use crate::units::assigned::{Assigned, Look, assume_if_roomy, look_at};
 use sat_base::{ClauseHash, Lit};
 use std::alloc::AllocError;
 
-/// Assumes the literal that the clause at a place implies, if any, and notes it. Returns whether the clause was
-/// falsified. It runs out of memory only if there is no room for a literal of the clause.
+/// Assumes the literal that the clause at `place` implies, if there is one, and notes the clause. Returns whether the
+/// clause is falsified. Runs out of memory only if there is no room for a literal of the clause.
 #[tactic(auto, using(crate::proofs::lemmas::propagation::Walking::meeting))]
 fn meet(
     clauses: &Clauses,
@@ -74,7 +74,7 @@ pub(crate) enum Walked {
     Open,
 }
 
-/// Walks over the clauses of a hash, in order, up to a falsified one.
+/// Walks over the clauses with the hash `hash`, in order, up to a falsified clause.
 #[tactic(auto, using(crate::proofs::lemmas::announcements::Noting::noting))]
 fn walk_bucket(
     clauses: &Clauses,
@@ -108,7 +108,7 @@ fn walk_bucket(
     Ok(Walked::Open)
 }
 
-/// Walks over the buckets of the hashes, in order. Returns whether a conflict came before an empty bucket.
+/// Walks over the buckets of the hashes, in order. Returns whether a clause is falsified before a bucket is empty.
 #[tactic(auto, using(crate::proofs::lemmas::store::Buckets::over_hashes))]
 fn walk_hashes(
     clauses: &Clauses,
@@ -138,8 +138,8 @@ fn walk_hashes(
     Ok(false)
 }
 
-/// Assumes the negations of a clause's literals, or the literals themselves if the clause consists of their negations.
-/// Returns whether a literal of the clause was true already.
+/// Assumes that the clause of `literals`, or of their negations if `negate` is true, is false. Stops at a literal of
+/// the clause that is already true, and returns whether there is one.
 #[tactic(auto, using(crate::proofs::lemmas::propagation::Denied::denying))]
 fn deny(assigned: &mut Assigned, literals: &[Lit], negate: bool) -> Result<bool, AllocError>
     ensures denied { IfOk result (λ met. denied_in_turn assigned.old.literals (signed negate literals.now)
@@ -156,7 +156,7 @@ fn deny(assigned: &mut Assigned, literals: &[Lit], negate: bool) -> Result<bool,
     Ok(false)
 }
 
-/// Whether the literal is in the list. It does not allocate.
+/// Whether the literal is in the list. Does not allocate.
 pub fn has(literals: &[Lit], lit: Lit) -> bool
     ensures { result ≡ is_among literals.now lit }
 {
@@ -168,7 +168,8 @@ pub fn has(literals: &[Lit], lit: Lit) -> bool
     false
 }
 
-/// Whether a literal of a clause is true. One that there is no room for counts as true if its negation is before it.
+/// Whether a literal of a clause is true. A literal for which there is no room counts as true if its negation is in
+/// `before`, the list of the literals before it.
 fn is_met(assigned: &Assigned, before: &[Lit], literal: Lit, negate: bool) -> bool
     ensures { result ≡ (if is_among assigned.now.room (negated_if negate literal)
         then is_among assigned.now.literals (negated_if negate literal) else is_among before.now (negated literal)) }
@@ -180,8 +181,8 @@ fn is_met(assigned: &Assigned, before: &[Lit], literal: Lit, negate: bool) -> bo
     has(before, !literal)
 }
 
-/// Assumes what `deny` does as far as there is room for it, and does not allocate. Returns whether a literal of the
-/// clause was true already, or has its negation there.
+/// Assumes what `deny` assumes, as far as there is room, and does not allocate. Returns whether a literal of the clause
+/// was already true, or the clause contains both signs of a variable.
 fn deny_in_room(assigned: &mut Assigned, literals: &[Lit], negate: bool) -> bool
     ensures met { MatchBool result ((list_any (is_among assigned.old.literals) (signed negate literals.now) ≡ true)
         ⊎ (is_tautology (signed negate literals.now) ≡ true))
@@ -201,8 +202,8 @@ fn deny_in_room(assigned: &mut Assigned, literals: &[Lit], negate: bool) -> bool
     false
 }
 
-/// Checks a clause after memory ran out for what it assumes: literals that there is no room for are in no stored
-/// clause. Its notes are meaningless.
+/// Does what `check_clause_with_hashes` does after memory ran out: assumes only literals for which there is room. Other
+/// literals are in no stored clause. The notes are unusable afterwards.
 #[inline(never)]
 pub(crate) fn check_in_room(
     clauses: &Clauses,
@@ -234,9 +235,10 @@ pub(crate) fn check_in_room(
     found
 }
 
-/// Checks a clause of these literals, or of their negations, by propagation over what is assigned. What it assumes
-/// stays assumed after that. If the clause passes by a conflict, the notes explain what the conflict rests on, unless
-/// they are incomplete. It runs out of memory only if there is no room for the literals of a stored clause.
+/// Checks the clause of `literals`, or of their negations if `negate` is true, by propagation from the assumed literals
+/// over the clauses with the hashes `hashes`. What the check assumes stays assumed. If the clause passes because of a
+/// conflict, the notes explain the conflict, unless they are incomplete. Runs out of memory only if there is no room
+/// for a literal of a stored clause.
 pub(crate) fn check_clause_with_hashes(
     clauses: &Clauses,
     literals: &[Lit],

@@ -29,19 +29,19 @@ use crate::variables::Variables;
 use sat_base::{ClauseHash, DeleteClauseProof, HashBits, Lit, ProofStep, Var};
 use std::alloc::Global;
 
-/// Everything that steps are judged by.
+/// Everything on which the verdict on a step depends.
 #[derive(Drop)]
 pub(crate) struct State {
     pub(crate) alloc: Global,
     pub(crate) formula: Formula,
     pub(crate) variables: Variables,
     pub(crate) assumed: LitSet,
-    /// Room for the sorted literals of a clause.
+    /// A buffer for the sorted literals of a clause.
     pub(crate) buffer: Vec<Lit>,
 }
 
 impl State {
-    /// Judges a `SolverVarName`.
+    /// Checks a `SolverVarName` step, and applies it if it is accepted.
     fn solver_var_name(&mut self, var: Var, name: Option<Var>) -> Result<bool, StoreError>
         ensures { DecidesStep result self.old (SolverVarName var name) self.new }
     {
@@ -54,7 +54,7 @@ impl State {
         Ok(true)
     }
 
-    /// Judges a `UserVarName`.
+    /// Checks a `UserVarName` step, and applies it if it is accepted.
     fn user_var_name(
         &mut self,
         var: Var,
@@ -72,7 +72,7 @@ impl State {
         Ok(true)
     }
 
-    /// Judges a `ChangeSamplingMode`.
+    /// Checks a `ChangeSamplingMode` step, and applies it if it is accepted.
     fn change_sampling_mode(
         &mut self,
         var: Var,
@@ -90,7 +90,7 @@ impl State {
         Ok(true)
     }
 
-    /// Judges an `AddClause`.
+    /// Checks an `AddClause` step, and applies it if it is accepted.
     fn add_clause(
         &mut self,
         clause: &[Lit],
@@ -112,7 +112,7 @@ impl State {
         Ok(true)
     }
 
-    /// Stores an input clause that may be added, and notes what it announces.
+    /// Stores an input clause, and notes its announcement.
     fn store_input(
         &mut self,
         clause: &[Lit],
@@ -130,7 +130,7 @@ impl State {
         self.formula.store_input(literals, looks)
     }
 
-    /// Judges an `AtClause`.
+    /// Checks an `AtClause` step, and applies it if it is accepted.
     fn at_clause(
         &mut self,
         redundant: bool,
@@ -154,7 +154,8 @@ impl State {
         Ok(true)
     }
 
-    /// Stores a derived clause that passed the last propagation check, and notes what it announces.
+    /// Stores a derived clause, and notes its announcement. The clause must be the one that passed the last
+    /// propagation check.
     fn store_derived(
         &mut self,
         redundant: bool,
@@ -180,7 +181,7 @@ impl State {
             .store_derived(redundant, literals, notes, looks)
     }
 
-    /// Judges a `ChangeHashBits`.
+    /// Applies a `ChangeHashBits` step, which is always accepted.
     fn change_hash_bits(&mut self, bits: HashBits) -> Result<bool, StoreError>
         ensures { DecidesStep result self.old (ChangeHashBits bits) self.new }
     {
@@ -188,7 +189,7 @@ impl State {
         Ok(true)
     }
 
-    /// Judges an `Assumptions`.
+    /// Applies an `Assumptions` step, which is always accepted.
     fn assumptions(&mut self, literals: &[Lit], notes: &mut Notes) -> Result<bool, StoreError>
         ensures decides { DecidesStep result self.old (Assumptions literals.now) self.new }
         ensures noted { Announces result self.old (Assumptions literals.now) notes.old notes.new }
@@ -199,7 +200,7 @@ impl State {
         Ok(true)
     }
 
-    /// Judges an `End`.
+    /// Applies an `End` step, which is always accepted.
     fn end(&mut self) -> Result<bool, StoreError>
         ensures { DecidesStep result self.old End self.new }
     {
@@ -207,7 +208,7 @@ impl State {
         Ok(true)
     }
 
-    /// Judges a `UnitClauses`.
+    /// Checks a `UnitClauses` step, and applies it if it is accepted.
     fn unit_clauses(
         &mut self,
         units: &[(Lit, ClauseHash)],
@@ -226,7 +227,8 @@ impl State {
         Ok(true)
     }
 
-    /// Judges a `DeleteClause`. If there is no memory for its sorted literals, it is judged without them.
+    /// Checks a `DeleteClause` step, and applies it if it is accepted. If there is no memory for the clause's sorted
+    /// literals, returns `OutOfMemory` only if the step would be accepted.
     fn delete_clause(
         &mut self,
         clause: &[Lit],
@@ -251,7 +253,7 @@ impl State {
         Ok(true)
     }
 
-    /// Judges a `Model`.
+    /// Checks a `Model` step, and applies it if it is accepted.
     fn model(
         &mut self,
         assignment: &[Lit],
@@ -270,7 +272,7 @@ impl State {
         Ok(true)
     }
 
-    /// Judges a `FailedAssumptions`.
+    /// Checks a `FailedAssumptions` step, and applies it if it is accepted.
     fn failed_assumptions(
         &mut self,
         core: &[Lit],
@@ -297,7 +299,7 @@ impl State {
         Ok(true)
     }
 
-    /// Judges a `DeleteVar`. No clause is looked at.
+    /// Checks a `DeleteVar` step, and applies it if it is accepted. Takes no looks.
     fn delete_var(&mut self, var: Var, notes: &mut Notes) -> Result<bool, StoreError>
         ensures decides { DecidesStep result self.old (DeleteVar var) self.new }
         ensures noted { Announces result self.old (DeleteVar var) notes.old notes.new }
@@ -311,7 +313,8 @@ impl State {
         Ok(true)
     }
 
-    /// Whether the variable is known, has no name, and is neither in a stored clause nor assumed.
+    /// Whether the variable can be deleted: it is known, has no name, isn't assumed, and is in no stored clause of two
+    /// literals or more.
     fn may_delete(&self, var: Var) -> bool
         ensures { (f : Stored) → KeepsStored self.now f
             → MatchBool result (MayBeDeleted f var) (MayBeDeleted f var → ⊥) }
@@ -342,7 +345,8 @@ impl State {
         }
     }
 
-    /// Checks the next step, and applies it if it is accepted. Returns whether it is. What it announces is noted.
+    /// Checks a step, and applies it if it is accepted. Returns whether the step is accepted, and notes
+    /// its announcements.
     pub fn step(
         &mut self,
         step: &ProofStep<'_>,
@@ -381,7 +385,8 @@ impl State {
         }
     }
 
-    /// Whether a clause of the formula is accepted: unsat is recorded, or its variables are all sampling or unknown.
+    /// Whether a clause of the formula is accepted: unsat is recorded, or every variable of the clause is unknown or
+    /// has the mode sample.
     pub fn may_add(&self, clause: &[Lit]) -> bool
         ensures { (f : Stored) → KeepsStored self.now f
             → MatchBool result (MayBeAdded f clause.now) (MayBeAdded f clause.now → ⊥) }

@@ -35,7 +35,7 @@ use std::alloc::{AllocError, Global};
 pub enum StoreError {
     /// Memory ran out.
     OutOfMemory,
-    /// The last id was assigned, or a count is at 2^64-1.
+    /// The last id was already assigned, or a count is already 2^64-1.
     CounterEnd,
 }
 
@@ -50,7 +50,7 @@ impl From<AllocError> for StoreError {
     }
 }
 
-/// The id of a clause that is stored, whether it is new, and how often it was stored as irredundant before.
+/// How a clause is stored: its id, whether the clause is new, and how many times it was already stored as irredundant.
 #[derive(Clone, Copy)]
 pub struct Placed {
     pub id: u64,
@@ -66,12 +66,12 @@ pub struct Found {
     pub redundant: u64,
 }
 
-/// Clauses, and the current hasher. A checker lends none of it.
+/// The stored clauses, and the current hasher. A checker gives no access to its store.
 #[derive(Drop)]
 pub struct Store {
     pub clauses: Clauses,
     pub hasher: ClauseHasher,
-    /// Whether the clauses are waiting to be filed by the current hashes.
+    /// Whether the clauses still have to be filed under the current hashes.
     pub stale: bool,
 }
 
@@ -88,8 +88,8 @@ impl Store {
         }
     }
 
-    /// Files the clauses by the current hashes, if they are waiting for it. Hashes are looked up only after this. It
-    /// does not allocate.
+    /// Files the clauses under the current hashes, if that has not been done yet. This must happen before a hash is
+    /// looked up. Does not allocate.
     #[inline(always)]
     pub fn file(&mut self, looks: &mut Looks)
         ensures filed { self.new ≡ refiled self.old }
@@ -101,7 +101,7 @@ impl Store {
         self.file_anew(looks);
     }
 
-    /// Files the clauses by the current hashes.
+    /// Files the clauses under the current hashes.
     #[inline(never)]
     fn file_anew(&mut self, looks: &mut Looks)
         requires { self.old.stale ≡ true }
@@ -112,7 +112,8 @@ impl Store {
         self.stale = false;
     }
 
-    /// Stores sorted literals without repeats once more, under this id if they are new. Returns how they are stored.
+    /// Stores the clause with the sorted literals `literals`, without repeats: under the id `id` if it is new, and
+    /// otherwise by adding one to a count. Returns how the clause is stored.
     pub fn store_clause(
         &mut self,
         id: u64,
@@ -126,7 +127,7 @@ impl Store {
         ensures placed { IfOk result (λ placed. PlacesIds self.old.clauses self.new.clauses id placed.is_new) }
         ensures counted { IfOk result (λ placed. (f : Stored) → KeepsClauses self.old f
             → store_count_in false (clause_with literals.now f.clauses) ≡ placed.irredundant) }
-        // A count is at its maximum.
+        // The count to be increased is already at its maximum.
         ensures full { result ≡ Err StoreError.CounterEnd → (f : Stored) → KeepsClauses self.old f
             → 2 ^ 64 ≤ store_count_in redundant (clause_with literals.now f.clauses) + 1 }
         ensures looks { LooksOver (KeepsClauses self.old) literal_count looks.old looks.new }
@@ -152,7 +153,7 @@ impl Store {
         })
     }
 
-    /// Returns the clause with these literals, if it is stored.
+    /// Returns the clause with the sorted literals `literals`, if it is stored.
     #[inline(never)]
     pub fn stored(&self, literals: &[Lit], looks: &mut Looks) -> Option<Found>
         ensures found { (f : Stored) → KeepsClauses self.now f
@@ -170,7 +171,8 @@ impl Store {
         })
     }
 
-    /// Removes one count of the clause with these sorted literals, without repeats. Returns whether it had one.
+    /// Removes one count of the clause with the sorted literals `literals`, without repeats: a redundant count if
+    /// `redundant` is true, and an irredundant count otherwise. Returns whether the clause had such a count.
     pub fn delete_clause(&mut self, redundant: bool, literals: &[Lit], looks: &mut Looks) -> bool
         ensures deleted { (f : Stored) → KeepsClauses self.old f
             → TakesCount result redundant literals.now f (KeepsClauses self.new (with_less redundant literals.now f)) }
@@ -188,8 +190,8 @@ impl Store {
         true
     }
 
-    /// Drops the removed clauses, if they are more than half of all, or fill more than half of the buffer. This changes
-    /// the places of others. If memory runs out, all are kept.
+    /// Drops the removed clauses from memory if they make up more than half of all clauses, or fill more than half of
+    /// the buffer. This changes the places of other clauses. If memory runs out, all clauses are kept.
     pub fn compact(&mut self) -> Result<(), AllocError>
         ensures kept { (f : Stored) → KeepsClauses self.old f → KeepsClauses self.new f }
         ensures ids { KeepsIds self.old.clauses self.new.clauses }
@@ -198,7 +200,8 @@ impl Store {
         self.clauses.compact()
     }
 
-    /// Sets how many bits of every hash are kept from now on. No clause is looked at until a hash is looked up.
+    /// Sets how many bits of every hash are kept from now on. Takes no looks: `file` later files the clauses under
+    /// their new hashes.
     pub fn set_bits(&mut self, bits: HashBits)
         ensures set { (f : Stored) → KeepsClauses (refiled self.old) f
             → KeepsClauses (refiled self.new) (record f { width = bits }) }
@@ -211,7 +214,8 @@ impl Store {
         self.stale = true;
     }
 
-    /// Sets or removes the solver's name of a variable. No clause is looked at until a hash is looked up.
+    /// Sets the solver's name of a variable, or removes it if `name` is `None`. Takes no looks: `file` later files the
+    /// clauses under their new hashes.
     pub fn set_solver_name(&mut self, var: Var, name: Option<Var>) -> Result<(), AllocError>
         ensures set { OnOk result ((f : Stored) → KeepsClauses (refiled self.old) f
             → KeepsClauses (refiled self.new) (with_solver_name var name f)) }
@@ -228,15 +232,15 @@ impl Store {
         Ok(())
     }
 
-    /// Whether the clause with this id is not removed, and its literals are a proper subset of these sorted literals.
-    /// Ids increase by place.
+    /// Whether the clause with the id `id` is present, and its literals are a proper subset of `literals`, which must
+    /// be sorted. Ids must increase with places.
     pub fn has_strict_part(&self, id: u64, literals: &[Lit], looks: &mut Looks) -> bool
         requires { IsIncreasing literals.now }
         ensures part { IsIncreasing (slot_ids self.now.clauses) → MatchBool result
             (IsStrictSubset (clause_numbered id (live self.now.clauses)) literals.now)
             (IsStrictSubset (clause_numbered id (live self.now.clauses)) literals.now → ⊥) }
         ensures looks { LooksOver (KeepsClauses self.now) literal_count looks.old looks.new }
-        // The clause is looked at in its place.
+        // If the clause is present, only its literals are looked at.
         ensures lent { (c : List ℕ) → IsIncreasing (slot_ids self.now.clauses)
             → clause_numbered id (live self.now.clauses) ≡ Some c → looks.new ≡ looks.old + length c }
     {
@@ -247,8 +251,8 @@ impl Store {
         is_subset(self.clauses.literals(place, looks), literals, true)
     }
 
-    /// Whether the clause with this id is not removed, and its literals are a proper subset of the assumed ones. Ids
-    /// increase by place.
+    /// Whether the clause with the id `id` is present, and its literals are a proper subset of the assumed literals.
+    /// Ids must increase with places.
     pub fn has_part_assumed(&self, id: u64, assigned: &Assigned, looks: &mut Looks) -> bool
         ensures part { IsIncreasing (slot_ids self.now.clauses) → MatchBool result
             (IsStrictSubset (clause_numbered id (live self.now.clauses)) assigned.now.literals)
@@ -262,8 +266,8 @@ impl Store {
         is_strictly_assumed(assigned, self.clauses.literals(place, looks))
     }
 
-    /// Returns how often the clause of exactly the assumed literals is stored as redundant, or as irredundant. It is
-    /// found without its hash.
+    /// Returns how many times the clause that consists of exactly the assumed literals is stored: as redundant if
+    /// `redundant` is true, as irredundant otherwise. The clause is found without its hash.
     pub fn assumed_count(&self, redundant: bool, assigned: &Assigned, looks: &mut Looks) -> u64
         ensures found { (f : Stored) → KeepsClauses self.now f
             → result ≡ store_count_in redundant (clause_with (canonical assigned.now.literals) f.clauses) }
@@ -272,7 +276,7 @@ impl Store {
         self.clauses.assumed_count(redundant, assigned, looks)
     }
 
-    /// Whether a stored clause has a literal of the variable. No clause is looked at.
+    /// Whether any stored clause contains the variable. Takes no looks.
     pub fn mention(&self, var: Var) -> bool
         ensures { (f : Stored) → KeepsClauses (refiled self.now) f
             → result ≡ list_any (λ c. mentions c.literals var) f.clauses }
@@ -280,12 +284,12 @@ impl Store {
         self.clauses.mention(var)
     }
 
-    /// Whether every clause that is stored as irredundant has an assumed literal.
+    /// Whether every clause that is stored as irredundant contains an assumed literal.
     pub fn are_satisfied(&self, assigned: &Assigned, looks: &mut Looks) -> bool
         ensures found { (f : Stored) → KeepsClauses (refiled self.now) f
             → result ≡ are_all_true assigned.now.literals f.clauses }
         ensures looks { LooksOver (KeepsClauses (refiled self.now)) literal_count looks.old looks.new }
-        // All irredundant ones were looked at in their places.
+        // If the result is true, exactly the literals of the irredundant clauses were looked at.
         ensures all { (f : Stored) → KeepsClauses (refiled self.now) f → result ≡ true
             → looks.new ≡ looks.old + irredundant_length f.clauses }
     {

@@ -35,11 +35,12 @@ use sat_base::{ClauseHash, Lit, Var};
 use std::alloc::{AllocError, Global};
 use std::marker::Model;
 
-/// The units, which are assumed while a clause is checked. Contracts see them in the order in which they were stored.
+/// The stored units, which are assumed while a clause is checked. In contracts, they are listed in the order in which
+/// they were stored.
 #[derive(Drop)]
 pub(crate) struct Units {
     ids: LitNumbers,
-    /// The places of units on the trail of what is assumed, by which they are removed there.
+    /// The positions of the units on the trail of assumed literals, so that a unit can be removed without a search.
     places: LitNumbers,
     assigned: Assigned,
     order: UnitOrder,
@@ -55,7 +56,7 @@ impl Model for Units {
     ghost invariant = { λ s. UnitsInvariant s.order.units s.ids s.places s.assigned.literals };
 }
 
-/// Removes an assumed literal, by its place on the trail. The newest one gets its place.
+/// Removes the assumed literal `lit` from the trail. The newest assumed literal moves to its position.
 fn take_out(assigned: &mut Assigned, places: &mut LitNumbers, lit: Lit)
     requires assumed { is_among assigned.old.literals lit ≡ true }
     requires placed { AreTrailPlaces places.old (reverse assigned.old.literals) }
@@ -74,7 +75,7 @@ fn take_out(assigned: &mut Assigned, places: &mut LitNumbers, lit: Lit)
 }
 
 impl Units {
-    /// Creates a list without units.
+    /// Creates an empty list of units.
     pub fn new(alloc: Global) -> Units
         ensures { result ≡ record { units = []; room = [] } }
     {
@@ -86,7 +87,7 @@ impl Units {
         }
     }
 
-    /// States for contracts that no literal is a unit twice. It does nothing at run time.
+    /// States that no literal is a unit twice. Does nothing at run time.
     pub fn stand_once(&self)
         ensures { NoRepeats (map (λ u. u.literal) self.now.units) }
     {
@@ -114,7 +115,7 @@ impl Units {
         false
     }
 
-    /// Stores a unit after the others.
+    /// Stores a unit after all others. The literal `lit` must not be a unit yet.
     pub fn push(&mut self, id: u64, lit: Lit) -> Result<(), AllocError>
         requires new { is_among (map (λ u. u.literal) self.old.units) lit ≡ false }
         requires id { id + 1 < 2 ^ 64 }
@@ -143,14 +144,14 @@ impl Units {
         make_room_for(&mut self.assigned, literals)
     }
 
-    /// Returns the id of a unit.
+    /// Returns the id of the unit `lit`, or `None` if `lit` is not a unit.
     pub fn id(&self, lit: Lit) -> Option<u64>
         ensures { result ≡ unit_id lit self.now.units }
     {
         self.ids.get(lit)
     }
 
-    /// Returns the id of the first of the literals that is a unit.
+    /// Returns the id of the first of the literals that is a unit, if there is one.
     #[tactic(auto, using(crate::proofs::lemmas::announcements::Listing::finding_true))]
     pub fn true_id(&self, literals: &[Lit]) -> Option<u64>
         ensures { result ≡ true_unit literals.now self.now.units }
@@ -163,7 +164,7 @@ impl Units {
         None
     }
 
-    /// Removes the unit of a variable. The time does not depend on the number of units.
+    /// Removes the unit of a variable, if there is one. The running time does not depend on the number of units.
     pub fn forget(&mut self, var: Var)
         ensures { self.new
             ≡ record self.old { units = filter (λ u. not (variable u.literal == var)) self.old.units } }
@@ -172,7 +173,7 @@ impl Units {
         self.forget_lit(var.lit(false));
     }
 
-    /// Removes the unit of this literal, if it is one.
+    /// Removes the unit of `lit`, if `lit` is a unit.
     fn forget_lit(&mut self, lit: Lit)
         ensures { self.new ≡ record self.old { units = filter (λ u. not (u.literal == lit)) self.old.units } }
     {
@@ -184,14 +185,14 @@ impl Units {
         self.order = self.order.without(lit.code());
     }
 
-    /// Whether the negation of a unit is in the list.
+    /// Whether the literals include the negation of a unit.
     pub fn are_contradicted(&self, literals: &[Lit]) -> bool
         ensures { result ≡ list_any (λ u. is_among literals.now (negated u.literal)) self.now.units }
     {
         self.has_any_negated(literals)
     }
 
-    /// Whether a literal of the list is the negation of a unit.
+    /// Whether one of the literals is the negation of a unit.
     #[tactic(auto, using(crate::proofs::lemmas::state::Scanning::any_literal))]
     fn has_any_negated(&self, literals: &[Lit]) -> bool
         ensures { result ≡ list_any (λ l. is_among (map (λ u. u.literal) self.now.units) (negated l)) literals.now }
@@ -204,8 +205,9 @@ impl Units {
         false
     }
 
-    /// Checks a clause of these literals, or of their negations, by propagation under hashes and over the units. The
-    /// units are unchanged. The notes say which clauses it used.
+    /// Checks the clause of `literals`, or of their negations if `negate` is true, by propagation from the units over
+    /// the clauses with the hashes `hashes`. The units are unchanged. The notes in `passed` say which clauses
+    /// were used.
     #[tactic(auto, using(crate::proofs::lemmas::store::Keeping::checking))]
     pub fn check(
         &mut self,
@@ -245,7 +247,8 @@ impl Units {
         answer
     }
 
-    /// Whether units pass in turn after the first of them, over the units, which are unchanged.
+    /// Whether every unit in `units` after the first passes, given the stored units and the units before it. The stored
+    /// units are unchanged.
     pub fn pass_in_turn(
         &mut self,
         store: &Store,

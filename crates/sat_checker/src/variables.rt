@@ -12,7 +12,7 @@ ghost use Rattle.sat_base.specs.steps.Steps.{UserVarName, ChangeSamplingMode};
 use sat_base::{ClauseHash, Lit, Table, Var};
 use std::alloc::{AllocError, Global};
 
-/// The mode of a variable, which says how the user's formula may use it.
+/// The mode of a variable, which says how the user's formula may use the variable.
 #[derive(Clone, Copy, PartialEq, Eq)]
 pub enum SamplingMode {
     Sample,
@@ -40,7 +40,7 @@ fn is_sampling(mode: SamplingMode) -> bool
     }
 }
 
-/// Returns `Sample` or `Witness`.
+/// Returns `Sample` if `sample` is true, and `Witness` otherwise.
 fn mode_from(sample: bool) -> SamplingMode
     ensures { mode_in result ≡ (if sample then Sample else Witness) }
 {
@@ -73,7 +73,7 @@ impl VarData {
     }
 }
 
-/// The data of variables, by index, and which variables have which names of the user.
+/// The data of every variable, by index, and the variable that has each of the user's names.
 #[derive(Drop)]
 pub struct Variables {
     data: Table<VarData>,
@@ -99,14 +99,14 @@ impl Variables {
         self.data.get(var.index(), VarData::unknown())
     }
 
-    /// Returns the variable that has the name.
+    /// Returns the variable that has the name, if there is one.
     pub fn holder(&self, name: Var) -> Option<Var>
         ensures { result ≡ holder_at self.now name }
     {
         self.holders.get(name.index(), None)
     }
 
-    /// Sets the data of a variable.
+    /// Sets the data of a variable to `state`.
     fn set(&mut self, var: Var, state: VarData) -> Result<(), AllocError>
         ensures variables { OnOk result ((v : ℕ) →
             variable_at self.new v ≡ (if v == var then variable_of_data state else variable_at self.old v)) }
@@ -128,7 +128,7 @@ impl Variables {
         near[index].known
     }
 
-    /// Makes an unknown variable known, as a sampling one.
+    /// Makes the variable known. If it was unknown, its mode is sample.
     #[inline(always)]
     pub fn ensure_var(&mut self, var: Var) -> Result<(), AllocError>
         ensures variables { OnOk result
@@ -141,7 +141,7 @@ impl Variables {
         self.ensure_far(var)
     }
 
-    /// Does the same as `ensure_var`, for any variable.
+    /// Does what `ensure_var` does, also for variables with large indices.
     #[inline(never)]
     fn ensure_far(&mut self, var: Var) -> Result<(), AllocError>
         ensures variables { OnOk result
@@ -162,7 +162,7 @@ impl Variables {
         )
     }
 
-    /// Makes the variables of the literals known; unknown ones become sampling ones.
+    /// Makes the variables of the literals known. The mode of those that were unknown is sample.
     #[tactic(auto, using(crate::proofs::lemmas::variables::Keeping::ensuring))]
     pub fn ensure_vars(&mut self, literals: &[Lit]) -> Result<(), AllocError>
         ensures variables { OnOk result ((v : ℕ) →
@@ -175,7 +175,7 @@ impl Variables {
         Ok(())
     }
 
-    /// Makes the variables of the literals known; unknown ones become sampling ones.
+    /// Makes the variables of the literals known. The mode of those that were unknown is sample.
     pub fn learn(&mut self, literals: &[Lit]) -> Result<(), AllocError>
         ensures { OnOk result ((g : ℕ → Variable) → KeepsVariables self.old g
             → KeepsVariables self.new (λ v. known_if (is_among (map variable literals.now) v) (g v))) }
@@ -183,7 +183,7 @@ impl Variables {
         self.ensure_vars(literals)
     }
 
-    /// Makes the variables of units known; unknown ones become sampling ones.
+    /// Makes the variables of the units known. The mode of those that were unknown is sample.
     pub fn learn_units(&mut self, units: &[(Lit, ClauseHash)]) -> Result<(), AllocError>
         ensures { OnOk result ((g : ℕ → Variable) → KeepsVariables self.old g
             → KeepsVariables self.new (λ v. known_if (is_among (map variable (map (λ u. u.0) units.now)) v) (g v))) }
@@ -194,7 +194,7 @@ impl Variables {
         Ok(())
     }
 
-    /// Makes an unknown variable known, as a sampling one.
+    /// Makes the variable known. If it was unknown, its mode is sample.
     pub fn learn_var(&mut self, var: Var) -> Result<(), AllocError>
         ensures { OnOk result ((g : ℕ → Variable) → KeepsVariables self.old g
             → KeepsVariables self.new (λ v. known_if (is_among (var ∷ []) v) (g v))) }
@@ -202,8 +202,8 @@ impl Variables {
         self.ensure_var(var)
     }
 
-    /// Gives a variable a name. Returns whether it may have it: the name is free, and the variable has none and
-    /// isn't hidden.
+    /// Gives `var` the name `name`, and makes it known. Returns whether this is allowed: the name is free, and the
+    /// variable has no name and isn't hidden.
     pub fn add_user_mapping(&mut self, var: Var, name: Var) -> Result<bool, AllocError>
         ensures answers { IfOk result (VariablesAnswer self.old (UserVarName var (Some name)) self.new) }
         ensures judged { OnErr result (VariablesAllow self.old (UserVarName var (Some name))) }
@@ -231,7 +231,7 @@ impl Variables {
         Ok(true)
     }
 
-    /// Removes a variable's name, and hides the variable. Returns whether it had a name.
+    /// Removes a variable's name, and hides the variable. Returns whether the variable had a name.
     pub fn remove_user_mapping(&mut self, var: Var) -> Result<bool, AllocError>
         ensures answers { IfOk result (VariablesAnswer self.old (UserVarName var None) self.new) }
         ensures judged { OnErr result (VariablesAllow self.old (UserVarName var None)) }
@@ -253,7 +253,7 @@ impl Variables {
         Ok(true)
     }
 
-    /// Gives a name to a variable, or removes it. Returns whether that is allowed.
+    /// Gives `var` the name `user`, or removes its name if `user` is `None`. Returns whether this is allowed.
     pub(crate) fn rename(&mut self, var: Var, user: Option<Var>) -> Result<bool, AllocError>
         ensures answers { IfOk result (VariablesAnswer self.old (UserVarName var user) self.new) }
         ensures judged { OnErr result (VariablesAllow self.old (UserVarName var user)) }
@@ -264,7 +264,8 @@ impl Variables {
         }
     }
 
-    /// Sets the mode of a known variable. Returns whether it is known.
+    /// Sets the mode of a known variable: sample if `sample` is true, and witness otherwise. Returns whether the
+    /// variable is known.
     pub fn set_mode(&mut self, var: Var, sample: bool) -> Result<bool, AllocError>
         ensures answers { IfOk result (VariablesAnswer self.old (ChangeSamplingMode var sample) self.new) }
         ensures judged { OnErr result (VariablesAllow self.old (ChangeSamplingMode var sample)) }
@@ -286,7 +287,7 @@ impl Variables {
         Ok(true)
     }
 
-    /// Makes a variable without a name unknown again.
+    /// Makes a variable unknown again. The variable must not have a name.
     pub fn forget(&mut self, var: Var) -> Result<(), AllocError>
         ensures { OnOk result ((g : ℕ → Variable) → KeepsVariables self.old g → (g var).name ≡ None
             → KeepsVariables self.new (λ w. if w == var then unknown else g w)) }
@@ -294,7 +295,7 @@ impl Variables {
         self.set(var, VarData::unknown())
     }
 
-    /// Whether the variables of the literals are all sampling or unknown.
+    /// Whether every variable of the literals is unknown or has the mode sample.
     #[tactic(auto, using(crate::proofs::lemmas::variables::Keeping::sampling))]
     pub fn are_sampling(&self, literals: &[Lit]) -> bool
         ensures { MatchBool result (AreSampling self.now literals.now) (AreSampling self.now literals.now → ⊥) }
@@ -307,7 +308,7 @@ impl Variables {
         true
     }
 
-    /// Sets which variable has a name.
+    /// Records that `holder` has the name `name`, or that no variable has it.
     fn set_holder(&mut self, name: Var, holder: Option<Var>) -> Result<(), AllocError>
         ensures holders { OnOk result ((q : ℕ) → holder_at self.new q
             ≡ (if q == name then holder else holder_at self.old q)) }

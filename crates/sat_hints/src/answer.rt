@@ -3,38 +3,38 @@
 use std::alloc::{AllocError, AllocFailed};
 use thiserror::Error;
 
-/// Why a line is at fault: the first reason, in this order.
+/// Why a line is at fault. If several reasons apply, the first one in this order is reported.
 #[derive(Clone, Copy, Debug, Drop, PartialEq, Eq)]
 pub enum HintWhy {
-    /// It is not a line of a hint text, or the last one without its LF.
+    /// The line is malformed, or the text ends before the LF of the line.
     Syntax,
-    /// It gives a clause an ID that is not above those of all earlier clauses.
+    /// The line gives a clause an ID that is not above the IDs of all earlier clauses.
     IdOrder,
-    /// It names an ID under which no clause is present.
+    /// The line names an ID under which no clause is present.
     UnknownId,
-    /// A clause that it names, before the last, is not unit in its turn.
+    /// A clause that the line names, other than the last one, is not unit in turn.
     NotUnit,
-    /// The last clause that it names is not falsified, or it names none.
+    /// The last clause that the line names is not falsified, or the line names no clause.
     NotFalsified,
-    /// The variable that it makes new is in a present clause of two literals or more.
+    /// The variable that the line makes new is in a present clause of two literals or more.
     VarInUse,
 }
 
 /// The verdict on a hint text.
 #[derive(Clone, Copy, Debug, Drop, PartialEq, Eq)]
 pub enum HintVerdict {
-    /// It is a derivation. The fields say whether it derives an empty clause, and the numbers of its cores and of its
-    /// lines, both saturating at 2^64-1.
+    /// The text is a derivation. The fields say whether it derives an empty clause, and how many cores and lines it
+    /// has. Both numbers saturate at 2^64-1.
     Proved { empty: bool, cores: u64, lines: u64 },
-    /// It is not a derivation. The fields are the first line at fault, counted from 1 and saturating at 2^64-1, and
-    /// the reason.
+    /// The text is not a derivation. The fields are the number of the first line at fault, counted from 1 and
+    /// saturating at 2^64-1, and the reason for the fault.
     Bad { line: u64, why: HintWhy },
 }
 
 /// Why a hint text was not checked to its end.
 #[derive(Clone, Copy, Debug, Drop, PartialEq, Eq, Error)]
 pub enum HintFault {
-    /// A read failed, or there were 2^48 of them.
+    /// A read failed, or 2^48 reads were not enough.
     #[error("a read failed")]
     Read,
     /// Memory ran out.

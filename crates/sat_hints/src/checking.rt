@@ -16,7 +16,7 @@ use crate::reading::Lists;
 use sat_base::CountedRead;
 use std::alloc::{AllocError, Global};
 
-/// The number of bytes that are asked for at a time.
+/// The number of bytes that are requested in each read.
 const PIECE: usize = 4096;
 
 /// The largest number of reads.
@@ -27,13 +27,13 @@ const MAX_READS: u64 = 1 << 48;
 struct Checking {
     /// The bytes of a line whose LF has not been read yet.
     held: Vec<u8>,
-    /// The place in the line where they end.
+    /// The place in the line after the bytes in `held`.
     place: Place,
     lists: Lists,
     judge: Judge,
 }
 
-/// Returns the length of the first line with its LF, if that is among the bytes.
+/// Returns the length of the first line, including its LF, or `None` if there is no LF among the bytes.
 #[inline(always)]
 fn line_end(bytes: &[u8]) -> Option<usize>
     ensures { MatchOption result (HasNoEnd bytes.now)
@@ -47,7 +47,7 @@ fn line_end(bytes: &[u8]) -> Option<usize>
     None
 }
 
-/// Reads and judges a line from its bytes. Returns why it is at fault, if it is.
+/// Reads and judges a line, given as bytes. Returns why the line is at fault, if it is.
 fn take_line(
     lists: &mut Lists,
     judge: &mut Judge,
@@ -79,7 +79,8 @@ impl Checking {
         }
     }
 
-    /// Judges the line whose last bytes are these.
+    /// Judges the line that consists of the held bytes and of `bytes`, which must end with the line's LF. Returns why
+    /// the line is at fault, if it is.
     fn end_line(&mut self, bytes: &[u8]) -> Result<Option<HintWhy>, AllocError>
         requires ready { IsReadyJudge self.old.judge }
         requires ends { IsWholeLine bytes.now }
@@ -94,7 +95,8 @@ impl Checking {
         Ok(why)
     }
 
-    /// Holds further bytes of a line. Reports a fault if no line continues with them.
+    /// Holds further bytes of a line, among which there must be no LF. Returns a fault if no line can continue
+    /// with them.
     fn hold(&mut self, bytes: &[u8]) -> Result<Option<HintWhy>, AllocError>
         requires ready { IsReadyJudge self.old.judge }
         requires inside { HasNoEnd bytes.now }
@@ -109,8 +111,8 @@ impl Checking {
         Ok(None)
     }
 
-    /// Holds the bytes after the last line that was read in place. They do not begin with a line, so an LF among them
-    /// is a fault.
+    /// Holds the bytes after the last line that was read in place. `bytes` must not begin with a line, so an LF among
+    /// these bytes is a fault.
     fn hold_rest(&mut self, bytes: &[u8]) -> Result<Option<HintWhy>, AllocError>
         requires ready { IsReadyJudge self.old.judge }
         requires empty { self.old.held.items ≡ [] }
@@ -124,7 +126,7 @@ impl Checking {
         }
     }
 
-    /// Does what `feed` does, if no bytes are held. Lines are read in place.
+    /// Does what `feed` does, while no bytes are held. Lines are read in place, without copying them.
     fn feed_in_place(&mut self, piece: &[u8]) -> Result<Option<HintWhy>, AllocError>
         requires ready { IsReadyJudge self.old.judge }
         requires empty { self.old.held.items ≡ [] }
@@ -147,7 +149,7 @@ impl Checking {
         }
     }
 
-    /// Checks the next bytes of the text. Returns the reason for the first line at fault, if there is one.
+    /// Checks the next bytes of the text. Returns the reason for the first fault, if there is one.
     fn feed(&mut self, piece: &[u8]) -> Result<Option<HintWhy>, AllocError>
         requires { IsReadyJudge self.old.judge }
         ensures ready { IfOk result (λ why. IsReadyIf why self.new.judge) }
@@ -166,7 +168,7 @@ impl Checking {
         }
     }
 
-    /// Does what `feed` does, but returns the verdict on the first line at fault.
+    /// Does what `feed` does, but returns a verdict if a line is at fault.
     fn take_piece(&mut self, piece: &[u8]) -> Result<Option<HintVerdict>, HintFault>
         requires { IsReadyJudge self.old.judge }
         ensures memory { IfErr result (λ e. e ≡ HintFault.OutOfMemory) }
@@ -178,7 +180,7 @@ impl Checking {
         }
     }
 
-    /// Returns the verdict if the text ends here.
+    /// Returns the verdict on the text, which must end after the bytes that were read so far.
     fn finish(&self) -> HintVerdict
         ensures { (text : List ℕ) → HasRead self.now text → Judges result text }
     {
@@ -188,7 +190,7 @@ impl Checking {
         self.judge.bad(HintWhy::Syntax)
     }
 
-    /// Reads and checks a text, up to its first line at fault.
+    /// Reads and checks a text, up to the first line at fault. Returns the verdict on the text.
     fn check_text<R: CountedRead>(&mut self, text: &mut R) -> Result<HintVerdict, HintFault>
         requires ready { IsReadyJudge self.old.judge }
         requires fresh { HasRead self.old [] }
@@ -214,14 +216,14 @@ impl Checking {
     }
 }
 
-/// Checks a hint text. It is read in chunks of 4,096 bytes, up to the first line at fault.
+/// Checks a hint text. Reads the text in chunks of at most 4,096 bytes, up to the first line at fault.
 pub fn check<R: CountedRead>(alloc: Global, text: &mut R) -> Result<HintVerdict, HintFault>
-    // The verdict is that on the text that was given, whatever follows.
+    // The verdict is correct for the text that was read, whatever follows.
     ensures given { GaveEnough (R.seen text.old) (R.seen text.new) (IsRightIfVerdict result) }
-    // A read has failed only if this is returned, and none is repeated.
+    // If a read fails, the error `Read` is returned, and the read is not repeated.
     ensures kept { IsErrOf result HintFault.Read ⊎ ((R.seen text.new).failures ≡ (R.seen text.old).failures) }
     ensures read { IsErrOf result HintFault.Read → ReadFails (R.seen text.old) (R.seen text.new) }
-    // Memory is needed only for bytes.
+    // Memory runs out only after bytes were read.
     ensures some { IsErrOf result HintFault.OutOfMemory
         → length (R.seen text.old).given < length (R.seen text.new).given }
     ensures reads { (R.seen text.new).calls ≤ (R.seen text.old).calls + most_reads }

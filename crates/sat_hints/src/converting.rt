@@ -19,8 +19,8 @@ use sat_base::{CountedRead, CountedWrite};
 use sat_checker::{CheckedProofStep, Checker, CheckerData, CheckerError, ProofProcessor};
 use std::alloc::Global;
 
-/// Returns the line of an announcement, if it has one. Clauses that were stored before, tautologies, names, models and
-/// assumptions have none.
+/// Returns the line for an announcement, if there is one. Only new clauses, removals of clauses, failed cores and
+/// deletions of variables have lines.
 fn announced_line<'a>(step: &CheckedProofStep<'a>) -> Option<HintLine<'a>>
     ensures { option_map line_of_view result ≡ announced_line (announcement_of step.now) }
 {
@@ -68,7 +68,7 @@ fn announced_line<'a>(step: &CheckedProofStep<'a>) -> Option<HintLine<'a>>
 }
 
 impl<W: CountedWrite> LineWriter<W> {
-    /// Appends the line of an announcement, if it has one.
+    /// Appends the line for an announcement, if there is one.
     fn put_announced(&mut self, step: &CheckedProofStep<'_>)
         ensures { PutsText (text_if (announced_line (announcement_of step.now))) (outlet W.seen self.old)
             (outlet W.seen self.new) }
@@ -96,7 +96,7 @@ impl<W: CountedWrite + Drop> ProofProcessor for LineWriter<W> {
     }
 }
 
-/// Returns the error for an error of the checker. The writer of lines is its only listener.
+/// Returns the error for an error of a checker whose only listener is the writer of lines.
 fn hint_error(error: CheckerError) -> HintError
     ensures { result ≡ hint_of error }
 {
@@ -112,7 +112,7 @@ fn hint_error(error: CheckerError) -> HintError
     }
 }
 
-/// Writes the lines of a certificate that this checker checks, except those that are pending at its end.
+/// Writes the lines of a certificate, which `checker` checks. Some bytes may still be pending at the end.
 fn write_checked<R: CountedRead, W: CountedWrite + Drop>(
     checker: &mut Checker,
     certificate: &mut R,
@@ -132,7 +132,7 @@ fn write_checked<R: CountedRead, W: CountedWrite + Drop>(
     }
 }
 
-/// Writes the lines of a certificate, except those that are pending at its end.
+/// Writes the lines of a certificate. Some bytes may still be pending at the end.
 fn write_lines<R: CountedRead, W: CountedWrite + Drop>(
     alloc: Global,
     certificate: &mut R,
@@ -146,7 +146,7 @@ fn write_lines<R: CountedRead, W: CountedWrite + Drop>(
     write_checked(&mut checker, certificate, lines)
 }
 
-/// Writes all lines of a certificate, if no bytes are pending before.
+/// Writes all lines of a certificate, including the last pending bytes. No bytes may be pending beforehand.
 fn write_text<R: CountedRead, W: CountedWrite + Drop>(
     alloc: Global,
     certificate: &mut R,
@@ -169,8 +169,8 @@ fn write_text<R: CountedRead, W: CountedWrite + Drop>(
     }
 }
 
-/// Writes the hint text of a certificate, and checks the certificate. It writes in chunks of at most 4,096 bytes,
-/// and needs the memory of a checker, but none for lines.
+/// Writes the hint text of a certificate, and checks the certificate. Writes in chunks of at most 4,096 bytes. Needs
+/// the memory of a checker, but no memory for lines.
 pub fn convert<R: CountedRead, W: CountedWrite>(
     alloc: Global,
     certificate: &mut R,

@@ -3,16 +3,16 @@
 use sat_checker::CheckerError;
 use thiserror::Error;
 
-/// Why a certificate was not converted. What was written so far is unfinished.
+/// Why a certificate was not converted. The text that was written so far is incomplete.
 #[derive(Debug, Drop, Error)]
 pub enum HintError {
-    /// The checker refuses the certificate: a step, a byte, or its end.
+    /// The checker refused the certificate, for the given reason.
     #[error("the certificate is refused: {0}")]
     Refused(CheckerError),
-    /// This is never returned.
+    /// This error is never returned.
     #[error("the certificate deletes a variable")]
     HasDeleteVar,
-    /// A read failed, or there were 2^48 of them.
+    /// A read failed, or 2^48 reads were not enough.
     #[error("a read failed")]
     Read,
     /// A write failed.

@@ -1,4 +1,4 @@
-//! Tests of whether bytes can begin a line, byte by byte.
+//! Tests, byte by byte, whether bytes can begin a line.
 ghost use Rattle.std.specs.Prelude.{◌≡◌, ◌≤◌, ◌∷◌, []};
 ghost use Rattle.sat_hints.specs.Lines.{HasNoEnd};
 ghost use Rattle.sat_hints.specs.inner.Fronts.{letter_place, limit_of, next_of, sign_place, zero_place, LeadsToPlace};
@@ -31,13 +31,14 @@ pub(crate) enum Part {
 /// A place in a line.
 #[derive(Clone, Copy)]
 pub(crate) enum Place {
-    /// The line begins.
+    /// The beginning of the line, where its letter is expected.
     Letter,
-    /// A space is expected, and then this part.
+    /// A space is expected, and then the given part.
     Space(Part),
-    /// This part is expected.
+    /// The given part is expected.
     Item(Part),
-    /// The number with which this part begins has these digits so far, or none if that is 0.
+    /// The given part has begun with a number. The second field is the value of its digits so far, or 0 if there
+    /// are none.
     Digits(Part, u64),
     /// The LF is expected.
     Over,
@@ -54,7 +55,7 @@ fn limit(part: Part) -> u64
     }
 }
 
-/// Returns what comes after a number with which a part begins.
+/// Returns the part that is expected after the number with which `part` begins.
 fn next(part: Part) -> Part
     ensures { result ≡ next_of part }
 {
@@ -66,7 +67,7 @@ fn next(part: Part) -> Part
     }
 }
 
-/// Returns the place after a line's letter.
+/// Returns the place after the letter of a line, or `None` if no line begins with `byte`.
 fn behind_letter(byte: u8) -> Option<Place>
     ensures { result ≡ letter_place byte }
 {
@@ -88,7 +89,7 @@ fn behind_letter(byte: u8) -> Option<Place>
     None
 }
 
-/// Returns the place after a `0` with which a part begins.
+/// Returns the place after a `0` at the start of a part, or `None` if the part can't start with `0`.
 fn behind_zero(part: Part) -> Option<Place>
     ensures { result ≡ zero_place part }
 {
@@ -99,7 +100,7 @@ fn behind_zero(part: Part) -> Option<Place>
     }
 }
 
-/// Returns the place after a `-` with which a part begins.
+/// Returns the place after a `-` at the start of a part, or `None` if the part can't start with `-`.
 fn behind_sign(part: Part) -> Option<Place>
     ensures { result ≡ sign_place part }
 {
@@ -109,7 +110,8 @@ fn behind_sign(part: Part) -> Option<Place>
     }
 }
 
-/// Returns the place after one more byte of a number.
+/// Returns the place after `byte`, the next byte of a number or the space after it, or `None` if no line can continue
+/// with `byte`.
 fn in_number(part: Part, number: u64, byte: u8) -> Option<Place>
     ensures { LeadsToPlace (Digits part number) (byte ∷ []) result }
 {
@@ -120,7 +122,7 @@ fn in_number(part: Part, number: u64, byte: u8) -> Option<Place>
     Some(Place::Digits(part, more))
 }
 
-/// Returns the place after the first byte of a part.
+/// Returns the place after `byte`, the first byte of a part, or `None` if the part can't start with `byte`.
 fn at_item(part: Part, byte: u8) -> Option<Place>
     ensures { LeadsToPlace (Item part) (byte ∷ []) result }
 {
@@ -136,7 +138,7 @@ fn at_item(part: Part, byte: u8) -> Option<Place>
     }
 }
 
-/// Returns the place after one more byte of a line.
+/// Returns the place after `byte`, the next byte of a line, or `None` if no line can continue with `byte`.
 fn behind_byte(place: Place, byte: u8) -> Option<Place>
     ensures { (byte ≡ 10 → ⊥) → LeadsToPlace place (byte ∷ []) result }
 {
@@ -154,7 +156,7 @@ fn behind_byte(place: Place, byte: u8) -> Option<Place>
     }
 }
 
-/// Returns the place after more bytes of a line, or `None` if no line continues with them.
+/// Returns the place after `bytes`, the next bytes of a line, or `None` if no line can continue with `bytes`.
 pub(crate) fn behind(place: Place, bytes: &[u8]) -> Option<Place>
     requires { HasNoEnd bytes.now }
     ensures { LeadsToPlace place bytes.now result }

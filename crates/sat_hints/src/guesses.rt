@@ -1,4 +1,4 @@
-//! Likely places of clauses by their ids, so that most are found without a search.
+//! Likely places of clauses, indexed by id, so that most clauses are found without a search.
 ghost use Rattle.std.specs.Prelude.{length};
 ghost use Rattle.std.specs.List.Sorted.{IsSearchInRange};
 ghost use Rattle.std.specs.List.Sorted.{IsBinarySearchResult};
@@ -6,14 +6,14 @@ ghost use Rattle.std.specs.Ordering.{nat_cmp};
 
 use std::alloc::{AllocError, Global};
 
-/// How far ids may be ahead of the clauses that were noted.
+/// How many ids are added to the table's limit for every clause that was noted.
 const SPREAD: u64 = 4;
 
-/// The number of ids that are noted at once.
+/// The table's limit before any clause was noted.
 const FIRST: u64 = 4096;
 
-/// Likely places by id. They may be wrong, and are tested. Ids that are far ahead of the number of clauses have none,
-/// so that the table takes at most a few numbers per clause.
+/// Likely places of clauses, indexed by id. A likely place may be incorrect, and is tested before it is used. Ids that
+/// are far above the number of clauses have no likely place, so that the table has only a few entries per clause.
 #[derive(Drop)]
 pub(crate) struct Guesses {
     places: Vec<u32>,
@@ -29,7 +29,7 @@ impl Guesses {
         }
     }
 
-    /// Notes the place of a clause.
+    /// Notes the place of the clause with the id `id`, unless the id or the place is too large for the table.
     pub(crate) fn note(&mut self, id: u64, place: usize) -> Result<(), AllocError> {
         self.noted = self.noted.saturating_add(1);
         if id > self.noted.saturating_mul(SPREAD).saturating_add(FIRST) {
@@ -48,7 +48,7 @@ impl Guesses {
         Ok(())
     }
 
-    /// Returns the position of an id among increasing ids, if it is there.
+    /// Searches for `id` in `ids`, as `binary_search` does, but tries the likely place first.
     #[inline(always)]
     pub(crate) fn search(&self, ids: &[u64], id: u64) -> Result<usize, usize>
         ensures bound { IsSearchInRange result (length ids.now) }

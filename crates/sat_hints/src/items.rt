@@ -1,4 +1,4 @@
-//! Writing lists of ids and literals: each is a number and a space.
+//! Writing lists of ids and literals. Every item is a number followed by a space.
 ghost use Rattle.std.specs.Prelude.{◌≡◌, ◌+◌, ◌*◌, ◌<◌, ◌≤◌, ◌++◌, ◌∷◌, [], length, take};
 ghost use Rattle.sat_hints.specs.Lines.{id_words, literal_words};
 ghost use Rattle.sat_hints.specs.inner.LineWriting.{sign_text};
@@ -8,7 +8,8 @@ use sat_base::{Lit, write_decimal};
 /// The largest number of bytes of an item: a sign, 20 digits and a space.
 pub(crate) const MOST_BYTES: usize = 22;
 
-/// Writes the ID of the largest id, and a space.
+/// Writes the ID of the largest id, which is 2^64, and a space, after the first `at` bytes. Returns the end of what
+/// was written.
 #[inline(never)]
 fn write_largest(bytes: &mut [u8], at: usize) -> usize
     requires { at + 22 ≤ length bytes.old }
@@ -22,7 +23,8 @@ fn write_largest(bytes: &mut [u8], at: usize) -> usize
     end + 2
 }
 
-/// Writes the ID of an id, and a space, after the first `at` bytes. Returns their end.
+/// Writes the ID of an id, which is the id plus one, and a space, after the first `at` bytes. Returns the end of what
+/// was written.
 #[inline(always)]
 fn write_id(bytes: &mut [u8], at: usize, id: u64) -> usize
     requires { at + 22 ≤ length bytes.old }
@@ -38,7 +40,7 @@ fn write_id(bytes: &mut [u8], at: usize, id: u64) -> usize
     end + 1
 }
 
-/// Writes the IDs of ids after the first `len` bytes. Returns their end.
+/// Writes the IDs of ids, each followed by a space, after the first `len` bytes. Returns the end of what was written.
 pub(crate) fn write_ids(bytes: &mut [u8], len: usize, ids: &[u64]) -> usize
     requires { len + 22 * length ids.now ≤ length bytes.old }
     ensures within { result ≤ length bytes.old }
@@ -52,7 +54,8 @@ pub(crate) fn write_ids(bytes: &mut [u8], len: usize, ids: &[u64]) -> usize
     at
 }
 
-/// Writes the sign of a literal, if it is negative.
+/// Writes the sign of a literal, if the literal is negative, after the first `at` bytes. Returns the end of what
+/// was written.
 #[inline(always)]
 fn write_sign(bytes: &mut [u8], at: usize, literal: Lit) -> usize
     requires { at < length bytes.old }
@@ -67,7 +70,7 @@ fn write_sign(bytes: &mut [u8], at: usize, literal: Lit) -> usize
     at + 1
 }
 
-/// Writes the number of a literal, and a space, after the first `at` bytes. Returns their end.
+/// Writes the number of a literal, and a space, after the first `at` bytes. Returns the end of what was written.
 #[inline(always)]
 fn write_literal(bytes: &mut [u8], at: usize, literal: Lit) -> usize
     requires { at + 22 ≤ length bytes.old }
@@ -81,7 +84,8 @@ fn write_literal(bytes: &mut [u8], at: usize, literal: Lit) -> usize
     end + 1
 }
 
-/// Writes literals after the first `len` bytes. Returns their end.
+/// Writes the numbers of literals, each followed by a space, after the first `len` bytes. Returns the end of what
+/// was written.
 pub(crate) fn write_literals(bytes: &mut [u8], len: usize, literals: &[Lit]) -> usize
     requires { len + 22 * length literals.now ≤ length bytes.old }
     ensures within { result ≤ length bytes.old }

@@ -1,4 +1,4 @@
-//! Judging one line after another.
+//! Judging the lines of a hint text, one after another.
 ghost use Rattle.std.specs.Prelude.{◌≡◌, ◌≤◌, ◌+◌, ◌^◌, ◌-◌, ◌<◌, ℕ, [], None, Some, IfOk, OnErr, OnOk};
 ghost use Rattle.sat_base.specs.text.Tokenizing.{held};
 ghost use Rattle.sat_checker.specs.LiteralSets.{canonical};
@@ -17,13 +17,13 @@ use sat_checker::sorted_lits::{copy_canonical, rises};
 use sat_checker::{Assigned, make_room_for};
 use std::alloc::{AllocError, Global};
 
-/// The state after the lines so far, and memory that is reused.
+/// The state after the lines so far, and buffers that are reused.
 #[derive(Drop)]
 pub(crate) struct Judge {
     standing: Standing,
     /// The assumed literals. There is room for the literals of present clauses, and for their negations.
     assumed: Assigned,
-    /// The literals of the next clause as a sorted set, if they are not increasing.
+    /// A buffer for the sorted literals of the next clause, which is used if the clause isn't sorted.
     set: Vec<Lit>,
     least_id: u64,
     empty: bool,
@@ -31,8 +31,7 @@ pub(crate) struct Judge {
     lines: u64,
 }
 
-/// Returns the sorted set of the literals: the literals themselves if they are increasing, and otherwise a copy in
-/// the buffer.
+/// Returns the sorted set of the literals: `literals` itself if it is increasing, and otherwise a copy in `buffer`.
 fn sorted_set<'a>(buffer: &'a mut Vec<Lit>, literals: &'a [Lit]) -> Result<&'a [Lit], AllocError>
     ensures { IfOk result (λ set. set.now ≡ canonical literals.now) }
 {
@@ -62,7 +61,7 @@ impl Judge {
         }
     }
 
-    /// Stores a clause under an id that is above all earlier ones.
+    /// Stores a clause under the id `id`, which must be above all earlier ids.
     fn store(&mut self, id: u64, clause: &[Lit]) -> Result<(), AllocError>
         requires ready { IsReadyJudge self.old }
         requires in_order { self.old.least_id ≤ id }
@@ -77,8 +76,9 @@ impl Judge {
         Ok(())
     }
 
-    /// Returns why the clauses under these ids do not lead to a conflict under literals, or under their negations, or
-    /// `None` if they do.
+    /// Returns why the clauses with the ids `ids` do not lead to a conflict under the literals, or under their
+    /// negations if `negate` is true. Returns `None` if they do, or if the literals include both signs of a variable
+    /// and all clauses are present.
     fn refute(&mut self, literals: &[Lit], negate: bool, ids: &[u64]) -> Option<HintWhy>
         requires { IsReadyJudge self.old }
         ensures same { IsSame self.old self.new }
@@ -87,7 +87,7 @@ impl Judge {
         conflict(&self.standing, ids, literals, negate, &mut self.assumed)
     }
 
-    /// Judges a line `i`.
+    /// Judges an `i` line. Returns why the line is at fault, if it is.
     fn input(&mut self, id: u64, clause: &[Lit]) -> Result<Option<HintWhy>, AllocError>
         requires ready { IsReadyJudge self.old }
         requires within { IsId id }
@@ -101,7 +101,7 @@ impl Judge {
         Ok(None)
     }
 
-    /// Judges a line `d`.
+    /// Judges a `d` line. Returns why the line is at fault, if it is.
     fn derived(
         &mut self,
         id: u64,
@@ -125,7 +125,7 @@ impl Judge {
         Ok(None)
     }
 
-    /// Judges a line `x`.
+    /// Judges an `x` line. Returns why the line is at fault, if it is.
     fn gone(&mut self, id: u64) -> Result<Option<HintWhy>, AllocError>
         requires { IsReadyJudge self.old }
         ensures takes { IfOk result (λ why. TakesOne why self.old self.new (Gone id)) }
@@ -137,7 +137,7 @@ impl Judge {
         Ok(Some(HintWhy::UnknownId))
     }
 
-    /// Judges a line `f`.
+    /// Judges an `f` line. Returns why the line is at fault, if it is.
     fn core(&mut self, core: &[Lit], ids: &[u64]) -> Option<HintWhy>
         requires { IsReadyJudge self.old }
         ensures { TakesOne result self.old self.new (Core core.now ids.now) }
@@ -150,7 +150,7 @@ impl Judge {
         None
     }
 
-    /// Judges a line `e`.
+    /// Judges an `e` line. Returns why the line is at fault, if it is.
     fn fresh(&mut self, var: Var) -> Result<Option<HintWhy>, AllocError>
         requires { IsReadyJudge self.old }
         ensures takes { IfOk result (λ why. TakesOne why self.old self.new (Fresh var)) }
@@ -163,7 +163,7 @@ impl Judge {
         Ok(None)
     }
 
-    /// Judges the next line, without counting it.
+    /// Judges the next line, without counting it. Returns why the line is at fault, if it is.
     fn take_unnumbered(&mut self, line: &HintLine<'_>) -> Result<Option<HintWhy>, AllocError>
         requires ready { IsReadyJudge self.old }
         requires within { IsLine (line_of_view line.now) }
@@ -179,7 +179,8 @@ impl Judge {
         }
     }
 
-    /// Judges the next line. Returns why it is at fault, if it is. Memory is needed only for a line that is not.
+    /// Judges the next line. Returns why the line is at fault, if it is. Runs out of memory only if the line is not
+    /// at fault.
     pub(crate) fn take(&mut self, line: &HintLine<'_>) -> Result<Option<HintWhy>, AllocError>
         requires ready { IsReadyJudge self.old }
         requires within { IsLine (line_of_view line.now) }
@@ -194,7 +195,7 @@ impl Judge {
         Ok(why)
     }
 
-    /// Returns the verdict on the text of exactly these lines.
+    /// Returns the verdict on a text that consists of the lines so far.
     pub(crate) fn proved(&self) -> HintVerdict
         ensures { result ≡ HintVerdict.Proved self.now.empty self.now.cores self.now.lines }
     {
@@ -205,7 +206,7 @@ impl Judge {
         }
     }
 
-    /// Returns the verdict on a text whose next line is at fault.
+    /// Returns the verdict on a text whose next line is at fault for the reason `why`.
     pub(crate) fn bad(&self, why: HintWhy) -> HintVerdict
         ensures { (count : ℕ) → self.now.lines ≡ held count → result ≡ HintVerdict.Bad (held (count + 1)) why }
     {

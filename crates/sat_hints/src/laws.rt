@@ -1,12 +1,12 @@
-//! Laws of the definitions: each is the contract of a function that does nothing.
+//! Laws about the definitions. Every law is the contract of a function that does nothing.
 ghost use Rattle.sat_hints.specs.Laws.{AcceptedConverts, AnnouncedAreProved, AnnouncedDerive, HintCoresFail};
 ghost use Rattle.sat_hints.specs.Laws.{DerivedFollow, EmptyMeansNone, FormulaIsLeft, FormulaLeaves, OneVerdict};
 ghost use Rattle.sat_hints.specs.Laws.{PresentHold, ProofIsProved, ProvedIsNotBad, ReadStepsFit};
 
-/// What a derivation shows: every derived clause holds in every valuation that the lines before it leave, and no core
-/// has all of its literals true there. Lines leave the valuations in which the clauses of the formula hold, but a
-/// variable that becomes new may have another value than before. The present clauses hold in all of them. A derivation
-/// of the empty clause leaves none.
+/// States that derivations are sound. Lines allow the valuations in which the clauses of the formula hold, but the
+/// value of a variable that becomes new may change. Every derived clause holds in all valuations that the lines before
+/// it allow, and no core has only true literals in such a valuation. The present clauses hold in all valuations that
+/// the lines allow. If the lines derive the empty clause, they allow no valuation.
 pub fn derivations_are_sound()
     ensures derived { DerivedFollow }
     ensures cores { HintCoresFail }
@@ -16,28 +16,27 @@ pub fn derivations_are_sound()
     ensures left { FormulaIsLeft }
 {}
 
-/// A text that is proved is bad at no line, and two verdicts on a text are the same: if it is proved, in the three
-/// fields, and if it is bad, in the line and the reason.
+/// States that a text that is proved is at fault on no line, and that a text has at most one verdict.
 pub fn verdicts_exclude()
     ensures exclude { ProvedIsNotBad }
     ensures one { OneVerdict }
 {}
 
-/// The lines of what accepted steps announce are a derivation, those of deleted variables among them.
+/// States that the lines for the announcements of accepted steps are a derivation, even if variables are deleted.
 pub fn announcements_derive()
     ensures derive { AnnouncedDerive }
     ensures read { ReadStepsFit }
     ensures proved { AnnouncedAreProved }
 {}
 
-/// `convert` refuses no certificate of accepted steps whose reader's bytes are known: it writes their hint text, unless
-/// there is a fault.
+/// States that `convert` writes the hint text of a certificate of accepted steps, unless a read, a write or an
+/// allocation fails. The bytes that the reader of the certificate provides must be known.
 pub fn accepted_converts()
     ensures { AcceptedConverts }
 {}
 
-/// For a text that is proved, whose reader's bytes are known, `check` returns just that, with the three fields, unless
-/// there is a fault.
+/// States that for a text that is proved, `check` returns this verdict with the correct fields, unless a read or an
+/// allocation fails. The bytes that the reader of the text provides must be known.
 pub fn proof_is_proved()
     ensures { ProofIsProved }
 {}

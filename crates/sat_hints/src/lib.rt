@@ -1,4 +1,4 @@
-//! Hint texts: proofs that are checked without search.
+//! Hint texts: proofs that can be checked without a search.
 #![tactic(auto)]
 
 mod answer;

@@ -2,7 +2,7 @@
 
 use sat_base::{Lit, Var};
 
-/// A line. An id is below 2^64-1; the text has an ID, which is one more.
+/// A line. Its ids are below 2^64-1. The text contains IDs instead: the ID of an id is the id plus one.
 #[derive(Clone, Copy)]
 pub(crate) enum HintLine<'a> {
     /// `i ID LITS 0`: a clause of the formula.
@@ -10,24 +10,24 @@ pub(crate) enum HintLine<'a> {
         id: u64,
         clause: &'a [Lit],
     },
-    /// `d ID LITS 0 IDS 0`: a clause that follows. The clauses that are named are unit in turn under its negation, the
-    /// last falsified.
+    /// `d ID LITS 0 IDS 0`: a clause that follows from others. Under its negation, the clauses with the ids `ids` are
+    /// unit in turn, with the last one falsified.
     Derived {
         id: u64,
         clause: &'a [Lit],
         ids: &'a [u64],
     },
-    /// `x ID 0`: the clause is removed.
+    /// `x ID 0`: a clause is removed.
     Gone {
         id: u64,
     },
-    /// `f LITS 0 IDS 0`: literals that fail together. The clauses that are named lead to a conflict if all literals
-    /// are true.
+    /// `f LITS 0 IDS 0`: literals that can't all be true. If they are assumed, the clauses with the ids `ids` are unit
+    /// in turn, with the last one falsified.
     Core {
         core: &'a [Lit],
         ids: &'a [u64],
     },
-    /// `e VAR 0`: the variable is new. Its units are removed, and no other clause that is present has it.
+    /// `e VAR 0`: a variable becomes new. Its units are removed, and no other present clause contains the variable.
     Fresh {
         var: Var,
     },

@@ -11,8 +11,8 @@ use sat_base::{CountedWrite, Lit, MOST_DIGITS, Var, write_decimal};
 /// The largest number of pending bytes.
 const PIECE: usize = 4096;
 
-/// A writer, and bytes that are pending until there is no room for more, or the text ends. After a write has failed,
-/// nothing more is written.
+/// A writer, and a buffer of pending bytes, which are written out when there is no room for more, or when the text
+/// ends. After a write has failed, nothing more is written.
 #[derive(Drop)]
 pub(crate) struct LineWriter<W> {
     writer: W,
@@ -22,7 +22,7 @@ pub(crate) struct LineWriter<W> {
     failed: bool,
 }
 
-// Every byte goes through `put`.
+// Every byte goes through the buffer.
 impl<W: CountedWrite> LineWriter<W> {
     /// Returns a line writer with no pending bytes.
     pub(crate) fn new(writer: W) -> LineWriter<W>
@@ -58,7 +58,7 @@ impl<W: CountedWrite> LineWriter<W> {
         self.failed
     }
 
-    /// Writes out the pending bytes.
+    /// Writes out the pending bytes. No write may have failed before.
     pub(crate) fn write_out(&mut self)
         requires { self.old.failed ≡ false }
         ensures puts { PutsText [] (outlet W.seen self.old) (outlet W.seen self.new) }
@@ -70,7 +70,7 @@ impl<W: CountedWrite> LineWriter<W> {
         self.len = 0;
     }
 
-    /// Appends a byte. If there is no room, the pending bytes are written out first.
+    /// Appends a byte. If the buffer is full, writes out the pending bytes first.
     #[inline(always)]
     fn put(&mut self, byte: u8)
         ensures { PutsText (byte ∷ []) (outlet W.seen self.old) (outlet W.seen self.new) }
@@ -86,7 +86,7 @@ impl<W: CountedWrite> LineWriter<W> {
         self.len += 1;
     }
 
-    /// Writes out the pending bytes, and appends a byte.
+    /// Writes out the pending bytes, and then appends a byte.
     fn put_behind(&mut self, byte: u8)
         requires { self.old.failed ≡ false }
         ensures { PutsText (byte ∷ []) (outlet W.seen self.old) (outlet W.seen self.new) }
@@ -122,7 +122,7 @@ impl<W: CountedWrite> LineWriter<W> {
         self.len = write_decimal(&mut self.bytes, self.len, number);
     }
 
-    /// Writes out the pending bytes, and appends a number in decimal.
+    /// Writes out the pending bytes, and then appends a number in decimal.
     fn put_decimal_behind(&mut self, number: u64)
         requires { self.old.failed ≡ false }
         ensures { PutsText (decimal number) (outlet W.seen self.old) (outlet W.seen self.new) }
@@ -151,7 +151,7 @@ impl<W: CountedWrite> LineWriter<W> {
         self.len = at + 1;
     }
 
-    /// Does what `put_item` does when there may not be room for that many bytes.
+    /// Does what `put_item` does if there may not be room for the item.
     #[inline(never)]
     fn put_item_behind(&mut self, number: u64)
         ensures { PutsText (decimal number ++ 32 ∷ []) (outlet W.seen self.old) (outlet W.seen self.new) }
@@ -160,7 +160,7 @@ impl<W: CountedWrite> LineWriter<W> {
         self.put(b' ');
     }
 
-    /// Appends the ID of an id, and a space.
+    /// Appends the ID of an id, which is the id plus one, and a space.
     #[inline(always)]
     fn put_id(&mut self, id: u64)
         ensures { PutsText (id_words (id ∷ [])) (outlet W.seen self.old) (outlet W.seen self.new) }
@@ -171,7 +171,7 @@ impl<W: CountedWrite> LineWriter<W> {
         }
     }
 
-    /// Appends the IDs of ids, each with a space.
+    /// Appends the IDs of ids, each followed by a space.
     fn put_ids(&mut self, ids: &[u64])
         ensures { PutsText (id_words ids.now) (outlet W.seen self.old) (outlet W.seen self.new) }
     {
@@ -185,7 +185,7 @@ impl<W: CountedWrite> LineWriter<W> {
         self.len = write_ids(&mut self.bytes, self.len, ids);
     }
 
-    /// Does what `put_ids` does when there may not be room for all.
+    /// Does what `put_ids` does if there may not be room for all IDs.
     fn put_each_id(&mut self, ids: &[u64])
         ensures { PutsText (id_words ids.now) (outlet W.seen self.old) (outlet W.seen self.new) }
     {
@@ -194,7 +194,7 @@ impl<W: CountedWrite> LineWriter<W> {
         }
     }
 
-    /// Appends the sign of a literal, if it is negative.
+    /// Appends the sign of a literal, if the literal is negative.
     #[inline(always)]
     fn put_sign(&mut self, literal: Lit)
         ensures { PutsText (sign_text literal) (outlet W.seen self.old) (outlet W.seen self.new) }
@@ -213,7 +213,7 @@ impl<W: CountedWrite> LineWriter<W> {
         self.put_item(literal.index() as u64 + 1);
     }
 
-    /// Appends the numbers of literals, each with a space.
+    /// Appends the numbers of literals, each followed by a space.
     fn put_literals(&mut self, literals: &[Lit])
         ensures { PutsText (literal_words literals.now) (outlet W.seen self.old) (outlet W.seen self.new) }
     {
@@ -227,7 +227,7 @@ impl<W: CountedWrite> LineWriter<W> {
         self.len = write_literals(&mut self.bytes, self.len, literals);
     }
 
-    /// Does what `put_literals` does when there may not be room for all.
+    /// Does what `put_literals` does if there may not be room for all literals.
     fn put_each_literal(&mut self, literals: &[Lit])
         ensures { PutsText (literal_words literals.now) (outlet W.seen self.old) (outlet W.seen self.new) }
     {
@@ -246,7 +246,7 @@ impl<W: CountedWrite> LineWriter<W> {
         self.put_all(b"0\n");
     }
 
-    /// Appends a line `i`.
+    /// Appends an `i` line.
     fn put_input(&mut self, id: u64, clause: &[Lit])
         ensures { PutsText (line_text (Input id clause.now)) (outlet W.seen self.old) (outlet W.seen self.new) }
     {
@@ -256,7 +256,7 @@ impl<W: CountedWrite> LineWriter<W> {
         self.put_all(b"0\n");
     }
 
-    /// Appends a line `d`.
+    /// Appends a `d` line.
     fn put_derived(&mut self, id: u64, clause: &[Lit], ids: &[u64])
         ensures { PutsText (line_text (Derived id clause.now ids.now)) (outlet W.seen self.old)
             (outlet W.seen self.new) }
@@ -266,7 +266,7 @@ impl<W: CountedWrite> LineWriter<W> {
         self.put_both(clause, ids);
     }
 
-    /// Appends a line `x`.
+    /// Appends an `x` line.
     fn put_gone(&mut self, id: u64)
         ensures { PutsText (line_text (Gone id)) (outlet W.seen self.old) (outlet W.seen self.new) }
     {
@@ -275,7 +275,7 @@ impl<W: CountedWrite> LineWriter<W> {
         self.put_all(b"0\n");
     }
 
-    /// Appends a line `f`.
+    /// Appends an `f` line.
     fn put_core(&mut self, core: &[Lit], ids: &[u64])
         ensures { PutsText (line_text (Core core.now ids.now)) (outlet W.seen self.old) (outlet W.seen self.new) }
     {
@@ -283,7 +283,7 @@ impl<W: CountedWrite> LineWriter<W> {
         self.put_both(core, ids);
     }
 
-    /// Appends a line `e`.
+    /// Appends an `e` line.
     fn put_fresh(&mut self, var: Var)
         ensures { PutsText (line_text (Fresh var)) (outlet W.seen self.old) (outlet W.seen self.new) }
     {

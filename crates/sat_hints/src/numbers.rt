@@ -1,4 +1,4 @@
-//! Reading numbers and literals: decimal, without leading zeros, followed by a single space.
+//! Reading numbers and literals, which are decimal, without leading zeros, and followed by a single space.
 ghost use Rattle.std.specs.Prelude.{◌≡◌, ◌++◌, ◌∷◌, [], ◌<◌, ◌≤◌, ◌^◌, decimal, List, ℕ, MatchBool, MatchOption};
 ghost use Rattle.sat_base.specs.dimacs.DimacsText.{number_text};
 ghost use Rattle.sat_hints.specs.Lines.{id_text};
@@ -7,10 +7,10 @@ ghost use Rattle.sat_hints.specs.inner.LineReading.{EndsNone, NoDigit, NoWord, n
 
 use sat_base::{Lit, Var};
 
-/// The largest number that any digit can follow.
+/// Any digit can follow a number up to this bound without an overflow.
 const LONG: u64 = 1_000_000_000_000_000_000;
 
-/// Returns the bytes after the text, if the bytes begin with it.
+/// Returns the bytes after `text`, if `bytes` begins with `text`.
 #[inline(always)]
 pub(crate) fn take_text<'a>(bytes: &'a [u8], text: &[u8]) -> Option<&'a [u8]>
     ensures { MatchOption result ((tail : List ℕ) → bytes.now ≡ text.now ++ tail → ⊥)
@@ -19,8 +19,8 @@ pub(crate) fn take_text<'a>(bytes: &'a [u8], text: &[u8]) -> Option<&'a [u8]>
     bytes.strip_prefix(text)
 }
 
-/// Returns the number with one more digit, or the first digit if it is still 0. Returns `None` for another byte, a
-/// leading zero, and a number past the limit.
+/// Returns the number with the digit `byte` appended. If `number` is 0, there is no digit yet. Returns `None` if `byte`
+/// is not a digit, if it would be a leading zero, or if the result would exceed `limit`.
 #[inline(always)]
 pub(crate) fn with_digit(number: u64, byte: u8, limit: u64) -> Option<u64>
     requires { 9 ≤ limit }
@@ -41,7 +41,7 @@ pub(crate) fn with_digit(number: u64, byte: u8, limit: u64) -> Option<u64>
     Some(more)
 }
 
-/// Whether this byte ends a number that is within the limit.
+/// Whether `byte` is a space, and `number` is from 1 to `limit`.
 #[inline(always)]
 fn ends_number(number: u64, byte: u8, limit: u64) -> bool
     ensures { MatchBool result ((byte ≡ 32) × (0 < number) × (number ≤ limit)) (EndsNone number byte limit) }
@@ -52,8 +52,8 @@ fn ends_number(number: u64, byte: u8, limit: u64) -> bool
     number <= limit
 }
 
-/// Reads a number from 1 to the limit, and the space after it. Returns the number and the remaining bytes. A number
-/// with at most 19 digits is compared with the limit only at its end.
+/// Reads a number from 1 to `limit`, and the space after it. Returns the number and the remaining bytes. A number with
+/// at most 19 digits is compared with the limit only at its end.
 #[inline(always)]
 pub(crate) fn read_number(bytes: &[u8], limit: u64) -> Option<(u64, &[u8])>
     requires { 9 ≤ limit }
@@ -83,7 +83,7 @@ pub(crate) fn read_number(bytes: &[u8], limit: u64) -> Option<(u64, &[u8])>
     None
 }
 
-/// Does what `read_number` does, but tests the limit at every digit.
+/// Does what `read_number` does, but compares with the limit at every digit.
 #[inline(never)]
 fn read_long(bytes: &[u8], limit: u64) -> Option<(u64, &[u8])>
     requires { 9 ≤ limit }
@@ -101,7 +101,7 @@ fn read_long(bytes: &[u8], limit: u64) -> Option<(u64, &[u8])>
     None
 }
 
-/// Reads the ID of an id, and the space after it. Returns the id and the remaining bytes.
+/// Reads the ID of an id, which is the id plus one, and the space after it. Returns the id and the remaining bytes.
 #[inline(always)]
 pub(crate) fn read_id(bytes: &[u8]) -> Option<(u64, &[u8])>
     ensures { MatchOption result (NoWord id_text IsId bytes.now)

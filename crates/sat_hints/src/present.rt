@@ -9,15 +9,15 @@ use crate::guesses::Guesses;
 use sat_base::{FlatLists, Lit};
 use std::alloc::{AllocError, Global};
 
-/// Clauses in the order of their ids, their literals one after another. Removed clauses are kept until they are more
-/// than half of all.
+/// Clauses in order of their ids. Removed clauses are kept until they make up more than half of the stored data.
 #[derive(Drop)]
 pub(crate) struct Present {
     ids: Vec<u64>,
     clauses: FlatLists<Lit>,
     gone: Vec<bool>,
     guesses: Guesses,
-    /// The number of clauses and literals, and of those that are removed.
+    /// The number of stored clauses plus the number of their literals. `unused` is the same sum for the
+    /// removed clauses.
     total: usize,
     unused: usize,
     alloc: Global,
@@ -42,7 +42,7 @@ impl Present {
         }
     }
 
-    /// Returns the place of the clause under this id, if it is present.
+    /// Returns the place of the clause with the id `id`, if this clause is present.
     #[inline(always)]
     pub(crate) fn find(&self, id: u64) -> Option<usize>
         requires { IsStore self.now }
@@ -58,7 +58,7 @@ impl Present {
         Some(place)
     }
 
-    /// Returns the clause at a place.
+    /// Returns the literals of the clause at a place as a slice.
     #[inline(always)]
     pub(crate) fn clause(&self, place: usize) -> &[Lit]
         requires { place < length self.now.clauses }
@@ -74,7 +74,8 @@ impl Present {
         self.ids.len()
     }
 
-    /// Returns the number of places that a table of marks of these clauses' literals may have in one list.
+    /// Returns how many entries a table of marks of the clauses' literals may have in its list, rather than in
+    /// its tree.
     pub(crate) fn near_limit(&self) -> usize {
         self.total.saturating_mul(4)
     }
@@ -87,7 +88,7 @@ impl Present {
         self.gone[place]
     }
 
-    /// Adds a clause, given as a sorted set, whose id is above all earlier ones.
+    /// Adds a clause, given as a sorted set, under the id `id`, which must be above all earlier ids.
     pub(crate) fn push(&mut self, id: u64, clause: &[Lit]) -> Result<(), AllocError>
         requires store { IsStore self.old }
         requires above { AllBelow self.old.ids.items id }
@@ -102,7 +103,7 @@ impl Present {
         Ok(())
     }
 
-    /// Removes the clause at a place, and drops the removed clauses if there are many.
+    /// Removes the clause at a place, and drops the removed clauses from memory if there are many.
     pub(crate) fn remove(&mut self, place: usize) -> Result<(), AllocError>
         requires store { IsStore self.old }
         requires within { place < length self.old.clauses }
@@ -112,7 +113,7 @@ impl Present {
         self.compact_if_sparse()
     }
 
-    /// Removes the clause at a place.
+    /// Marks the clause at a place as removed.
     fn take_out(&mut self, place: usize)
         requires store { IsStore self.old }
         requires within { place < length self.old.clauses }
@@ -123,7 +124,7 @@ impl Present {
         self.unused = self.unused.saturating_add(count).saturating_add(1);
     }
 
-    /// Drops the removed clauses if they are more than half of all.
+    /// Drops the removed clauses from memory if they make up more than half of the stored data.
     fn compact_if_sparse(&mut self) -> Result<(), AllocError>
         requires { IsStore self.old }
         ensures { OnOk result (SamePresentClauses self.old self.new) }
@@ -134,7 +135,7 @@ impl Present {
         self.compact()
     }
 
-    /// Drops the removed clauses.
+    /// Drops the removed clauses from memory.
     fn compact(&mut self) -> Result<(), AllocError>
         requires { IsStore self.old }
         ensures { OnOk result (SamePresentClauses self.old self.new) }
@@ -146,7 +147,7 @@ impl Present {
         Ok(())
     }
 
-    /// Appends the present clauses to others, in order.
+    /// Appends the present clauses, in order, to `kept`, which must be empty.
     fn keep_in(&self, kept: &mut Present) -> Result<(), AllocError>
         requires store { IsStore self.now }
         requires none { kept.old.ids.items ≡ [] }

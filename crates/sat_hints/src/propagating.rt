@@ -1,4 +1,5 @@
-//! Tests of whether clauses are unit in turn, and the last falsified. Running out of memory changes no answer.
+//! Tests whether clauses are unit in turn, with the last one falsified. Running out of memory does not change
+//! the result.
 ghost use Rattle.std.specs.Prelude.{◌≡◌, ◌≢◌, ◌⊎◌, [], true, false, None, MatchBool};
 ghost use Rattle.sat_checker.specs.LiteralSets.{is_among, is_tautology};
 ghost use Rattle.sat_checker.specs.inner.AssumedRoom.{AgreesOn, RoomStays, signed};
@@ -12,8 +13,9 @@ use sat_base::Lit;
 use sat_checker::rup::has;
 use sat_checker::{Assigned, Look, assume_if_roomy, look_at};
 
-/// Assumes literals, or their negations, as far as there is room for them. Returns whether both signs of a variable are
-/// among them; to find out, searches for the negation of each literal among the earlier ones.
+/// Assumes those of the literals, or of their negations if `negate` is true, for which there is room. Returns whether
+/// the literals include both signs of a variable. To find out, searches for the negation of every literal among the
+/// earlier literals.
 #[inline(never)]
 fn assume_roomy(assumed: &mut Assigned, literals: &[Lit], negate: bool) -> bool
     requires { assumed.old.literals ≡ [] }
@@ -33,8 +35,9 @@ fn assume_roomy(assumed: &mut Assigned, literals: &[Lit], negate: bool) -> bool
     false
 }
 
-/// Assumes literals, or their negations. If memory runs out for one, which is then in no clause, assumes those for
-/// which there is room. Returns whether both signs of a variable are among them.
+/// Assumes the literals, or their negations if `negate` is true. If memory runs out for a literal, which is then in no
+/// clause, only those for which there is room are assumed. Returns whether the literals include both signs of
+/// a variable.
 fn assume_all(assumed: &mut Assigned, literals: &[Lit], negate: bool) -> bool
     requires { assumed.old.literals ≡ [] }
     ensures assumes { MatchBool result (is_tautology (signed negate literals.now) ≡ true)
@@ -61,8 +64,8 @@ fn assume_all(assumed: &mut Assigned, literals: &[Lit], negate: bool) -> bool
     false
 }
 
-/// Returns the fault of a line that names a clause that is not unit in its turn. `behind` are the ids that it names
-/// after that clause; if no clause is present under one of them, that is the fault.
+/// Returns the fault of a line that names a clause that is not unit in turn. `behind` are the ids that the line names
+/// after that clause. If no clause is present under one of these ids, the fault is `UnknownId`.
 fn not_unit(standing: &Standing, behind: &[u64]) -> HintWhy
     requires { StandingInvariant standing.now }
     ensures { (standing_clauses standing.now behind.now ≡ None) × (result ≡ HintWhy.UnknownId)
@@ -74,7 +77,8 @@ fn not_unit(standing: &Standing, behind: &[u64]) -> HintWhy
     HintWhy::UnknownId
 }
 
-/// Returns why the clauses under these ids do not lead to a conflict, or `None` if they do.
+/// Returns why the clauses with the ids `ids` do not lead to a conflict under the assumed literals. Returns `None` if
+/// they do.
 fn follow(standing: &Standing, ids: &[u64], assumed: &mut Assigned) -> Option<HintWhy>
     requires standing { StandingInvariant standing.now }
     requires room { HasRoomForPresent assumed.old.room standing.now }
@@ -103,8 +107,9 @@ fn follow(standing: &Standing, ids: &[u64], assumed: &mut Assigned) -> Option<Hi
     }
 }
 
-/// Returns why the clauses under these ids do not lead to a conflict under the literals, or under their negations, or
-/// `None` if they do.
+/// Returns why the clauses with the ids `ids` do not lead to a conflict under the literals, or under their negations if
+/// `negate` is true. Returns `None` if they do, or if the literals include both signs of a variable and all clauses
+/// are present.
 fn conflict_under(
     standing: &Standing,
     ids: &[u64],
@@ -127,7 +132,7 @@ fn conflict_under(
     Some(HintWhy::UnknownId)
 }
 
-/// Does what `conflict_under` does, with nothing assumed before and after.
+/// Does what `conflict_under` does, and then undoes what was assumed. Nothing may be assumed beforehand.
 pub(crate) fn conflict(
     standing: &Standing,
     ids: &[u64],

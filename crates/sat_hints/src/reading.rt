@@ -1,4 +1,4 @@
-//! Reading the first line of some bytes.
+//! Reading the line with which some bytes begin.
 ghost use Rattle.std.specs.Prelude.{◌≡◌, ◌++◌, List, ℕ, codes, IfOk, MatchOption, []};
 ghost use Rattle.sat_base.specs.dimacs.DimacsText.{number_text};
 ghost use Rattle.sat_hints.specs.Lines.{id_text};
@@ -10,7 +10,7 @@ use crate::numbers::{read_id, read_literal, read_variable, take_text};
 use sat_base::{Lit, Var};
 use std::alloc::{AllocError, Global};
 
-/// The lists of the current line, whose memory is reused.
+/// The lists of the current line. Their memory is reused.
 #[derive(Drop)]
 pub(crate) struct Lists {
     literals: Vec<Lit>,
@@ -27,7 +27,7 @@ pub(crate) enum Head {
     Fresh { var: Var },
 }
 
-/// Reads as many literals as there are. Returns the bytes after them.
+/// Reads literals into `literals` as long as the bytes begin with a literal. Returns the remaining bytes.
 fn read_literals<'a>(bytes: &'a [u8], literals: &mut Vec<Lit>) -> Result<&'a [u8], AllocError>
     ensures { IfOk result (λ rest. BeginsWithWords number_text IsLiteralCode bytes.now literals.new.items rest.now) }
 {
@@ -41,7 +41,7 @@ fn read_literals<'a>(bytes: &'a [u8], literals: &mut Vec<Lit>) -> Result<&'a [u8
     Ok(rest)
 }
 
-/// Reads as many ids as there are. Returns the bytes after them.
+/// Reads ids into `ids` as long as the bytes begin with an ID. Returns the remaining bytes.
 fn read_ids<'a>(bytes: &'a [u8], ids: &mut Vec<u64>) -> Result<&'a [u8], AllocError>
     ensures { IfOk result (λ rest. BeginsWithWords id_text IsId bytes.now ids.new.items rest.now) }
 {
@@ -67,7 +67,7 @@ impl Lists {
         }
     }
 
-    /// Returns the line with this head and these lists.
+    /// Returns the line with the head `head` and the stored lists.
     pub(crate) fn line(&self, head: Head) -> HintLine<'_>
         ensures { line_of_view result ≡ line_with head self.now.literals.items self.now.ids.items }
     {
@@ -92,7 +92,7 @@ impl Lists {
         }
     }
 
-    /// Reads `LITS 0` and LF. Returns what comes after them, or `None` if the bytes begin differently.
+    /// Reads `LITS 0` and LF. Returns the remaining bytes, or `None` if the bytes begin differently.
     fn read_one<'a>(&mut self, bytes: &'a [u8]) -> Result<Option<&'a [u8]>, AllocError>
         ensures { IfOk result (λ found. MatchOption found
             ((ls : List ℕ) (tail : List ℕ) → BeginsWithOne bytes.now ls tail → ⊥)
@@ -102,7 +102,7 @@ impl Lists {
         Ok(take_text(rest, b"0\n"))
     }
 
-    /// Reads `LITS 0 IDS 0` and LF. Returns what comes after them, or `None` if the bytes begin differently.
+    /// Reads `LITS 0 IDS 0` and LF. Returns the remaining bytes, or `None` if the bytes begin differently.
     fn read_both<'a>(&mut self, bytes: &'a [u8]) -> Result<Option<&'a [u8]>, AllocError>
         ensures { IfOk result (λ found. MatchOption found
             ((ls : List ℕ) (ids : List ℕ) (tail : List ℕ) → BeginsWithBoth bytes.now ls ids tail → ⊥)
@@ -116,7 +116,7 @@ impl Lists {
         Ok(take_text(rest, b"0\n"))
     }
 
-    /// Reads a line `i`, after `i `.
+    /// Reads the rest of an `i` line, after `i `. Returns the line's head and the remaining bytes.
     fn read_input<'a>(&mut self, bytes: &'a [u8]) -> Result<Option<(Head, &'a [u8])>, AllocError>
         ensures { IfOk result (λ found. MatchOption found (BeginsWithNoLine (codes "i " ++ bytes.now))
             (λ x. BeginsWithHintLine (codes "i " ++ bytes.now) (line_with x.0 self.new.literals.items self.new.ids.items) x.1.now)) }
@@ -131,7 +131,7 @@ impl Lists {
         }
     }
 
-    /// Reads a line `d`, after `d `.
+    /// Reads the rest of a `d` line, after `d `. Returns the line's head and the remaining bytes.
     fn read_derived<'a>(&mut self, bytes: &'a [u8]) -> Result<Option<(Head, &'a [u8])>, AllocError>
         ensures { IfOk result (λ found. MatchOption found (BeginsWithNoLine (codes "d " ++ bytes.now))
             (λ x. BeginsWithHintLine (codes "d " ++ bytes.now) (line_with x.0 self.new.literals.items self.new.ids.items) x.1.now)) }
@@ -146,7 +146,7 @@ impl Lists {
         }
     }
 
-    /// Reads a line `f`, after `f `.
+    /// Reads the rest of an `f` line, after `f `. Returns the line's head and the remaining bytes.
     fn read_core<'a>(&mut self, bytes: &'a [u8]) -> Result<Option<(Head, &'a [u8])>, AllocError>
         ensures { IfOk result (λ found. MatchOption found (BeginsWithNoLine (codes "f " ++ bytes.now))
             (λ x. BeginsWithHintLine (codes "f " ++ bytes.now) (line_with x.0 self.new.literals.items self.new.ids.items) x.1.now)) }
@@ -157,8 +157,8 @@ impl Lists {
         }
     }
 
-    /// Reads the line with which the bytes begin, with its LF, and stores its lists. Returns its head and what comes
-    /// after it, or `None` if the bytes do not begin with a line.
+    /// Reads the line with which the bytes begin, including its LF, and stores its lists. Returns the line's head and
+    /// the remaining bytes, or `None` if the bytes do not begin with a line.
     pub(crate) fn read_line<'a>(
         &mut self,
         bytes: &'a [u8],
@@ -185,7 +185,7 @@ impl Lists {
     }
 }
 
-/// Reads a line `x`, after `x `.
+/// Reads the rest of an `x` line, after `x `. Returns the line's head and the remaining bytes.
 fn read_gone(bytes: &[u8]) -> Option<(Head, &[u8])>
     ensures { MatchOption result (BeginsWithNoLine (codes "x " ++ bytes.now))
         (λ x. (ls : List ℕ) (ids : List ℕ) → BeginsWithHintLine (codes "x " ++ bytes.now) (line_with x.0 ls ids) x.1.now) }
@@ -195,7 +195,7 @@ fn read_gone(bytes: &[u8]) -> Option<(Head, &[u8])>
     Some((Head::Gone { id }, rest))
 }
 
-/// Reads a line `e`, after `e `.
+/// Reads the rest of an `e` line, after `e `. Returns the line's head and the remaining bytes.
 fn read_fresh(bytes: &[u8]) -> Option<(Head, &[u8])>
     ensures { MatchOption result (BeginsWithNoLine (codes "e " ++ bytes.now))
         (λ x. (ls : List ℕ) (ids : List ℕ) → BeginsWithHintLine (codes "e " ++ bytes.now) (line_with x.0 ls ids) x.1.now) }

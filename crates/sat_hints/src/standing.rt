@@ -1,4 +1,4 @@
-//! The clauses that are present, if variables become new.
+//! The clauses that are present in a text in which variables may become new.
 ghost use Rattle.std.specs.Prelude.{◌≡◌, ◌≢◌, ◌⊎◌, ℕ, [], None, Some, IfOk, OnErr, OnOk, MatchBool, MatchOption};
 ghost use Rattle.sat_checker.specs.SortedSets.{IsIncreasing};
 ghost use Rattle.sat_hints.specs.inner.Clauses.{AllBelow};
@@ -15,7 +15,8 @@ use std::alloc::{AllocError, Global};
 pub(crate) struct Standing {
     pub(crate) present: Present,
     uses: Uses,
-    /// By variable: units of it under ids below this came before it became new.
+    /// For every variable, a bound on ids: units of the variable with ids below the bound were added before it last
+    /// became new.
     since: Table<u64>,
 }
 
@@ -34,7 +35,7 @@ impl Standing {
         }
     }
 
-    /// Whether a clause under this id is a unit that came before its variable became new.
+    /// Whether `clause`, which has the id `id`, is a unit that was added before its variable became new.
     #[inline(always)]
     fn is_stale(&self, id: u64, clause: &[Lit]) -> bool
         ensures { result ≡ is_stale self.now.since id clause.now }
@@ -45,7 +46,7 @@ impl Standing {
         id < self.since.get(clause[0].index(), 0)
     }
 
-    /// Returns the place of the clause under this id, if it is present.
+    /// Returns the place of the clause with the id `id`, if this clause is present.
     pub(crate) fn find(&self, id: u64) -> Option<usize>
         requires { StandingInvariant self.now }
         ensures { MatchOption result (standing_clause self.now id ≡ None) (FindsClause self.now id) }
@@ -57,7 +58,7 @@ impl Standing {
         Some(place)
     }
 
-    /// Returns the clause under this id, if it is present.
+    /// Returns the literals of the clause with the id `id` as a slice, if this clause is present.
     #[inline(always)]
     pub(crate) fn find_clause(&self, id: u64) -> Option<&[Lit]>
         requires { StandingInvariant self.now }
@@ -71,7 +72,7 @@ impl Standing {
         Some(clause)
     }
 
-    /// Adds a clause, given as a sorted set, whose id is above all earlier ones.
+    /// Adds a clause, given as a sorted set, under the id `id`, which must be above all earlier ids.
     pub(crate) fn push(&mut self, id: u64, clause: &[Lit]) -> Result<(), AllocError>
         requires standing { StandingInvariant self.old }
         requires above { AllBelow self.old.present.ids.items id }
@@ -85,7 +86,7 @@ impl Standing {
         Ok(())
     }
 
-    /// Removes the clause under this id. Returns whether it was present.
+    /// Removes the clause with the id `id`. Returns whether this clause was present.
     pub(crate) fn remove(&mut self, id: u64) -> Result<bool, AllocError>
         requires { StandingInvariant self.old }
         ensures takes { IfOk result (λ was. MatchBool was ((standing_clause self.old id ≢ None) × DropsClause self.old self.new id)
@@ -100,8 +101,8 @@ impl Standing {
         Ok(true)
     }
 
-    /// Whether the variable is in a clause of two literals or more. All clauses are looked at until the first variable
-    /// becomes new, and none after that.
+    /// Whether the variable is in a present clause of two literals or more. Searches all clauses until a variable first
+    /// becomes new, and uses counts from then on.
     pub(crate) fn is_used(&self, var: Var) -> bool
         requires { StandingInvariant self.now }
         ensures { MatchBool result (IsUsed self.now var) (IsUsed self.now var → ⊥) }
@@ -109,7 +110,7 @@ impl Standing {
         self.uses.has(&self.present, var)
     }
 
-    /// Makes a variable new: its units under ids below this are forgotten.
+    /// Makes a variable new, which removes its units. The ids of all clauses must be below `bound`.
     pub(crate) fn forget_units(&mut self, var: Var, bound: u64) -> Result<(), AllocError>
         requires standing { StandingInvariant self.old }
         requires above { AllBelow self.old.present.ids.items bound }

@@ -11,8 +11,8 @@ use sat_base::{Lit, Var};
 use sat_checker::store::occurrences::Occurrences;
 use std::alloc::{AllocError, Global};
 
-/// The number of times that every literal is in the present clauses of two literals or more. Counting begins with the
-/// first variable that becomes new, so a text in which no variable becomes new incurs no cost.
+/// How many times every literal is in the present clauses of two literals or more. Counting starts when a variable
+/// first becomes new, so a text in which no variable becomes new incurs no cost.
 #[derive(Drop)]
 pub(crate) struct Uses {
     counting: bool,
@@ -31,7 +31,7 @@ fn mentions(clause: &[Lit], var: Var) -> bool
     false
 }
 
-/// Whether the clause has two literals or more, and the variable is in one of them.
+/// Whether the clause has two literals or more, and contains the variable.
 fn is_long_with(clause: &[Lit], var: Var) -> bool
     ensures { MatchBool result (0 < times_long (2 * var) clause.now + times_long (2 * var + 1) clause.now)
         (times_long (2 * var) clause.now + times_long (2 * var + 1) clause.now ≡ 0) }
@@ -42,7 +42,7 @@ fn is_long_with(clause: &[Lit], var: Var) -> bool
     mentions(clause, var)
 }
 
-/// Whether a clause of two literals or more has the variable.
+/// Whether a present clause of two literals or more contains the variable.
 fn is_in_long(present: &Present, var: Var) -> bool
     requires { IsStore present.now }
     ensures { MatchBool result (0 < times_at present.now (2 * var) + times_at present.now (2 * var + 1))
@@ -59,7 +59,7 @@ fn is_in_long(present: &Present, var: Var) -> bool
     false
 }
 
-/// Counts the literals of a clause, if it has two or more.
+/// Counts the literals of a clause, if it has two literals or more.
 fn count(counts: &mut Occurrences, clause: &[Lit]) -> Result<(), AllocError>
     requires increasing { IsIncreasing clause.now }
     requires few { (l : ℕ) → count_at counts.old l + times_long l clause.now < 2 ^ 64 }
@@ -73,7 +73,7 @@ fn count(counts: &mut Occurrences, clause: &[Lit]) -> Result<(), AllocError>
     Ok(())
 }
 
-/// Counts the literals of all clauses of two or more.
+/// Counts the literals of all present clauses of two literals or more.
 fn count_all(counts: &mut Occurrences, present: &Present) -> Result<(), AllocError>
     requires store { IsStore present.now }
     requires none { (l : ℕ) → count_at counts.old l ≡ 0 }
@@ -100,7 +100,7 @@ impl Uses {
         }
     }
 
-    /// Counts a clause that is added, given as a sorted set.
+    /// If counting has started, counts the literals of a clause that is added. The clause is given as a sorted set.
     pub(crate) fn add(&mut self, clause: &[Lit]) -> Result<(), AllocError>
         requires increasing { IsIncreasing clause.now }
         requires few { (l : ℕ) → uses_at self.old l + times_long l clause.now < 2 ^ 64 }
@@ -114,7 +114,7 @@ impl Uses {
         count(&mut self.counts, clause)
     }
 
-    /// Counts a clause that is removed.
+    /// If counting has started, subtracts the literals of a clause that is removed.
     pub(crate) fn take(&mut self, clause: &[Lit])
         requires { (l : ℕ) → if_counting self.old.counting (times_long l clause.now) ≤ uses_at self.old l }
         ensures counting { self.new.counting ≡ self.old.counting }
@@ -127,7 +127,7 @@ impl Uses {
         self.counts.take(clause);
     }
 
-    /// Counts all clauses, and all changes from now on.
+    /// Starts to count, unless counting has started: counts the literals of all present clauses.
     pub(crate) fn begin(&mut self, present: &Present) -> Result<(), AllocError>
         requires store { IsStore present.now }
         requires counted { (l : ℕ) → uses_at self.old l ≡ if_counting self.old.counting (times_at present.now l) }
@@ -142,7 +142,8 @@ impl Uses {
         Ok(())
     }
 
-    /// Whether a clause of two literals or more has the variable. Without counts, all clauses are looked at.
+    /// Whether a present clause of two literals or more contains the variable. If counting has not started, searches
+    /// all clauses.
     pub(crate) fn has(&self, present: &Present, var: Var) -> bool
         requires store { IsStore present.now }
         requires counted { (l : ℕ) → uses_at self.now l ≡ if_counting self.now.counting (times_at present.now l) }

@@ -11,9 +11,9 @@ use sat_base::{Lit, Var};
 /// The mode of a variable that has a name.
 #[derive(Clone, Copy)]
 pub enum CheckedSamplingMode {
-    /// Models and cores mention it.
+    /// Clauses of the formula, models and cores may contain the variable.
     Sample,
-    /// No clause of the formula may have it.
+    /// No clause of the formula may contain the variable.
     Witness,
 }
 
@@ -26,20 +26,20 @@ pub struct CheckedUserVar {
     pub new_var: bool,
 }
 
-/// Clauses that a resolvent on a pivot follows from. No step has any yet.
+/// The clauses from which the resolvents on a pivot follow. No step has such clauses yet, so there are no fields.
 #[derive(Clone, Copy)]
 pub struct ResolutionPropagations {}
 
-/// An announcement, which lends its lists. Clauses and cores are sorted, without repeats. `propagations` are the ids of
-/// the clauses that something follows from by propagation.
+/// An announcement, which borrows its lists. Clauses and cores are sorted, without repeats. `propagations` are the ids
+/// of the clauses from which the announced clause or core follows by propagation.
 #[derive(Clone, Copy)]
 pub enum CheckedProofStep<'a> {
-    /// A variable gets a name of the user's or another mode, or loses its name.
+    /// A variable gets a name or another mode, or, if `user_var` is `None`, loses its name.
     UserVar {
         var: Var,
         user_var: Option<CheckedUserVar>,
     },
-    /// A variable is removed with its unit, the last clause that mentions it. It is unknown from now on.
+    /// A variable is deleted, together with its unit, if it has one. The variable is unknown from now on.
     DeleteVar {
         var: Var,
     },
@@ -48,13 +48,13 @@ pub enum CheckedProofStep<'a> {
         id: u64,
         clause: &'a [Lit],
     },
-    /// A clause of the formula that was stored before under another id.
+    /// A clause of the formula that is already stored, under the id `same_as_id`.
     DuplicatedClause {
         id: u64,
         same_as_id: u64,
         clause: &'a [Lit],
     },
-    /// A clause of the formula that has both signs of a variable. It isn't stored.
+    /// A clause of the formula that contains both signs of a variable. Such a clause isn't stored.
     TautologicalClause {
         id: u64,
         clause: &'a [Lit],
@@ -66,7 +66,7 @@ pub enum CheckedProofStep<'a> {
         clause: &'a [Lit],
         propagations: &'a [u64],
     },
-    /// A clause that was only redundant is irredundant from now on.
+    /// A clause that was stored only as redundant is irredundant from now on.
     MakeIrredundant {
         id: u64,
         clause: &'a [Lit],
@@ -76,14 +76,16 @@ pub enum CheckedProofStep<'a> {
         id: u64,
         clause: &'a [Lit],
     },
-    /// A clause that follows from others is no longer irredundant.
+    /// A clause that follows from others is no longer irredundant. If `keep_as_redundant` is false, the clause
+    /// is removed.
     DeleteAtClause {
         id: u64,
         keep_as_redundant: bool,
         clause: &'a [Lit],
         propagations: &'a [u64],
     },
-    /// A clause whose resolvents on a hidden pivot follow from others is no longer irredundant. It is never announced.
+    /// A clause is no longer irredundant, because its resolvents on a hidden pivot follow from others. This is
+    /// never announced.
     DeleteRatClause {
         id: u64,
         keep_as_redundant: bool,
@@ -91,39 +93,39 @@ pub enum CheckedProofStep<'a> {
         pivot: Lit,
         propagations: ResolutionPropagations,
     },
-    /// A valuation that satisfies the formula, in the order of its step.
+    /// A valuation that satisfies the formula. Its literals are in the order of the step.
     Model {
         assignment: &'a [Lit],
     },
-    /// What is assumed from now on, in the order of its step.
+    /// The literals that are assumed from now on, in the order of the step.
     Assumptions {
         assumptions: &'a [Lit],
     },
-    /// Assumptions that can't hold together.
+    /// Assumptions that can't all be true.
     FailedAssumptions {
         failed_core: &'a [Lit],
         propagations: &'a [u64],
     },
 }
 
-/// A variable, and its earlier data.
+/// A variable, and its data before the current step.
 #[derive(Drop)]
 pub(crate) struct Was {
     pub(crate) var: Var,
     pub(crate) data: VarData,
 }
 
-/// What can be looked up during an announcement: the variables as they were before the step. `known` of their data may
-/// be the current one, which no announcement or name depends on.
+/// What listeners can look up during an announcement: the variables as they were before the step. The field `known` of
+/// their data may already have its new value, but no announcement or name depends on it.
 #[derive(Clone, Copy)]
 pub struct CheckerData<'a> {
     variables: &'a Variables,
-    /// The variable whose name or mode has changed since, with its earlier data.
+    /// The variable whose name or mode the step may have changed, with its data before the step.
     was: Option<&'a Was>,
 }
 
 impl<'a> CheckerData<'a> {
-    /// Lends the variables as they are.
+    /// Returns a view of the variables with their current data.
     pub fn new(variables: &'a Variables) -> CheckerData<'a>
         ensures { variables_of result ≡ variable_at variables.now }
     {
@@ -133,7 +135,7 @@ impl<'a> CheckerData<'a> {
         }
     }
 
-    /// Lends the variables as they were before one of them changed.
+    /// Returns a view of the variables in which the variable of `was`, if any, has its earlier data.
     pub(crate) fn before(variables: &'a Variables, was: &'a Option<Was>) -> CheckerData<'a>
         ensures { variables_of result ≡ put_back (was_of was.now) (variable_at variables.now) }
     {
@@ -165,7 +167,8 @@ impl<'a> CheckerData<'a> {
         self.data(proof_var).name
     }
 
-    /// Returns the user's name of a variable: the one that was given, or the variable's own if it is a sampling one.
+    /// Returns the user's name for a variable: its explicit name if it has one, or else the variable itself if its mode
+    /// is sample.
     pub fn user_from_proof_var(self, proof_var: Var) -> Option<Var>
         ensures { result ≡ user_from_proof_var (variables_of self.entry) proof_var }
     {

@@ -1,4 +1,4 @@
-//! What a step announces, given what is stored and known before it.
+//! What a step announces, given what is stored and known before the step.
 ghost use Rattle.std.specs.Prelude.{◌≡◌, ◌+◌, ◌++◌, ◌∷◌, [], OnOk, OnErr, if◌then◌else◌};
 ghost use Rattle.sat_checker.specs.Looks.{literal_count};
 ghost use Rattle.sat_checker.specs.Stored.{Stored};
@@ -23,7 +23,8 @@ use crate::variables::{SamplingMode, VarData};
 use sat_base::{Lit, Var};
 use std::alloc::AllocError;
 
-/// What storing a derived clause changes: it is new, or becomes irredundant under its id, or neither.
+/// What storing a derived clause changes: the clause is new, or the clause with the given id becomes irredundant,
+/// or neither.
 #[derive(Clone, Copy)]
 pub(crate) enum Change {
     New,
@@ -31,7 +32,8 @@ pub(crate) enum Change {
     Neither,
 }
 
-/// A clause that is to be deleted, as it is stored, and the id that it follows from if it is irredundant.
+/// What the announcement of a deletion depends on: whether a redundant or an irredundant count is removed, how the
+/// clause is stored, and, for an irredundant count, the id of the clause from which the deleted clause follows.
 #[derive(Clone, Copy)]
 pub(crate) struct Deletion {
     pub(crate) redundant: bool,
@@ -40,7 +42,8 @@ pub(crate) struct Deletion {
 }
 
 impl Formula {
-    /// Returns the id under which sorted literals are stored.
+    /// Returns the id under which the clause with the sorted literals `literals` is stored. Returns `None` if there is
+    /// no such clause, or if `literals` is empty.
     pub fn id_of_set(&self, literals: &[Lit], looks: &mut Looks) -> Option<u64>
         ensures id { (f : Stored) → KeepsFormula self.now f → result ≡ id_of_set literals.now f }
         ensures looks { LooksOver (KeepsFormula self.now) literal_count looks.old looks.new }
@@ -58,7 +61,7 @@ impl Formula {
     }
 }
 
-/// Returns what storing a derived clause of two literals or more changed, from how it was placed.
+/// Returns what storing a derived clause of two literals or more changed. `placed` is the result of storing it.
 pub(crate) fn change_of(redundant: bool, placed: Placed) -> Change
     ensures { result ≡ change_in redundant placed }
 {
@@ -74,7 +77,7 @@ pub(crate) fn change_of(redundant: bool, placed: Placed) -> Change
     Change::Neither
 }
 
-/// Returns the mode that is announced for a variable with a name.
+/// Returns the mode that is announced for a named variable whose mode is `mode`.
 fn checked_mode(mode: SamplingMode) -> CheckedSamplingMode
     ensures { is_sampling result ≡ is_sample (mode_in mode) }
 {
@@ -84,7 +87,7 @@ fn checked_mode(mode: SamplingMode) -> CheckedSamplingMode
     }
 }
 
-/// Returns `Sample` or `Witness`.
+/// Returns `Sample` if `sampling` is true, and `Witness` otherwise.
 fn mode_of(sampling: bool) -> CheckedSamplingMode
     ensures { is_sampling result ≡ sampling }
 {
@@ -96,7 +99,7 @@ fn mode_of(sampling: bool) -> CheckedSamplingMode
 }
 
 impl LastClause {
-    /// Returns the id of the last irredundant clause stored.
+    /// Returns the id of the last irredundant clause stored, if there is one.
     pub fn id(self) -> Option<u64>
         ensures { result ≡ last_id (last_in self) }
     {
@@ -107,7 +110,7 @@ impl LastClause {
     }
 }
 
-/// Whether the mode is `Sample`; if `sampling` is false, whether it is `Witness`.
+/// Whether the mode is `Sample` (if `sampling` is true) or `Witness` (if `sampling` is false).
 fn has_mode(mode: SamplingMode, sampling: bool) -> bool
     ensures { result ≡ (if sampling then is_sample (mode_in mode) else has_witness_mode (mode_in mode)) }
 {
@@ -119,8 +122,8 @@ fn has_mode(mode: SamplingMode, sampling: bool) -> bool
 }
 
 impl News {
-    /// Adds the announcement of an input clause that gets this id. `literals` are sorted; `same` is the id under which
-    /// they are already stored, if any.
+    /// Adds the announcement of an input clause with the id `id` and the sorted literals `literals`. `both_signs` says
+    /// whether they include both signs of a variable; `same` is the id under which they are already stored, if any.
     pub fn input(
         &mut self,
         id: u64,
@@ -141,7 +144,7 @@ impl News {
         }
     }
 
-    /// Adds the announcement of a derived clause that changed what is stored in this way.
+    /// Adds the announcement of a derived clause, if `change`, the change to what is stored, requires one.
     pub fn derived(
         &mut self,
         change: Change,
@@ -160,7 +163,8 @@ impl News {
         }
     }
 
-    /// Adds the announcement of a clause that lost a redundant count.
+    /// Adds the announcement of a clause that loses one redundant count, if this removes the clause. `stored` is the
+    /// clause before the removal.
     pub fn redundant_deleted(
         &mut self,
         literals: &[Lit],
@@ -178,7 +182,8 @@ impl News {
         Ok(())
     }
 
-    /// Adds the announcement of a clause that lost an irredundant count, and follows from the one with this id.
+    /// Adds the announcement of a clause that loses one irredundant count, if it has no other. `stored` is the clause
+    /// before the removal, and `from` is the id of the clause from which it follows, if any.
     pub fn irredundant_deleted(
         &mut self,
         literals: &[Lit],
@@ -202,7 +207,7 @@ impl News {
         }
     }
 
-    /// Adds the announcement of a deleted clause with these literals.
+    /// Adds the announcement of the deletion `deletion` of the clause with the literals `literals`, if there is one.
     pub fn deleted(&mut self, literals: &[Lit], deletion: Deletion) -> Result<(), AllocError>
         ensures ok { OnOk result (self.new ≡ self.old ++ deletion_announced literals.now deletion) }
         ensures err { OnErr result (self.new ≡ self.old) }
@@ -213,7 +218,7 @@ impl News {
         self.irredundant_deleted(literals, deletion.stored, deletion.from)
     }
 
-    /// Adds the announcement that a variable with this data gets a name.
+    /// Adds the announcement that `var`, whose data was `before`, gets the name `name`.
     pub fn naming(&mut self, var: Var, name: Var, before: VarData) -> Result<(), AllocError>
         ensures ok { OnOk result (self.new ≡ self.old ++ naming var name (variable_of_data before)) }
         ensures err { OnErr result (self.new ≡ self.old) }
@@ -226,7 +231,8 @@ impl News {
         self.user_var(var, Some(user))
     }
 
-    /// Adds the announcement that a variable with this data gets a name, or loses it.
+    /// Adds the announcement that `var`, whose data was `before`, gets the name `user`, or loses its name if `user`
+    /// is `None`.
     pub fn renaming(
         &mut self,
         var: Var,
@@ -242,7 +248,8 @@ impl News {
         }
     }
 
-    /// Adds the announcement that a variable with this data gets another mode.
+    /// Adds the announcement that the mode of `var`, whose data was `before`, changes. There is none if the variable
+    /// has no name or already has the mode.
     pub fn mode_change(
         &mut self,
         var: Var,

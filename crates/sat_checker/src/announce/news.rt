@@ -11,7 +11,7 @@ use sat_base::{FlatLists, Lit, Var};
 use std::alloc::{AllocError, Global};
 use std::marker::Model;
 
-/// What an announcement says besides its literals and the ids that something follows from.
+/// An announcement without its list of literals and its list of propagations.
 #[derive(Clone, Copy)]
 enum Kind {
     UserVar(Var, Option<CheckedUserVar>),
@@ -29,7 +29,7 @@ enum Kind {
 }
 
 impl Kind {
-    /// Lends the announcement with these literals and ids.
+    /// Returns the announcement with the literals `literals` and the propagations `ids`.
     fn lend<'a>(self, literals: &'a [Lit], ids: &'a [u64]) -> CheckedProofStep<'a>
         ensures { announcement_of result ≡ announcement_with self literals.now ids.now }
     {
@@ -83,7 +83,7 @@ impl Kind {
     }
 }
 
-/// An announcement, and the places of its literals and of its ids.
+/// An announcement, with the indices of its literals and its propagations in the lists of `News`.
 #[derive(Clone, Copy)]
 struct Item {
     kind: Kind,
@@ -91,7 +91,8 @@ struct Item {
     ids: usize,
 }
 
-/// Announcements in order, with copies of their literals and ids. Contracts see the list of them.
+/// Announcements in order, with copies of their literals and propagations. In contracts, the value is the list
+/// of announcements.
 #[derive(Drop)]
 pub(crate) struct News {
     items: Vec<Item>,
@@ -113,7 +114,7 @@ impl Model for News {
 }
 
 impl News {
-    /// Creates a list without announcements. It does not allocate.
+    /// Creates an empty list of announcements. Does not allocate.
     pub fn new(alloc: Global) -> News
         ensures { result ≡ [] }
     {
@@ -124,7 +125,7 @@ impl News {
         }
     }
 
-    /// Removes all announcements, and keeps the room.
+    /// Removes all announcements, but keeps the allocated memory.
     pub fn clear(&mut self)
         ensures { self.new ≡ [] }
     {
@@ -147,14 +148,14 @@ impl News {
         self.items.is_empty()
     }
 
-    /// Removes all announcements but the first ones.
+    /// Removes all announcements after the first `len`.
     pub fn truncate(&mut self, len: usize)
         ensures { self.new ≡ take len self.old }
     {
         self.items.truncate(len);
     }
 
-    /// Lends the announcement at this place.
+    /// Returns the announcement at `index`, which must be below the number of announcements.
     pub fn get(&self, index: usize) -> CheckedProofStep<'_>
         requires { index < length self.now }
         ensures { (d : Announcement) → announcement_of result ≡ slice_index_or self.now index d }
@@ -164,7 +165,7 @@ impl News {
             .lend(self.literals.get(item.literals), self.ids.get(item.ids))
     }
 
-    /// Adds an announcement of this kind.
+    /// Adds an announcement of the kind `kind`, with copies of `literals` and `ids`.
     #[inline(never)]
     fn push(&mut self, kind: Kind, literals: &[Lit], ids: &[u64]) -> Result<(), AllocError>
         ensures ok { OnOk result (self.new ≡ self.old ++ announcement_with kind literals.now ids.now ∷ []) }
@@ -181,7 +182,7 @@ impl News {
         Ok(())
     }
 
-    /// Adds a `UserVar`.
+    /// Adds a `UserVar` announcement.
     pub fn user_var(&mut self, var: Var, user: Option<CheckedUserVar>) -> Result<(), AllocError>
         ensures ok { OnOk result (self.new ≡ self.old ++ announcements.UserVar var (option_map announced_user user) ∷ []) }
         ensures err { OnErr result (self.new ≡ self.old) }
@@ -189,7 +190,7 @@ impl News {
         self.push(Kind::UserVar(var, user), &[], &[])
     }
 
-    /// Adds a `DeleteVar`.
+    /// Adds a `DeleteVar` announcement.
     pub fn delete_var(&mut self, var: Var) -> Result<(), AllocError>
         ensures ok { OnOk result (self.new ≡ self.old ++ announcements.DeleteVar var ∷ []) }
         ensures err { OnErr result (self.new ≡ self.old) }
@@ -197,7 +198,7 @@ impl News {
         self.push(Kind::DeleteVar(var), &[], &[])
     }
 
-    /// Adds an `AddClause`.
+    /// Adds an `AddClause` announcement.
     pub fn add_clause(&mut self, id: u64, clause: &[Lit]) -> Result<(), AllocError>
         ensures ok { OnOk result (self.new ≡ self.old ++ announcements.AddClause id clause.now ∷ []) }
         ensures err { OnErr result (self.new ≡ self.old) }
@@ -205,7 +206,7 @@ impl News {
         self.push(Kind::AddClause(id), clause, &[])
     }
 
-    /// Adds a `DuplicatedClause`.
+    /// Adds a `DuplicatedClause` announcement.
     pub fn duplicated_clause(
         &mut self,
         id: u64,
@@ -218,7 +219,7 @@ impl News {
         self.push(Kind::DuplicatedClause(id, same_as), clause, &[])
     }
 
-    /// Adds a `TautologicalClause`.
+    /// Adds a `TautologicalClause` announcement.
     pub fn tautological_clause(&mut self, id: u64, clause: &[Lit]) -> Result<(), AllocError>
         ensures ok { OnOk result (self.new ≡ self.old ++ announcements.TautologicalClause id clause.now ∷ []) }
         ensures err { OnErr result (self.new ≡ self.old) }
@@ -226,7 +227,7 @@ impl News {
         self.push(Kind::TautologicalClause(id), clause, &[])
     }
 
-    /// Adds an `AtClause`.
+    /// Adds an `AtClause` announcement.
     pub fn at_clause(
         &mut self,
         id: u64,
@@ -240,7 +241,7 @@ impl News {
         self.push(Kind::AtClause(id, redundant), clause, propagations)
     }
 
-    /// Adds a `MakeIrredundant`.
+    /// Adds a `MakeIrredundant` announcement.
     pub fn make_irredundant(&mut self, id: u64, clause: &[Lit]) -> Result<(), AllocError>
         ensures ok { OnOk result (self.new ≡ self.old ++ announcements.MakeIrredundant id clause.now ∷ []) }
         ensures err { OnErr result (self.new ≡ self.old) }
@@ -248,7 +249,7 @@ impl News {
         self.push(Kind::MakeIrredundant(id), clause, &[])
     }
 
-    /// Adds a `DeleteClause`.
+    /// Adds a `DeleteClause` announcement.
     pub fn delete_clause(&mut self, id: u64, clause: &[Lit]) -> Result<(), AllocError>
         ensures ok { OnOk result (self.new ≡ self.old ++ announcements.DeleteClause id clause.now ∷ []) }
         ensures err { OnErr result (self.new ≡ self.old) }
@@ -256,7 +257,7 @@ impl News {
         self.push(Kind::DeleteClause(id), clause, &[])
     }
 
-    /// Adds a `DeleteAtClause`.
+    /// Adds a `DeleteAtClause` announcement.
     pub fn delete_at_clause(
         &mut self,
         id: u64,
@@ -275,7 +276,7 @@ impl News {
         )
     }
 
-    /// Adds a `Model`.
+    /// Adds a `Model` announcement.
     pub fn model(&mut self, assignment: &[Lit]) -> Result<(), AllocError>
         ensures ok { OnOk result (self.new ≡ self.old ++ announcements.Model assignment.now ∷ []) }
         ensures err { OnErr result (self.new ≡ self.old) }
@@ -283,7 +284,7 @@ impl News {
         self.push(Kind::Model, assignment, &[])
     }
 
-    /// Adds an `Assumptions`.
+    /// Adds an `Assumptions` announcement.
     pub fn assumptions(&mut self, assumptions: &[Lit]) -> Result<(), AllocError>
         ensures ok { OnOk result (self.new ≡ self.old ++ announcements.Assumptions assumptions.now ∷ []) }
         ensures err { OnErr result (self.new ≡ self.old) }
@@ -291,7 +292,7 @@ impl News {
         self.push(Kind::Assumptions, assumptions, &[])
     }
 
-    /// Adds a `FailedAssumptions`.
+    /// Adds a `FailedAssumptions` announcement.
     pub fn failed_assumptions(
         &mut self,
         core: &[Lit],

@@ -1,4 +1,4 @@
-//! What a step announces, noted if there is a listener. The notes of a refused step are meaningless.
+//! Notes on what a step announces, which are made if there is a listener. The notes on a refused step are meaningless.
 ghost use Rattle.std.specs.Prelude.{ℕ, Bool, false, ◌≡◌, ◌∷◌, [], List, OnOk, IsTrue, map};
 ghost use Rattle.sat_base.specs.steps.Steps.{DeleteClause, FailedAssumptions};
 ghost use Rattle.sat_base.specs.steps.StepViews.{deletion_of};
@@ -28,14 +28,14 @@ use crate::variables::VarData;
 use sat_base::{DeleteClauseProof, Lit, Var};
 use std::alloc::{AllocError, Global};
 
-/// Room for what a step announces.
+/// Notes on what a step announces.
 #[derive(Drop)]
 pub(crate) struct Notes {
     /// Whether there is a listener. Otherwise nothing is noted.
     hears: bool,
     pub(crate) news: News,
     rests_on: Propagations,
-    /// Room for sorted literals.
+    /// A buffer for sorted literals.
     literals: Vec<Lit>,
 }
 
@@ -61,7 +61,7 @@ impl Notes {
         self.hears
     }
 
-    /// Starts the notes of a step, with or without a listener. Earlier notes are removed.
+    /// Starts the notes on a step. `hears` says whether there is a listener; if there is, earlier notes are removed.
     pub fn begin(&mut self, hears: bool)
         ensures hears { self.new.hears ≡ hears }
         ensures none { IsTrue hears → self.new.news ≡ [] }
@@ -72,7 +72,7 @@ impl Notes {
         }
     }
 
-    /// Notes that a variable with this data gets a name, or loses it.
+    /// Notes that `var`, whose data was `before`, gets the name `user`, or loses its name if `user` is `None`.
     pub fn renaming(
         &mut self,
         var: Var,
@@ -87,7 +87,7 @@ impl Notes {
         self.news.renaming(var, user, before)
     }
 
-    /// Notes that a variable with this data gets another mode.
+    /// Notes that the mode of `var`, whose data was `before`, changes, if this is announced.
     pub fn mode_change(
         &mut self,
         var: Var,
@@ -113,8 +113,9 @@ impl Notes {
         self.news.delete_var(var)
     }
 
-    /// Notes a derived clause with these sorted literals, which changed what is stored in this way. The ids that it
-    /// rests on are listed.
+    /// Notes the announcement of a derived clause with the sorted literals `literals`, if `change`, the change to what
+    /// is stored, requires one. `rests_on` must already list the ids of the clauses from which the derived
+    /// clause follows.
     #[inline(always)]
     pub fn derived(
         &mut self,
@@ -133,7 +134,7 @@ impl Notes {
             .derived(change, id, redundant, literals, self.rests_on.ids())
     }
 
-    /// Notes that a clause with these literals was deleted.
+    /// Notes the announcement of the deletion `deletion` of the clause with the literals `literals`, if there is one.
     pub fn deleted(&mut self, literals: &[Lit], deletion: Deletion) -> Result<(), AllocError>
         ensures { OnOk result (AppendsNews self.old (deletion_announced literals.now deletion) self.new) }
     {
@@ -165,7 +166,7 @@ impl Notes {
 }
 
 impl Formula {
-    /// Notes what an input clause with these sorted literals announces.
+    /// Notes the announcement of an input clause with the sorted literals `literals`, before the clause is stored.
     pub fn note_input(
         &self,
         literals: &[Lit],
@@ -187,7 +188,8 @@ impl Formula {
             .input(self.status.next_id, literals, both_signs, same)
     }
 
-    /// Returns what deleting the clause with these sorted literals announces.
+    /// Returns what the announcement of a deletion depends on. `literals` must be the sorted literals of the clause.
+    /// The result is meaningful only if there is a listener.
     #[inline(always)]
     pub fn deletion(
         &self,
@@ -211,8 +213,8 @@ impl Formula {
         self.deletion_heard(literals, proof, looks)
     }
 
-    /// Returns what a deletion announces: the id of its clause, and of the one that it was simplified from. It is only
-    /// called if there is a listener.
+    /// Does what `deletion` does if there is a listener: looks up the clause, and the id of the clause from which
+    /// it follows.
     #[inline(never)]
     fn deletion_heard(
         &self,
@@ -244,8 +246,8 @@ impl Formula {
         }
     }
 
-    /// If there is a listener, lists the ids of the clauses that a derived clause rests on. The clause passed the last
-    /// propagation check. `literals` are its sorted literals.
+    /// If there is a listener, lists the ids of the clauses from which a derived clause follows. The clause must be the
+    /// one that passed the last propagation check, and `literals` must be its sorted literals.
     #[inline(always)]
     pub fn note_propagations(
         &self,
@@ -276,7 +278,7 @@ impl Formula {
         )
     }
 
-    /// Returns what storing a clause of one literal will change.
+    /// Returns what storing the unit `lit` would change.
     pub fn unit_change(&self, lit: Lit) -> Change
         ensures { (f : Stored) → KeepsFormula self.now f → AreLong f → (redundant : Bool) (ids : List ℕ) →
             stored_as result f.next_id redundant (lit ∷ []) ids
@@ -288,7 +290,8 @@ impl Formula {
         }
     }
 
-    /// Notes what is announced when a unit that passed the last propagation check is stored.
+    /// Notes the announcement of a derived unit, if there is one, before the unit is stored. The unit must be the
+    /// clause that passed the last propagation check.
     pub fn note_unit(
         &self,
         lit: Lit,
@@ -320,7 +323,8 @@ impl Formula {
             .derived(change, id, false, &[lit], notes.rests_on.ids())
     }
 
-    /// Notes what is announced for a core whose negation passed the last propagation check.
+    /// Notes the announcement of a failed core. `denied` must be the clause of the negations of the core's literals,
+    /// and must have passed the last propagation check.
     pub fn note_core(
         &self,
         core: &[Lit],

@@ -1,4 +1,4 @@
-//! Transcripts: what was announced, in the user's names.
+//! Transcripts: announcements expressed with the user's variable names.
 ghost use Rattle.std.specs.Prelude.{◌≡◌, IfOk, OnOk, Result, if◌then◌else◌, []};
 ghost use Rattle.std.specs.Option.{option_map};
 ghost use Rattle.anyhow.specs.declared.error.Error.{Error};
@@ -14,7 +14,7 @@ use crate::announce::announcement::{
 use sat_base::{Lit, Var};
 use std::alloc::{AllocError, Global};
 
-/// A step of a transcript, which lends its lists.
+/// A step of a transcript, which borrows its lists. Variables are given by the user's names.
 #[derive(Clone, Copy)]
 pub enum ProofTranscriptStep<'a> {
     /// The variable is a witness from now on.
@@ -23,7 +23,7 @@ pub enum ProofTranscriptStep<'a> {
     SampleVar { var: Var },
     /// The variable is hidden from now on.
     HideVar { var: Var },
-    /// A variable that the solver made gets this name.
+    /// A variable that was already known, but had no explicit name, gets this name.
     ObserveInternalVar { var: Var },
     /// A clause of the formula.
     AddClause { clause: &'a [Lit] },
@@ -36,7 +36,7 @@ pub enum ProofTranscriptStep<'a> {
 
 /// Receives the steps of a transcript.
 pub trait ProofTranscriptProcessor: Drop {
-    /// Relates the value before a call, the step, the result, and the value after it.
+    /// Relates the transcript before a call of `process_step`, the step, the result, and the transcript after the call.
     ghost reads: { Self → Transcribed → Result (Unit {0}) Error → Self → Type 0 };
 
     /// Receives a step.
@@ -44,15 +44,15 @@ pub trait ProofTranscriptProcessor: Drop {
         ensures { reads self.old (transcribed_of step.now) result self.new };
 }
 
-/// Makes a transcript of announcements.
+/// Converts announcements to transcript steps.
 #[derive(Drop)]
 pub struct Transcript {
-    /// Room for literals in the user's names.
+    /// A buffer for literals over the user's names.
     lits: Vec<Lit>,
 }
 
 impl Transcript {
-    /// Creates a transcript. It does not allocate.
+    /// Creates a transcript. Does not allocate.
     pub fn new(alloc: Global) -> Transcript
         ensures { result.lits.items ≡ [] }
     {
@@ -61,7 +61,7 @@ impl Transcript {
         }
     }
 
-    /// Returns what a transcript says about the announcement, if anything.
+    /// Returns the transcript step for an announcement, if there is one.
     pub fn transcript_step(
         &mut self,
         step: &CheckedProofStep<'_>,
@@ -105,7 +105,8 @@ impl Transcript {
         }
     }
 
-    /// Puts the literals into the buffer in the user's names, and drops those of variables that have none.
+    /// Sets the buffer to the literals, with variables replaced by the user's names. Literals whose variable has no
+    /// such name are dropped.
     fn rename(&mut self, literals: &[Lit], names: CheckerData<'_>) -> Result<(), AllocError>
         ensures { OnOk result (self.new.lits.items ≡ in_user_names (variables_of names.entry) literals.now) }
     {
@@ -119,7 +120,7 @@ impl Transcript {
     }
 }
 
-/// Returns what is said if a name or a mode changes.
+/// Returns the transcript step for a change of a variable's name or mode, if there is one.
 fn name_change<'s>(
     names: CheckerData<'_>,
     var: Var,
@@ -142,7 +143,7 @@ fn name_change<'s>(
     Some(ProofTranscriptStep::ObserveInternalVar { var: user.user_var })
 }
 
-/// Returns what is said if a mode changes.
+/// Returns the transcript step for a change of a variable's mode.
 fn mode_change<'s>(user: CheckedUserVar) -> ProofTranscriptStep<'s>
     ensures { transcribed_of result
         ≡ (if (announced_user user).sampling then SampleVar user.user_var else WitnessVar user.user_var) }
@@ -154,7 +155,7 @@ fn mode_change<'s>(user: CheckedUserVar) -> ProofTranscriptStep<'s>
     }
 }
 
-/// Returns what is said if a clause is derived.
+/// Returns the transcript step for a derived clause: `Unsat` if the clause is empty, and `None` otherwise.
 fn derivation<'s>(clause: &[Lit]) -> Option<ProofTranscriptStep<'s>>
     ensures { option_map transcribed_of result ≡ deriving_of clause.now }
 {

@@ -1,4 +1,4 @@
-//! Adds a formula's text, clause by clause.
+//! Adds the clauses of a formula that is given as text in DIMACS CNF.
 ghost use Rattle.std.specs.Prelude.{◌≡◌, ◌≤◌, ◌+◌, false};
 ghost use Rattle.sat_base.specs.device.Device.{most_reads};
 ghost use Rattle.sat_base.specs.dimacs.Parsing.{all_taken, no_progress};
@@ -16,13 +16,13 @@ use crate::error::{CheckerDimacsError, CheckerError};
 use crate::processing::ProofProcessor;
 use sat_base::{CountedRead, DimacsError, DimacsParser};
 
-/// The number of bytes that are requested at a time.
+/// The number of bytes that are requested in each read.
 const PIECE: usize = 4096;
 
-/// A reader is read at most this many times.
+/// The largest number of reads.
 const MAX_READS: u64 = 1 << 48;
 
-/// Whether the checker has failed after this error, because memory ran out.
+/// Whether the error is `OutOfMemory`, after which the checker has failed.
 fn is_want(error: DimacsError) -> bool
     ensures { result ≡ is_out_of_memory error }
 {
@@ -36,9 +36,9 @@ fn is_want(error: DimacsError) -> bool
 }
 
 impl<P: ProofProcessor, T: ProofTranscriptProcessor> Checker<P, T> {
-    /// Adds the clauses of a formula's text in DIMACS CNF, in order, while it reads the text in chunks of 4,096
-    /// bytes. The clauses before a fault, or before a clause that is refused, remain. If the text can't be read, the
-    /// checker continues.
+    /// Reads a formula in DIMACS CNF, in chunks of at most 4,096 bytes, and adds its clauses in order. The clauses
+    /// before a fault in the text, or before a refused clause, remain. If the text is malformed or can't be read, the
+    /// checker can still be used.
     pub fn add_dimacs_cnf<R: CountedRead>(
         &mut self,
         reader: &mut R,
@@ -57,7 +57,7 @@ impl<P: ProofProcessor, T: ProofTranscriptProcessor> Checker<P, T> {
         self.add_text(&mut parser, reader)
     }
 
-    /// Adds the clauses of a text that a parser reads from its beginning.
+    /// Adds the clauses of the text that `reader` provides. The parser must not have received any text yet.
     fn add_text<R: CountedRead>(
         &mut self,
         parser: &mut DimacsParser,
@@ -87,7 +87,8 @@ impl<P: ProofProcessor, T: ProofTranscriptProcessor> Checker<P, T> {
         Err(CheckerDimacsError::Dimacs(DimacsError::Read))
     }
 
-    /// Adds the clauses that the parser has completed so far, after it reported `answer`.
+    /// Adds the clauses that the parser has completed so far. If this succeeds, returns the error in `answer`, the
+    /// parser's last result, if there is one.
     fn add_read(
         &mut self,
         parser: &mut DimacsParser,

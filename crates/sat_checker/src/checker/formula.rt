@@ -13,7 +13,8 @@ use crate::processing::ProofProcessor;
 use sat_base::CnfFormula;
 
 impl<P: ProofProcessor, T: ProofTranscriptProcessor> Checker<P, T> {
-    /// Adds the clauses of a formula, in order, up to the first that is refused. The clauses before it remain.
+    /// Adds the clauses of a formula, in order, and stops at the first one that is not accepted. The clauses before
+    /// that one remain.
     pub fn add_formula(&mut self, formula: &CnfFormula) -> Result<(), CheckerError>
         ensures adds { AddsClauses (HearsEach P.takes T.reads)
             result (seen_of self.old) (seen_of self.new) formula.now.clauses }

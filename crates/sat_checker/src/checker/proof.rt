@@ -20,7 +20,7 @@ use crate::error::CheckerError;
 use crate::processing::{Nobody, ProofProcessor};
 use sat_base::{CountedRead, ProofStep, StepError, StepReader};
 
-/// Returns the checker's error if no step was read.
+/// Returns the checker's error for an error of the step reader.
 fn unread_error(error: StepError) -> CheckerError
     ensures { result ≡ read_error error }
 {
@@ -34,7 +34,7 @@ fn unread_error(error: StepError) -> CheckerError
     }
 }
 
-/// Whether the checker has failed after this error, because memory ran out.
+/// Whether the error is `OutOfMemory`, after which the checker has failed.
 fn is_final(error: StepError) -> bool
     ensures { result ≡ is_final error }
 {
@@ -56,8 +56,9 @@ fn is_end(step: &ProofStep<'_>) -> bool
 }
 
 impl<P: ProofProcessor, T: ProofTranscriptProcessor> Checker<P, T> {
-    /// Reads and checks the steps of a proof up to its `End`, and never looks past it. It holds one step at a time. The
-    /// steps that were accepted before an error remain. If a proof can't be read or is cut off, the checker continues.
+    /// Reads and checks the steps of a proof up to its `End`, and ignores what follows. Holds one step in memory at a
+    /// time. The steps that were accepted before an error remain. If the proof is malformed, ends early or can't be
+    /// read, the checker can still be used.
     pub fn check_proof<R: CountedRead>(&mut self, reader: &mut R) -> Result<(), CheckerError>
         ensures proof { ChecksProof (HearsEach P.takes T.reads)
             result (seen_of self.old) (seen_of self.new) (R.seen reader.old) (R.seen reader.new) }
@@ -70,7 +71,7 @@ impl<P: ProofProcessor, T: ProofTranscriptProcessor> Checker<P, T> {
         self.check_proof_by(reader, &mut nobody, false)
     }
 
-    /// Checks a proof like `check_proof`, and notifies this processor of every announcement first.
+    /// Checks a proof, as `check_proof` does, and notifies `own` of every announcement before the checker's listeners.
     pub fn check_proof_with<R: CountedRead, O: ProofProcessor>(
         &mut self,
         reader: &mut R,
@@ -85,7 +86,8 @@ impl<P: ProofProcessor, T: ProofTranscriptProcessor> Checker<P, T> {
         self.check_proof_by(reader, own, true)
     }
 
-    /// Checks a proof. It notifies the caller's processor first, if there is one.
+    /// Checks a proof, and notifies `own` of every announcement before the checker's listeners. If `has_own` is false,
+    /// the caller has no processor, and `own` must accept everything and never change.
     fn check_proof_by<R: CountedRead, O: ProofProcessor>(
         &mut self,
         reader: &mut R,
@@ -106,7 +108,7 @@ impl<P: ProofProcessor, T: ProofTranscriptProcessor> Checker<P, T> {
         self.check_steps(&mut steps, own, has_own)
     }
 
-    /// Checks the steps that a reader of steps reads from its beginning.
+    /// Checks the steps of a proof up to its `End`. The reader `steps` must not have read anything yet.
     fn check_steps<R: CountedRead, O: ProofProcessor>(
         &mut self,
         steps: &mut StepReader<'_, R>,
@@ -132,7 +134,7 @@ impl<P: ProofProcessor, T: ProofTranscriptProcessor> Checker<P, T> {
         }
     }
 
-    /// Reads and checks the next step. Returns whether it is the end.
+    /// Reads and checks the next step. Returns whether the step is `End`.
     fn check_next<R: CountedRead, O: ProofProcessor>(
         &mut self,
         steps: &mut StepReader<'_, R>,

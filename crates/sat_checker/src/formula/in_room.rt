@@ -1,5 +1,5 @@
-//! Judges by marks of literals whether they are a model of the stored formula, and whether a clause may be deleted. If
-//! there is no memory for a mark, the literal is in no stored clause.
+//! Decides, by marking literals, whether they are a model of the stored formula, and whether a clause may be deleted. A
+//! literal for whose mark there is no memory is in no stored clause.
 ghost use Rattle.std.specs.Prelude.{ℕ, ◌≡◌, ◌*◌, ◌<◌, ◌&&◌, ◌↔◌, not, IfOk, OnErr, IsErrOf, IsTrue};
 ghost use Rattle.std.specs.Prelude.{false, MatchBool};
 ghost use Rattle.std.specs.List.{list_any};
@@ -29,7 +29,7 @@ use sat_base::{DeleteClauseProof, Lit};
 use std::alloc::AllocError;
 
 impl Formula {
-    /// Whether the literals are a model of what is stored. It runs out of memory only if they are.
+    /// Whether the literals are a model of the stored formula. Runs out of memory only if they are.
     pub fn fits(&mut self, literals: &[Lit], looks: &mut Looks) -> Result<bool, AllocError>
         ensures exact { IfOk result (λ fits. (f : Stored) → KeepsFormula (refiled_in self.old) f
             → IsTrue fits ↔ FitsModel f literals.now) }
@@ -48,8 +48,8 @@ impl Formula {
         }
     }
 
-    /// Judges a model after memory ran out: either the literals are not a model of what is stored, or the result
-    /// is `OutOfMemory`.
+    /// Does what `fits` does after memory ran out: returns false if the literals are not a model of the stored formula,
+    /// and an error if they are.
     fn fail_if_met(&mut self, literals: &[Lit], looks: &mut Looks) -> Result<bool, AllocError>
         requires { self.old.status.unsat ≡ false }
         ensures exact { IfOk result (λ fits. (f : Stored) → KeepsFormula (refiled_in self.old) f
@@ -68,7 +68,7 @@ impl Formula {
         Ok(false)
     }
 
-    /// Marks the literals that there is room for, and no others.
+    /// Marks those of the literals for which there is room, and no others.
     fn mark_in_room(&mut self, literals: &[Lit])
         ensures marked { (l : ℕ) → is_among self.new.marks.literals l
             ≡ (is_among self.old.marks.room l && is_among literals.now l) }
@@ -79,8 +79,8 @@ impl Formula {
         assume_roomy(&mut self.marks, literals);
     }
 
-    /// Whether no unit's negation is among the literals, and every irredundant clause has one of them. Those that there
-    /// is room for are marked.
+    /// Whether the literals contain the negation of no unit, and satisfy every irredundant clause. Those of the
+    /// literals for which there is room must be marked.
     fn are_met(&self, literals: &[Lit], looks: &mut Looks) -> bool
         requires { AgreesOn self.now.marks.room self.now.marks.literals literals.now }
         ensures met { (f : Stored) → KeepsFormula (refiled_in self.now) f
@@ -91,8 +91,8 @@ impl Formula {
         !self.units.are_contradicted(literals) && self.store.are_satisfied(&self.marks, looks)
     }
 
-    /// Judges a deletion after memory ran out: the clause may not be deleted by this proof, or the result
-    /// is `OutOfMemory`.
+    /// Decides on a deletion after memory ran out: returns false if the clause may not be deleted for the reason
+    /// `proof`, and `OutOfMemory` if it may.
     pub fn fail_if_deletable(
         &mut self,
         clause: &[Lit],
@@ -112,7 +112,7 @@ impl Formula {
         Ok(false)
     }
 
-    /// Whether a clause may be deleted by this proof. It does not allocate.
+    /// Whether a clause may be deleted for the reason `proof`. Does not allocate.
     pub fn may_delete_in_room(
         &mut self,
         clause: &[Lit],
@@ -132,7 +132,7 @@ impl Formula {
         self.may_delete_marked(clause, proof, looks)
     }
 
-    /// Whether the clause of exactly the marked literals may be deleted by this proof.
+    /// Whether a clause may be deleted for the reason `proof`. Exactly the literals of `clause` must be marked.
     fn may_delete_marked(&self, clause: &[Lit], proof: DeleteClauseProof, looks: &mut Looks) -> bool
         requires { (l : ℕ) → is_among self.now.marks.literals l ≡ is_among clause.now l }
         ensures exact { (f : Stored) → KeepsFormula self.now f
@@ -151,7 +151,8 @@ impl Formula {
         }
     }
 
-    /// Whether the clause of exactly the marked literals is stored as redundant, or as irredundant.
+    /// Whether a clause is stored: as redundant if `redundant` is true, as irredundant otherwise. Exactly the literals
+    /// of `clause` must be marked.
     fn marked_has_count(&self, redundant: bool, clause: &[Lit], looks: &mut Looks) -> bool
         requires { (l : ℕ) → is_among self.now.marks.literals l ≡ is_among clause.now l }
         ensures found { (f : Stored) → KeepsFormula self.now f
@@ -162,7 +163,8 @@ impl Formula {
         self.store.assumed_count(redundant, &self.marks, looks) > 0
     }
 
-    /// Whether the last irredundant clause is still stored, and its literals are a proper subset of the marked ones.
+    /// Whether the last irredundant clause stored is still stored, and its literals are a proper subset of the
+    /// marked literals.
     fn has_last_marked(&self, looks: &mut Looks) -> bool
         ensures part { (f : Stored) → KeepsFormula self.now f
             → MatchBool result (IsStrictSubset (last_literals f.last f) self.now.marks.literals)

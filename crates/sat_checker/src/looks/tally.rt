@@ -1,10 +1,10 @@
-//! What only contracts see of looks at literals. It is zero-sized, and its functions do nothing at run time.
+//! The exact number of looks, which only contracts see. It is zero-sized, and its functions do nothing at run time.
 ghost use Rattle.std.specs.Prelude.{◌≡◌, ◌+◌, ℕ};
 ghost use Rattle.std.specs.Borrow.{ftrue};
 
 use std::marker::Model;
 
-/// The number of literals that were looked at, without a largest value.
+/// The number of looks at literals, without an upper limit.
 #[derive(Drop)]
 pub(crate) struct LookTally {
     pub ghost seen: { ℕ },
@@ -22,7 +22,7 @@ impl LookTally {
         LookTally {}
     }
 
-    /// Returns the count after this many more.
+    /// Returns the count increased by `_more`.
     pub(crate) fn and(&self, _more: u64) -> LookTally
         ensures { result.seen ≡ self.now.seen + _more }
     {

@@ -1,11 +1,12 @@
-//! Boxed processors and transcripts, which their caller makes: a checker of boxes has listeners of any types.
+//! Boxed processors and transcripts, which the caller creates. A checker of boxes can have listeners of
+//! different types.
 ghost use Rattle.std.specs.Prelude.{◌≡◌};
 
 use crate::announce::announcement::{CheckedProofStep, CheckerData};
 use crate::announce::transcript::{ProofTranscriptProcessor, ProofTranscriptStep};
 use crate::processing::ProofProcessor;
 
-/// Passes what is announced to the value in the box, which stays there.
+/// Passes every announcement to the processor in the box.
 impl ProofProcessor for Box<dyn ProofProcessor> {
     ghost use Rattle.std.specs.Prelude.{◌≡◌};
 
@@ -22,7 +23,7 @@ impl ProofProcessor for Box<dyn ProofProcessor> {
     }
 }
 
-/// Passes what is announced to the value in the box, which stays there.
+/// Passes every transcript step to the transcript in the box.
 impl ProofTranscriptProcessor for Box<dyn ProofTranscriptProcessor> {
     ghost use Rattle.std.specs.Prelude.{◌≡◌};
 

@@ -1,5 +1,5 @@
-//! Judges units in turn after memory ran out for one of them: those before a unit are assumed as far as there is room
-//! for them, and the others are searched for in the list.
+//! Checks units one after another, after memory ran out for a unit. Earlier units are assumed if there is room for
+//! them; otherwise, they are searched for in the list of units.
 ghost use Rattle.std.specs.Prelude.{ℕ, ◌≡◌, ◌-◌, ◌*◌, [], ◌∷◌, length, map, not, ◌&&◌, IfOk, OnErr, IsTrue, ◌↔◌};
 ghost use Rattle.sat_checker.specs.Accepts.{PassesByHashes};
 ghost use Rattle.sat_checker.specs.LiteralSets.{is_among};
@@ -19,7 +19,7 @@ use crate::units::assigned::Assigned;
 use sat_base::{ClauseHash, Lit};
 use std::alloc::AllocError;
 
-/// Assumes a unit if there is room for it, unless it or its negation is assumed.
+/// Assumes a unit if there is room for it, unless the unit or its negation is already assumed.
 fn suppose(assigned: &mut Assigned, lit: Lit)
     ensures { assigned.new ≡ record assigned.old { literals = with_supposed lit assigned.old } }
 {
@@ -28,7 +28,7 @@ fn suppose(assigned: &mut Assigned, lit: Lit)
     }
 }
 
-/// Whether the literal is the first of its variable among the units.
+/// Whether the first of the units with the variable of `lit` is `lit` itself.
 fn stands_first(units: &[(Lit, ClauseHash)], lit: Lit) -> bool
     ensures { result ≡ stands_first (map (λ u. u.0) units.now) lit }
 {
@@ -43,14 +43,15 @@ fn stands_first(units: &[(Lit, ClauseHash)], lit: Lit) -> bool
     false
 }
 
-/// Whether the literal has no room, and is one of the earlier units.
+/// Whether there is no room for `lit`, and the first unit in `before` with its variable is `lit` itself.
 fn came_in(assigned: &Assigned, before: &[(Lit, ClauseHash)], lit: Lit) -> bool
     ensures { result ≡ (not (is_among assigned.now.room lit) && stands_first (map (λ u. u.0) before.now) lit) }
 {
     !assigned.has_room(lit) && stands_first(before, lit)
 }
 
-/// Whether a unit passes after those before it. It does not allocate if there is room for the stored clauses.
+/// Whether a unit passes, given the units before it. Runs out of memory only if there is no room for a literal of a
+/// stored clause.
 fn passes(
     store: &Store,
     before: &[(Lit, ClauseHash)],
@@ -88,7 +89,8 @@ fn passes(
     answer
 }
 
-/// Whether units pass in turn after the first of them, if exactly the units so far are assumed.
+/// Whether every unit in `units` after the first passes, given the units before it. Exactly the stored units must
+/// be assumed.
 pub(crate) fn pass_in_turn(
     store: &Store,
     units: &[(Lit, ClauseHash)],

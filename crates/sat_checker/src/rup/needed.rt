@@ -1,4 +1,4 @@
-//! What a conflict rests on, followed backwards over the notes of a walk.
+//! Finds the clauses and units from which a conflict follows, by going backwards through the notes of a walk.
 ghost use Rattle.std.specs.Prelude.{ℕ, ◌≡◌, ◌+◌, ◌<◌, ◌==◌, ◌||◌, ◌++◌, [], map, length, reverse, OnOk, Some, true, false};
 ghost use Rattle.sat_base.specs.values.Literals.{negated};
 ghost use Rattle.sat_checker.specs.LiteralSets.{is_among};
@@ -19,7 +19,7 @@ use crate::units::assigned::Assigned;
 use sat_base::Lit;
 use std::alloc::{AllocError, Global};
 
-/// Marked literals, and the ids of the clauses that are needed, the last one first.
+/// The marked literals, and the ids of the needed clauses, in reverse order.
 #[derive(Drop)]
 pub(crate) struct Needed {
     marked: Assigned,
@@ -47,7 +47,7 @@ pub(crate) fn mark_all(marked: &mut Assigned, clause: &[Lit]) -> Result<(), Allo
     Ok(())
 }
 
-/// Marks the negations of a clause's literals except this one.
+/// Marks the negations of a clause's literals, except for the literal `made`.
 #[tactic(auto, using(crate::proofs::lemmas::announcements::Marking::marking))]
 fn mark_others(marked: &mut Assigned, clause: &[Lit], made: Lit) -> Result<(), AllocError>
     ensures marked { OnOk result ((m : ℕ) → is_among marked.new.literals m
@@ -62,7 +62,7 @@ fn mark_others(marked: &mut Assigned, clause: &[Lit], made: Lit) -> Result<(), A
     Ok(())
 }
 
-/// Lists the ids of the marked literals that are units and not denied, in order.
+/// Lists the ids of the units that are marked but not in `denied`, in increasing order.
 #[tactic(auto, using(crate::proofs::lemmas::announcements::Listing::listing))]
 fn list_units(
     marked: &Assigned,
@@ -89,7 +89,7 @@ fn list_units(
 }
 
 impl Needed {
-    /// Creates a list without marks and ids.
+    /// Creates a value without marks and ids.
     pub fn new(alloc: Global) -> Needed
         ensures marked { result.marked.literals ≡ [] }
         ensures none { result.ids.items ≡ [] }
@@ -100,7 +100,8 @@ impl Needed {
         }
     }
 
-    /// Starts at the falsified clause.
+    /// Starts with the falsified clause, which must be at `place`: marks the negations of its literals, and records
+    /// its id.
     #[tactic(auto, using(crate::proofs::lemmas::announcements::Marking::following))]
     pub fn begin(
         &mut self,
@@ -120,7 +121,8 @@ impl Needed {
         Ok(())
     }
 
-    /// Follows a reason: it is needed if its literal is.
+    /// Follows a reason. If its literal is marked, its clause is needed: marks the negations of the clause's other
+    /// literals, and records the id of the clause.
     #[tactic(auto, using(crate::proofs::lemmas::announcements::Marking::following))]
     pub fn follow(
         &mut self,
@@ -185,7 +187,7 @@ impl Needed {
         false
     }
 
-    /// Lists the ids of the clauses that are needed, the falsified one last.
+    /// Appends the ids of the needed clauses to `ids`, with the falsified clause last.
     pub fn list_clauses(&mut self, ids: &mut Vec<u64>) -> Result<(), AllocError>
         ensures { OnOk result (ids.new.items ≡ ids.old.items ++ reverse self.old.ids.items) }
     {
@@ -193,8 +195,8 @@ impl Needed {
         ids.extend_from_slice(&self.ids)
     }
 
-    /// Lists the ids of the units that are needed, by increasing id, and then those of the clauses, the falsified
-    /// one last.
+    /// Lists the ids of the needed units, in increasing order, and then the ids of the needed clauses, with the
+    /// falsified clause last.
     pub fn list(
         &mut self,
         denied: &Assigned,

@@ -1,5 +1,5 @@
-//! What only contracts see of the notes of a walk, even if memory ran out for one. It is zero-sized, and its functions
-//! do nothing at run time.
+//! The notes of a walk, which only contracts see, complete even if memory ran out for a note. They are zero-sized, and
+//! their functions do nothing at run time.
 ghost use Rattle.std.specs.Prelude.{◌≡◌, ◌++◌, ◌∷◌, [], List};
 ghost use Rattle.std.specs.Borrow.{ftrue};
 ghost use Rattle.sat_checker.specs.declared.rup.passed.Reason.{Reason};
@@ -24,7 +24,7 @@ impl Noted {
         Noted {}
     }
 
-    /// Returns the notes with one more reason.
+    /// Returns the notes with a reason appended.
     pub(crate) fn and(&self, _place: usize, _code: usize) -> Noted
         ensures { result.reasons ≡ self.now.reasons ++ (record { place = _place; lit = _code }) ∷ [] }
     {

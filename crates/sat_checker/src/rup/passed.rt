@@ -1,4 +1,4 @@
-//! The notes of a walk: the clauses that it used.
+//! The notes of a walk over stored clauses: the clauses that the walk used.
 ghost use Rattle.std.specs.Prelude.{◌≡◌, ◌++◌, ◌∷◌, [], None, Some, true, false};
 
 use crate::rup::noted::Noted;
@@ -6,21 +6,21 @@ use sat_base::Lit;
 use std::alloc::Global;
 use std::marker::Model;
 
-/// The place of a clause that implied a literal.
+/// A literal, and the place of the clause that implied it.
 #[derive(Clone, Copy)]
 pub(crate) struct Reason {
     pub(crate) place: usize,
     pub(crate) lit: Lit,
 }
 
-/// The reasons in the order in which they were noted, and the place of the clause that was falsified. Contracts see all
-/// reasons, even if memory ran out for one.
+/// The reasons in the order in which they were noted, and the place of the falsified clause, if there is one. In
+/// contracts, the reasons are complete, even if memory ran out for a note.
 #[derive(Drop)]
 pub(crate) struct Passed {
     reasons: Vec<Reason>,
     conflict: Option<usize>,
-    /// Whether the notes are unusable, since no listener needs them, or memory ran out for one of them or for what the
-    /// walk started from.
+    /// Whether the notes are unusable, because no listener needs them, or because memory ran out for a note or for the
+    /// literals from which the walk started.
     lost: bool,
     /// Whether no listener needs the notes.
     quiet: bool,
@@ -52,7 +52,7 @@ impl Passed {
         }
     }
 
-    /// Sets whether a listener needs the notes from now on. Otherwise none is kept.
+    /// Sets whether a listener needs the notes from now on. If `hears` is false, no reasons are stored.
     #[inline(always)]
     pub fn listen(&mut self, hears: bool)
         ensures { self.new ≡ self.old }
@@ -60,7 +60,7 @@ impl Passed {
         self.quiet = !hears;
     }
 
-    /// Removes all notes, and keeps the allocated room.
+    /// Removes all notes, but keeps the allocated memory.
     pub fn clear(&mut self)
         ensures { self.new ≡ record { reasons = []; conflict = None; lost = false } }
     {
@@ -92,7 +92,7 @@ impl Passed {
         self.conflict = Some(place);
     }
 
-    /// Records that the notes do not say what the walk started from.
+    /// Records that the notes are unusable, because the literals from which the walk started are incomplete.
     pub fn lose(&mut self)
         ensures { self.new ≡ record self.old { lost = true } }
     {
@@ -106,14 +106,14 @@ impl Passed {
         self.lost
     }
 
-    /// Returns the place of the clause that was falsified.
+    /// Returns the place of the falsified clause, if there is one.
     pub fn conflict(&self) -> Option<usize>
         ensures { result ≡ self.now.conflict }
     {
         self.conflict
     }
 
-    /// Lends the reasons, if the notes are usable.
+    /// Returns the reasons as a slice. The notes must be usable.
     pub fn reasons(&self) -> &[Reason]
         requires { self.now.lost ≡ false }
         ensures { result.now ≡ self.now.reasons }

@@ -1,4 +1,4 @@
-//! For a clause that passed the propagation check: the ids of the clauses that it rests on. They are listed only if a
+//! The ids of the clauses from which a clause that passed the propagation check follows. They are listed only if a
 //! listener needs them.
 ghost use Rattle.std.specs.Prelude.{ℕ, List, ◌≡◌, ◌+◌, ◌++◌, [], map, OnOk, false};
 ghost use Rattle.sat_base.specs.values.Literals.{negated};
@@ -21,7 +21,7 @@ use crate::units::assigned::Assigned;
 use sat_base::Lit;
 use std::alloc::{AllocError, Global};
 
-/// The propagations of a clause that passed the check, and room for the next ones.
+/// The propagations of a clause that passed the check, and buffers that are reused.
 #[derive(Drop)]
 pub(crate) struct Propagations {
     ids: Vec<u64>,
@@ -41,15 +41,15 @@ impl Propagations {
         }
     }
 
-    /// Lends the ids.
+    /// Returns the ids as a slice.
     pub fn ids(&self) -> &[u64]
         ensures { result.now ≡ self.now.ids.items }
     {
         &self.ids
     }
 
-    /// Lists the propagations of a clause that passed the check, from the check's notes, which have to be complete.
-    /// `literals` are its sorted literals.
+    /// Lists the propagations of a clause that passed the check, using the check's notes. Returns an error if the notes
+    /// are unusable. `literals` must be the sorted literals of `clause`.
     #[inline(never)]
     pub fn list(
         &mut self,
@@ -85,7 +85,8 @@ impl Propagations {
         self.list_conflict(store, units, passed, clause, looks)
     }
 
-    /// Lists what the conflict noted under the negated clause rests on.
+    /// Lists the ids of the units and clauses from which the noted conflict follows. `clause` must be the clause whose
+    /// negation led to the conflict.
     fn list_conflict(
         &mut self,
         store: &Store,

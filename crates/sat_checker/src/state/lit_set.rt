@@ -8,7 +8,7 @@ use sat_base::{Lit, Var};
 use std::alloc::{AllocError, Global};
 use std::marker::Model;
 
-/// A set of literals. Contracts see the sorted list of them.
+/// A set of literals. In contracts, the value is the sorted list of its literals.
 #[derive(Drop)]
 pub(crate) struct LitSet {
     lits: Vec<Lit>,
@@ -35,7 +35,7 @@ impl LitSet {
         }
     }
 
-    /// Replaces the current literals with these. After an error, the set is empty.
+    /// Replaces the set's literals with `literals`. After an error, the set is empty.
     #[tactic(auto, using(crate::proofs::lemmas::sets::Canonical::canonical_increasing))]
     pub fn replace(&mut self, literals: &[Lit]) -> Result<(), AllocError>
         ensures { OnOk result (self.new ≡ canonical literals.now) }
@@ -56,7 +56,7 @@ impl LitSet {
         self.lits.binary_search(&lit).is_ok()
     }
 
-    /// Whether all of these literals are in the set.
+    /// Whether all literals of `part` are in the set.
     pub fn has_all(&self, part: &[Lit]) -> bool
         ensures { result ≡ is_part part.now self.now }
     {
@@ -68,7 +68,7 @@ impl LitSet {
         true
     }
 
-    /// Whether a literal of the variable is in the set.
+    /// Whether the set contains a literal of the variable.
     pub fn mentions(&self, var: Var) -> bool
         ensures { result ≡ mentions self.now var }
     {

@@ -8,8 +8,8 @@ ghost use Rattle.sat_checker.specs.declared.store.StoreError.TheVariants.{Counte
 use crate::store::StoreError;
 use sat_base::Lit;
 
-/// The last irredundant clause stored: none yet, or an empty one, a unit or a longer one, with its id. A unit also has
-/// its literal, so that it is found without a search.
+/// The irredundant clause that was stored last, with its id: none yet, an empty clause, a unit, or a longer clause. A
+/// unit also has its literal, so that it can be found without a search.
 #[derive(Clone, Copy)]
 pub(crate) enum LastClause {
     NoneYet,
@@ -22,7 +22,7 @@ pub(crate) enum LastClause {
 #[derive(Clone, Copy)]
 pub(crate) struct Status {
     pub(crate) unsat: bool,
-    /// The ids of a unit and of one that contradicts it, while the empty clause of their conflict has no id yet.
+    /// The ids of a unit and of a unit that contradicts it, until the empty clause of their conflict has an id.
     pub(crate) conflict: Option<(u64, u64)>,
     pub(crate) last: LastClause,
     pub(crate) next_id: u64,
@@ -30,7 +30,7 @@ pub(crate) struct Status {
     pub(crate) var_deleted: bool,
 }
 
-/// What can still be returned after a later step has failed.
+/// What the checker can still report after a later step has failed.
 #[derive(Clone, Copy)]
 pub(crate) struct Records {
     pub(crate) unsat: bool,
@@ -53,7 +53,7 @@ impl Status {
         }
     }
 
-    /// Returns what can still be returned after a later step has failed.
+    /// Returns what the checker can still report after a later step has failed.
     #[inline(always)]
     pub fn records(&self) -> Records
         ensures { (result.unsat ≡ self.now.unsat) × (result.ended ≡ self.now.ended)
@@ -66,7 +66,7 @@ impl Status {
         }
     }
 
-    /// Gives out the next id. The last one is 2^64-2.
+    /// Returns the next id, and advances the counter of ids. The last id is 2^64-2.
     pub fn take_id(&mut self) -> Result<u64, StoreError>
         ensures taken { MatchResult result
             (λ id. (id ≡ self.old.next_id) × (self.new ≡ record self.old { next_id = self.old.next_id + 1 }))
@@ -82,7 +82,7 @@ impl Status {
         Ok(id)
     }
 
-    /// Gives out the next id, if one is needed.
+    /// Advances the counter of ids if `needed` is true.
     pub fn take_id_if(&mut self, needed: bool) -> Result<(), StoreError>
         ensures { MatchResult result
             (λ _. self.new ≡ record self.old { next_id = (if needed then self.old.next_id + 1 else self.old.next_id) })
@@ -95,7 +95,7 @@ impl Status {
         Ok(())
     }
 
-    /// Notes the last irredundant clause stored.
+    /// Records the last irredundant clause stored, unless `redundant` is true.
     pub fn note_last(&mut self, redundant: bool, last: LastClause)
         ensures { self.new ≡ (if redundant then self.old else record self.old { last = last }) }
     {
@@ -104,7 +104,8 @@ impl Status {
         }
     }
 
-    /// Records a unit conflict, unless one is pending.
+    /// Records the conflict between the unit with the id `stored`, if any, and the unit with the id `id`, unless a unit
+    /// conflict is already pending.
     pub fn record_conflict(&mut self, stored: Option<u64>, id: u64)
         ensures { self.new ≡ record self.old { conflict = first_conflict self.old.conflict stored id } }
     {

@@ -29,7 +29,8 @@ use sat_base::{ClauseHash, HashBits, Lit, Var};
 use std::alloc::{AllocError, Global};
 use std::marker::Model;
 
-/// Clauses at their places. Every clause that is not removed is found by its hash, and its literals are counted.
+/// Clauses at their places. Those that are not removed can be found by their hashes, and the occurrences of their
+/// literals are counted.
 #[derive(Drop)]
 pub struct Clauses {
     alloc: Global,
@@ -38,7 +39,7 @@ pub struct Clauses {
     occurrences: Occurrences,
     /// The number of removed clauses.
     gone: usize,
-    /// The number of their literals in the buffer. Only the time of a compaction depends on it.
+    /// The number of literals of removed clauses in the buffer. This only affects when the clauses are compacted.
     unused: usize,
 }
 
@@ -55,7 +56,7 @@ impl Model for Clauses {
 }
 
 impl Clauses {
-    /// Creates a list without clauses.
+    /// Creates an empty list of clauses.
     pub fn new(alloc: Global) -> Clauses
         ensures { result ≡ [] }
     {
@@ -69,14 +70,15 @@ impl Clauses {
         }
     }
 
-    /// Lends the sorted list of the mixed hashes and places of the clauses that are not removed.
+    /// Returns a reference to the index: the sorted list of the mixed hashes and places of the clauses that are
+    /// not removed.
     pub fn index(&self) -> &SortedPairs
         ensures { IndexesSlots result.now self.now }
     {
         &self.index
     }
 
-    /// Returns the number of places.
+    /// Returns the number of places, including those of removed clauses.
     pub fn len(&self) -> usize
         ensures count { result ≡ length self.now }
         ensures increasing { AllByRecursion IsIncreasing (all_lits self.now) }
@@ -84,7 +86,7 @@ impl Clauses {
         self.slots.len()
     }
 
-    /// Lends the literals at a place, which counts as a look at each of them.
+    /// Returns the literals of the clause at `place` as a slice. Counts one look for every literal.
     #[inline(always)]
     pub fn literals(&self, place: usize, looks: &mut Looks) -> &[Lit]
         requires { place < length self.now }
@@ -102,7 +104,8 @@ impl Clauses {
         self.slots.id(place)
     }
 
-    /// Returns how often the clause is stored as redundant, or as irredundant.
+    /// Returns how many times the clause at `place` is stored: as redundant if `redundant` is true, as
+    /// irredundant otherwise.
     pub fn count(&self, place: usize, redundant: bool) -> u64
         requires { place < length self.now }
         ensures { result ≡ slot_count redundant (slot_at self.now place) }
@@ -110,7 +113,7 @@ impl Clauses {
         self.slots.count(place, redundant)
     }
 
-    /// Returns the first place of a hash, in order of ids.
+    /// Returns the place of the first clause with the hash `hash`, in order of ids.
     #[inline(always)]
     pub fn first(&self, hash: ClauseHash) -> Option<usize>
         ensures { result ≡ first_of (places_of hash self.now) }
@@ -118,7 +121,7 @@ impl Clauses {
         self.index.first(mixed(hash))
     }
 
-    /// Returns the next place of a hash, after one of them.
+    /// Returns the place of the next clause with the hash `hash` after the one at `place`, which must have this hash.
     #[inline(always)]
     pub fn next(&self, hash: ClauseHash, place: usize) -> Option<usize>
         requires { is_among (places_of hash self.now) place ≡ true }
@@ -127,7 +130,7 @@ impl Clauses {
         self.index.next(mixed(hash), place)
     }
 
-    /// Whether the clause at a place has these literals.
+    /// Whether the literals of the clause at `place` are `literals`.
     fn is_same(&self, place: usize, literals: &[Lit], looks: &mut Looks) -> bool
         requires { place < length self.now }
         ensures same { result ≡ is_same_at self.now literals.now place }
@@ -136,7 +139,7 @@ impl Clauses {
         self.literals(place, looks) == literals
     }
 
-    /// Returns the first place of the hash that has these literals.
+    /// Returns the first place of a clause with the hash `hash` and the literals `literals`, if there is one.
     #[tactic(auto, using(crate::proofs::lemmas::store::Finding::finding))]
     pub fn find(&self, hash: ClauseHash, literals: &[Lit], looks: &mut Looks) -> Option<usize>
         ensures found { result ≡ found_among self.now literals.now (places_of hash self.now) }
@@ -152,7 +155,7 @@ impl Clauses {
         None
     }
 
-    /// Returns the place of the clause with this id, unless it is removed. Ids increase by place.
+    /// Returns the place of the clause with the id `id`, if this clause is present. Ids must increase with places.
     pub fn place_of(&self, id: u64) -> Option<usize>
         ensures found { IfSome result (IsPresentAt self.now id) }
         ensures absent { result ≡ None → IsIncreasing (slot_ids self.now) → clause_numbered id (live self.now) ≡ None }
@@ -164,23 +167,24 @@ impl Clauses {
         Some(place)
     }
 
-    /// Returns how many places of a table of these clauses' literals may be in one list.
+    /// Returns how many entries a table of the literals of these clauses may have in its list. The list is faster than
+    /// the tree that contains the other entries.
     pub fn near_count(&self) -> usize {
         self.occurrences.near_count()
     }
 
-    /// Whether a clause that is not removed has a literal of the variable. No clause is looked at.
+    /// Whether any clause that is not removed contains the variable. Takes no looks.
     pub fn mention(&self, var: Var) -> bool
         ensures { result ≡ list_any (λ c. mentions c.literals var) (live self.now) }
     {
         self.occurrences.has(var)
     }
 
-    /// Whether every clause that is stored as irredundant has an assumed literal.
+    /// Whether every clause that is stored as irredundant contains an assumed literal.
     pub fn are_satisfied(&self, assigned: &Assigned, looks: &mut Looks) -> bool
         ensures found { result ≡ are_all_true assigned.now.literals (live self.now) }
         ensures looks { LooksUpTo (live_length self.now) looks.old looks.new }
-        // All irredundant ones were looked at in their places.
+        // If the result is true, exactly the literals of the irredundant clauses were looked at.
         ensures all { result ≡ true → looks.new ≡ looks.old + irredundant_length (live self.now) }
     {
         for place in 0..self.slots.len() {
@@ -194,8 +198,8 @@ impl Clauses {
         true
     }
 
-    /// Returns how often the clause of exactly the assumed literals is stored as redundant, or as irredundant. It is
-    /// found without its hash.
+    /// Returns how many times the clause that consists of exactly the assumed literals is stored: as redundant if
+    /// `redundant` is true, as irredundant otherwise. The clause is found without its hash.
     pub fn assumed_count(&self, redundant: bool, assigned: &Assigned, looks: &mut Looks) -> u64
         ensures found { result ≡ store_count_in redundant (clause_with (canonical assigned.now.literals) (live self.now)) }
         ensures looks { LooksUpTo (live_length self.now) looks.old looks.new }
@@ -211,7 +215,8 @@ impl Clauses {
         0
     }
 
-    /// Appends a clause with one count. If memory runs out, all are kept, or none is left.
+    /// Appends a clause with one count: a redundant count if `redundant` is true, and an irredundant count otherwise.
+    /// If memory runs out, the list is empty afterwards.
     pub fn push(
         &mut self,
         id: u64,
@@ -239,7 +244,7 @@ impl Clauses {
         Ok(())
     }
 
-    /// Files all clauses again, by the hashes of this hasher. It does not allocate.
+    /// Files the present clauses again, under the hashes that `hasher` computes. Does not allocate.
     pub fn rehash(&mut self, hasher: &ClauseHasher, looks: &mut Looks)
         ensures hashed { self.new ≡ hashed_anew hasher.now self.old }
         ensures looks { LooksUpTo (live_length self.old) looks.old looks.new }
@@ -247,7 +252,8 @@ impl Clauses {
         file_all(&mut self.slots, hasher, &mut self.index, looks);
     }
 
-    /// Adds one count to a clause that is not removed.
+    /// Adds one count to the clause at `place`, which must not be removed: a redundant count if `redundant` is true,
+    /// and an irredundant count otherwise.
     pub fn add_count(&mut self, place: usize, redundant: bool)
         requires inside { place < length self.old }
         requires there { is_gone (slot_at self.old place) ≡ false }
@@ -257,7 +263,8 @@ impl Clauses {
         self.slots.add_count(place, redundant);
     }
 
-    /// Removes one count of the clause with these literals. A clause without a count is removed.
+    /// Removes one count of the clause at `place`, whose literals must be `literals`. If this was the last count, the
+    /// clause is removed.
     pub fn take_count(&mut self, place: usize, redundant: bool, literals: &[Lit])
         requires inside { place < length self.old }
         requires literals { literals.now ≡ literals_at self.old place }
@@ -274,8 +281,8 @@ impl Clauses {
         }
     }
 
-    /// Drops the removed clauses, if they are more than half of all, or fill more than half of the buffer. The places
-    /// are numbered again. If memory runs out, the removed clauses are kept.
+    /// Drops the removed clauses from memory if they make up more than half of all clauses, or fill more than half of
+    /// the buffer. This changes the places of other clauses. If memory runs out, all clauses are kept.
     pub fn compact(&mut self) -> Result<(), AllocError>
         ensures left { MayDrop self.old self.new }
         ensures few { OnOk result (2 * gone_count self.new ≤ length self.new) }
@@ -297,7 +304,7 @@ pub(crate) fn all_bits() -> HashBits
     HashBits::new(64).unwrap()
 }
 
-/// Appends a clause with one count.
+/// Appends a clause with one count: a redundant count if `redundant` is true, and an irredundant count otherwise.
 fn add(
     slots: &mut Slots,
     index: &mut SortedPairs,
@@ -321,8 +328,8 @@ fn add(
     Ok(())
 }
 
-/// Files the clauses that are not removed, from the last to the first, under the places that they have once the others
-/// are dropped.
+/// Files the remaining clauses in `next`, from the last to the first, under the places that they will have once the
+/// removed clauses are dropped.
 fn file_standing(slots: &Slots, index: &SortedPairs, next: &mut SortedPairs)
     requires filed { IndexesSlots index.now slots.now }
     requires none { next.old.pairs ≡ [] }
@@ -341,7 +348,8 @@ fn file_standing(slots: &Slots, index: &SortedPairs, next: &mut SortedPairs)
     }
 }
 
-/// Drops the removed clauses, and files the others by their new places. If memory runs out, all are kept.
+/// Drops the removed clauses from memory, and files the others under their new places. If memory runs out,
+/// nothing changes.
 fn drop_gone(alloc: Global, slots: &mut Slots, index: &mut SortedPairs) -> Result<(), AllocError>
     requires { IndexesSlots index.old slots.old }
     ensures left { OnOk result (slots.new ≡ slots_present slots.old) }
@@ -357,7 +365,7 @@ fn drop_gone(alloc: Global, slots: &mut Slots, index: &mut SortedPairs) -> Resul
     Ok(())
 }
 
-/// Hashes the clauses that are not removed, and files them, from the last to the first.
+/// Hashes all clauses that are not removed, and files them in `index`, from the last to the first.
 fn file_all(slots: &mut Slots, hasher: &ClauseHasher, index: &mut SortedPairs, looks: &mut Looks)
     requires places { index.old.places ≡ length slots.old }
     ensures hashed { slots.new ≡ hashed_anew hasher.now slots.old }

@@ -1,11 +1,11 @@
-//! What only contracts see of a stored clause's hash, which is in the index. It is zero-sized.
+//! The hash of a stored clause, which only contracts see. It is zero-sized: at run time, the hash is in the index.
 ghost use Rattle.std.specs.Prelude.{◌≡◌, ℕ};
 ghost use Rattle.std.specs.Borrow.{ftrue};
 
 use sat_base::ClauseHash;
 use std::marker::Model;
 
-/// The hash by which a clause is filed.
+/// The hash under which a clause is filed.
 #[derive(Drop)]
 pub(crate) struct FiledHash {
     pub ghost hash: { ℕ },
@@ -16,14 +16,14 @@ impl Model for FiledHash {
 }
 
 impl FiledHash {
-    /// Returns this hash.
+    /// Creates a value that represents the hash `_hash`.
     pub(crate) fn new(_hash: ClauseHash) -> FiledHash
         ensures { result.hash ≡ _hash }
     {
         FiledHash {}
     }
 
-    /// Returns the same hash.
+    /// Creates a value that represents the same hash as `self`.
     pub(crate) fn same(&self) -> FiledHash
         ensures { result.hash ≡ self.now.hash }
     {

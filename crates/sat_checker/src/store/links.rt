@@ -1,5 +1,5 @@
-//! Pairs of a hash and a place, linked by their places. For every value of the top bits of a hash, a head says where a
-//! search starts.
+//! Pairs of a hash and a place, in linked lists. For every value of the top bits of a hash, a head gives the place at
+//! which a search starts.
 ghost use Rattle.std.specs.Prelude.{All, ℕ, ◌≡◌, ◌+◌, ◌<◌, ◌≤◌, ◌++◌, length, OnOk, OnErr, None};
 ghost use Rattle.std.specs.List.{AllByRecursion};
 ghost use Rattle.sat_checker.specs.inner.PairView.{inserted, without_pair, places_in, first_of};
@@ -16,17 +16,17 @@ pub struct Pair {
     pub place: usize,
 }
 
-/// Stands for no place: all places are below it.
+/// The value that represents no place. All places are below this value.
 pub(crate) const NOWHERE: u32 = u32::MAX;
 
-/// The hash at a place, and the place after it in the list.
+/// The hash at a place, and the next place in the list.
 #[derive(Clone, Copy)]
 pub(crate) struct Link {
     pub(crate) hash: ClauseHash,
     pub(crate) next: u32,
 }
 
-/// Returns the top bits of a hash, by which its head is found.
+/// Returns the index of the head for a hash: the top bits of the hash, or `count - 1` if they are not below `count`.
 #[inline(always)]
 pub(crate) fn top(hash: ClauseHash, shift: u32, count: usize) -> usize
     requires some { 0 < count }
@@ -38,7 +38,7 @@ pub(crate) fn top(hash: ClauseHash, shift: u32, count: usize) -> usize
     top.min(count - 1)
 }
 
-/// Returns the first place of a hash, searching from a place.
+/// Returns the first place whose hash is `hash`, in the list that starts at `from`.
 #[inline(always)]
 pub(crate) fn first_from(links: &[Link], from: u32, hash: ClauseHash) -> Option<usize>
     requires { IsWalk links.now from }
@@ -59,7 +59,7 @@ pub(crate) fn first_from(links: &[Link], from: u32, hash: ClauseHash) -> Option<
     None
 }
 
-/// Returns the last place whose hash is at most this one, searching from a place.
+/// Returns the last place whose hash is at most `hash`, in the list that starts at `from`.
 fn last_up_to(links: &[Link], from: u32, hash: ClauseHash) -> Option<usize>
     requires { IsWalk links.now from }
     ensures { result ≡ last_or None (up_to hash (rest links.now from)) }
@@ -77,7 +77,7 @@ fn last_up_to(links: &[Link], from: u32, hash: ClauseHash) -> Option<usize>
     last
 }
 
-/// Returns the last place whose hash is below this one, searching from a place.
+/// Returns the last place whose hash is below `hash`, in the list that starts at `from`.
 fn last_below(links: &[Link], from: u32, hash: ClauseHash) -> Option<usize>
     requires { IsWalk links.now from }
     ensures { result ≡ last_or None (below hash (rest links.now from)) }
@@ -95,7 +95,7 @@ fn last_below(links: &[Link], from: u32, hash: ClauseHash) -> Option<usize>
     last
 }
 
-/// Returns the place before this one, searching from a place.
+/// Returns the place before `place`, in the list that starts at `from`.
 fn place_before(links: &[Link], from: u32, place: usize) -> Option<usize>
     requires walk { IsWalk links.now from }
     requires inside { place < length links.now }
@@ -112,7 +112,7 @@ fn place_before(links: &[Link], from: u32, place: usize) -> Option<usize>
     None
 }
 
-/// Adds a pair, at the place after all others.
+/// Adds a pair of the hash `hash` and the next unused place.
 pub(crate) fn put(
     heads: &mut [u32],
     links: &mut Vec<Link>,
@@ -169,7 +169,7 @@ pub(crate) fn take(heads: &mut [u32], links: &mut [Link], shift: u32, place: usi
     }
 }
 
-/// Lists the pairs, starting at a place.
+/// Appends the pairs of the list that starts at `from` to `list`.
 fn list_from(links: &[Link], from: u32, list: &mut Vec<Pair>) -> Result<(), AllocError>
     requires { IsWalk links.now from }
     ensures { OnOk result (list.new.items ≡ list.old.items ++ rest links.now from) }
@@ -186,7 +186,7 @@ fn list_from(links: &[Link], from: u32, list: &mut Vec<Pair>) -> Result<(), Allo
     Ok(())
 }
 
-/// Lists all pairs in order.
+/// Appends all pairs, in order, to `list`.
 pub(crate) fn list_all(
     heads: &[u32],
     links: &[Link],
@@ -201,7 +201,7 @@ pub(crate) fn list_all(
     Ok(())
 }
 
-/// Links pairs in order, from the last to the first, while none is linked yet.
+/// Links the pairs in `pairs`, from the last to the first. No pair may be linked yet.
 pub(crate) fn link_all(heads: &mut [u32], links: &mut [Link], shift: u32, pairs: &[Pair])
     requires few { length links.old ≤ nowhere }
     requires none { All (λ h. h ≡ nowhere) heads.old }
@@ -222,7 +222,7 @@ pub(crate) fn link_all(heads: &mut [u32], links: &mut [Link], shift: u32, pairs:
     }
 }
 
-/// Links a pair whose place is before those of all linked pairs.
+/// Links a pair, whose place must be before those of all linked pairs.
 pub(crate) fn link_before(heads: &mut [u32], links: &mut [Link], shift: u32, pair: Pair)
     requires linked { AreLinked heads.old links.old shift }
     requires some { 0 < length heads.old }

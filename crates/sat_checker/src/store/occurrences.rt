@@ -1,4 +1,4 @@
-//! How often literals occur in the stored clauses.
+//! How many times every literal occurs in the stored clauses.
 ghost use Rattle.std.specs.Prelude.{ℕ, ◌≡◌, ◌+◌, ◌*◌, ◌^◌, ◌<◌, ◌≤◌, ◌==◌, if◌then◌else◌, All, OnOk, MatchBool};
 ghost use Rattle.sat_base.specs.values.Tables.{near_count, HasPlaceFor};
 ghost use Rattle.sat_checker.specs.inner.OccurrenceView.{count_at, times_in};
@@ -13,7 +13,7 @@ pub struct Occurrences {
 }
 
 impl Occurrences {
-    /// Creates counts of zero.
+    /// Creates a table in which every count is zero.
     pub fn new(alloc: Global) -> Occurrences
         ensures { (l : ℕ) → count_at result l ≡ 0 }
     {
@@ -22,7 +22,8 @@ impl Occurrences {
         }
     }
 
-    /// Returns how many places are in one list. Tables of the same literals may have as many there.
+    /// Returns how many counts are in the table's list, rather than in its tree. Other tables of the same literals may
+    /// have lists of this length.
     pub fn near_count(&self) -> usize
         ensures { result ≡ near_count self.now.counts }
     {
@@ -50,7 +51,7 @@ impl Occurrences {
         Ok(())
     }
 
-    /// Counts a literal.
+    /// Adds one to the count of a literal.
     #[inline(always)]
     fn add_one(&mut self, lit: Lit)
         requires room { HasPlaceFor self.old.counts lit }
@@ -62,7 +63,7 @@ impl Occurrences {
         self.counts.put(lit.code(), had + 1);
     }
 
-    /// Subtracts a literal that was counted.
+    /// Subtracts one from the count of a literal, which must be above zero.
     #[inline(always)]
     fn take_one(&mut self, lit: Lit)
         requires { 0 < count_at self.old lit }
@@ -72,7 +73,7 @@ impl Occurrences {
         self.counts.put(lit.code(), had - 1);
     }
 
-    /// Counts literals.
+    /// Adds one to the count of a literal for every occurrence in `literals`.
     pub fn add(&mut self, literals: &[Lit])
         requires room { All (HasPlaceFor self.old.counts) literals.now }
         requires few { (l : ℕ) → count_at self.old l + times_in l literals.now < 2 ^ 64 }
@@ -83,7 +84,8 @@ impl Occurrences {
         }
     }
 
-    /// Subtracts literals that were counted.
+    /// Subtracts one from the count of a literal for every occurrence in `literals`. These must have been
+    /// counted before.
     pub fn take(&mut self, literals: &[Lit])
         requires { (l : ℕ) → times_in l literals.now ≤ count_at self.old l }
         ensures { (l : ℕ) → count_at self.new l + times_in l literals.now ≡ count_at self.old l }
@@ -101,7 +103,7 @@ impl Occurrences {
         self.counts.get(lit.code(), 0)
     }
 
-    /// Whether a literal of the variable is counted.
+    /// Whether the count of a literal of the variable is above zero.
     pub fn has(&self, var: Var) -> bool
         ensures { MatchBool result (0 < count_at self.now (2 * var) + count_at self.now (2 * var + 1))
             (count_at self.now (2 * var) + count_at self.now (2 * var + 1) ≡ 0) }

@@ -1,4 +1,4 @@
-//! Clauses of sorted literals by place, with their ids, counts and hashes.
+//! The clauses at their places, with sorted literals, ids, counts and hashes.
 ghost use Rattle.std.specs.Prelude.{◌≡◌, ◌+◌, ◌<◌, ◌^◌, ℕ, List, ◌∷◌, [], ◌++◌, length, nat_le, false, None, OnOk};
 ghost use Rattle.std.specs.Prelude.{OnErr, IfOk, IfSome, if◌then◌else◌};
 ghost use Rattle.std.specs.List.{AllByRecursion};
@@ -14,7 +14,7 @@ use sat_base::{ClauseHash, Lit};
 use std::alloc::{AllocError, Global};
 use std::marker::Model;
 
-/// A clause's literals: up to four are stored here, and more in a buffer.
+/// The literals of a clause. Up to four literals are stored inline, and more in a buffer.
 #[derive(Clone, Copy)]
 pub struct ClauseLits {
     inline: [Lit; 4],
@@ -23,7 +23,7 @@ pub struct ClauseLits {
 }
 
 impl ClauseLits {
-    /// Stores literals here, or at the end of the buffer.
+    /// Stores literals inline, or at the end of `buffer`.
     fn new(buffer: &mut Vec<Lit>, literals: &[Lit]) -> Result<ClauseLits, AllocError>
         ensures kept { (more : List ℕ) × (buffer.new.items ≡ buffer.old.items ++ more) }
         ensures within { IfOk result (λ c. LitsWithin buffer.new.items c) }
@@ -51,7 +51,7 @@ impl ClauseLits {
         })
     }
 
-    /// Lends the literals. Those that are not stored here are in this buffer.
+    /// Returns the literals as a slice. If they are not stored inline, they must be in `buffer`.
     pub fn slice<'a>(&'a self, buffer: &'a [Lit]) -> &'a [Lit]
         requires { LitsWithin buffer.now self.now }
         ensures { result.now ≡ lits_in buffer.now self.now }
@@ -66,7 +66,7 @@ impl ClauseLits {
     }
 }
 
-/// Returns how many literals of a clause with this many are in the buffer.
+/// Returns how many literals of a clause with `count` literals are in the buffer.
 pub(crate) fn in_buffer(count: usize) -> usize
     ensures { result ≡ (if nat_le count 4 then 0 else count) }
 {
@@ -83,7 +83,7 @@ struct Entry {
     hash: FiledHash,
 }
 
-/// Clauses at their places, including the removed ones. Contracts see the list of them.
+/// Clauses at their places, including the removed ones. In contracts, the value is the list of these clauses.
 #[derive(Drop)]
 pub(crate) struct Slots {
     entries: Vec<Entry>,
@@ -104,7 +104,7 @@ impl Model for Slots {
 }
 
 impl Slots {
-    /// Creates a list without clauses.
+    /// Creates an empty list of clauses.
     pub fn new(alloc: Global) -> Slots
         ensures { result ≡ [] }
     {
@@ -114,7 +114,7 @@ impl Slots {
         }
     }
 
-    /// Returns the number of places.
+    /// Returns the number of places, including those of removed clauses.
     pub fn len(&self) -> usize
         ensures count { result ≡ length self.now }
         ensures increasing { AllByRecursion IsIncreasing (all_lits self.now) }
@@ -122,7 +122,8 @@ impl Slots {
         self.entries.len()
     }
 
-    /// Lends the literals at a place, which counts as a look at each of them. There is no other way to access them.
+    /// Returns the literals of the clause at `place` as a slice. Counts one look for every literal. Other modules have
+    /// no other access to the literals.
     #[inline(always)]
     pub fn literals(&self, place: usize, looks: &mut Looks) -> &[Lit]
         requires { place < length self.now }
@@ -142,7 +143,7 @@ impl Slots {
         self.entries[place].id
     }
 
-    /// Returns the place of the clause with this id, if ids increase by place.
+    /// Returns the place of the clause with the id `id`, if there is one. Ids must increase with places.
     pub fn place_of(&self, id: u64) -> Option<usize>
         ensures found { IfSome result (λ place. (place < length self.now) × ((slot_at self.now place).clause.id ≡ id)) }
         ensures absent { result ≡ None → IsIncreasing (slot_ids self.now) → is_among (slot_ids self.now) id ≡ false }
@@ -157,7 +158,8 @@ impl Slots {
         self.buffer.len()
     }
 
-    /// Returns how often the clause is stored as redundant, or as irredundant.
+    /// Returns how many times the clause at `place` is stored: as redundant if `redundant` is true, as
+    /// irredundant otherwise.
     pub fn count(&self, place: usize, redundant: bool) -> u64
         requires { place < length self.now }
         ensures { result ≡ slot_count redundant (slot_at self.now place) }
@@ -170,7 +172,7 @@ impl Slots {
         }
     }
 
-    /// Whether the clause has no count.
+    /// Whether the clause at `place` is removed, that is, whether both of its counts are zero.
     pub fn is_gone(&self, place: usize) -> bool
         requires { place < length self.now }
         ensures { result ≡ is_gone (slot_at self.now place) }
@@ -178,7 +180,7 @@ impl Slots {
         self.count(place, false) == 0 && self.count(place, true) == 0
     }
 
-    /// Appends a clause with these counts.
+    /// Appends a clause with the given id, counts, hash and literals.
     pub fn push(
         &mut self,
         id: u64,
@@ -203,7 +205,7 @@ impl Slots {
         Ok(())
     }
 
-    /// Appends the clauses of another list that are not removed. Their literals are not looked at.
+    /// Appends the clauses of `others` that are not removed. Takes no looks.
     pub fn push_standing(&mut self, others: &Slots) -> Result<(), AllocError>
         ensures { OnOk result (self.new ≡ self.old ++ slots_present others.now) }
     {
@@ -223,7 +225,8 @@ impl Slots {
         Ok(())
     }
 
-    /// Adds one count.
+    /// Adds one count to the clause at `place`: a redundant count if `redundant` is true, and an irredundant
+    /// count otherwise.
     pub fn add_count(&mut self, place: usize, redundant: bool)
         requires inside { place < length self.old }
         requires room { slot_count redundant (slot_at self.old place) + 1 < 2 ^ 64 }
@@ -237,7 +240,8 @@ impl Slots {
         }
     }
 
-    /// Removes one count.
+    /// Removes one count of the clause at `place`: a redundant count if `redundant` is true, and an irredundant
+    /// count otherwise.
     pub fn take_count(&mut self, place: usize, redundant: bool)
         requires inside { place < length self.old }
         requires some { 0 < slot_count redundant (slot_at self.old place) }
@@ -251,7 +255,7 @@ impl Slots {
         }
     }
 
-    /// Sets the hash by which the clause at a place is filed.
+    /// Sets the hash under which the clause at `place` is filed.
     pub fn set_hash(&mut self, place: usize, hash: ClauseHash)
         requires { place < length self.old }
         ensures { self.new ≡ with_hash_at hash place self.old }

@@ -1,5 +1,5 @@
-//! One sorted list of pairs of a hash and a place. Its hashes are mixed: a search starts by their top bits, which have
-//! to be spread.
+//! A sorted list of pairs of a hash and a place. The hashes have to be mixed, because a search starts from their top
+//! bits, which should be evenly distributed.
 ghost use Rattle.std.specs.Prelude.{All, ℕ, true, ◌≡◌, ◌+◌, ◌++◌, ◌<◌, ◌≤◌, [], length, OnOk, OnErr, IfOk};
 ghost use Rattle.std.specs.List.{AllByRecursion};
 ghost use Rattle.sat_checker.specs.LiteralSets.{is_among};
@@ -14,10 +14,11 @@ use sat_base::ClauseHash;
 use std::alloc::{AllocError, Global};
 use std::marker::Model;
 
-/// The fewest hash bits that do not select the head: there are at most 2^31 heads.
+/// The smallest number of hash bits that do not select the head. With this number, there are 2^31 heads.
 const LEAST_SHIFT: u32 = 33;
 
-/// Returns the number of hash bits that do not select the head: there are at least twice as many heads as places.
+/// Returns the number of hash bits that do not select the head. Up to the limit of 2^31 heads, there are at least twice
+/// as many heads as places.
 fn shift_for(places: usize) -> u32
     ensures few { 33 ≤ result }
     ensures below { result < 64 }
@@ -29,7 +30,7 @@ fn shift_for(places: usize) -> u32
         .max(LEAST_SHIFT)
 }
 
-/// Creates heads without pairs.
+/// Creates heads of empty lists. `shift` is the number of hash bits that do not select the head.
 fn no_heads(alloc: Global, shift: u32) -> Result<Vec<u32>, AllocError>
     requires few { 33 ≤ shift }
     requires below { shift < 64 }
@@ -41,7 +42,7 @@ fn no_heads(alloc: Global, shift: u32) -> Result<Vec<u32>, AllocError>
     Ok(heads)
 }
 
-/// Sets all heads to no pairs.
+/// Makes the lists of all heads empty.
 fn clear_heads(heads: &mut [u32])
     ensures none { All (λ h. h ≡ nowhere) heads.new }
     ensures count { length heads.new ≡ length heads.old }
@@ -49,7 +50,8 @@ fn clear_heads(heads: &mut [u32])
     heads.fill(NOWHERE);
 }
 
-/// Makes more heads, and links all pairs again. Returns how many hash bits do not select the head then.
+/// Creates new heads for the current number of places, and links all pairs again. Returns the new number of hash bits
+/// that do not select the head.
 fn grow(
     alloc: Global,
     heads: &mut Vec<u32>,
@@ -72,7 +74,8 @@ fn grow(
     Ok(less)
 }
 
-/// Makes heads if there are none, or fewer than twice the places.
+/// Creates new heads if there are none, or if there are at most twice as many heads as places and fewer than the limit.
+/// Returns the number of hash bits that do not select the head afterwards.
 fn make_heads(
     alloc: Global,
     heads: &mut Vec<u32>,
@@ -96,7 +99,7 @@ fn make_heads(
     Ok(shift)
 }
 
-/// Pairs ordered by hash, then by place. Contracts see the list of them.
+/// Pairs ordered by hash, then by place. In contracts, the value is the list of pairs and the number of places.
 #[derive(Drop)]
 pub struct SortedPairs {
     alloc: Global,
@@ -118,7 +121,7 @@ impl Model for SortedPairs {
 }
 
 impl SortedPairs {
-    /// Creates a list without pairs.
+    /// Creates an empty list of pairs.
     pub fn new(alloc: Global) -> SortedPairs
         ensures { result ≡ record { pairs = []; places = 0 } }
     {
@@ -130,7 +133,7 @@ impl SortedPairs {
         }
     }
 
-    /// Returns how many places were assigned.
+    /// Returns the number of places that were assigned.
     pub fn places(&self) -> usize
         ensures count { result ≡ self.now.places }
         ensures few { self.now.places ≤ nowhere }
@@ -139,7 +142,7 @@ impl SortedPairs {
         self.links.len()
     }
 
-    /// Returns the first place of a hash.
+    /// Returns the first place whose hash is `hash`.
     #[inline(always)]
     pub fn first(&self, hash: ClauseHash) -> Option<usize>
         ensures { result ≡ first_of (places_in hash self.now.pairs) }
@@ -151,7 +154,7 @@ impl SortedPairs {
         first_from(&self.links, self.heads[top], hash)
     }
 
-    /// Returns the next place with the hash of a place.
+    /// Returns the first place after `place` whose hash is `hash`, which must also be the hash of `place`.
     #[inline(always)]
     pub fn next(&self, hash: ClauseHash, place: usize) -> Option<usize>
         requires { is_among (places_in hash self.now.pairs) place ≡ true }
@@ -160,14 +163,14 @@ impl SortedPairs {
         first_from(&self.links, self.links[place].next, hash)
     }
 
-    /// Lists the pairs in order, after those that are listed.
+    /// Appends all pairs, in order, to `pairs`.
     pub fn list(&self, pairs: &mut Vec<Pair>) -> Result<(), AllocError>
         ensures { OnOk result (pairs.new.items ≡ pairs.old.items ++ self.now.pairs) }
     {
         list_all(&self.heads, &self.links, pairs)
     }
 
-    /// Returns the hash of a place that has a pair.
+    /// Returns the hash of the pair at `place`, if there is a pair. Otherwise, the result is unspecified.
     pub fn hash(&self, place: usize) -> ClauseHash
         requires { place < self.now.places }
         ensures { (h : ℕ) → is_among (places_in h self.now.pairs) place ≡ true → result ≡ h }
@@ -175,7 +178,7 @@ impl SortedPairs {
         self.links[place].hash
     }
 
-    /// Adds a pair, at the next place.
+    /// Adds a pair of the hash `hash` and the next place.
     pub fn push(&mut self, hash: ClauseHash) -> Result<(), AllocError>
         ensures ok { OnOk result (self.new ≡ record {
           pairs = inserted (record { hash = hash; place = self.old.places }) self.old.pairs;
@@ -202,14 +205,14 @@ impl SortedPairs {
         take(&mut self.heads, &mut self.links, self.shift, place);
     }
 
-    /// Removes all pairs. The places remain.
+    /// Removes all pairs, but keeps the places.
     pub fn clear(&mut self)
         ensures { self.new ≡ record { pairs = []; places = self.old.places } }
     {
         clear_heads(&mut self.heads);
     }
 
-    /// Adds a pair, at a place before all those that have pairs.
+    /// Adds a pair at `place`, which must be before all places that have pairs.
     #[inline(always)]
     pub fn file_before(&mut self, place: usize, hash: ClauseHash)
         requires inside { place < self.old.places }
@@ -226,7 +229,7 @@ impl SortedPairs {
     }
 }
 
-/// Returns an index that has this many places and no pair.
+/// Returns an index with `places` places and without pairs.
 pub(crate) fn with_places(alloc: Global, places: usize) -> Result<SortedPairs, AllocError>
     ensures { IfOk result (λ s. s ≡ record { pairs = []; places = places }) }
 {

@@ -1,4 +1,4 @@
-//! Literals that are assumed, and those that there is room for, with a mark indexed by literal code.
+//! The assumed literals, and the literals for which there is room, with a mark for every literal code.
 ghost use Rattle.std.specs.Prelude.{◌≡◌, ◌+◌, ◌-◌, ◌<◌, ◌≤◌, List, [], ◌∷◌, drop, length, OnOk, OnErr, IfSome};
 ghost use Rattle.std.specs.Prelude.{true, false, reverse, ℕ, ◌==◌, get_or, if◌then◌else◌, ◌&&◌, not};
 ghost use Rattle.sat_checker.specs.inner.Marks.{is_assumed, mark_at, AreNear, NoRepeats, LosesAt};
@@ -22,13 +22,13 @@ pub(crate) enum Mark {
     Assumed,
 }
 
-/// Literals that are assumed, each of them once, and those that there is room for. Contracts see the assumed ones with
-/// the newest first.
+/// The assumed literals, without repeats, and the literals for which there is room. In contracts, the newest assumed
+/// literal is the first.
 #[derive(Drop)]
 pub struct Assigned {
     marks: Table<Mark>,
     trail: Vec<Lit>,
-    /// The number of literals that there is room for.
+    /// The number of literals for which there is room.
     count: usize,
     room: Roomy,
 }
@@ -47,7 +47,7 @@ impl Model for Assigned {
 }
 
 impl Assigned {
-    /// Creates a set without assumed literals and without room.
+    /// Creates a value with no assumed literals, and without room for any.
     pub fn new(alloc: Global) -> Assigned
         ensures { result ≡ record { literals = []; room = [] } }
     {
@@ -66,7 +66,7 @@ impl Assigned {
         self.trail.len()
     }
 
-    /// Lends the assumed literals, the oldest first.
+    /// Returns the assumed literals as a slice, the oldest first.
     pub fn literals(&self) -> &[Lit]
         ensures lent { result.now ≡ reverse self.now.literals }
         ensures once { NoRepeats result.now }
@@ -74,8 +74,8 @@ impl Assigned {
         self.trail.as_slice()
     }
 
-    /// States for contracts that there is room for what is assumed, and for the negation of what there is room for. It
-    /// does nothing at run time.
+    /// States that there is room for every assumed literal, and for the negation of every literal for which there is
+    /// room. Does nothing at run time.
     pub fn stand_in_room(&self)
         ensures paired { (l : ℕ) → is_among self.now.room l ≡ is_among self.now.room (negated l) }
         ensures stand { (l : ℕ) → is_among self.now.literals l ≡ true → is_among self.now.room l ≡ true }
@@ -83,14 +83,14 @@ impl Assigned {
         let _ = &self.room;
     }
 
-    /// Sets how many marks may be in one list; a list is faster than a tree.
+    /// Allows at least `limit` marks to be in a list, rather than in a tree. The list is faster.
     pub fn allow(&mut self, limit: usize)
         ensures { self.new ≡ self.old }
     {
         self.marks.allow(limit);
     }
 
-    /// Lends the marks of literals with small codes, in order of their codes.
+    /// Returns the marks of literals with small codes as a slice, in order of their codes.
     #[inline(always)]
     fn near(&self) -> &[Mark]
         ensures { AreNear result.now self.now.literals }
@@ -133,7 +133,7 @@ impl Assigned {
         self.make_new_room(lit)
     }
 
-    /// Makes room for a literal that has none, and for its negation.
+    /// Makes room for a literal and for its negation. There must be no room for the literal yet.
     #[inline(never)]
     fn make_new_room(&mut self, lit: Lit) -> Result<(), AllocError>
         requires { is_among self.old.room lit ≡ false }
@@ -152,7 +152,7 @@ impl Assigned {
         Ok(())
     }
 
-    /// Assumes a literal. It allocates only if there is no room for it yet.
+    /// Assumes a literal, which must not be assumed yet. Allocates only if there is no room for the literal.
     #[inline(always)]
     pub fn assume(&mut self, lit: Lit) -> Result<(), AllocError>
         requires { is_among self.old.literals lit ≡ false }
@@ -168,7 +168,7 @@ impl Assigned {
         Ok(())
     }
 
-    /// Assumes a literal, unless it is assumed. It allocates only if there is no room for it yet.
+    /// Assumes a literal, unless it is already assumed. Allocates only if there is no room for the literal.
     #[inline(always)]
     pub fn assume_once(&mut self, lit: Lit) -> Result<(), AllocError>
         ensures ok { OnOk result (AssumesOnce lit self.old self.new) }
@@ -189,7 +189,7 @@ impl Assigned {
         }
     }
 
-    /// Assumes a literal that there is room for.
+    /// Assumes a literal, for which there must be room, and which must not be assumed yet.
     #[inline(always)]
     pub fn assume_in_room(&mut self, lit: Lit)
         requires new { is_among self.old.literals lit ≡ false }
@@ -200,7 +200,8 @@ impl Assigned {
         self.marks.put(lit.code(), Mark::Assumed);
     }
 
-    /// Removes the assumed literal at a place, counted from the oldest, which is at 0. The newest one gets its place.
+    /// Removes the assumed literal at the position `place`, counted from the oldest literal at 0. The newest literal
+    /// moves to this position.
     pub fn forget_at(&mut self, place: usize)
         requires { place < length self.old.literals }
         ensures forgotten { (l : ℕ) → is_among self.new.literals l
@@ -212,7 +213,7 @@ impl Assigned {
         unmark(&mut self.marks, lit);
     }
 
-    /// Removes the newest assumed literals, until this many are left.
+    /// Removes the newest assumed literals, until `left` literals remain.
     pub fn undo_to(&mut self, left: usize)
         requires { left ≤ length self.old.literals }
         ensures { self.new
@@ -237,7 +238,7 @@ pub fn make_room_for(assigned: &mut Assigned, clause: &[Lit]) -> Result<(), Allo
     Ok(())
 }
 
-/// Assumes a literal, if there is room for it and it isn't assumed yet. It does not allocate.
+/// Assumes a literal, if there is room for it and it isn't assumed yet. Does not allocate.
 pub fn assume_if_roomy(assigned: &mut Assigned, lit: Lit)
     ensures literals { assigned.new.literals
         ≡ (if is_among assigned.old.room lit && not (is_among assigned.old.literals lit)
@@ -255,7 +256,7 @@ pub fn assume_if_roomy(assigned: &mut Assigned, lit: Lit)
     assigned.assume_in_room(lit);
 }
 
-/// Removes the marks of assumed literals.
+/// Marks literals as not assumed. There is still room for the literals.
 fn unmark_all(marks: &mut Table<Mark>, literals: &[Lit])
     requires { (l : ℕ) → is_among literals.now l ≡ true → HasPlaceFor marks.old l }
     ensures { (l : ℕ) → mark_at marks.new l ≡ (if is_among literals.now l then Mark.Room else mark_at marks.old l) }
@@ -265,7 +266,7 @@ fn unmark_all(marks: &mut Table<Mark>, literals: &[Lit])
     }
 }
 
-/// Removes the mark of an assumed literal. There is still room for it.
+/// Marks a literal as not assumed. There is still room for the literal.
 fn unmark(marks: &mut Table<Mark>, lit: Lit)
     requires { HasPlaceFor marks.old lit }
     ensures set { (l : ℕ) → mark_at marks.new l ≡ (if l == lit then Mark.Room else mark_at marks.old l) }
@@ -274,18 +275,18 @@ fn unmark(marks: &mut Table<Mark>, lit: Lit)
     marks.put(lit.code(), Mark::Room);
 }
 
-/// What a clause is under the assumed literals.
+/// The state of a clause under the assumed literals.
 #[derive(Clone, Copy)]
 pub enum Look {
-    /// All its literals are false.
+    /// All literals of the clause are false.
     Falsified,
-    /// Only this literal isn't false, and it isn't assumed.
+    /// Only the given literal isn't false, and this literal isn't assumed.
     Opens(Lit),
-    /// A literal is assumed, or two aren't false.
+    /// A literal of the clause is assumed, or at least two literals aren't false.
     Rests,
 }
 
-/// Returns what a clause is under the assumed literals.
+/// Returns the state of a clause under the assumed literals.
 #[inline(always)]
 pub fn look_at(assigned: &Assigned, clause: &[Lit]) -> Look
     ensures { verdict_of result ≡ verdict assigned.now.literals clause.now }
@@ -310,7 +311,7 @@ pub fn look_at(assigned: &Assigned, clause: &[Lit]) -> Look
     }
 }
 
-/// Whether a literal is assumed, or `None` if its mark is not among these near ones.
+/// Whether a literal is assumed, or `None` if the literal's mark is not in `near`.
 #[inline(always)]
 fn is_near_true(assigned: &Assigned, near: &[Mark], lit: Lit) -> Option<bool>
     requires { AreNear near.now assigned.now.literals }
@@ -334,7 +335,7 @@ fn is_assumed(mark: Mark) -> bool
     }
 }
 
-/// Returns the same as `look_at`, also for literals whose marks are not near.
+/// Does what `look_at` does, also for literals with large codes.
 #[inline(never)]
 fn look_far(assigned: &Assigned, clause: &[Lit]) -> Look
     ensures { verdict_of result ≡ verdict assigned.now.literals clause.now }

@@ -1,4 +1,4 @@
-//! Numbers of literals, indexed by literal code.
+//! Numbers that belong to literals, indexed by literal code.
 ghost use Rattle.std.specs.Prelude.{ℕ, ◌≡◌, ◌==◌, ◌+◌, ◌^◌, ◌<◌, OnOk, Some, None, if◌then◌else◌};
 ghost use Rattle.sat_base.specs.values.Tables.{HasPlaceFor};
 ghost use Rattle.sat_checker.specs.inner.LitNumbers.{number_at};
@@ -6,7 +6,8 @@ ghost use Rattle.sat_checker.specs.inner.LitNumbers.{number_at};
 use sat_base::{Lit, Table};
 use std::alloc::{AllocError, Global};
 
-/// A number for some literals, indexed by code. The others have 2^64-1, which is no literal's number.
+/// A number for some literals, indexed by literal code. For other literals, 2^64-1 is stored, which is not a
+/// valid number.
 #[derive(Drop)]
 pub(crate) struct LitNumbers {
     numbers: Table<u64>,
@@ -41,7 +42,7 @@ impl LitNumbers {
         self.numbers.make_room(lit.code(), u64::MAX)
     }
 
-    /// Sets the number of a literal that there is room for.
+    /// Sets the number of a literal, for which there must be room. The number must be below 2^64-1.
     pub fn put(&mut self, lit: Lit, number: u64)
         requires room { HasPlaceFor self.old.numbers lit }
         requires number { number + 1 < 2 ^ 64 }

@@ -1,11 +1,11 @@
-//! What only contracts see of the literals that there is room for. It is zero-sized, and its functions do nothing at
-//! run time.
+//! The literals for which there is room, which only contracts see. The list is zero-sized, and its functions do nothing
+//! at run time.
 ghost use Rattle.std.specs.Prelude.{ℕ, ◌≡◌, ◌∷◌, [], List};
 ghost use Rattle.std.specs.Borrow.{ftrue};
 
 use std::marker::Model;
 
-/// The literals that there is room for, each of them once.
+/// The literals for which there is room, without repeats.
 #[derive(Drop)]
 pub(crate) struct Roomy {
     pub ghost literals: { List ℕ },
@@ -16,14 +16,14 @@ impl Model for Roomy {
 }
 
 impl Roomy {
-    /// Creates a list without literals.
+    /// Creates an empty list of literals.
     pub(crate) fn new() -> Roomy
         ensures { result.literals ≡ [] }
     {
         Roomy {}
     }
 
-    /// Returns the list with one more literal.
+    /// Returns the list with the literal `_code` added.
     pub(crate) fn and(&self, _code: usize) -> Roomy
         ensures { result.literals ≡ _code ∷ self.now.literals }
     {

@@ -1,5 +1,5 @@
-//! What only contracts see of the order in which units were stored. It is zero-sized, and its functions do nothing at
-//! run time.
+//! The order in which units were stored, which only contracts see. The list is zero-sized, and its functions do nothing
+//! at run time.
 ghost use Rattle.std.specs.Prelude.{◌≡◌, ◌++◌, ◌∷◌, [], List, filter, not, ◌==◌};
 ghost use Rattle.std.specs.Borrow.{ftrue};
 ghost use Rattle.sat_checker.specs.Stored.{StoredUnit};
@@ -17,21 +17,21 @@ impl Model for UnitOrder {
 }
 
 impl UnitOrder {
-    /// Creates a list without units.
+    /// Creates an empty list of units.
     pub(crate) fn new() -> UnitOrder
         ensures { result.units ≡ [] }
     {
         UnitOrder {}
     }
 
-    /// Returns the list with one more unit.
+    /// Returns the list with a unit appended.
     pub(crate) fn and(&self, _id: u64, _code: usize) -> UnitOrder
         ensures { result.units ≡ self.now.units ++ (record { id = _id; literal = _code }) ∷ [] }
     {
         UnitOrder {}
     }
 
-    /// Returns the list without the unit of a literal.
+    /// Returns the list without the unit of the literal `_code`.
     pub(crate) fn without(&self, _code: usize) -> UnitOrder
         ensures { result.units ≡ filter (λ u. not (u.literal == _code)) self.now.units }
     {

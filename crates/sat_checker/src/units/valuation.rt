@@ -1,4 +1,5 @@
-//! Marks of literals, by which a model is judged and a clause is found without its hash.
+//! Comparisons of literals with the assumed literals, by which a model is checked and a clause is found without
+//! its hash.
 ghost use Rattle.std.specs.Prelude.{ℕ, ◌≡◌, [], ◌&&◌, not, IfOk, MatchBool};
 ghost use Rattle.std.specs.List.{list_any};
 ghost use Rattle.sat_checker.specs.LiteralSets.{is_among, is_part, mentions, canonical, same_literals};
@@ -10,7 +11,8 @@ use crate::units::assigned::{Assigned, assume_if_roomy};
 use sat_base::{Lit, Var};
 use std::alloc::AllocError;
 
-/// Assumes the literals, the last one first, unless two of them have the same variable. Returns whether no two do.
+/// Assumes the literals, from the last to the first, up to a literal whose variable has already occurred. Returns
+/// whether the variables are all different.
 #[tactic(auto, using(crate::proofs::lemmas::state::Models::setting_apart))]
 pub(crate) fn assume_apart(assigned: &mut Assigned, literals: &[Lit]) -> Result<bool, AllocError>
     requires { assigned.old.literals ≡ [] }
@@ -31,7 +33,7 @@ pub(crate) fn assume_apart(assigned: &mut Assigned, literals: &[Lit]) -> Result<
     Ok(true)
 }
 
-/// Assumes the literals that there is room for. It does not allocate.
+/// Assumes those of the literals for which there is room. Does not allocate.
 pub(crate) fn assume_roomy(assigned: &mut Assigned, literals: &[Lit])
     requires { assigned.old.literals ≡ [] }
     ensures marked { (l : ℕ) → is_among assigned.new.literals l
@@ -69,7 +71,7 @@ fn are_assumed(assigned: &Assigned, literals: &[Lit]) -> bool
     true
 }
 
-/// Whether a clause of sorted literals has exactly the assumed ones.
+/// Whether a clause of sorted literals consists of exactly the assumed literals.
 pub(crate) fn has_just_assumed(assigned: &Assigned, clause: &[Lit]) -> bool
     requires { IsIncreasing clause.now }
     ensures { result ≡ same_literals clause.now (canonical assigned.now.literals) }
@@ -78,7 +80,7 @@ pub(crate) fn has_just_assumed(assigned: &Assigned, clause: &[Lit]) -> bool
     clause.len() == assumed.len() && are_assumed(assigned, clause)
 }
 
-/// Whether the sorted literals of a clause are a proper subset of the assumed ones.
+/// Whether the literals of a clause, which must be sorted, are a proper subset of the assumed literals.
 pub(crate) fn is_strictly_assumed(assigned: &Assigned, clause: &[Lit]) -> bool
     requires { IsIncreasing clause.now }
     ensures { result ≡ (is_part clause.now assigned.now.literals && not (is_part assigned.now.literals clause.now)) }
@@ -87,7 +89,7 @@ pub(crate) fn is_strictly_assumed(assigned: &Assigned, clause: &[Lit]) -> bool
     clause.len() < assumed.len() && are_assumed(assigned, clause)
 }
 
-/// Whether no two of the literals have the same variable. It does not allocate.
+/// Whether no two of the literals have the same variable. Does not allocate.
 pub(crate) fn are_apart(literals: &[Lit]) -> bool
     ensures { MatchBool result (VariablesApart literals.now) (VariablesApart literals.now → ⊥) }
 {
@@ -113,7 +115,7 @@ pub(crate) fn makes_true(assigned: &Assigned, clause: &[Lit]) -> bool
     false
 }
 
-/// Whether the clause has a literal of the variable.
+/// Whether the clause contains a literal of the variable.
 #[tactic(auto, using(crate::proofs::lemmas::state::Scanning::any_literal))]
 pub(crate) fn mentions(clause: &[Lit], var: Var) -> bool
     ensures { result ≡ mentions clause.now var }
