@@ -1,4 +1,4 @@
-//! Conflict analysis: the clause learned from a conflict, and the assumptions that fail together.
+//! Conflict analysis: finds the clause to learn from a conflict, or assumptions that contradict the clauses.
 pub mod analyze;
 pub mod laws;
 pub mod learn;

@@ -10,7 +10,7 @@ use crate::context::Search;
 use sat_base::Lit;
 use std::alloc::AllocError;
 
-/// Replaces the assumptions with these literals, at level 0.
+/// Replaces the assumptions with `lits`. The search must be at level 0.
 pub fn set_assumptions(search: &mut Search, lits: &[Lit]) -> Result<(), AllocError>
     requires bottom { search.old.parts.trail.starts ≡ [] }
     requires there { HaveVariablesIn lits.now search.old.parts }

@@ -29,7 +29,8 @@ use sat_base::{CountedWrite, ProofStep, Var};
 use sat_checker::ProofProcessor;
 use sat_parts::{Conflict, Parts};
 
-/// Writes the empty clause, which follows from a conflict at level 0.
+/// Writes the units of the trail, and then the empty clause, which follows from `conflict`. The search must be at
+/// level 0.
 fn refute<W: CountedWrite + Drop, P: ProofProcessor>(
     proof: &mut Proof<W, P>,
     parts: &Parts,
@@ -57,7 +58,7 @@ fn refute<W: CountedWrite + Drop, P: ProofProcessor>(
     Ok(())
 }
 
-/// Learns from a conflict, or records that the formula is unsatisfiable.
+/// Learns a clause from `conflict`, or writes the empty clause if the search is at level 0.
 fn resolve<W: CountedWrite + Drop, P: ProofProcessor>(
     proof: &mut Proof<W, P>,
     search: &mut Search,
@@ -81,8 +82,8 @@ fn resolve<W: CountedWrite + Drop, P: ProofProcessor>(
     Ok(Outcome::Unsat)
 }
 
-/// Runs a round: up to a conflict and the clause learned from it, or up to an answer. If there are new literals at
-/// level 0, it begins with a simplification.
+/// Runs a round, which ends in a conflict and the clause learned from it, or in an answer. If there are new literals at
+/// level 0, the round begins with a simplification.
 pub fn conflict_step<W: CountedWrite + Drop, P: ProofProcessor>(
     proof: &mut Proof<W, P>,
     search: &mut Search,

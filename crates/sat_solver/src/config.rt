@@ -9,15 +9,16 @@ use crate::error::SolverError;
 pub struct SolverConfig {
     /// The factor by which the activity of a variable decays from one conflict to the next: 500 to 999, 950 by default.
     pub vsids_decay: u32,
-    /// The same for clauses: 500 to 999, 999 by default.
+    /// The factor by which the activity of a clause decays from one conflict to the next: 500 to 999, 999 by default.
     pub clause_activity_decay: u32,
     /// Rounds between reductions of the clauses of tier Local: at least 1, 15000 by default.
     pub reduce_locals_interval: u64,
     /// Rounds between reductions of the clauses of tier Mid: at least 1, 10000 by default.
     pub reduce_mids_interval: u64,
-    /// Rounds for each unit of the Luby sequence of restarts: at least 1, 128 by default.
+    /// Rounds between restarts for each unit of the Luby sequence: at least 1, 128 by default.
     pub luby_restart_interval_scale: u64,
-    /// The maximum number of rounds of one `solve`: 2^64-1 by default. With 0, it answers only what is already known.
+    /// The maximum number of rounds of one `solve`: 2^64-1 by default. If it is 0, `solve` returns only answers that
+    /// are already known.
     pub max_steps: u64,
 }
 
@@ -36,7 +37,7 @@ impl Default for SolverConfig {
     }
 }
 
-/// An update of some parameters: those that are `Some`.
+/// An update of the parameters whose fields are `Some`.
 #[derive(Clone, Copy, Debug, Drop, PartialEq, Eq, Default)]
 pub struct SolverConfigUpdate {
     pub vsids_decay: Option<u32>,
@@ -47,7 +48,7 @@ pub struct SolverConfigUpdate {
     pub max_steps: Option<u64>,
 }
 
-/// Whether a decay, if given, is in its range.
+/// Whether `change` is `None`, or a decay from 500 to 999.
 fn may_decay(change: Option<u32>) -> bool
     ensures { result ≡ passes is_decay change }
 {
@@ -57,7 +58,7 @@ fn may_decay(change: Option<u32>) -> bool
     }
 }
 
-/// Whether a number, if given, is at least 1.
+/// Whether `change` is `None`, or at least 1.
 fn may_count(change: Option<u64>) -> bool
     ensures { result ≡ passes (nat_le 1) change }
 {
@@ -87,7 +88,7 @@ impl SolverConfigUpdate {
         }
     }
 
-    /// Whether every given field is in its range.
+    /// Whether every field that is `Some` is in its range.
     fn is_in_range(&self) -> bool
         ensures { result ≡ in_range self.now }
     {
@@ -98,7 +99,7 @@ impl SolverConfigUpdate {
             && may_count(self.luby_restart_interval_scale)
     }
 
-    /// Applies the update. If a field is out of its range, returns `OutOfRange` and changes nothing.
+    /// Applies the update to `config`. If a field is out of its range, returns `OutOfRange` and changes nothing.
     pub fn apply(&self, config: &mut SolverConfig) -> Result<(), SolverError>
         ensures ok { OnOk result ((in_range self.now ≡ true) × (config.new ≡ updated self.now config.old)) }
         ensures err { IfErr result (λ e. (e ≡ SolverError.OutOfRange) × (in_range self.now ≡ false)

@@ -14,7 +14,7 @@ use sat_parts::{ClauseActivity, Parts};
 use sat_store::TmpFlags;
 use std::alloc::Global;
 
-/// Lists for the parts of steps.
+/// Lists in which the parts of a step are prepared.
 #[derive(Drop)]
 pub struct Scratch {
     pub clause: Vec<Lit>,
@@ -31,14 +31,14 @@ pub struct Search {
     pub analysis: Analysis,
     pub activity: ClauseActivity,
     pub flags: TmpFlags,
-    /// The proof variable of every search variable.
+    /// The proof variable for every index of the search.
     pub globals: Vec<Var>,
     pub scratch: Scratch,
     /// The assumption that failed last.
     pub failed: Lit,
 }
 
-/// The data of a solver, apart from its names.
+/// The proof, the search and the parameters of a solver.
 #[derive(Drop)]
 pub struct Core<W: CountedWrite + Drop, P: ProofProcessor = Nobody> {
     pub proof: Proof<W, P>,
@@ -46,7 +46,7 @@ pub struct Core<W: CountedWrite + Drop, P: ProofProcessor = Nobody> {
     pub config: SolverConfig,
 }
 
-/// Creates a search without variables, clauses and assumptions. Never allocates.
+/// Creates a search without variables, clauses or assumptions. Never allocates.
 pub fn no_search(alloc: Global) -> Search
     ensures search { IsSearch nothing result }
     ensures bottom { result.parts.trail.starts ≡ [] }

@@ -1,4 +1,4 @@
-//! Variables that may be picked.
+//! Variables that the search may pick for decisions.
 ghost use Rattle.std.specs.Prelude.{ℕ, ◌≡◌, ◌<◌, None, true, false, length, slice_index_or};
 ghost use Rattle.sat_base.specs.values.Literals.{variable};
 ghost use Rattle.sat_store.specs.heap.Vsids.{may_pick};
@@ -12,7 +12,7 @@ use sat_base::Lit;
 use sat_parts::Parts;
 use sat_parts::parts::variables::use_variable;
 
-/// Allows the variables of these literals to be picked if they have no value.
+/// Allows the search to pick those variables of `lits` that have no value.
 pub fn make_ready(parts: &mut Parts, lits: &[Lit])
     requires holds { PartsInvariant parts.old }
     requires there { HaveVariablesIn lits.now parts.old }

@@ -6,50 +6,52 @@ use std::alloc::AllocError;
 use std::io;
 use thiserror::Error;
 
-/// Why a call of a solver failed.
+/// Why a call to a solver failed.
 ///
-/// After an error that is not recoverable, every call that returns errors returns `HasFailed`. The only exception is
-/// the `OutOfMemory` of `model`, which changes nothing.
+/// After an error that is not recoverable, every later call that can return an error returns `HasFailed`. The only
+/// exception is an `OutOfMemory` that `model` returned, after which the solver can still be used.
 #[derive(Debug, Drop, Error)]
 pub enum SolverError {
-    /// The rounds of this `solve` are exhausted, or the count of all rounds is.
+    /// The rounds that the parameters allow for one `solve` are exhausted, or the number of all rounds has
+    /// reached 2^64-1.
     #[error("The solver was interrupted")]
     Interrupted,
     /// A listener returned a fault.
     #[error("Error in proof processor: {cause}")]
     ProofProcessorError { cause: anyhow::Error },
-    /// A write to the proof's target failed.
+    /// A call to the proof's target failed.
     #[error("Error writing proof file: {cause}")]
     ProofIoError { cause: io::Error },
-    /// The allocator refused memory.
+    /// Memory could not be allocated.
     #[error("out of memory")]
     OutOfMemory,
-    /// A clause or an assumption has a name of mode witness.
+    /// A clause or an assumption contains a name whose mode is witness.
     #[error("a clause or an assumption has a witness variable")]
     WitnessVariable,
-    /// A name that is assumed cannot be hidden or change its mode.
+    /// The name is assumed, so it cannot be hidden, and its mode cannot be set.
     #[error("an assumed variable can't change its mode")]
     AssumedVariable,
-    /// A proof must begin before the first clause, name, assumption and `solve`.
+    /// A proof cannot be opened, and a checker or a listener cannot be added, after a clause, a name, assumptions or an
+    /// ask. A proof also cannot be opened while another is open.
     #[error("a proof can't begin once the solver was used")]
     TooLate,
-    /// A DRAT proof has no assumptions, and no clauses after the first `solve`.
+    /// A DRAT proof cannot contain assumptions, or clauses that were added after the first `solve`.
     #[error("the proof format has no assumptions and no later clauses")]
     NotInDrat,
-    /// The clause buffer has more than 2^32-1 words.
+    /// The clause buffer has more than 2^32-1 words, so that no clause can be added to it.
     #[error("the store of clauses is full")]
     StoreFull,
-    /// There are too few variables for the names that would be introduced (at most 2^28 are in use), or a number in a
-    /// formula's text is above that limit.
+    /// There are too few variables for the names that would be introduced (at most 2^28 can be in use), or a number in
+    /// a formula's text is above that limit.
     #[error("a variable is past the limit")]
     VariableLimit,
-    /// The solver's own checker has used its last id, or counted a clause as often as it can.
+    /// The solver's own checker has used its last id, or its count of a clause has reached the maximum.
     #[error("a counter is at its end")]
     CounterEnd,
     /// An earlier call returned an error that is not recoverable.
     #[error("the solver has failed before")]
     HasFailed,
-    /// The formula's reader failed, or was called 2^48 times.
+    /// A read of the formula's text failed, or the text has not ended after 2^48 reads.
     #[error("the formula can't be read")]
     Read,
     /// The formula's text is malformed.
@@ -61,8 +63,8 @@ pub enum SolverError {
 }
 
 impl SolverError {
-    /// Whether the solver can still be used after this error, whichever call returned it. After the `OutOfMemory` of
-    /// `model` it can, too.
+    /// Whether the solver can still be used after this error, whichever call returned it. False for `OutOfMemory`,
+    /// although the solver can still be used if `model` returned it.
     pub fn is_recoverable(&self) -> bool
         ensures { result ≡ is_recoverable self.now }
     {

@@ -1,4 +1,4 @@
-//! Removes literals that follow from the others of the clause.
+//! Minimizes learned clauses: removes literals that must be false whenever the other literals of the clause are false.
 ghost use Rattle.std.specs.Prelude.{◌≡◌, ◌<◌, ◌∷◌, [], length, OnOk, IfOk};
 ghost use Rattle.sat_base.specs.values.Literals.{variable};
 ghost use Rattle.sat_parts.specs.clause.Glue.{HaveNodes};
@@ -15,7 +15,9 @@ use sat_parts::{Assignment, CauseLits, Conflict, ImplGraph, Trail};
 use sat_store::{ClauseAlloc, LevelAbstraction, Lits};
 use std::alloc::AllocError;
 
-/// Marks a literal of a reason, unless it is marked or of level 0. Returns whether it may follow from the clause.
+/// Marks a literal of a reason, unless the literal is already marked or its level is 0.
+///
+/// Returns false, and does not mark the literal, if its reason is not a clause or its level is not in `levels`.
 #[inline(always)]
 fn follow_one(
     analysis: &mut Analysis,
@@ -41,7 +43,7 @@ fn follow_one(
     Ok(true)
 }
 
-/// Marks the literals of a list, up to the first that cannot follow from the clause.
+/// Calls `follow_one` for every literal in `lits` until a call returns false. Returns whether all calls returned true.
 fn follow_own(
     analysis: &mut Analysis,
     graph: &ImplGraph,
@@ -62,7 +64,8 @@ fn follow_own(
     Ok(true)
 }
 
-/// Marks the literals of a long clause, up to the first that cannot follow from the clause.
+/// Calls `follow_one` for every literal of a long clause until a call returns false. Returns whether all calls
+/// returned true.
 fn follow_long(
     analysis: &mut Analysis,
     graph: &ImplGraph,
@@ -82,8 +85,8 @@ fn follow_long(
     Ok(true)
 }
 
-/// Marks the literals of a reason that are not marked yet. Returns whether all of them may follow from the clause;
-/// stops at the first that cannot.
+/// Calls `follow_one` for every literal of a reason until a call returns false. Returns whether all calls
+/// returned true.
 fn follow(
     analysis: &mut Analysis,
     graph: &ImplGraph,
@@ -103,8 +106,8 @@ fn follow(
     Ok(whole)
 }
 
-/// Whether the literal follows from the others of the clause. Then the literals that it follows from are among
-/// the used ones.
+/// Checks whether reasons show that `lit` must be false whenever the other literals of the learned clause are false. If
+/// so, the literals with these reasons are among the used literals afterwards.
 fn is_implied(
     analysis: &mut Analysis,
     clauses: &ClauseAlloc,
@@ -138,7 +141,7 @@ fn is_implied(
     Ok(true)
 }
 
-/// Returns a filter that admits the levels of these literals, and possibly others.
+/// Returns a filter that contains the levels of `lits`, and possibly other levels.
 fn levels_of(graph: &ImplGraph, lits: &[Lit]) -> LevelAbstraction
     requires { HaveNodes graph.now lits.now }
 {
@@ -149,7 +152,8 @@ fn levels_of(graph: &ImplGraph, lits: &[Lit]) -> LevelAbstraction
     levels
 }
 
-/// Removes the literals of the clause that follow from its others, but never the first one.
+/// Removes the literals of the learned clause that, as reasons show, must be false whenever its other literals are
+/// false. Never removes the first literal.
 pub(crate) fn minimize_clause(
     analysis: &mut Analysis,
     clauses: &ClauseAlloc,

@@ -7,7 +7,7 @@ use crate::variables::Variables;
 use sat_base::{Lit, Var};
 use std::alloc::AllocError;
 
-/// Whether a value is true. In a model, no value counts as false.
+/// Whether `value` is true. In a model, a variable without a value is false.
 fn holds(value: Option<bool>) -> bool
     ensures { result ≡ has_true_value value }
 {
@@ -17,7 +17,7 @@ fn holds(value: Option<bool>) -> bool
     }
 }
 
-/// Returns the value of an index of the search, or false if it has none.
+/// Returns the value of the index `solver` of the search, or false if the index has no value.
 fn value_at(values: &[Option<bool>], solver: Var) -> bool
     ensures { result ≡ has_true_value (slice_index_or values.now solver None) }
 {
@@ -28,7 +28,8 @@ fn value_at(values: &[Option<bool>], solver: Var) -> bool
     holds(values[index])
 }
 
-/// Returns the value of a proof variable: that of its index, otherwise that of its unit, otherwise false.
+/// Returns the value of a proof variable in a model. If the variable has an index, this is the value of the index;
+/// otherwise it is the value of the variable's unit, or false if there is none.
 pub fn value_of(variables: &Variables, values: &[Option<bool>], global: Var) -> bool
     requires within { global < variables_used variables.now }
     ensures { result ≡ value_in variables.now values.now global }
@@ -39,7 +40,7 @@ pub fn value_of(variables: &Variables, values: &[Option<bool>], global: Var) -> 
     }
 }
 
-/// Appends the literal of a proof variable, if the variable is in use.
+/// Appends to `lits` the literal of a proof variable that is true in the model, if the variable is in use.
 fn push_value(
     variables: &Variables,
     values: &[Option<bool>],
@@ -57,7 +58,7 @@ fn push_value(
     Ok(())
 }
 
-/// Replaces the content of a list with a literal for every proof variable in use, in increasing order.
+/// Replaces the content of `lits` with a model: the true literal of every proof variable in use, in increasing order.
 pub fn model_lits(
     variables: &Variables,
     values: &[Option<bool>],
@@ -74,7 +75,7 @@ pub fn model_lits(
     Ok(())
 }
 
-/// Appends the literal of a name, if the name is in use.
+/// Appends to `lits` the literal of a name that is true in the model, if the name is in use.
 fn push_named(
     variables: &Variables,
     values: &[Option<bool>],
@@ -93,7 +94,7 @@ fn push_named(
     Ok(())
 }
 
-/// Replaces the content of a list with a literal for every name in use, in increasing order.
+/// Replaces the content of `lits` with a model: the true literal of every name in use, in increasing order.
 pub fn named_lits(
     variables: &Variables,
     values: &[Option<bool>],

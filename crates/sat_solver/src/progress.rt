@@ -7,16 +7,16 @@ pub struct Progress {
     pub conflicts: u64,
     /// Restarts so far.
     pub restarts: u64,
-    /// Variables of the search without a value.
+    /// Variables of the search that have no value.
     pub vars: u64,
     /// Clauses with two literals.
     pub binary: u64,
     /// Clauses of the formula with three or more literals.
     pub irred: u64,
-    /// Learned clauses that are always kept.
+    /// Learned clauses that no reduction deletes.
     pub core: u64,
-    /// Learned clauses that are kept while they are used.
+    /// Learned clauses that no reduction deletes as long as they are used.
     pub mid: u64,
-    /// Learned clauses of which every reduction deletes half.
+    /// Learned clauses of which each reduction deletes up to half.
     pub local: u64,
 }

@@ -40,11 +40,11 @@ use std::{io, mem};
 /// Why a step was not written, or not checked.
 #[derive(Drop)]
 pub enum ProofError {
-    /// A call of the target failed. The underlying error is stored with the proof.
+    /// A call to the target failed. The underlying error is stored with the proof.
     Write(Kept<io::Error>),
-    /// The memory for its shortened hashes could not be allocated. It was not made.
+    /// The memory for the step's text or its shortened hashes could not be allocated. The step was not made.
     OutOfMemory,
-    /// It was made, and the solver's own checker failed at it.
+    /// The solver's own checker failed. If it failed at a step, the step was made.
     Check(CheckFault),
 }
 
@@ -59,25 +59,26 @@ impl From<CheckFault> for ProofError {
     }
 }
 
-/// All steps that a solver has made, the solver's own checker, if any, and the open target of their text, if any. After
-/// a failure the target is not used again, and steps continue as if none were open.
+/// All steps that a solver has made, the solver's own checker, if any, and the open target of the steps' text, if any.
+/// After the target fails, it is not used again, and steps are made as if no target were open.
 #[derive(Drop)]
 pub struct Proof<W, P: ProofProcessor = Nobody> {
     alloc: Global,
     made: Made<P>,
-    /// The counts that determine the width of hashes, while a target is open or there is a checker.
+    /// The counts that determine the width of hashes. They are updated only while a target is open or there is
+    /// a checker.
     counting: Counting,
     lists: CutLists,
-    /// Where DRAT lines are assembled.
+    /// The buffer in which DRAT lines are assembled.
     text: Vec<u8>,
     output: Option<Output<W>>,
     broken: bool,
-    /// Why a call of the target failed.
+    /// The error of the last failed call to a target, if any.
     cause: Option<io::Error>,
 }
 
 impl<W: CountedWrite + Drop, P: ProofProcessor> Proof<W, P> {
-    /// Creates a proof without steps, checker and target. Never allocates.
+    /// Creates a proof without steps, checker or target. Never allocates.
     pub fn new(alloc: Global) -> Proof<W, P>
         ensures steps { steps_of result ≡ [] }
         ensures checked { is_checked result ≡ false }
@@ -97,7 +98,7 @@ impl<W: CountedWrite + Drop, P: ProofProcessor> Proof<W, P> {
         }
     }
 
-    /// Whether steps are written.
+    /// Whether a target is open, so that steps are written.
     pub fn is_open(&self) -> bool
         ensures { result ≡ is_open (target_of W.seen self.now) }
     {
@@ -107,7 +108,7 @@ impl<W: CountedWrite + Drop, P: ProofProcessor> Proof<W, P> {
         }
     }
 
-    /// Whether DRAT lines are written.
+    /// Whether a target is open to which DRAT lines are written.
     pub fn is_drat(&self) -> bool
         ensures { result ≡ is_drat (target_of W.seen self.now) }
     {
@@ -131,7 +132,10 @@ impl<W: CountedWrite + Drop, P: ProofProcessor> Proof<W, P> {
         self.made.has_begun()
     }
 
-    /// Starts a checker, which receives the steps from now on. Never allocates.
+    /// Starts a checker if there is none, or restarts one that has missed a step. The checker receives all steps from
+    /// now on.
+    ///
+    /// No step other than the end of a proof may have been made. Never allocates.
     pub fn begin_checking(&mut self, alloc: Global)
         requires { has_begun (steps_of self.old) ≡ false }
         ensures checks { HasFullChecker self.old self.new }
@@ -153,8 +157,8 @@ impl<W: CountedWrite + Drop, P: ProofProcessor> Proof<W, P> {
         Ok(())
     }
 
-    /// Opens a target, to which steps are written from now on, at first with complete hashes. Never allocates. A target
-    /// that failed before is dropped.
+    /// Opens a target, to which steps are written from now on, at first with complete hashes. Drops an earlier target
+    /// that failed. No other target may be open. Never allocates.
     pub fn open(&mut self, format: ProofFormat, target: W)
         requires { is_open (target_of W.seen self.old) ≡ false }
         ensures steps { steps_of self.new ≡ steps_of self.old }
@@ -168,7 +172,7 @@ impl<W: CountedWrite + Drop, P: ProofProcessor> Proof<W, P> {
         self.broken = false;
     }
 
-    /// Allows hashes to be shortened from now on, if the number of clauses permits.
+    /// Begins an ask. From now on, hashes may be shortened if the number of clauses permits.
     pub fn begin_ask(&mut self)
         ensures keeps { HasAllowedSteps self.old → HasAllowedSteps self.new }
         ensures adds { EmitsExactly W.seen [] self.old self.new }
@@ -178,7 +182,7 @@ impl<W: CountedWrite + Drop, P: ProofProcessor> Proof<W, P> {
         self.counting.solving = true;
     }
 
-    /// Stops using the target. Stores why its last call failed.
+    /// Stops using the target, and stores `cause`, the error of its last call.
     fn break_off(&mut self, cause: io::Error) -> ProofError
         ensures fault { result ≡ ProofError.Write cause }
         ensures breaks { self.new ≡ record self.old { broken = true; cause = Some cause } }
@@ -189,7 +193,8 @@ impl<W: CountedWrite + Drop, P: ProofProcessor> Proof<W, P> {
         ProofError::Write(kept)
     }
 
-    /// Writes a step to the open target, if any, with its hashes shortened to the width for the clauses after it.
+    /// Writes `cut` to the open target, if any. `cut` must be `step` with its hashes shortened to the width in
+    /// `counting`, which must be the counts after the step. Stores these counts if the call succeeds.
     #[inline(always)]
     fn put(
         &mut self,
@@ -213,8 +218,10 @@ impl<W: CountedWrite + Drop, P: ProofProcessor> Proof<W, P> {
         self.put_long(&counting, step, cut)
     }
 
-    /// Buffers a step's text if there is certainly room for it, or does nothing if no target receives it. Returns
-    /// whether the step is done.
+    /// Buffers the text of `cut` if it is certain to fit, or writes nothing if no target is open. Returns false if the
+    /// text is still to be written.
+    ///
+    /// `cut` must be `_step` with its hashes shortened to the width in `counting`.
     #[inline(always)]
     fn try_put(&mut self, counting: &Counting, _step: &ProofStep<'_>, cut: &ProofStep<'_>) -> bool
         requires width { KeepsWidth (step_of _step.now) }
@@ -242,7 +249,8 @@ impl<W: CountedWrite + Drop, P: ProofProcessor> Proof<W, P> {
         false
     }
 
-    /// Writes any step. This is a separate function, since an error of a target is large.
+    /// Writes `cut` to the open target, if any, however long its text is. This is a separate function because an error
+    /// of a target is large.
     #[inline(never)]
     fn put_long(
         &mut self,
@@ -279,7 +287,8 @@ impl<W: CountedWrite + Drop, P: ProofProcessor> Proof<W, P> {
         }
     }
 
-    /// Records a step that was written, and passes it to the checker as it was shortened.
+    /// Records `step`, and passes `cut` to the checker, if any. `cut` must be `step` with its hashes shortened to the
+    /// current width.
     #[inline(always)]
     fn take(&mut self, step: &ProofStep<'_>, cut: &ProofStep<'_>) -> Result<(), ProofError>
         requires may { MayAll (step_of step.now ∷ steps_of self.old) }
@@ -297,8 +306,11 @@ impl<W: CountedWrite + Drop, P: ProofProcessor> Proof<W, P> {
         Ok(())
     }
 
-    /// Passes the same step to target and checker, with its hashes shortened to the width for the clauses after it. A
-    /// step is not checked if the target fails while its text is written.
+    /// Writes `cut` to the open target, if any, records `step`, and passes `cut` to the checker, if any. The checker
+    /// does not receive a step if the target fails while the step's text is written.
+    ///
+    /// `cut` must be `step` with its hashes shortened to the width in `counting`, which must be the counts after
+    /// the step.
     #[inline(always)]
     fn record<'s>(
         &mut self,
@@ -325,7 +337,7 @@ impl<W: CountedWrite + Drop, P: ProofProcessor> Proof<W, P> {
         }
     }
 
-    /// Shortens a step's hashes, in these lists, to the width for the clauses after it, and records the step.
+    /// Makes a step, with its hashes shortened to the width after the step. The shortened hashes are stored in `lists`.
     fn record_cut(&mut self, lists: &mut CutLists, step: &ProofStep<'_>) -> Result<(), ProofError>
         requires keeps { HasAllowedSteps self.old }
         requires may { May (session_of self.old) (step_of step.now) }
@@ -386,8 +398,8 @@ impl<W: CountedWrite + Drop, P: ProofProcessor> Proof<W, P> {
         }
     }
 
-    /// Makes a step that the session may write: writes it to the open target, if any, and passes it to the checker, if
-    /// any. If the memory for its text or its hashes cannot be allocated, the step is not made.
+    /// Makes a step, which the session must allow: writes the step to the open target, if any, and passes it to the
+    /// checker, if any. If the memory for the step's text or its hashes cannot be allocated, the step is not made.
     #[inline(always)]
     pub fn step(&mut self, step: &ProofStep<'_>) -> Result<(), ProofError>
         requires keeps { HasAllowedSteps self.old }
@@ -406,7 +418,7 @@ impl<W: CountedWrite + Drop, P: ProofProcessor> Proof<W, P> {
         self.record(counting, step, step)
     }
 
-    /// Records a step with hashes, with the lists that hold them once they are shortened.
+    /// Makes a step that has hashes. The shortened hashes are stored in `self.lists`.
     #[inline(never)]
     fn step_with_hashes(&mut self, step: &ProofStep<'_>) -> Result<(), ProofError>
         requires keeps { HasAllowedSteps self.old }
@@ -440,7 +452,7 @@ impl<W: CountedWrite + Drop, P: ProofProcessor> Proof<W, P> {
         }
     }
 
-    /// Makes the checker announce what is pending.
+    /// Makes the checker, if any, announce what is pending.
     fn take_delayed(&mut self) -> Result<(), ProofError>
         ensures steps { steps_of self.new ≡ steps_of self.old }
         ensures listening { audience self.new ≡ audience self.old }
@@ -455,7 +467,7 @@ impl<W: CountedWrite + Drop, P: ProofProcessor> Proof<W, P> {
         Ok(())
     }
 
-    /// Writes pending bytes to the open target, if any, and flushes it. Then the checker, if any, announces what
+    /// Writes pending bytes to the open target, if any, and flushes it. Then makes the checker, if any, announce what
     /// is pending.
     pub fn flush(&mut self) -> Result<(), ProofError>
         ensures keeps { HasAllowedSteps self.old → HasAllowedSteps self.new }
@@ -465,8 +477,8 @@ impl<W: CountedWrite + Drop, P: ProofProcessor> Proof<W, P> {
         self.take_delayed()
     }
 
-    /// Writes the last step, flushes, and returns the target, or `None` if none is open. After an error the proof keeps
-    /// the target.
+    /// Writes the `End` step, flushes the target and returns it. Returns `None` if no target is open. After an error,
+    /// the proof keeps the target.
     pub fn close(&mut self) -> Result<Option<W>, ProofError>
         requires { HasAllowedSteps self.old }
         ensures keeps { HasAllowedSteps self.new }
@@ -480,7 +492,7 @@ impl<W: CountedWrite + Drop, P: ProofProcessor> Proof<W, P> {
         Ok(self.take_target())
     }
 
-    /// Returns the target as it is, or `None`. Its pending bytes are lost.
+    /// Returns the target, if any, without flushing it. Its pending bytes are lost.
     pub fn take_target(&mut self) -> Option<W>
         ensures keeps { HasAllowedSteps self.old → HasAllowedSteps self.new }
         ensures gives { HandsBack W.seen result self.old self.new }
@@ -492,14 +504,14 @@ impl<W: CountedWrite + Drop, P: ProofProcessor> Proof<W, P> {
         }
     }
 
-    /// Returns why the last call of the target failed.
+    /// Returns the error of the last failed call to a target, or `None` if no call failed.
     pub fn cause(&self) -> Option<io::Error>
         ensures { result ≡ self.now.cause }
     {
         self.cause
     }
 
-    /// Returns the error of a listener. It is returned only once.
+    /// Returns the error of a listener, if any, and removes it from the proof.
     pub fn take_complaint(&mut self) -> Option<anyhow::Error>
         ensures gives { result ≡ self.old.made.complaint }
         ensures same { self.new ≡ without_complaint self.old }
@@ -507,8 +519,8 @@ impl<W: CountedWrite + Drop, P: ProofProcessor> Proof<W, P> {
         self.made.take_complaint()
     }
 
-    /// Returns the checker's listeners in the order in which they were added, even after a failure. The checker has
-    /// none afterwards.
+    /// Returns the checker's listeners in the order in which they were added, even after a failure. Afterwards there is
+    /// no checker.
     pub fn take_processors(&mut self, alloc: Global) -> Vec<P>
         ensures handed { HandsBackListeners self.old result.items }
         ensures whole { HandsBackWholeListeners self.old result.items }

@@ -48,7 +48,7 @@ impl Outcome {
     }
 }
 
-/// Restarts the search if a restart is due before this round.
+/// Restarts the search if a restart is due before round `round`.
 fn restart_where_due<W: CountedWrite + Drop, P: ProofProcessor>(
     core: &mut Core<W, P>,
     restarts: &mut Restarts,
@@ -72,7 +72,10 @@ fn restart_where_due<W: CountedWrite + Drop, P: ProofProcessor>(
     begin_gap(restarts, round);
 }
 
-/// Runs at most `max_steps` rounds, up to an answer. Returns `None` if there is no answer.
+/// Runs rounds until there is an answer, but at most `max_steps` rounds. Returns the answer, or `None` if there
+/// is none.
+///
+/// Counts the rounds in `steps`, the number of rounds over all calls. No round is run once it has reached 2^64-1.
 pub fn search<W: CountedWrite + Drop, P: ProofProcessor>(
     core: &mut Core<W, P>,
     names: &mut Variables,

@@ -1,4 +1,4 @@
-//! What connects a solver that writes a proof to the checker that reads it.
+//! The connection between a solver that writes a proof and the checker that reads it.
 pub mod fit_laws;
 pub mod history;
 pub mod laws;

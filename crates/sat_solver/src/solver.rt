@@ -1,7 +1,7 @@
 //! An incremental solver that writes a proof.
 //!
-//! Contracts describe a solver by the `View` of its definitions and by the judge's state. `IsSolver` is the invariant
-//! between calls: `new` establishes it, and every call preserves it.
+//! Contracts describe a solver by the definitions of `specs/solver/View` and by the judge's state. `IsSolver` is the
+//! invariant between calls: `new` establishes it, and every call preserves it.
 ghost use Rattle.std.specs.Prelude.{◌≡◌};
 ghost use Rattle.sat_solver.specs.solver.View.{IsEmpty, rounds_in};
 
@@ -36,7 +36,7 @@ use sat_parts::parts::sorting::no_sorting;
 use sat_store::LubySequence;
 use std::alloc::Global;
 
-/// A solver of clauses over names. It answers any number of asks, under assumptions, and writes a proof.
+/// A solver for clauses over names. It answers any number of asks, under assumptions, and writes a proof.
 #[derive(Drop)]
 pub struct Solver<W: CountedWrite + Drop, P: ProofProcessor = Nobody> {
     core: Core<W, P>,
@@ -44,20 +44,20 @@ pub struct Solver<W: CountedWrite + Drop, P: ProofProcessor = Nobody> {
     clock: Clock,
     reported: LastAnswers,
     state: State,
-    /// Whether a call failed. Then every later call fails.
+    /// Whether a call failed. If so, every later call that can return an error returns `HasFailed`.
     failed: bool,
-    /// Whether a clause, a name, an assumption or an ask came before.
+    /// Whether the solver has received a clause, a name, assumptions or an ask.
     used: bool,
     /// The clause that is being added.
     loading: Loading,
-    /// The assumptions, over the search and over the proof.
+    /// The assumptions, over indices of the search and over proof variables.
     asked: Taken,
-    /// The same over names.
+    /// The assumptions, over names.
     assumed: Vec<Lit>,
 }
 
 impl<W: CountedWrite + Drop> Solver<W, Nobody> {
-    /// Creates a solver without clauses, names and listeners. Never allocates.
+    /// Creates a solver without clauses, names or listeners. Never allocates.
     pub fn new(alloc: Global) -> Solver<W, Nobody>
         ensures { IsEmpty W.seen result }
     {
@@ -66,7 +66,8 @@ impl<W: CountedWrite + Drop> Solver<W, Nobody> {
 }
 
 impl<W: CountedWrite + Drop, P: ProofProcessor> Solver<W, P> {
-    /// Creates a solver whose listeners are of type `P`. There are none yet. Never allocates.
+    /// Creates a solver without clauses or names, whose listeners are of type `P`. It has no listeners yet.
+    /// Never allocates.
     pub fn notifying(alloc: Global) -> Solver<W, P>
         ensures { IsEmpty W.seen result }
     {

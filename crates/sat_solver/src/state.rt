@@ -4,7 +4,7 @@
 #[derive(Clone, Copy, Debug, Drop, PartialEq, Eq)]
 pub enum State {
     Unknown,
-    /// The last model satisfies them.
+    /// The last model satisfies the clauses and the assumptions.
     Sat,
     /// The assumptions contradict the clauses.
     UnsatUnderAssumptions,

@@ -1,4 +1,5 @@
-//! Simplifies by the units of level 0: removes clauses, literals of clauses, and variables without a clause.
+//! Simplifies by the units of level 0: removes clauses, literals of clauses, and indices of variables that are in
+//! no clause.
 ghost use Rattle.sat_solver.specs.proof.ProofView.{HasAllowedSteps, session_of};
 ghost use Rattle.sat_solver.specs.cdcl.Going.{EmitsSteps};
 ghost use Rattle.sat_solver.specs.cdcl.Joint.{IsSearch};
@@ -23,8 +24,8 @@ use crate::variables::Variables;
 use sat_base::CountedWrite;
 use sat_checker::ProofProcessor;
 
-/// Removes binary clauses with an assigned variable and long clauses with a true literal. Removes the false literals of
-/// the others.
+/// Removes the binary clauses that have an assigned variable and the long clauses that have a true literal. Removes the
+/// false literals of the remaining long clauses.
 fn lighten<W: CountedWrite + Drop, P: ProofProcessor>(
     proof: &mut Proof<W, P>,
     search: &mut Search,
@@ -40,10 +41,10 @@ fn lighten<W: CountedWrite + Drop, P: ProofProcessor>(
     simplify_clauses(proof, search, &mut part)
 }
 
-/// Simplifies at level 0, after complete propagation and with an empty trail.
+/// Simplifies at level 0. Propagation must be complete, and the trail must be empty.
 ///
-/// Removes satisfied clauses and false literals. Then the variables that are in no clause and not assumed release their
-/// indices, in order. Hidden ones among these are deleted.
+/// Removes satisfied clauses and false literals. Then releases, in order, the indices of the variables that are in no
+/// clause and not assumed. If such a variable is hidden, it is deleted.
 pub fn unit_simplify<W: CountedWrite + Drop, P: ProofProcessor>(
     proof: &mut Proof<W, P>,
     search: &mut Search,

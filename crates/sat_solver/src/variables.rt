@@ -26,35 +26,37 @@ use sat_base::Var;
 use sat_store::{SamplingMode, VarBiMap, VarData};
 use std::alloc::{AllocError, Global};
 
-/// The caller's names, the proof's variables (which are global), and the search's indices, with maps between them.
+/// The caller's names (`user`), the proof variables (`global`), and the indices of the search (`solver`), with maps
+/// between them.
 #[derive(Drop)]
 pub struct Variables {
     pub global_from_user: VarBiMap,
     pub solver_from_global: VarBiMap,
 
-    /// The variable that each index of the search has, or had last.
+    /// The variable that each index of the search belongs to, or belonged to last.
     pub globals: Vec<Var>,
 
-    /// What is stored for each variable, indexed by variable.
+    /// The data of each variable, indexed by variable.
     pub var_data: Vec<VarData>,
 
-    /// Names that were used and are not in use.
+    /// Names that were used and are no longer in use.
     pub free_users: FreeIndices,
 
-    /// Variables that were used and are not in use.
+    /// Variables that were used and are no longer in use.
     pub free_globals: FreeIndices,
 
-    /// Indices that were used and are not in use.
+    /// Indices that were used and are no longer in use.
     pub free_solvers: FreeIndices,
 
-    /// Whether a variable may be of mode witness.
+    /// False only if no variable has the mode witness.
     pub witnessed: bool,
 
-    /// Whether every name that was ever used has the variable with its own index.
+    /// True only if every name that was ever used is in use and has the variable with the same index.
     pub own_names: bool,
 }
 
-/// Whether every name still has the variable with its own index, after a name got this one.
+/// Whether every name still has the variable with the same index after the name `user` gets the variable `global`.
+/// `own` says whether this was so before.
 fn are_own(own: bool, user: Var, global: Var) -> bool
     ensures own { result ≡ true → own ≡ true }
     ensures same { result ≡ true → global ≡ user }
@@ -63,7 +65,7 @@ fn are_own(own: bool, user: Var, global: Var) -> bool
 }
 
 impl Variables {
-    /// Creates an empty value. Never allocates.
+    /// Creates a value without names, variables or indices. Never allocates.
     pub fn new(alloc: Global) -> Variables
         ensures tidy { AreTidy result }
         ensures none { variables_used result ≡ 0 }
@@ -81,8 +83,8 @@ impl Variables {
         }
     }
 
-    /// Returns the variable for a name that is not in use: the one with its own index if that is free or new, otherwise
-    /// the lowest free one.
+    /// Returns the variable for the name `user`, which is not in use: the variable with the same index if it is not in
+    /// use, or else the lowest variable that is not in use. Returns `None` if all variables are in use.
     #[tactic(auto, using(crate::proofs::lemmas::variables::NextVariables::finding_room))]
     pub(crate) fn room_for(&self, user: Var) -> Option<Var>
         requires tidy { AreTidy self.now }
@@ -102,7 +104,7 @@ impl Variables {
         None
     }
 
-    /// Gives a name to a new variable.
+    /// Gives the name `user` to `global`, which must be the variable that `room_for` returns for this name.
     pub(crate) fn put_name(&mut self, user: Var, global: Var) -> Result<(), AllocError>
         requires tidy { AreTidy self.old }
         requires named { global_of self.old user ≡ None }
@@ -120,7 +122,8 @@ impl Variables {
         Ok(())
     }
 
-    /// Returns the first index never used. There is one, since a variable in use has none.
+    /// Returns the lowest index that was never used. There is such an index, because the variable `_global` is in use
+    /// and has no index. No index that was used may be free.
     fn new_index(&self, _global: Var) -> Var
         requires tidy { AreTidy self.now }
         requires live { (data_at self.now _global).deleted ≡ false }
@@ -131,7 +134,7 @@ impl Variables {
         Var::from_index(self.solver_from_global.bwd().watermark())
     }
 
-    /// Returns the index for a variable in use that has none: the lowest free one.
+    /// Returns the index for `global`, a variable in use that has no index: the lowest index that is not in use.
     pub(crate) fn next_index(&self, global: Var) -> Var
         requires tidy { AreTidy self.now }
         requires live { (data_at self.now global).deleted ≡ false }
@@ -144,7 +147,7 @@ impl Variables {
         }
     }
 
-    /// Gives an index to a variable.
+    /// Gives the index `solver` to the variable `global`.
     pub(crate) fn put_index(&mut self, global: Var, solver: Var) -> Result<(), AllocError>
         requires without { solver_of self.old global ≡ None }
         requires next { IsNextIndex self.old solver }
@@ -158,7 +161,7 @@ impl Variables {
         Ok(())
     }
 
-    /// Removes the index of a variable. Never allocates.
+    /// Removes the index `solver` of the variable `global`. Never allocates.
     pub(crate) fn take_index(&mut self, global: Var, solver: Var)
         requires tidy { AreTidy self.old }
         requires there { solver_of self.old global ≡ Some solver }
@@ -169,7 +172,7 @@ impl Variables {
         unlink(&mut self.solver_from_global, global, solver);
     }
 
-    /// Hides a variable, whose name is free from now on. Never allocates.
+    /// Hides the variable `global`. Its name `user` can be introduced again from now on. Never allocates.
     pub(crate) fn put_hidden(&mut self, user: Var, global: Var)
         requires tidy { AreTidy self.old }
         requires named { global_of self.old user ≡ Some global }
@@ -182,7 +185,7 @@ impl Variables {
         self.own_names = false;
     }
 
-    /// Gives a name to a hidden variable, which is of mode witness from now on.
+    /// Gives the name `user` to the hidden variable `global`, and sets its mode to witness.
     pub(crate) fn put_observed(&mut self, user: Var, global: Var) -> Result<(), AllocError>
         requires tidy { AreTidy self.old }
         requires free { global_of self.old user ≡ None }
@@ -200,7 +203,7 @@ impl Variables {
         Ok(())
     }
 
-    /// Changes the mode of a variable.
+    /// Sets the mode of a variable.
     pub(crate) fn put_mode(&mut self, global: Var, mode: SamplingMode)
         requires within { global < variables_used self.old }
         ensures { PutsMode self.old self.new global mode }
@@ -209,7 +212,7 @@ impl Variables {
         self.witnessed = true;
     }
 
-    /// Releases a variable, which is no longer in use. Never allocates.
+    /// Deletes a variable, which is no longer in use from now on. Never allocates.
     pub(crate) fn put_deleted(&mut self, global: Var)
         requires tidy { AreTidy self.old }
         requires within { global < variables_used self.old }
@@ -219,7 +222,7 @@ impl Variables {
         set_data(&mut self.var_data, global, VarData::default());
     }
 
-    /// Returns the mode of a variable that was used.
+    /// Returns the mode of a variable, which must have been introduced at some point.
     pub(crate) fn mode(&self, global: Var) -> SamplingMode
         requires within { global < variables_used self.now }
         ensures { result ≡ (data_at self.now global).sampling_mode }
@@ -241,7 +244,7 @@ impl Variables {
         self.var_data.len()
     }
 
-    /// Whether a variable that was used is no longer in use.
+    /// Whether a variable is no longer in use. The variable must have been introduced at some point.
     pub fn is_deleted(&self, global: Var) -> bool
         requires within { global < variables_used self.now }
         ensures { result ≡ (data_at self.now global).deleted }
@@ -249,7 +252,7 @@ impl Variables {
         self.var_data[global.index()].deleted
     }
 
-    /// Whether an assumption has a variable that was used.
+    /// Whether a variable is assumed. The variable must have been introduced at some point.
     pub fn is_marked(&self, global: Var) -> bool
         requires within { global < variables_used self.now }
         ensures { result ≡ (data_at self.now global).assumed }
@@ -257,7 +260,7 @@ impl Variables {
         self.var_data[global.index()].assumed
     }
 
-    /// Returns the value of the unit of a variable that was used.
+    /// Returns the stored value of a variable's unit, or `None`. The variable must have been introduced at some point.
     pub(crate) fn unit(&self, global: Var) -> Option<bool>
         requires within { global < variables_used self.now }
         ensures { result ≡ (data_at self.now global).unit }
@@ -265,8 +268,7 @@ impl Variables {
         self.var_data[global.index()].unit
     }
 
-    /// Stores the value of the unit of a variable that has an index, or `None`. The search does so before it releases
-    /// the index.
+    /// Stores the value of a variable's unit, or `None`. This is done before the index of the variable is released.
     pub fn set_unit(&mut self, global: Var, unit: Option<bool>)
         requires within { global < variables_used self.old }
         ensures { PutsUnit self.old self.new global unit }
@@ -274,7 +276,7 @@ impl Variables {
         set_unit(&mut self.var_data, global, unit);
     }
 
-    /// Returns the first name never used. No name is hidden.
+    /// Returns the lowest name never used, or `None` if all names were used. No name may be hidden.
     fn first_unused(&self) -> Option<Var>
         requires tidy { AreTidy self.now }
         requires none { (u : ℕ) → is_free self.now.free_users u ≡ false }
@@ -288,7 +290,8 @@ impl Variables {
         None
     }
 
-    /// Returns the next name: the lowest hidden one, otherwise the first never used.
+    /// Returns the next name to introduce: the lowest hidden name, or the lowest name never used if no name is hidden.
+    /// Returns `None` if all names are in use.
     #[tactic(auto, using(crate::proofs::lemmas::variables::NextNames::next_hidden))]
     pub(crate) fn next_user(&self) -> Option<Var>
         requires tidy { AreTidy self.now }

@@ -15,8 +15,8 @@ use sat_parts::{Assignment, Conflict, ImplGraph, Trail};
 use sat_store::ClauseAlloc;
 use std::alloc::AllocError;
 
-/// Learns a clause from a conflict above level 0. Returns the level to backtrack to, at which the clause asserts its
-/// first literal.
+/// Learns a clause from `conflict`, which must be above level 0. Returns the level to backtrack to. At that level, all
+/// literals of the learned clause but the first are false, so that the clause implies its first literal.
 pub fn analyze_conflict(
     analysis: &mut Analysis,
     clauses: &ClauseAlloc,

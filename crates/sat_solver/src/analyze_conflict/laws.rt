@@ -1,8 +1,8 @@
-//! Laws about the definitions. Each is the contract of a function that does nothing.
+//! Laws about conflict analysis. Each law is the contract of a function that does nothing.
 ghost use Rattle.sat_solver.specs.analyze_conflict.Advances.{LearnedAdvances};
 
-/// States that a learned clause is new: under the units and the negations of its other literals, no stored clauses that
-/// are unit in turn assign its first literal, and none is falsified.
+/// States that a learned clause is new: if all its literals but the first are assumed to be false, unit propagation
+/// with the units and the stored clauses neither assigns its first literal nor falsifies a clause.
 pub fn learned_advances()
     ensures { LearnedAdvances }
 {}

@@ -15,7 +15,7 @@ use sat_parts::{Assignment, BinaryClauses, ClauseDb, Conflict, ImplGraph, Trail,
 use sat_store::ClauseAlloc;
 use std::alloc::AllocError;
 
-/// Learns a clause from a conflict above level 0 that propagation found.
+/// Learns a clause from `conflict`, which propagation must have found above level 0. Returns the level to backtrack to.
 pub fn learn_from_conflict(
     analysis: &mut Analysis,
     clauses: &ClauseAlloc,

@@ -15,7 +15,7 @@ use sat_parts::{Assignment, CauseLits, Conflict, ImplGraph, Trail};
 use sat_store::{ClauseAlloc, Lits};
 use std::alloc::AllocError;
 
-/// Meets the false literals of a list one after another.
+/// Adds the false literals `lits` to the analysis, one after another.
 fn add_own(
     analysis: &mut Analysis,
     graph: &ImplGraph,
@@ -33,7 +33,7 @@ fn add_own(
     Ok(())
 }
 
-/// Meets the false literals of a long clause one after another.
+/// Adds the false literals of a long clause to the analysis, one after another.
 fn add_long(
     analysis: &mut Analysis,
     graph: &ImplGraph,
@@ -50,7 +50,8 @@ fn add_long(
     Ok(())
 }
 
-/// Meets these false literals one after another. Those at level `top` or above are still to be resolved.
+/// Adds the false literals `lits` to the analysis, one after another. Those at level `top` or above are still to
+/// be resolved.
 pub(crate) fn add_all(
     analysis: &mut Analysis,
     graph: &ImplGraph,
@@ -67,7 +68,8 @@ pub(crate) fn add_all(
     Ok(())
 }
 
-/// Resolves with the reason of the last literal of the resolvent on the trail.
+/// Resolves with the reason of the last flagged literal before position `before` of the trail. Returns the position of
+/// this literal.
 fn resolve_next(
     analysis: &mut Analysis,
     clauses: &ClauseAlloc,
@@ -101,7 +103,8 @@ fn resolve_next(
     Ok(place)
 }
 
-/// Resolves until one literal of the current level is left. Returns a position of the trail after it.
+/// Resolves until exactly one literal of the current level is left. Returns a position of the trail that comes after
+/// this literal.
 pub(crate) fn resolve_conflict(
     analysis: &mut Analysis,
     clauses: &ClauseAlloc,
@@ -126,7 +129,7 @@ pub(crate) fn resolve_conflict(
     Ok(at)
 }
 
-/// Begins with the literals of a falsified clause.
+/// Begins an analysis with the literals of the falsified clause.
 pub(crate) fn begin_conflict(
     analysis: &mut Analysis,
     clauses: &ClauseAlloc,
@@ -156,7 +159,8 @@ pub(crate) fn begin_conflict(
     Ok(())
 }
 
-/// Makes the negation of the last flagged literal the first literal of the clause.
+/// Finds the last flagged literal before position `before` of the trail. Makes its negation the first literal of the
+/// learned clause.
 pub(crate) fn finish_conflict(
     analysis: &mut Analysis,
     clauses: &ClauseAlloc,

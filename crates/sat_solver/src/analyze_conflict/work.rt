@@ -16,7 +16,8 @@ use sat_store::ClauseRef;
 use std::alloc::{AllocError, Global};
 use std::marker::Model;
 
-/// The lists of an analysis, which the next one uses again, and a flag for every variable. Contracts see a `Work`.
+/// The lists of an analysis, whose memory the next analysis reuses, and a flag for every variable. Contracts describe
+/// this as a `Work`.
 #[derive(Drop)]
 pub struct Analysis {
     clause: Vec<Lit>,
@@ -26,7 +27,7 @@ pub struct Analysis {
     core: Vec<Lit>,
     flags: Vec<bool>,
 
-    /// Sort keys of used literals: the depth in the high bits, and the literal's code in the low bits.
+    /// Sort keys of the used literals: the depth in the high bits, and the literal's code in the low bits.
     keys: Vec<u64>,
     pending: usize,
 }
@@ -57,7 +58,7 @@ impl Analysis {
         }
     }
 
-    /// Sets the number of variables.
+    /// Sets the number of variables to `count`. Variables that are added are not flagged.
     pub fn set_var_count(&mut self, count: usize) -> Result<(), AllocError>
         ensures size { OnOk result (length self.new.flags ≡ count) }
         ensures clear { OnOk result (AreClear self.old.flags → AreClear self.new.flags) }
@@ -65,7 +66,7 @@ impl Analysis {
         self.resize_flags(count)
     }
 
-    /// Removes flags from the end, or adds cleared ones.
+    /// Sets the number of flags to `count`: removes flags from the end, or appends cleared flags.
     fn resize_flags(&mut self, count: usize) -> Result<(), AllocError>
         ensures size { OnOk result (length self.new.flags ≡ count) }
         ensures flags { OnOk result (self.new.flags ≡ take count self.old.flags
@@ -81,30 +82,31 @@ impl Analysis {
         &self.clause
     }
 
-    /// Returns the literals whose reasons were used, in trail order once an analysis is done.
+    /// Returns the literals whose reasons were used. They are in trail order once an analysis is complete.
     pub fn used(&self) -> &[Lit]
         ensures { result.now ≡ self.now.used }
     {
         &self.used
     }
 
-    /// Returns the variables that resolution met, each once, in the order in which it met them.
+    /// Returns the variables of the literals that were added to the analysis, without repetitions, in the order in
+    /// which they were added.
     pub fn met(&self) -> &[Var]
         ensures { result.now ≡ self.now.met }
     {
         &self.met
     }
 
-    /// Returns the long clauses that took part: the falsified one, and then the reasons of literals, going backwards
-    /// from the end of the trail.
+    /// Returns the long clauses that were used: the falsified clause if it is long, and then reasons of literals, going
+    /// backwards from the end of the trail.
     pub fn involved(&self) -> &[ClauseRef]
         ensures { result.now ≡ self.now.involved }
     {
         &self.involved
     }
 
-    /// Returns the core of an analysis of assumptions: assumptions that contradict the clauses, the one
-    /// that failed first.
+    /// Returns the core of an analysis of assumptions: assumptions that contradict the clauses, beginning with the one
+    /// that failed.
     pub fn core(&self) -> &[Lit]
         ensures { result.now ≡ self.now.core }
     {
@@ -118,7 +120,8 @@ impl Analysis {
         self.pending
     }
 
-    /// Clears the lists. Flags are unchanged.
+    /// Clears the lists, except for the sort keys, and sets the number of pending literals to 0. The flags
+    /// are unchanged.
     fn clear(&mut self)
         ensures { self.new ≡ record self.old
             { clause = []; used = []; met = []; involved = []; core = []; pending = 0 } }
@@ -131,7 +134,7 @@ impl Analysis {
         self.pending = 0;
     }
 
-    /// Begins with a falsified clause, none of whose literals is met yet. Flags are unchanged.
+    /// Begins an analysis with a falsified clause, whose literals are still to be added. The flags are unchanged.
     pub(crate) fn begin(&mut self, conflict: &Conflict) -> Result<(), AllocError>
         ensures { OnOk result (self.new ≡ begun conflict.now self.old) }
     {
@@ -143,7 +146,7 @@ impl Analysis {
         Ok(())
     }
 
-    /// Begins with an assumption that failed. Flags are unchanged.
+    /// Begins an analysis with an assumption that failed, and adds the assumption to the core. The flags are unchanged.
     pub(crate) fn begin_core(&mut self, failed: Lit) -> Result<(), AllocError>
         ensures { OnOk result (self.new ≡ begun_core failed self.old) }
     {
@@ -152,7 +155,9 @@ impl Analysis {
         Ok(())
     }
 
-    /// Meets a false literal.
+    /// Adds a false literal and flags its variable, unless its level is 0 or its variable is already flagged.
+    ///
+    /// A literal below level `top` is added to the learned clause; any other literal is still to be resolved.
     pub(crate) fn add(&mut self, graph: &ImplGraph, top: usize, lit: Lit) -> Result<(), AllocError>
         requires node { variable lit < length graph.now }
         requires flag { variable lit < length self.old.flags }
@@ -176,7 +181,7 @@ impl Analysis {
         Ok(())
     }
 
-    /// Returns the position of the last flagged literal before this position.
+    /// Returns the position of the last flagged literal in `lits[..before]`, which must contain such a literal.
     pub(crate) fn last_flagged(&self, lits: &[Lit], before: usize) -> usize
         requires within { before ≤ length lits.now }
         requires flags { (p : ℕ) → p < before → variable (slice_index lits.now p) < length self.now.flags }
@@ -196,7 +201,7 @@ impl Analysis {
         }
     }
 
-    /// Clears the flag of a true literal, which no longer has to be resolved.
+    /// Clears the flag of a true literal, which then no longer has to be resolved.
     pub(crate) fn pass_by(&mut self, lit: Lit)
         requires flag { variable lit < length self.old.flags }
         ensures { self.new ≡ passed_by lit self.old }
@@ -205,7 +210,7 @@ impl Analysis {
         self.pending = self.pending.saturating_sub(1);
     }
 
-    /// Records the reason's clause as taking part, if it is a long one.
+    /// Adds the clause of `reason` to the involved clauses, if it is a long clause.
     fn involve(&mut self, reason: &Reason) -> Result<(), AllocError>
         ensures { OnOk result (self.new ≡ record self.old { involved = self.old.involved ++ long_of reason.now }) }
     {
@@ -216,7 +221,8 @@ impl Analysis {
         Ok(())
     }
 
-    /// Uses the reason of a literal.
+    /// Uses `reason`, the reason of the true literal `lit`: clears the literal's flag, adds the literal to the used
+    /// literals, and adds the clause to the involved clauses if it is a long clause.
     pub(crate) fn take_up(&mut self, reason: &Reason, lit: Lit) -> Result<(), AllocError>
         requires flag { variable lit < length self.old.flags }
         ensures { OnOk result (self.new ≡ taken_up reason.now lit self.old) }
@@ -234,7 +240,7 @@ impl Analysis {
         Ok(())
     }
 
-    /// Adds a true literal that was chosen to the core.
+    /// Clears the flag of a true literal, and adds the literal to the core.
     pub(crate) fn choose(&mut self, lit: Lit) -> Result<(), AllocError>
         requires flag { variable lit < length self.old.flags }
         ensures { OnOk result (self.new ≡ with_chosen lit self.old) }
@@ -244,7 +250,7 @@ impl Analysis {
         Ok(())
     }
 
-    /// Adds a literal to the clause, and swaps it with the first one.
+    /// Adds a literal to the learned clause, and swaps it with the clause's first literal.
     pub(crate) fn put_first(&mut self, lit: Lit) -> Result<(), AllocError>
         ensures { OnOk result (self.new ≡ with_first lit self.old) }
     {
@@ -254,7 +260,7 @@ impl Analysis {
         Ok(())
     }
 
-    /// Clears the flags of the clause's literals and of the used ones.
+    /// Clears the flags of the learned clause's literals and of the used literals. No other variable may be flagged.
     pub(crate) fn clear_flags(&mut self)
         requires clause { VariablesBelow self.old.clause (length self.old.flags) }
         requires used { VariablesBelow self.old.used (length self.old.flags) }
@@ -267,8 +273,8 @@ impl Analysis {
         unflag(&mut self.flags, &self.used, 0);
     }
 
-    /// Whether the literal's variable is flagged. During minimization, every flagged variable is in the clause or is
-    /// that of a used literal.
+    /// Whether the literal's variable is flagged. During minimization, only variables of the learned clause and of used
+    /// literals are flagged.
     pub(crate) fn is_flagged(&self, lit: Lit) -> bool
         requires flag { variable lit < length self.now.flags }
         ensures { result ≡ slice_index_or self.now.flags (variable lit) false }
@@ -276,7 +282,7 @@ impl Analysis {
         self.flags[lit.index()]
     }
 
-    /// Flags a false literal and uses its negation.
+    /// Flags a false literal, and adds its negation to the used literals.
     pub(crate) fn mark(&mut self, lit: Lit) -> Result<(), AllocError>
         requires flag { variable lit < length self.old.flags }
         ensures { OnOk result (self.new ≡ marked lit self.old) }
@@ -286,7 +292,7 @@ impl Analysis {
         Ok(())
     }
 
-    /// Uses a true literal.
+    /// Adds a true literal to the used literals.
     pub(crate) fn use_up(&mut self, lit: Lit) -> Result<(), AllocError>
         ensures { OnOk result (self.new ≡ used_up lit self.old) }
     {
@@ -294,7 +300,8 @@ impl Analysis {
         Ok(())
     }
 
-    /// Removes the used literals starting at position `top`, and clears the flags of all but the first of them.
+    /// Removes the used literals from position `top` on. Clears the flags of those that are removed, except for
+    /// the first.
     pub(crate) fn undo(&mut self, top: usize)
         requires top { top < length self.old.used }
         requires flags { VariablesBelow self.old.used (length self.old.flags) }
@@ -304,7 +311,7 @@ impl Analysis {
         self.used.truncate(top);
     }
 
-    /// Writes a literal that is kept to this position of the clause.
+    /// Writes `lit` to position `at` of the learned clause.
     pub(crate) fn keep(&mut self, at: usize, lit: Lit)
         requires { at < length self.old.clause }
         ensures { self.new ≡ record self.old { clause = slice_set self.old.clause at lit } }
@@ -312,15 +319,15 @@ impl Analysis {
         self.clause[at] = lit;
     }
 
-    /// Removes the literals of the clause, starting at this position.
+    /// Truncates the learned clause to its first `len` literals.
     pub(crate) fn cut(&mut self, len: usize)
         ensures { self.new ≡ record self.old { clause = take len self.old.clause } }
     {
         self.clause.truncate(len);
     }
 
-    /// Moves a literal of the highest level among all but the first to second position. Returns that level, or 0 if
-    /// there is no other literal.
+    /// Moves to position 1 of the learned clause a literal of the highest level among all its literals except the
+    /// first. Returns that level, or 0 if the clause has fewer than two literals.
     pub(crate) fn put_second(&mut self, graph: &ImplGraph) -> usize
         requires nodes { HaveNodes graph.now self.old.clause }
         ensures second { PutsSecond graph.now self.old.clause self.new.clause result }
@@ -332,7 +339,8 @@ impl Analysis {
         put_highest_second(&mut self.clause, graph)
     }
 
-    /// Puts the used literals in trail order. The first `resolved` of them were resolved.
+    /// Sorts the used literals in trail order. The first `resolved` used literals, which were resolved, must be in
+    /// reverse trail order. No other used literal may come after a resolved literal on the trail.
     pub(crate) fn order_used(
         &mut self,
         graph: &ImplGraph,
@@ -346,7 +354,7 @@ impl Analysis {
         order_used(&mut self.used, graph, resolved, &mut self.keys)
     }
 
-    /// Reverses the used literals.
+    /// Reverses the list of used literals.
     pub(crate) fn reverse_used(&mut self)
         ensures { self.new ≡ record self.old { used = reverse self.old.used } }
     {

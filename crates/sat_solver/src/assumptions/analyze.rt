@@ -1,4 +1,4 @@
-//! Finds the assumptions that falsify an assumption.
+//! Finds the assumptions that, together with the clauses, falsify an assumption.
 ghost use Rattle.std.specs.Prelude.{◌≡◌, ◌<◌, false, length, OnOk, IfOk};
 ghost use Rattle.sat_parts.specs.clause.Glue.{AreClear};
 ghost use Rattle.sat_parts.specs.prop.Graphs.{is_unit_reason};
@@ -15,7 +15,8 @@ use sat_parts::{Assignment, ImplGraph, Trail};
 use sat_store::ClauseAlloc;
 use std::alloc::AllocError;
 
-/// Begins with the clause that falsifies the assumption. Returns the position of its negation on the trail.
+/// Begins an analysis with the clause that falsifies the assumption `failed`. Returns the position of the negation of
+/// `failed` on the trail.
 fn begin_trace(
     analysis: &mut Analysis,
     clauses: &ClauseAlloc,
@@ -40,8 +41,8 @@ fn begin_trace(
     Ok(graph.depth(failed.var()) - 1)
 }
 
-/// Continues with the last flagged literal of the trail: it belongs to the core if it has no clause as its reason;
-/// otherwise its clause is used.
+/// Handles the last flagged literal before position `before` of the trail: uses its reason if the reason is a clause,
+/// and adds the literal to the core otherwise. Returns the position of the literal.
 fn trace_next(
     analysis: &mut Analysis,
     clauses: &ClauseAlloc,
@@ -70,7 +71,7 @@ fn trace_next(
     Ok(place)
 }
 
-/// Traces reasons back until no literal is flagged.
+/// Traces reasons back, from position `from` of the trail, until no literal is flagged.
 fn trace(
     analysis: &mut Analysis,
     clauses: &ClauseAlloc,
@@ -92,7 +93,9 @@ fn trace(
     Ok(())
 }
 
-/// Finds assumptions that contradict a false one, and the clauses that show it.
+/// Finds assumptions that contradict the false assumption `failed`, and the clauses that show the contradiction.
+///
+/// Afterwards, the core of `analysis` contains the assumptions, and the reasons of its used literals are the clauses.
 pub fn analyze_assumption(
     analysis: &mut Analysis,
     clauses: &ClauseAlloc,

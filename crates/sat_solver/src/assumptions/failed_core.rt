@@ -17,7 +17,8 @@ use sat_base::{CountedWrite, ProofStep};
 use sat_checker::ProofProcessor;
 use std::alloc::AllocError;
 
-/// Prepares the step of a core: its literals, and the hashes of the clauses that it follows from, over proof variables.
+/// Fills `search.scratch` for the step of a core: the core's literals over proof variables, and the hashes of the
+/// clauses that show that the core contradicts the clauses.
 fn name_core(search: &mut Search) -> Result<(), AllocError>
     requires holds { PartsInvariant search.old.parts }
     requires names { length search.old.parts.assignment.current ≤ length search.old.globals.items }
@@ -42,7 +43,7 @@ fn name_core(search: &mut Search) -> Result<(), AllocError>
     )
 }
 
-/// Finds the assumptions that contradict the failed one, and prepares their step.
+/// Finds assumptions that contradict the failed assumption, and fills `search.scratch` for the step of this core.
 fn find_core(search: &mut Search) -> Result<(), AllocError>
     requires holds { PartsInvariant search.old.parts }
     requires free { IsFree search.old }
@@ -68,7 +69,7 @@ fn find_core(search: &mut Search) -> Result<(), AllocError>
     name_core(search)
 }
 
-/// Writes the step of a failed core, whose literals are in the analysis afterwards.
+/// Finds a failed core, and writes its step. Afterwards, `search.analysis` contains the core.
 pub fn write_core<W: CountedWrite + Drop, P: ProofProcessor>(
     proof: &mut Proof<W, P>,
     search: &mut Search,

@@ -12,10 +12,10 @@ use sat_checker::ProofProcessor;
 use sat_parts::Conflict;
 use sat_parts::parts::steps::propagate_all;
 
-/// Simplifies at level 0, if there are literals that were not used to simplify yet.
+/// Simplifies at level 0 if there are literals that have not yet been used to simplify.
 ///
-/// Before that, it propagates, writes units, and takes them off the trail. Returns a falsified clause, or `None`.
-/// Without new literals at level 0, this makes no pass over the clauses.
+/// Before that, propagates, writes the units of the trail, and removes them from the trail. Returns the clause that
+/// propagation falsified, or `None`. Does nothing above level 0, or without new literals at level 0.
 pub fn begin_round<W: CountedWrite + Drop, P: ProofProcessor>(
     proof: &mut Proof<W, P>,
     search: &mut Search,

@@ -14,10 +14,10 @@ use std::alloc::AllocError;
 use std::io;
 use std::marker::Model;
 
-/// The kinds of faults.
+/// The kind of a fault.
 #[derive(Drop)]
 pub enum Kind {
-    /// A call of the target failed.
+    /// A call to the target failed.
     Write(Kept<io::Error>),
     /// A listener returned a fault.
     Processor(Kept<anyhow::Error>),
@@ -27,7 +27,7 @@ pub enum Kind {
     CounterEnd,
 }
 
-/// Why a call failed. Contracts see the error that the solver reports.
+/// Why a call failed. Contracts describe a fault as the error that the solver reports.
 #[derive(Drop)]
 pub struct Fault {
     kind: Kind,
@@ -43,7 +43,7 @@ impl Model for Fault {
 }
 
 impl Fault {
-    /// Creates a fault of this kind.
+    /// Creates a fault of the kind `kind`.
     pub fn of(kind: Kind) -> Fault
         ensures { result ≡ reported_error kind }
     {
@@ -106,7 +106,8 @@ impl From<ProofError> for Fault {
     }
 }
 
-/// Returns the solver's error for a fault, with the underlying error that the proof stored.
+/// Returns the solver's error for `fault`, with the underlying error that `proof` stored, if any. Removes a listener's
+/// error from `proof`.
 pub fn report<W: CountedWrite + Drop, P: ProofProcessor>(
     fault: Fault,
     proof: &mut Proof<W, P>,

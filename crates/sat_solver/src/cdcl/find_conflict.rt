@@ -1,4 +1,4 @@
-//! The turns of a search: propagation, and then an assumption or a decision.
+//! The iterations of a search: propagation, and then an assumption or a decision.
 ghost use Rattle.std.specs.Prelude.{IfOk};
 ghost use Rattle.sat_solver.specs.proof.ProofView.{HasAllowedSteps, session_of};
 ghost use Rattle.sat_parts.specs.parts.Assumed.{HaveVariablesIn, ArePlaced};
@@ -23,14 +23,14 @@ use std::alloc::AllocError;
 pub enum FoundConflict {
     /// A clause is falsified.
     Falsified(Conflict),
-    /// No variable of a clause is open.
+    /// Every variable that is in a clause has a value.
     Complete,
     /// This assumption is false.
     Failed(Lit),
 }
 
-/// Begins a level with the next assumption, or with the variable of highest activity if there is none. Returns `None`
-/// if it did, otherwise why the search stopped.
+/// Begins a level with the next assumption, or with the variable of highest activity if no assumption is left. Returns
+/// `None` if a level was begun; otherwise returns why the search stopped.
 fn assume_or_decide(
     parts: &mut Parts,
     assumptions: &mut Assumptions,
@@ -54,8 +54,8 @@ fn assume_or_decide(
 
 /// Propagates, assumes and decides until the search stops.
 ///
-/// It stops if a clause is falsified, an assumption is false, or no variable of a clause is open. New literals of level
-/// 0 are written, and taken off the trail.
+/// The search stops if a clause is falsified, if an assumption is false, or if every variable that is in a clause has a
+/// value. New literals of level 0 are written, and removed from the trail.
 pub fn find_conflict<W: CountedWrite + Drop, P: ProofProcessor>(
     proof: &mut Proof<W, P>,
     search: &mut Search,

@@ -31,8 +31,8 @@ use sat_parts::parts::steps::{learn, undo};
 use sat_store::{ClauseHeader, StoreError};
 use std::alloc::AllocError;
 
-/// Prepares the step of a learned clause: its literals, and the hashes of the clauses that it follows from,
-/// over proof variables.
+/// Fills `search.scratch` for the step of a learned clause: the clause's literals over proof variables, and the hashes
+/// of the clauses from which it follows.
 fn name_learned(search: &mut Search, _level: usize, conflict: &Conflict) -> Result<(), AllocError>
     requires refuted { IsRefuted search.old.parts conflict.now }
     requires names { length search.old.parts.assignment.current ≤ length search.old.globals.items }
@@ -57,8 +57,10 @@ fn name_learned(search: &mut Search, _level: usize, conflict: &Conflict) -> Resu
     )
 }
 
-/// Backtracks, and stores the clause learned from a conflict. Before that, it bumps the clauses that took part and
-/// improves their headers, by the levels before backtracking.
+/// Backtracks to `level`, bumps the activities of the clauses that the analysis used, and stores the learned clause
+/// with the header `header`.
+///
+/// Also updates the headers of the used clauses, based on the levels of their literals before backtracking.
 fn take_in(search: &mut Search, header: ClauseHeader, level: usize) -> Result<(), StoreError>
     requires holds { HoldsBelow (length search.old.parts.trail.starts) search.old.parts }
     requires units { UnitsAreUncaused (state search.old.parts) }
@@ -85,7 +87,8 @@ fn take_in(search: &mut Search, header: ClauseHeader, level: usize) -> Result<()
     learn(&mut search.parts, header, search.analysis.clause())
 }
 
-/// Whether the step of a clause with this header calls it redundant.
+/// Whether the step of the clause `lits` says that the clause is redundant: only if `header` does, and there are at
+/// least three literals.
 fn says_redundant(header: &ClauseHeader, lits: &[Lit]) -> bool
     ensures { FlagFits result header.now lits.now }
 {
@@ -95,8 +98,8 @@ fn says_redundant(header: &ClauseHeader, lits: &[Lit]) -> bool
     header.redundant()
 }
 
-/// Analyses a conflict above level 0, and prepares the step of the learned clause. Returns the level to backtrack to,
-/// and the header.
+/// Analyzes a conflict above level 0, and fills `search.scratch` for the step of the learned clause. Returns the level
+/// to backtrack to, and the header of the learned clause.
 fn analyze(search: &mut Search, conflict: &Conflict) -> Result<(usize, ClauseHeader), AllocError>
     requires refuted { IsRefuted search.old.parts conflict.now }
     requires above { 0 < length search.old.parts.trail.starts }
@@ -137,7 +140,7 @@ fn analyze(search: &mut Search, conflict: &Conflict) -> Result<(usize, ClauseHea
     Ok((level, header))
 }
 
-/// Learns a clause from a conflict above level 0, writes its step, and stores it.
+/// Learns a clause from a conflict above level 0, and writes the step of the clause. Backtracks, and stores the clause.
 fn learn_clause<W: CountedWrite + Drop, P: ProofProcessor>(
     proof: &mut Proof<W, P>,
     search: &mut Search,
@@ -162,9 +165,9 @@ fn learn_clause<W: CountedWrite + Drop, P: ProofProcessor>(
     Ok(())
 }
 
-/// Learns a clause from a conflict above level 0, with its step.
+/// Learns a clause from a conflict above level 0, and writes the step of the clause. Backtracks, and stores the clause.
 ///
-/// Bumps the activity of the clauses and variables involved in the conflict.
+/// Bumps the activities of the clauses and variables that are involved in the conflict.
 pub fn learn_from<W: CountedWrite + Drop, P: ProofProcessor>(
     proof: &mut Proof<W, P>,
     search: &mut Search,

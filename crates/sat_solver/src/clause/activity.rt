@@ -1,4 +1,4 @@
-//! Bumps activities: variables that an analysis met are picked sooner, and clauses that it met are kept longer.
+//! Bumps activities: variables that an analysis visited are picked sooner, and clauses that it used are kept longer.
 ghost use Rattle.std.specs.Prelude.{◌≡◌, length};
 ghost use Rattle.sat_store.specs.clause.Buffer.{header_at, lits_at};
 ghost use Rattle.sat_store.specs.heap.Vsids.{decayed};
@@ -19,7 +19,7 @@ use sat_parts::parts::clauses::{bump_clause, bump_variable, decay_clauses, decay
 use sat_parts::{ClauseActivity, Parts, compute_clause_glue_below};
 use sat_store::{ClauseRef, TmpFlags};
 
-/// Bumps the activity of these variables, and raises the amount of later bumps.
+/// Bumps the activities of the variables `vars`, and increases the amount of later bumps.
 fn bump_variables(parts: &mut Parts, vars: &[Var])
     requires holds { PartsInvariant parts.old }
     requires there { AreBelow vars.now (length parts.old.assignment.current) }
@@ -34,7 +34,7 @@ fn bump_variables(parts: &mut Parts, vars: &[Var])
     decay_variables(parts);
 }
 
-/// Bumps the activity of the variables that the last analysis met.
+/// Bumps the activities of the variables that the last analysis visited, and increases the amount of later bumps.
 pub fn bump_met(search: &mut Search)
     requires holds { PartsInvariant search.old.parts }
     requires there { AreBelow search.old.analysis.met (length search.old.parts.assignment.current) }
@@ -46,7 +46,7 @@ pub fn bump_met(search: &mut Search)
     bump_variables(&mut search.parts, search.analysis.met());
 }
 
-/// Sets the decay of activities to that of the parameters.
+/// Sets the decays of variable activities and clause activities to those in `config`.
 pub fn set_decays(search: &mut Search, config: &SolverConfig)
     requires holds { PartsInvariant search.old.parts }
     requires decays { AreDecays config.now }
@@ -60,9 +60,10 @@ pub fn set_decays(search: &mut Search, config: &SolverConfig)
     search.activity.set_decay(config.clause_activity_decay);
 }
 
-/// Counts the levels of a learned clause's literals, up to its glue.
+/// Returns the number of distinct levels of a learned clause's literals, or the clause's glue if that is lower.
 ///
-/// Only a smaller number improves its header. The header of an input clause is never improved.
+/// The result is used by `improve`, which sets the glue only to a lower number. Returns 0 for an irredundant clause,
+/// whose glue is never set.
 fn count_levels(parts: &Parts, flags: &mut TmpFlags, cref: ClauseRef) -> usize
     requires holds { PartsInvariant parts.now }
     requires live { HasClause parts.now cref }
@@ -79,9 +80,9 @@ fn count_levels(parts: &Parts, flags: &mut TmpFlags, cref: ClauseRef) -> usize
     compute_clause_glue_below(flags, &parts.graph, &parts.clauses, cref, header.glue())
 }
 
-/// Bumps the activity of a clause that took part in an analysis.
+/// Bumps the activity of a clause that an analysis used.
 ///
-/// Improves its header by the levels of its literals.
+/// Also marks the clause as active, and lowers its glue if its literals have fewer levels.
 fn bump_one(parts: &mut Parts, activity: &mut ClauseActivity, flags: &mut TmpFlags, cref: ClauseRef)
     requires holds { PartsInvariant parts.old }
     requires live { HasClause parts.old cref }
@@ -97,8 +98,8 @@ fn bump_one(parts: &mut Parts, activity: &mut ClauseActivity, flags: &mut TmpFla
     improve(parts, cref, levels);
 }
 
-/// Bumps the activity of these clauses, which took part in an analysis, and improves their headers.
-/// Then activities decay.
+/// Bumps the activities of the clauses `crefs`, which an analysis used, and updates their headers by `improve`. Then
+/// the activities of clauses decay.
 pub fn bump_clauses(
     parts: &mut Parts,
     activity: &mut ClauseActivity,

@@ -11,7 +11,7 @@ use sat_parts::parts::clauses::{put_header, set_tier};
 use sat_parts::{ImplGraph, Parts, compute_glue};
 use sat_store::{ClauseHeader, ClauseRef, Tier, TmpFlags};
 
-/// Returns the tier of a learned clause with this glue.
+/// Returns the tier of a learned clause whose glue is `glue`.
 fn tier_of(glue: usize) -> Tier
     ensures { result ≡ tier_for glue }
 {
@@ -21,7 +21,8 @@ fn tier_of(glue: usize) -> Tier
     if glue <= 6 { Tier::Mid } else { Tier::Local }
 }
 
-/// Returns the header of a learned clause: its glue is the number of its levels, less one.
+/// Returns the header of the learned clause `lits`, whose glue is one less than the number of distinct levels of
+/// its literals.
 pub fn assess(flags: &mut TmpFlags, graph: &ImplGraph, lits: &[Lit]) -> ClauseHeader
     requires nodes { HaveNodes graph.now lits.now }
     requires levels { HaveFlags graph.now flags.old.flags.items lits.now }
@@ -36,8 +37,8 @@ pub fn assess(flags: &mut TmpFlags, graph: &ImplGraph, lits: &[Lit]) -> ClauseHe
     header
 }
 
-/// Marks a clause that took part in an analysis as active. A learned one whose literals have fewer levels than its glue
-/// says gets the smaller glue, and the tier for it.
+/// Marks a clause as active because an analysis used it. If the clause is redundant and `levels` is lower than its
+/// glue, its glue becomes `levels`, and its tier is set accordingly.
 pub fn improve(parts: &mut Parts, cref: ClauseRef, levels: usize)
     requires holds { PartsInvariant parts.old }
     requires live { HasClause parts.old cref }

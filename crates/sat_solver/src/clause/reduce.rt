@@ -25,7 +25,7 @@ use sat_parts::parts::reduce::list_locals;
 use sat_store::{ClauseRef, StoreError};
 use std::alloc::AllocError;
 
-/// Replaces the content of a list with the literals of a long clause, over proof variables.
+/// Replaces the content of `clause` with the literals of the long clause at `cref`, over proof variables.
 pub fn map_clause(
     parts: &Parts,
     globals: &[Var],
@@ -46,7 +46,8 @@ pub fn map_clause(
     Ok(())
 }
 
-/// Deletes a learned clause that is not a reason, and writes its step. Returns whether it did.
+/// Deletes a learned clause and writes the step of the deletion, unless the clause is a reason. Returns whether the
+/// clause was deleted.
 fn delete_learned<W: CountedWrite + Drop, P: ProofProcessor>(
     proof: &mut Proof<W, P>,
     search: &mut Search,
@@ -75,7 +76,7 @@ fn delete_learned<W: CountedWrite + Drop, P: ProofProcessor>(
     Ok(true)
 }
 
-/// Returns the number of clauses that are still to be deleted.
+/// Returns how many of `left` clauses are still to be deleted: one fewer if `deleted` is true.
 fn left_after(left: usize, deleted: bool) -> usize
     requires { 0 < left }
     ensures { result ≡ (if deleted then left - 1 else left) }
@@ -83,7 +84,8 @@ fn left_after(left: usize, deleted: bool) -> usize
     if deleted { left - 1 } else { left }
 }
 
-/// If a reduction is due, deletes half of the clauses of tier Local: those that were used least, but not reasons.
+/// If `is_due` is true, deletes up to half of the clauses of tier Local, those with the lowest activities first.
+/// Clauses that are reasons are skipped.
 fn reduce_locals<W: CountedWrite + Drop, P: ProofProcessor>(
     proof: &mut Proof<W, P>,
     search: &mut Search,
@@ -109,7 +111,7 @@ fn reduce_locals<W: CountedWrite + Drop, P: ProofProcessor>(
     Ok(())
 }
 
-/// If a reduction is due, moves unused clauses of tier Mid to Local.
+/// If `is_due` is true, moves the clauses of tier Mid that were not used since the last such reduction to tier Local.
 fn reduce_mids(search: &mut Search, is_due: bool)
     requires holds { PartsInvariant search.old.parts }
     ensures holds { PartsInvariant search.new.parts }
@@ -122,7 +124,7 @@ fn reduce_mids(search: &mut Search, is_due: bool)
     reduce_middle(&mut search.parts);
 }
 
-/// If deleted clauses take up more than half of the buffer, moves the others together.
+/// Compacts the clause buffer if deleted clauses take up more than half of it.
 fn collect_deleted(search: &mut Search) -> Result<(), StoreError>
     requires holds { PartsInvariant search.old.parts }
     ensures reduced { OnOk result ((s : Session) → IsSearch s search.old → ReductionEffect s search.old search.new) }
@@ -132,8 +134,8 @@ fn collect_deleted(search: &mut Search) -> Result<(), StoreError>
     collect(search.alloc, &mut search.parts)
 }
 
-/// Runs the reductions that are due before this round: first that of tier Local, then that of tier Mid. Then it
-/// compacts the clause buffer.
+/// Runs the reductions that are due before round `round`: first that of tier Local, then that of tier Mid. Then
+/// compacts the clause buffer if deleted clauses take up more than half of it.
 pub fn reduce<W: CountedWrite + Drop, P: ProofProcessor>(
     proof: &mut Proof<W, P>,
     search: &mut Search,

@@ -23,7 +23,7 @@ use sat_base::{Lit, ProofStep};
 use sat_store::VarData;
 use std::alloc::AllocError;
 
-/// Marks the variables of literals as assumed, or not.
+/// Sets whether the variables of `lits` are marked as assumed.
 fn mark_all(list: &mut Vec<VarData>, lits: &[Lit], assumed: bool)
     requires within { VariablesBelow lits.now (length list.old.items) }
     ensures marks { MarksAssumed (λ v. slice_index_or list.old.items v unused_variable)
@@ -35,7 +35,8 @@ fn mark_all(list: &mut Vec<VarData>, lits: &[Lit], assumed: bool)
     }
 }
 
-/// Clears the marks of the earlier assumptions, lists the new ones over proof variables, and marks them.
+/// Clears the marks of the earlier assumptions. Lists the new assumptions over proof variables, and marks
+/// their variables.
 fn change_marks(
     variables: &mut Variables,
     _user: &[Lit],
@@ -56,8 +57,8 @@ fn change_marks(
     Ok(())
 }
 
-/// Replaces the assumptions with others without a name of mode witness. `asked` has the earlier assumptions over proof
-/// variables, and afterwards the new ones.
+/// Replaces the assumptions with `lits`, none of whose names may have the mode witness. `asked` must contain the
+/// earlier assumptions over proof variables, and contains the new assumptions afterwards.
 pub fn assume<W: StepLog>(
     variables: &mut Variables,
     writer: &mut W,

@@ -5,7 +5,7 @@ ghost use Rattle.sat_solver.specs.load.Bottom.{AtBottom};
 use crate::context::Search;
 use sat_parts::parts::steps::full_restart;
 
-/// Undoes all levels. The first assumption is next.
+/// Undoes all levels above 0. Afterwards, the first assumption is the next one to be considered.
 pub fn back_to_bottom(search: &mut Search)
     requires { PartsInvariant search.old.parts }
     ensures { AtBottom search.old search.new }

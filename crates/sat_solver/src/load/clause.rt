@@ -21,7 +21,8 @@ use crate::variables::user_vars::global_from_user;
 use sat_base::{Lit, ProofStep};
 use sat_checker::sorted_lits::copy_canonical;
 
-/// Writes a clause over variables of names in use, none of mode witness.
+/// Writes `clause`, which must contain the same literals as `_user`, over proof variables. No name in `_user` may have
+/// the mode witness.
 fn write_clause<W: StepLog>(
     _variables: &Variables,
     writer: &mut W,
@@ -42,8 +43,8 @@ fn write_clause<W: StepLog>(
     Ok(())
 }
 
-/// Sorts the literals of a clause, without repetitions, and lists them over proof variables. Returns whether both signs
-/// of a variable are among them.
+/// Lists the literals of `taken.order` in `taken.lits`, sorted and without repetitions, and lists the result over proof
+/// variables in `taken.globals`. Returns whether the clause contains both literals of some variable.
 fn map_clause(variables: &Variables, _user: &[Lit], taken: &mut Taken) -> Result<bool, NameError>
     requires tidy { AreTidy variables.now }
     requires images { Images variables.now _user.now taken.old.order.items }
@@ -58,8 +59,8 @@ fn map_clause(variables: &Variables, _user: &[Lit], taken: &mut Taken) -> Result
     Ok(both_signs)
 }
 
-/// Adds a clause without a name of mode witness, while the clauses are not known to be unsatisfiable. Returns whether
-/// both signs of a variable are in the clause; then it is only written.
+/// Introduces the names of a clause, none of which may have the mode witness, and writes the clause. Stores what the
+/// search needs in `taken`. Returns whether the clause contains both literals of some variable.
 pub fn add_clause<W: StepLog>(
     variables: &mut Variables,
     writer: &mut W,
@@ -81,7 +82,7 @@ pub fn add_clause<W: StepLog>(
     Ok(both_signs)
 }
 
-/// Introduces the names of a clause once the clauses are known to be unsatisfiable. The clause is not written.
+/// Introduces the names of a clause, but does not write the clause. The clauses must be known to be unsatisfiable.
 pub fn leave_out_clause<W: StepLog>(
     variables: &mut Variables,
     writer: &mut W,

@@ -1,4 +1,4 @@
-//! Faults of calls over names, as the solver reports them.
+//! Converts faults of calls over names to the faults that the solver reports.
 
 use crate::cdcl::fault::{Fault, Kind};
 use crate::variables::error::NameError;

@@ -13,24 +13,24 @@ use crate::variables::user_vars::global_from_user;
 use sat_base::Lit;
 use std::alloc::Global;
 
-/// What a call over literals leaves for the search.
+/// The literals of a clause or of assumptions, as the search and the proof need them.
 #[derive(Drop)]
 pub struct Taken {
-    /// The literals over indices of the search, in the order of the call.
+    /// The literals over indices of the search, in the order in which they were passed.
     pub order: Vec<Lit>,
 
-    /// The same as a set, ordered by code.
+    /// The literals over indices of the search, sorted by code and without repetitions.
     pub lits: Vec<Lit>,
 
-    /// The literals as they were written, over proof variables.
+    /// The literals over proof variables, as they were written.
     pub globals: Vec<Lit>,
 
-    /// The indices that the call gave to variables, in order.
+    /// The indices that were given to variables of the literals, in order.
     pub given: Vec<Given>,
 }
 
 impl Taken {
-    /// Creates an empty value. Never allocates.
+    /// Creates a value with empty lists. Never allocates.
     pub fn new(alloc: Global) -> Taken
         ensures order { result.order.items ≡ [] }
         ensures globals { result.globals.items ≡ [] }
@@ -44,7 +44,8 @@ impl Taken {
     }
 }
 
-/// Introduces the names of literals from left to right, and gives their variables indices.
+/// Introduces the names in `lits` from left to right, and gives indices to those of their variables that have none.
+/// Lists the literals over indices in `taken.order`, and the new indices in `taken.given`.
 pub fn take_names<W: StepLog>(
     variables: &mut Variables,
     writer: &mut W,

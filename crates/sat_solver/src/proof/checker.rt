@@ -1,4 +1,5 @@
-//! A solver's own checker. It receives the steps of a proof in bytes, except for the ends of proofs.
+//! A solver's own checker. It receives the steps that a proof in the format `Varisat` contains, except for the ends
+//! of proofs.
 ghost use Rattle.std.specs.Prelude.{◌≡◌, [], OnOk};
 ghost use Rattle.sat_base.specs.steps.StepViews.{step_of};
 ghost use Rattle.sat_checker.specs.CheckerView.{seen_of};
@@ -36,7 +37,8 @@ pub fn is_end(step: &ProofStep<'_>) -> bool
     }
 }
 
-/// Passes a step to the checker, which notifies its listeners. A step that may be written is never rejected.
+/// Passes a step to the checker, which notifies its listeners. A step that the solver is allowed to make is
+/// never rejected.
 fn feed<P: ProofProcessor>(
     checker: &mut Checker<P, Nobody>,
     step: &ProofStep<'_>,
@@ -46,7 +48,7 @@ fn feed<P: ProofProcessor>(
     checker.self_check_step(step)
 }
 
-/// A checker, and the width that it was set to last.
+/// A checker, and the width to which it was set last.
 #[derive(Drop)]
 pub struct Checked<P: ProofProcessor> {
     bits: HashBits,
@@ -54,7 +56,7 @@ pub struct Checked<P: ProofProcessor> {
 }
 
 impl<P: ProofProcessor> Checked<P> {
-    /// Creates a checker that has received nothing. Never allocates.
+    /// Creates a checker that has received no steps. Never allocates.
     pub fn new(alloc: Global) -> Checked<P>
         ensures { IsFed P.takes result [] [] }
     {
@@ -64,7 +66,7 @@ impl<P: ProofProcessor> Checked<P> {
         }
     }
 
-    /// Sets the width, if it has changed.
+    /// Sets the checker's width to `bits`, if this changes the width.
     fn take_width(&mut self, bits: HashBits) -> Result<(), CheckerError>
         ensures takes { TakesWidth P.takes result self.old self.new }
         ensures bits { OnOk result (self.new.bits ≡ bits) }
@@ -79,8 +81,11 @@ impl<P: ProofProcessor> Checked<P> {
         )
     }
 
-    /// Receives a step at the width to which its hashes were shortened; for the end of a proof, it receives only the
-    /// width. A step that a solver may write is never rejected.
+    /// Passes `cut` to the checker, preceded by its width if the width has changed. `cut` must be `step` with its
+    /// hashes shortened to the width `bits`.
+    ///
+    /// If the step is the end of a proof, the checker receives only the width. A step that the solver is allowed to
+    /// make is never rejected.
     pub fn take(
         &mut self,
         bits: HashBits,
@@ -99,22 +104,23 @@ impl<P: ProofProcessor> Checked<P> {
         feed(&mut self.checker, cut)
     }
 
-    /// Gives a pending unit conflict its id.
+    /// Gives the empty clause of a pending unit conflict its id, if a unit conflict is pending.
     pub fn take_delayed(&mut self) -> Result<(), CheckerError>
         ensures takes { TakesDelayed P.takes result self.old self.new }
         ensures bits { self.new.bits ≡ self.old.bits }
     {
         self.checker.self_check_delayed_steps()
     }
-    /// Adds a listener, which is notified of all announcements from now on. If memory runs out, it is dropped, and the
-    /// checker has failed.
+    /// Adds a listener, which is notified of all announcements from now on. If memory runs out, the listener is
+    /// dropped, and the checker has failed.
     pub fn add_processor(&mut self, processor: P) -> Result<(), CheckerError>
         ensures { AddsOwnListener P.takes result self.old processor self.new }
     {
         self.checker.add_processor(processor)
     }
 
-    /// Restarts the checker, as if it had received nothing, with the listeners that it had. Never allocates.
+    /// Restarts the checker, as if it had received no steps, with the listeners that it has. Returns the roll of the
+    /// listeners. Never allocates.
     pub fn begin_anew(&mut self, alloc: Global) -> Roll<P>
         ensures { BeginsAnew P.takes self.old self.new result.items }
     {

@@ -8,7 +8,7 @@ ghost use Rattle.sat_solver.specs.proof.DratText.{drat_text};
 use sat_base::{ClauseHash, Lit, ProofStep, push_decimal, push_leb128};
 use std::alloc::AllocError;
 
-/// Writes the number of a literal, after a minus sign if it is negative.
+/// Appends `number` in decimal, after a minus sign unless `positive` is true.
 fn put_sign(text: &mut Vec<u8>, number: u64, positive: bool) -> Result<(), AllocError>
     ensures { OnOk result (text.new.items
         ≡ text.old.items ++ ((if positive then [] else codes "-") ++ decimal number)) }
@@ -20,7 +20,7 @@ fn put_sign(text: &mut Vec<u8>, number: u64, positive: bool) -> Result<(), Alloc
     push_decimal(text, number)
 }
 
-/// Writes every literal's number and a space, then `0` and LF.
+/// Appends a clause in decimal: the number of every literal, followed by a space, and then `0` and LF.
 fn put_words(text: &mut Vec<u8>, lits: &[Lit]) -> Result<(), AllocError>
     ensures { OnOk result (text.new.items ≡ text.old.items ++ clause_line lits.now) }
 {
@@ -31,7 +31,7 @@ fn put_words(text: &mut Vec<u8>, lits: &[Lit]) -> Result<(), AllocError>
     text.extend_from_slice(b"0\n")
 }
 
-/// Writes every literal's code plus two in LEB128, then a zero byte.
+/// Appends a clause in binary: the code of every literal plus two, in LEB128, and then a zero byte.
 fn put_bytes(text: &mut Vec<u8>, lits: &[Lit]) -> Result<(), AllocError>
     ensures { OnOk result (text.new.items ≡ text.old.items ++ bytes_line lits.now) }
 {
@@ -42,7 +42,7 @@ fn put_bytes(text: &mut Vec<u8>, lits: &[Lit]) -> Result<(), AllocError>
     Ok(())
 }
 
-/// Writes the mark of a deleted or a derived clause.
+/// Appends the mark with which the line of a deleted or a derived clause begins, if it has one.
 fn put_mark(text: &mut Vec<u8>, binary: bool, deleted: bool) -> Result<(), AllocError>
     ensures { OnOk result (text.new.items ≡ text.old.items ++ mark binary deleted) }
 {
@@ -54,7 +54,7 @@ fn put_mark(text: &mut Vec<u8>, binary: bool, deleted: bool) -> Result<(), Alloc
     }
 }
 
-/// Writes one line: the mark, and the clause with its end.
+/// Appends one line: the mark, and the clause.
 fn put_line(text: &mut Vec<u8>, binary: bool, deleted: bool, lits: &[Lit]) -> Result<(), AllocError>
     ensures { OnOk result (text.new.items ≡ text.old.items ++ (mark binary deleted ++ clause_text binary lits.now)) }
 {
@@ -65,7 +65,7 @@ fn put_line(text: &mut Vec<u8>, binary: bool, deleted: bool, lits: &[Lit]) -> Re
     put_words(text, lits)
 }
 
-/// Writes a line for every unit.
+/// Appends a line for every unit.
 fn put_units(
     text: &mut Vec<u8>,
     binary: bool,
@@ -79,7 +79,7 @@ fn put_units(
     Ok(())
 }
 
-/// Writes the lines of a step, if it has any.
+/// Appends the lines of a step, if it has any.
 pub fn put_step(text: &mut Vec<u8>, binary: bool, step: &ProofStep<'_>) -> Result<(), AllocError>
     ensures { OnOk result (text.new.items ≡ text.old.items ++ drat_text binary (step_of step.now)) }
 {

@@ -3,7 +3,7 @@
 /// The format of a proof's text.
 #[derive(Clone, Copy, Debug, Drop, PartialEq, Eq)]
 pub enum ProofFormat {
-    /// The steps in bytes, as `sat_checker` reads them.
+    /// Proof steps in binary, as `sat_checker` reads them.
     Varisat,
     /// DRAT lines in decimal.
     Drat,

@@ -1,4 +1,4 @@
-//! The number of hash bits that a proof writes, which follows the number of its clauses.
+//! The width of the hashes in a proof, which depends on the number of clauses.
 ghost use Rattle.std.specs.Prelude.{◌≡◌, ◌≤◌, ◌/◌, ◌^◌, ◌&&◌, not};
 ghost use Rattle.sat_base.specs.steps.StepViews.{step_of};
 ghost use Rattle.sat_solver.specs.proof.Counting.{nothing_counted, one_more_if, one_less_if, count_after, too_short, too_long};
@@ -6,21 +6,21 @@ ghost use Rattle.sat_solver.specs.proof.Counting.{widened_bits, shortened, fitti
 
 use sat_base::{HashBits, Lit, ProofStep};
 
-/// The number of changes by two bits that suffice to get from any width to any other.
+/// The number of changes by two bits that suffice to change any width to any other.
 const TURNS: u32 = 32;
 
-/// What determines the width of hashes.
+/// The width of hashes, and what determines it.
 #[derive(Clone, Copy, Debug, Drop)]
 pub struct Counting {
-    /// The number of clauses with two or more literals that are present.
+    /// The number of present clauses that have two or more literals.
     pub clauses: u64,
     /// The width.
     pub bits: HashBits,
-    /// Whether the first ask has begun. Hashes are only shortened after that.
+    /// Whether the first ask has begun. The width is reduced only after that.
     pub solving: bool,
 }
 
-/// Returns a width that was computed, which is at most 64.
+/// Returns the width `bits`, which must be at most 64.
 fn of_bits(bits: u32) -> HashBits
     requires { bits ≤ 64 }
     ensures { result ≡ bits }
@@ -31,7 +31,7 @@ fn of_bits(bits: u32) -> HashBits
     }
 }
 
-/// Returns the count after a clause was added; only clauses with two or more literals count.
+/// Returns the number of clauses after `clause` is added. Only clauses of two or more literals are counted.
 fn with_clause(clauses: u64, clause: &[Lit]) -> u64
     ensures { result ≡ one_more_if clause.now clauses }
 {
@@ -41,7 +41,7 @@ fn with_clause(clauses: u64, clause: &[Lit]) -> u64
     clauses.saturating_add(1)
 }
 
-/// Returns the count after a clause was deleted.
+/// Returns the number of clauses after `clause` is deleted. Only clauses of two or more literals are counted.
 fn without_clause(clauses: u64, clause: &[Lit]) -> u64
     ensures { result ≡ one_less_if clause.now clauses }
 {
@@ -51,7 +51,7 @@ fn without_clause(clauses: u64, clause: &[Lit]) -> u64
     clauses.saturating_sub(1)
 }
 
-/// Returns the count of clauses after a step.
+/// Returns the number of clauses after `step`. Only clauses of two or more literals are counted.
 #[inline(always)]
 fn count(clauses: u64, step: &ProofStep<'_>) -> u64
     ensures { result ≡ count_after (step_of step.now) clauses }
@@ -73,7 +73,7 @@ fn count(clauses: u64, step: &ProofStep<'_>) -> u64
     }
 }
 
-/// Returns the square root of the number of hashes of this width.
+/// Returns 2^(bits/2), rounding the exponent down. For an even width, this is the square root of the number of hashes.
 fn enough(bits: u32) -> u64
     requires { bits ≤ 64 }
     ensures { result ≡ 2 ^ (bits / 2) }
@@ -81,7 +81,7 @@ fn enough(bits: u32) -> u64
     1 << (bits / 2)
 }
 
-/// Whether the width is too short for this many clauses.
+/// Whether the width `bits` is too short for `clauses` clauses.
 fn is_short(clauses: u64, bits: u32) -> bool
     requires { bits ≤ 64 }
     ensures { result ≡ too_short clauses bits }
@@ -89,7 +89,7 @@ fn is_short(clauses: u64, bits: u32) -> bool
     bits < 64 && enough(bits) < clauses
 }
 
-/// Whether the width is longer than this many clauses need.
+/// Whether the width `bits` is longer than `clauses` clauses need.
 fn is_long(clauses: u64, bits: u32) -> bool
     requires { bits ≤ 64 }
     ensures { result ≡ too_long clauses bits }
@@ -97,7 +97,8 @@ fn is_long(clauses: u64, bits: u32) -> bool
     6 < bits && clauses.saturating_mul(4) < enough(bits)
 }
 
-/// Returns the width, with two more bits each time that it is too short.
+/// Adds two bits to the width `from` as long as it is too short for `clauses` clauses, and returns the result. The
+/// width never exceeds 64.
 fn widen(clauses: u64, from: u32) -> u32
     requires { from ≤ 64 }
     ensures value { result ≡ widened_bits 32 clauses from }
@@ -113,7 +114,7 @@ fn widen(clauses: u64, from: u32) -> u32
     bits
 }
 
-/// Returns the width, with two fewer bits each time that it is longer than needed.
+/// Removes two bits from the width `from` as long as it is longer than `clauses` clauses need, and returns the result.
 fn shorten(clauses: u64, from: u32) -> u32
     requires { from ≤ 64 }
     ensures value { result ≡ shortened 32 clauses from }
@@ -129,7 +130,7 @@ fn shorten(clauses: u64, from: u32) -> u32
     bits
 }
 
-/// Whether the width does not change, which is the usual case.
+/// Whether the width `bits` is kept for `clauses` clauses, which is the usual case.
 fn fits(solving: bool, clauses: u64, bits: u32) -> bool
     requires { bits ≤ 64 }
     ensures { result ≡ (not (too_short clauses bits) && not (solving && too_long clauses bits)) }
@@ -137,7 +138,8 @@ fn fits(solving: bool, clauses: u64, bits: u32) -> bool
     !is_short(clauses, bits) && !(solving && is_long(clauses, bits))
 }
 
-/// Returns the width for this many clauses, from the width before.
+/// Returns the width for `clauses` clauses, given the previous width `from`. The width is reduced only if `solving`
+/// is true.
 #[inline(always)]
 fn fit(solving: bool, clauses: u64, from: HashBits) -> HashBits
     ensures { result ≡ fitting solving clauses from }
@@ -153,7 +155,7 @@ fn fit(solving: bool, clauses: u64, from: HashBits) -> HashBits
 }
 
 impl Counting {
-    /// Creates a count of no clauses, with complete hashes.
+    /// Creates counts without clauses, with complete hashes.
     pub fn new() -> Counting
         ensures { result ≡ nothing_counted }
     {
@@ -164,7 +166,7 @@ impl Counting {
         }
     }
 
-    /// Counts the next step, and returns the width at which it is written.
+    /// Returns the counts after `step`, with the width at which the step is written.
     #[inline(always)]
     pub fn with(&self, step: &ProofStep<'_>) -> Counting
         ensures { result ≡ counted (step_of step.now) self.now }

@@ -1,10 +1,10 @@
-//! A ghost of an error that is stored elsewhere. It has no size, and its function does nothing at run time.
+//! A ghost of an error that is stored elsewhere. It has size zero, and creating it does nothing at run time.
 ghost use Rattle.std.specs.Prelude.{◌≡◌};
 ghost use Rattle.std.specs.Borrow.{ftrue};
 
 use std::marker::{Model, PhantomData};
 
-/// An error, which is not stored here.
+/// An error as a ghost. The error itself is stored elsewhere.
 #[derive(Drop)]
 pub struct Kept<T> {
     of: PhantomData<T>,
@@ -20,7 +20,7 @@ impl<T> Model for Kept<T> {
 }
 
 impl<T> Kept<T> {
-    /// Creates the ghost of this error.
+    /// Creates the ghost of an error.
     pub fn of(_cause: &T) -> Kept<T>
         ensures { result ≡ _cause.now }
     {

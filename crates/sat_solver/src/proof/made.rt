@@ -14,17 +14,17 @@ use sat_base::{HashBits, ProofStep};
 use sat_checker::{CheckerError, Nobody, ProofProcessor};
 use std::alloc::Global;
 
-/// Why a solver's own checker failed at a step.
+/// Why a solver's own checker failed.
 #[derive(Drop)]
 pub enum CheckFault {
     OutOfMemory,
-    /// No id is left.
+    /// No id is left, or the count of a clause has reached its maximum.
     CounterEnd,
     /// A listener returned a fault, which is stored with the steps.
     Processor(Kept<anyhow::Error>),
 }
 
-/// Returns why a checker failed that rejected nothing. The error of a listener is stored.
+/// Returns why a checker failed. The checker must not have rejected a step. A listener's error is moved to `complaint`.
 fn keep_cause(complaint: &mut Option<anyhow::Error>, error: CheckerError) -> CheckFault
     requires { IsCause error }
     ensures fault { result ≡ cause_in error }
@@ -46,18 +46,18 @@ fn keep_cause(complaint: &mut Option<anyhow::Error>, error: CheckerError) -> Che
     }
 }
 
-/// All steps that were made, only for contracts, and a checker of them, if any.
+/// All steps that were made, as a ghost, and the checker that receives the steps, if any.
 #[derive(Drop)]
 pub struct Made<P: ProofProcessor = Nobody> {
     pub history: History,
     own: Option<Checked<P>>,
-    /// The listeners that were added to it.
+    /// The listeners that were added to the checker.
     roll: Roll<P>,
     /// Whether a step was made that is not the end of a proof.
     begun: bool,
     /// Whether a step was made that the checker has not received.
     lost: bool,
-    /// The error of a listener, until it is reported.
+    /// The error of a listener, until it is returned to the caller.
     complaint: Option<anyhow::Error>,
     ghost counted: { begun ≡ has_begun history.steps },
     ghost may: { ∥ MayAll history.steps ∥₁ },
@@ -69,7 +69,7 @@ impl<P: ProofProcessor> Made<P> {
     ghost use Rattle.sat_solver.specs.proof.MadeView.{MadeIsReported, LastWidthIs, MadeEffect, OkOrComplains, OkOrComplainsUnless};
     ghost use Rattle.sat_solver.specs.proof.MadeView.{MadeTakesListener, cleared_complaint};
 
-    /// Creates a value without steps and checker.
+    /// Creates a value without steps or checker.
     pub fn new() -> Made<P>
         ensures steps { result.history.steps ≡ [] }
         ensures checked { made_is_checked result ≡ false }
@@ -99,7 +99,8 @@ impl<P: ProofProcessor> Made<P> {
         self.begun
     }
 
-    /// Starts a checker. Never allocates.
+    /// Starts a checker if there is none, or restarts one that has missed a step. No step other than the end of a proof
+    /// may have been made. Never allocates.
     pub fn check(&mut self, alloc: Global)
         requires { has_begun self.old.history.steps ≡ false }
         ensures { MadeHasChecker self.old self.new }
@@ -116,7 +117,7 @@ impl<P: ProofProcessor> Made<P> {
     }
 
     /// Adds a listener, which the checker notifies from now on. If memory runs out, the listener is dropped, and the
-    /// checker receives no further step.
+    /// checker receives no further steps.
     pub fn add_processor(&mut self, processor: P) -> Result<(), CheckFault>
         requires begun { has_begun self.old.history.steps ≡ false }
         requires taking { made_is_lost self.old ≡ false }
@@ -140,7 +141,7 @@ impl<P: ProofProcessor> Made<P> {
         }
     }
 
-    /// Records a step that the checker does not receive. It receives none from now on.
+    /// Records a step that the checker does not receive. The checker receives no steps from now on.
     pub fn skip(&mut self, step: &ProofStep<'_>)
         requires { MayAll (step_of step.now ∷ self.old.history.steps) }
         ensures { MadeEffect (step_of step.now) self.old self.new }
@@ -150,7 +151,8 @@ impl<P: ProofProcessor> Made<P> {
         self.lost = true;
     }
 
-    /// Records a step, and passes it to the checker, if any, with its hashes shortened to this width.
+    /// Records `step`, and passes `cut` to the checker if there is one and it has not missed a step. `cut` must be
+    /// `step` with its hashes shortened to the width `bits`.
     #[inline(always)]
     pub fn take(
         &mut self,
@@ -174,7 +176,7 @@ impl<P: ProofProcessor> Made<P> {
         self.take_checked(bits, step, cut)
     }
 
-    /// Records a step, and passes it to the checker. This is a separate function, since an error of the checker
+    /// Does the same as `take`, if there is a checker. This is a separate function because an error of the checker
     /// is large.
     #[inline(never)]
     fn take_checked(
@@ -208,8 +210,8 @@ impl<P: ProofProcessor> Made<P> {
         }
     }
 
-    /// Makes the checker announce what is pending before the next step. If a step was made that the checker has not
-    /// received, the call fails.
+    /// Makes the checker, if any, announce what is pending without waiting for the next step. Fails if a step was made
+    /// that the checker has not received.
     pub fn take_delayed(&mut self) -> Result<(), CheckFault>
         ensures steps { self.new.history.steps ≡ self.old.history.steps }
         ensures listening { made_audience self.new ≡ made_audience self.old }
@@ -235,7 +237,7 @@ impl<P: ProofProcessor> Made<P> {
         }
     }
 
-    /// Returns the error of a listener. It is returned only once.
+    /// Returns the error of a listener, if any, and removes it.
     pub fn take_complaint(&mut self) -> Option<anyhow::Error>
         ensures gives { result ≡ self.old.complaint }
         ensures same { self.new ≡ cleared_complaint self.old }
@@ -243,8 +245,8 @@ impl<P: ProofProcessor> Made<P> {
         self.complaint.take()
     }
 
-    /// Returns the listeners in the order in which they were added, even after a failure. There is no
-    /// checker afterwards.
+    /// Returns the listeners in the order in which they were added, even after a failure. Afterwards there is
+    /// no checker.
     pub fn take_processors(&mut self, alloc: Global) -> Vec<P>
         ensures handed { MadeHandsBack self.old result.items }
         ensures whole { MadeHandsBackWhole self.old result.items }

@@ -1,4 +1,4 @@
-//! Clauses over proof variables, and their hashes.
+//! Maps literals of the search to literals over proof variables, and computes the hashes of clauses.
 ghost use Rattle.std.specs.Prelude.{ℕ, ◌≡◌, ◌<◌, ◌≤◌, OnOk, length, map};
 ghost use Rattle.sat_base.specs.values.Literals.{variable};
 ghost use Rattle.sat_base.specs.values.Hashes.{hash_of};
@@ -18,7 +18,7 @@ use sat_parts::{CauseLits, Conflict, Parts, Reason};
 use sat_store::Lits;
 use std::alloc::AllocError;
 
-/// Replaces the content of a list with the literals over proof variables.
+/// Replaces the content of `mapped` with the literals `lits` over proof variables.
 pub fn map_lits(globals: &[Var], lits: &[Lit], mapped: &mut Vec<Lit>) -> Result<(), AllocError>
     requires { VariablesBelow lits.now (length globals.now) }
     ensures { OnOk result (mapped.new.items ≡ map (with_var (global_of_index globals.now)) lits.now) }
@@ -31,7 +31,7 @@ pub fn map_lits(globals: &[Var], lits: &[Lit], mapped: &mut Vec<Lit>) -> Result<
     Ok(())
 }
 
-/// Returns the hash of the literals of a list.
+/// Returns the hash of the clause `lits`.
 fn own_hash(lits: &[Lit]) -> ClauseHash
     ensures { result ≡ hash_of lits.now }
 {
@@ -42,7 +42,7 @@ fn own_hash(lits: &[Lit]) -> ClauseHash
     hash
 }
 
-/// Returns the hash of the literals of a long clause.
+/// Returns the hash of a long clause.
 fn long_hash(lits: &Lits<'_>) -> ClauseHash
     ensures { result ≡ hash_of lits.now }
 {
@@ -53,7 +53,7 @@ fn long_hash(lits: &Lits<'_>) -> ClauseHash
     hash
 }
 
-/// Returns the hash of these literals.
+/// Returns the hash of the literals of a reason or of a conflict.
 fn causes_hash(lits: &CauseLits) -> ClauseHash
     ensures { result ≡ hash_of lits.now }
 {
@@ -61,7 +61,7 @@ fn causes_hash(lits: &CauseLits) -> ClauseHash
     own_hash(own) ^ long_hash(long)
 }
 
-/// Returns the hash of the clause that implies a literal.
+/// Returns the hash of the clause that implies `lit`.
 fn reason_hash(parts: &Parts, lit: Lit) -> ClauseHash
     requires there { variable lit < length parts.now.graph }
     requires clause { (o : ℕ) → (node (state parts.now) lit).reason ≡ Reason.Long o → IsClause parts.now.clauses o }
@@ -73,7 +73,7 @@ fn reason_hash(parts: &Parts, lit: Lit) -> ClauseHash
     lit_hash(lit) ^ causes_hash(&reason.lits(&parts.clauses))
 }
 
-/// Replaces the content of a list with the hashes of the clauses that imply these literals.
+/// Replaces the content of `hashes` with the hashes of the clauses that imply the literals `used`, in order.
 pub fn name_reasons(
     parts: &Parts,
     used: &[Lit],
@@ -92,7 +92,8 @@ pub fn name_reasons(
     Ok(())
 }
 
-/// Replaces the content of a list with the hashes of the clauses that an analysis names.
+/// Replaces the content of `hashes` with the hashes of the clauses that imply the literals `used`, followed by the hash
+/// of the falsified clause.
 pub fn name_clauses(
     parts: &Parts,
     used: &[Lit],
@@ -110,7 +111,7 @@ pub fn name_clauses(
     Ok(())
 }
 
-/// Returns the literal over proof variables.
+/// Returns the literal over proof variables for `lit`, a literal of the search.
 fn map_lit(globals: &[Var], lit: Lit) -> Lit
     requires { variable lit < length globals.now }
     ensures { result ≡ with_var (global_of_index globals.now) lit }
@@ -118,7 +119,7 @@ fn map_lit(globals: &[Var], lit: Lit) -> Lit
     Lit::from_var(globals[lit.index()], lit.is_positive())
 }
 
-/// Returns a unit over proof variables, with the hash of the clause that it follows from.
+/// Returns the unit `lit` over proof variables, with the hash of the clause that implies it.
 fn unit_of(parts: &Parts, globals: &[Var], lit: Lit) -> (Lit, ClauseHash)
     requires there { variable lit < length parts.now.graph }
     requires name { variable lit < length globals.now }
@@ -135,7 +136,8 @@ fn unit_of(parts: &Parts, globals: &[Var], lit: Lit) -> (Lit, ClauseHash)
     (map_lit(globals, lit), hash)
 }
 
-/// Replaces the content of a list with the units of the trail that have a clause as their reason.
+/// Replaces the content of `units` with the literals of the trail whose reason is a clause, over proof variables. Each
+/// unit has the hash of the clause that implies it.
 pub fn collect_units(
     parts: &Parts,
     globals: &[Var],

@@ -1,4 +1,4 @@
-//! Writes steps to a target in bytes, each after its width.
+//! Writes steps to a target in binary. A step is preceded by its width if the width has changed.
 ghost use Rattle.std.specs.Prelude.{◌≡◌, ◌∷◌, true, false};
 ghost use Rattle.sat_base.specs.steps.StepViews.{step_of};
 ghost use Rattle.sat_base.specs.steps.StepWriting.{steps_sink};
@@ -9,7 +9,7 @@ ghost use Rattle.sat_solver.specs.proof.OutputView.{PutsSteps, SendsSteps};
 use crate::proof::output::OutputError;
 use sat_base::{CountedWrite, HashBits, ProofStep, StepWriter};
 
-/// Writes a width, if it has changed.
+/// Writes the width `now`, if it differs from `before`.
 fn write_width<W: CountedWrite>(
     writer: &mut StepWriter<W>,
     before: HashBits,
@@ -25,7 +25,10 @@ fn write_width<W: CountedWrite>(
     Ok(())
 }
 
-/// Buffers a step if it has the width of the step before and there is certainly room for it. Returns whether it did.
+/// Buffers a step if it has the same width as the previous step and is certain to fit. Returns whether the step
+/// was buffered.
+///
+/// `widths` has the width of the previous step and that of this step.
 #[inline(always)]
 pub fn try_write_at<W: CountedWrite>(
     writer: &mut StepWriter<W>,
@@ -43,7 +46,8 @@ pub fn try_write_at<W: CountedWrite>(
     writer.try_write(step)
 }
 
-/// Writes a step, after its width if that has changed.
+/// Writes a step, preceded by its width if the width has changed. `widths` has the width of the previous step and that
+/// of this step.
 pub fn write_at<W: CountedWrite>(
     writer: &mut StepWriter<W>,
     widths: (HashBits, HashBits),

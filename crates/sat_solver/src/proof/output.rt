@@ -15,9 +15,9 @@ use std::io;
 /// Why the text of a step was not written.
 #[derive(Drop)]
 pub enum OutputError {
-    /// A call of the writer failed.
+    /// A call to the writer failed.
     Write(io::Error),
-    /// Memory ran out, and none of it was written.
+    /// Memory ran out, and nothing of the step's text was written.
     OutOfMemory,
 }
 
@@ -43,7 +43,7 @@ impl From<AllocError> for OutputError {
     }
 }
 
-/// A writer of DRAT lines. The lines of a step are one write.
+/// A writer of DRAT lines. All lines of a step are written in one call.
 #[derive(Drop)]
 pub struct LineWriter<W> {
     pub writer: W,
@@ -100,8 +100,8 @@ impl<W: CountedWrite> Output<W> {
         }
     }
 
-    /// Writes a step. `widths` has the width of the step before and its own, to which its hashes are shortened. DRAT
-    /// lines are assembled in `text`.
+    /// Writes a step. `widths` has the width of the previous step and that of this step, to which its hashes are
+    /// shortened. DRAT lines are assembled in `text`.
     #[inline(never)]
     pub fn write(
         &mut self,
@@ -119,8 +119,8 @@ impl<W: CountedWrite> Output<W> {
         }
     }
 
-    /// Buffers the bytes of a step if it has the width of the step before and there is certainly room for them. Returns
-    /// whether it did. Never calls the writer.
+    /// Buffers the bytes of a step if it has the same width as the previous step and they are certain to fit. Returns
+    /// whether the bytes were buffered, which DRAT lines never are. Never calls the writer.
     #[inline(always)]
     pub fn try_write(&mut self, widths: (HashBits, HashBits), step: &ProofStep<'_>) -> bool
         ensures format { output_format self.new ≡ output_format self.old }

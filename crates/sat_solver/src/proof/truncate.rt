@@ -6,7 +6,7 @@ ghost use Rattle.sat_solver.specs.proof.Widths.{kept_bits, narrowed};
 use sat_base::{ClauseHash, HashBits, Lit, ProofStep};
 use std::alloc::{AllocError, Global};
 
-/// Returns the top bits of a hash.
+/// Returns the top `bits` bits of a hash.
 fn top_bits(hash: ClauseHash, bits: HashBits) -> ClauseHash
     ensures { result ≡ kept_bits bits hash }
 {
@@ -15,7 +15,7 @@ fn top_bits(hash: ClauseHash, bits: HashBits) -> ClauseHash
 }
 
 #[tactic(auto, using(crate::proofs::lemmas::session::CuttingLemmas::narrow_next))]
-/// Replaces the content of a list with the top bits of hashes.
+/// Replaces the content of `narrowed` with the top `bits` bits of every hash in `hashes`.
 pub fn narrow(
     narrowed: &mut Vec<ClauseHash>,
     hashes: &[ClauseHash],
@@ -30,7 +30,7 @@ pub fn narrow(
     Ok(())
 }
 
-/// Replaces the content of a list with these units and the top bits of their hashes.
+/// Replaces the content of `narrowed` with `units`, keeping only the top `bits` bits of every hash.
 pub fn narrow_units(
     narrowed: &mut Vec<(Lit, ClauseHash)>,
     units: &[(Lit, ClauseHash)],
@@ -67,7 +67,7 @@ pub fn has_hashes(step: &ProofStep<'_>) -> bool
     }
 }
 
-/// Where the hashes of a step are shortened.
+/// Lists for the shortened hashes of a step.
 #[derive(Drop)]
 pub struct CutLists {
     pub hashes: Vec<ClauseHash>,

@@ -5,7 +5,7 @@ ghost use Rattle.sat_solver.specs.schedule.Gaps.{gap_end};
 
 use sat_store::LubySequence;
 
-/// The gaps between restarts: the Luby sequence times a scale.
+/// The schedule of restarts. The numbers of rounds between restarts are the Luby sequence times a scale.
 #[derive(Drop)]
 pub struct Restarts {
     pub sequence: LubySequence,
@@ -16,7 +16,7 @@ pub struct Restarts {
     pub count: u64,
 }
 
-/// Begins a gap before this round.
+/// Counts a restart before round `round`, and determines when the next restart is due.
 pub fn begin_gap(restarts: &mut Restarts, round: u64)
     ensures given { restarts.new.sequence ≡ wrapped_number (restarts.old.sequence + 1) }
     ensures scale { restarts.new.scale ≡ restarts.old.scale }

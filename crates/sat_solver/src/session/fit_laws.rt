@@ -1,18 +1,19 @@
-//! Laws. Each is the contract of a function that does nothing.
+//! Laws about what a search may write. Each law is the contract of a function that does nothing.
 ghost use Rattle.sat_solver.specs.session.Advancing.{LearnedAdvancesIn};
 ghost use Rattle.sat_solver.specs.session.FitLaws.{LearnedMay, ModelMay, LearnedIsNew, NothingFits};
 
-/// States that a learned clause may be written.
+/// States that the step of a learned clause may be written.
 pub fn learned_may()
     ensures { LearnedMay }
 {}
 
-/// States that true literals may be written as a model if all variables are assigned.
+/// States that the true literals may be written as a model if all variables are assigned.
 pub fn model_may()
     ensures { ModelMay }
 {}
 
-/// States that a learned clause is new.
+/// States that a learned clause is new: if all its literals but the first are assumed to be false, unit propagation
+/// with the units and the stored clauses neither assigns its first literal nor falsifies a clause.
 pub fn learned_is_new()
     ensures { LearnedIsNew }
 {}
@@ -22,7 +23,8 @@ pub fn nothing_fits()
     ensures { NothingFits }
 {}
 
-/// States that a learned clause advances in the session.
+/// States that a learned clause is also new in the session: if all its literals but the first are assumed to be false,
+/// unit propagation with the session's units and clauses neither assigns its first literal nor falsifies a clause.
 pub fn learned_advances_in()
     ensures { LearnedAdvancesIn }
 {}

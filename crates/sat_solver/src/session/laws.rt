@@ -1,4 +1,4 @@
-//! Laws about sessions. Each is the contract of a function that does nothing.
+//! Laws about sessions. Each law is the contract of a function that does nothing.
 ghost use Rattle.sat_solver.specs.session.Promises.{CoresAreRight, MayIsAccepted, ModelsAreRight, SessionsAreAccepted};
 ghost use Rattle.sat_solver.specs.session.Promises.{UnsatIsRight};
 ghost use Rattle.sat_solver.specs.proof.Checked.{NobodyComplains};
@@ -14,7 +14,7 @@ ghost use Rattle.sat_solver.specs.proof.Widths.{WidthsAreFree};
 use sat_checker::law_announcements::nobody_answers_a_fault;
 use sat_checker::{Nobody, ProofProcessor};
 
-/// States that every step that a session may write is accepted.
+/// States that a checker accepts every step that a session may write.
 pub fn sessions_are_accepted()
     ensures step { MayIsAccepted }
     ensures steps { SessionsAreAccepted }
@@ -27,7 +27,7 @@ pub fn answers_are_right()
     ensures models { ModelsAreRight }
 {}
 
-/// States that what may be written with complete hashes may be written with their top bits, at any widths.
+/// States that steps that may be written with complete hashes may also be written with hashes shortened to any widths.
 pub fn widths_are_free()
     ensures may { WidthsAreFree }
     ensures order { WidthsKeepOrder }
@@ -61,13 +61,15 @@ pub fn plain_steps_mean_clauses()
 
 /// States what the target of a proof has received since it was opened.
 ///
-/// If the proof was closed, this is the text of the steps made since; if the target failed, a prefix of it.
+/// If the proof was closed, the target has received the text of all steps that were made while it was open. If the
+/// target failed, it has received a prefix of this text.
 pub fn targets_take_texts()
     ensures closed { ClosedIsText }
     ensures broken { BrokenIsFront }
 {}
 
-/// States that the DRAT lines of allowed steps are a derivation.
+/// States that the DRAT lines of allowed steps are a derivation. Once the steps have recorded `unsat`, unit propagation
+/// refutes the remaining clauses.
 pub fn lines_are_derived()
     ensures { DratStands }
 {}

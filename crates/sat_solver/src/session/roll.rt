@@ -1,10 +1,10 @@
-//! A ghost of the listeners that were added to a checker. It has no size, and its functions do nothing at run time.
+//! A ghost of the listeners that were added to a checker. It has size zero, and its functions do nothing at run time.
 ghost use Rattle.std.specs.Prelude.{◌≡◌, ◌++◌, ◌∷◌, [], List};
 ghost use Rattle.std.specs.Borrow.{ftrue};
 
 use std::marker::{Model, PhantomData};
 
-/// The listeners in order, each as it was added.
+/// The listeners in the order in which they were added, each as it was when it was added.
 #[derive(Drop)]
 pub struct Roll<P> {
     of: PhantomData<P>,
@@ -23,14 +23,14 @@ impl<P> Roll<P> {
         Roll { of: PhantomData }
     }
 
-    /// Returns the roll with one more listener.
+    /// Returns the roll with the listener `_one` appended.
     pub fn and(&self, _one: &P) -> Roll<P>
         ensures { result.items ≡ self.now.items ++ _one.now ∷ [] }
     {
         Roll { of: PhantomData }
     }
 
-    /// Returns the roll of these listeners.
+    /// Returns the roll of the listeners `all`.
     pub fn of(all: &[P]) -> Roll<P>
         ensures { result.items ≡ all.now }
     {

@@ -1,4 +1,4 @@
-//! What the last answer is based on.
+//! The model or the core of the last answer.
 ghost use Rattle.std.specs.Prelude.{◌≡◌, false, IfOk, IfErr, MatchOption};
 ghost use Rattle.sat_solver.specs.declared.error.SolverError.TheVariants as errors;
 ghost use Rattle.sat_solver.specs.solver.Resting.{HasNone, HasNoCore, IsCore, IsModel, ModelFails};
@@ -26,11 +26,11 @@ impl<W: CountedWrite + Drop, P: ProofProcessor> Solver<W, P> {
         Ok(lits)
     }
 
-    /// Returns a model: a literal for every name in use, in increasing order; or `None`.
+    /// Returns a model, or `None` if there is none. A model has one literal for every name in use, in increasing order.
     ///
-    /// There is a model only after a `solve` that returned true, with no clause and no assumptions since. Names
-    /// introduced since are false, except those of `observe_internal_vars`, which have the values of their variables.
-    /// `OutOfMemory` changes nothing.
+    /// There is a model only after a `solve` that returned true, until a clause or assumptions are accepted. Names that
+    /// were introduced after this `solve` are false, except those that `observe_internal_vars` introduced, which have
+    /// the values of their variables. The solver can still be used after `OutOfMemory`.
     pub fn model(&self, alloc: Global) -> Result<Option<Vec<Lit>>, SolverError>
         requires { IsSolver self.now }
         ensures model { IfOk result (λ o. MatchOption o (HasNone self.now) (λ lits. IsModel self.now lits.items)) }
@@ -47,9 +47,9 @@ impl<W: CountedWrite + Drop, P: ProofProcessor> Solver<W, P> {
         }
     }
 
-    /// Returns some of the assumptions that together contradict the clauses, or `None` if no such list is known.
+    /// Returns a list of assumptions that together contradict the clauses, or `None` if no such list is known.
     ///
-    /// The list is neither minimal nor sorted. One is known after a `solve` that returned false, until a clause or
+    /// The list is neither minimal nor sorted. A list is known after a `solve` that returned false, until a clause or
     /// assumptions are accepted. Once the clauses alone are known to be unsatisfiable, even without a `solve`, the list
     /// is known and empty. Returns `None` after a failed call.
     pub fn failed_core(&self) -> Option<&[Lit]>

@@ -1,4 +1,4 @@
-//! Assumptions of later asks.
+//! Sets the assumptions of later asks.
 ghost use Rattle.std.specs.Prelude.{◌≡◌, true, false, OnOk, IfErr, IsErrOf};
 ghost use Rattle.sat_solver.specs.variables.VariableRoom.{HasVariablesFor, users_in};
 ghost use Rattle.sat_solver.specs.cdcl.Going.{IsFault};
@@ -23,7 +23,8 @@ use sat_base::{CountedWrite, Lit};
 use sat_checker::ProofProcessor;
 
 impl<W: CountedWrite + Drop, P: ProofProcessor> Solver<W, P> {
-    /// Accepts assumptions when the clauses are known to be unsatisfiable. The search does not receive them.
+    /// Accepts the assumptions `lits` when the clauses are known to be unsatisfiable. The search does not receive the
+    /// assumptions. None of their names may have the mode witness.
     fn ask_known(&mut self, lits: &[Lit]) -> Result<(), Fault>
         requires whole { SolverInvariant self.old }
         requires unsat { self.old.state ≡ Unsat }
@@ -36,7 +37,7 @@ impl<W: CountedWrite + Drop, P: ProofProcessor> Solver<W, P> {
         Ok(())
     }
 
-    /// Accepts assumptions without a name of mode witness.
+    /// Accepts the assumptions `lits`, none of whose names may have the mode witness.
     fn ask(&mut self, lits: &[Lit]) -> Result<(), Fault>
         requires whole { SolverInvariant self.old }
         requires sampled { NoWitness self.old.names lits.now }
@@ -55,12 +56,12 @@ impl<W: CountedWrite + Drop, P: ProofProcessor> Solver<W, P> {
         Ok(())
     }
 
-    /// Replaces the assumptions, whose names are introduced from left to right.
+    /// Replaces the assumptions with `lits`, and introduces the names in `lits` from left to right.
     ///
-    /// They hold for every later `solve`, until the next `assume`. Unless the clauses alone are known to be
-    /// unsatisfiable, the answer is discarded, even if the assumptions are the same as before. Errors: `NotInDrat` if
-    /// DRAT lines are written; `WitnessVariable` if a name is of mode witness; `VariableLimit` if there is no variable
-    /// for a name that would be introduced.
+    /// The assumptions hold for every later `solve`, until the next `assume`. The answer is discarded even if the
+    /// assumptions are unchanged, unless the clauses alone are known to be unsatisfiable. Errors: `NotInDrat` if DRAT
+    /// lines are written; `WitnessVariable` if a name in `lits` has the mode witness; `VariableLimit` if there is no
+    /// variable for a name that would be introduced.
     pub fn assume(&mut self, lits: &[Lit]) -> Result<(), SolverError>
         requires { IsSolver self.old }
         ensures solver { IsSolver self.new }

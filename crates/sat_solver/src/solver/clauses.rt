@@ -1,4 +1,4 @@
-//! Clauses that a caller adds.
+//! Adds clauses.
 ghost use Rattle.std.specs.Prelude.{◌≡◌, true, false, IfErr, IsErrOf};
 ghost use Rattle.sat_solver.specs.variables.VariableRoom.{HasVariablesFor, users_in};
 ghost use Rattle.sat_solver.specs.cdcl.Going.{IsFault, IsFaultOr};
@@ -20,7 +20,7 @@ use sat_base::{CountedWrite, Lit};
 use sat_checker::ProofProcessor;
 
 impl<W: CountedWrite + Drop, P: ProofProcessor> Solver<W, P> {
-    /// Whether lines of DRAT are written, and an ask has begun.
+    /// Whether DRAT lines are written and an ask has begun.
     fn is_past_drat(&self) -> bool
         ensures yes { result ≡ true → IsPastDrat W.seen self.now }
         ensures no { result ≡ false → IsBeforeDrat W.seen self.now }
@@ -31,7 +31,7 @@ impl<W: CountedWrite + Drop, P: ProofProcessor> Solver<W, P> {
         self.core.proof.has_asked()
     }
 
-    /// Introduces the names of a clause, and does nothing else: the clauses are known to be unsatisfiable.
+    /// Introduces the names of a clause, but does not add the clause. The clauses must be known to be unsatisfiable.
     fn leave_out(&mut self, lits: &[Lit]) -> Result<(), Fault>
         requires whole { SolverInvariant self.old }
         requires unsat { self.old.state ≡ Unsat }
@@ -44,7 +44,7 @@ impl<W: CountedWrite + Drop, P: ProofProcessor> Solver<W, P> {
         Ok(())
     }
 
-    /// Adds a clause without a name of mode witness.
+    /// Adds a clause, none of whose names may have the mode witness.
     fn take(&mut self, lits: &[Lit]) -> Result<(), Fault>
         requires whole { SolverInvariant self.old }
         requires sampled { NoWitness self.old.names lits.now }
@@ -64,12 +64,13 @@ impl<W: CountedWrite + Drop, P: ProofProcessor> Solver<W, P> {
         Ok(())
     }
 
-    /// Adds a clause, whose names are introduced from left to right.
+    /// Adds a clause, and introduces its names from left to right.
     ///
-    /// A hidden name gets a new variable, and a name never used comes with all lower ones never used. The clause may
-    /// come after asks, and discards the answer. Once the clauses alone are known to be unsatisfiable, only its
-    /// names are introduced. Errors: `NotInDrat` after the first `solve` if DRAT lines are written; `WitnessVariable`
-    /// if a name is of mode witness; `VariableLimit` if there is no variable for a name that would be introduced.
+    /// A hidden name gets a new variable. A name that was never used is introduced together with all lower names that
+    /// were never used. Clauses can also be added after asks; a new clause discards the answer. Once the clauses alone
+    /// are known to be unsatisfiable, only the names of the clause are introduced. Errors: `NotInDrat` after the first
+    /// `solve` if DRAT lines are written; `WitnessVariable` if a name in `lits` has the mode witness; `VariableLimit`
+    /// if there is no variable for a name that would be introduced.
     pub fn add_clause(&mut self, lits: &[Lit]) -> Result<(), SolverError>
         requires { IsSolver self.old }
         ensures solver { IsSolver self.new }

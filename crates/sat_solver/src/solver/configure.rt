@@ -14,7 +14,7 @@ use crate::{SolverConfigUpdate, SolverError};
 use sat_base::CountedWrite;
 use sat_checker::ProofProcessor;
 
-/// Passes the decays to a search, unless it has ended.
+/// Sets the decays of the search to those of the parameters, unless the clauses are known to be unsatisfiable.
 fn hand_on<W: CountedWrite + Drop, P: ProofProcessor>(core: &mut Core<W, P>, state: State)
     requires holds { (state ≡ Unsat → ⊥) → PartsInvariant core.old.search.parts }
     requires decays { AreDecays core.old.config }
@@ -29,7 +29,8 @@ fn hand_on<W: CountedWrite + Drop, P: ProofProcessor>(core: &mut Core<W, P>, sta
 }
 
 impl<W: CountedWrite + Drop, P: ProofProcessor> Solver<W, P> {
-    /// Updates parameters. If one is out of its range, returns `OutOfRange` and changes nothing.
+    /// Changes the parameters as `update` says. If one of its fields is out of range, returns `OutOfRange` and
+    /// changes nothing.
     pub fn config(&mut self, update: &SolverConfigUpdate) -> Result<(), SolverError>
         requires { IsSolver self.old }
         ensures solver { IsSolver self.new }

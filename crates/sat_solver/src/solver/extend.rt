@@ -1,5 +1,5 @@
-//! `Solver` as a formula that can be extended. `add_clause` and `new_var` are the solver's own calls, and `new_lit`
-//! returns the positive literal of `new_var`.
+//! Implements `ExtendFormula` for `Solver`. `add_clause` and `new_var` are the solver's own methods, and `new_lit`
+//! returns the positive literal of the name that `new_var` returns.
 ghost use Rattle.std.specs.Prelude.{Ok, Err};
 ghost use Rattle.sat_solver.specs.solver.Adding.{AddsClause};
 ghost use Rattle.sat_solver.specs.solver.Naming.{NamesNew};

@@ -1,4 +1,4 @@
-//! How a call of a solver fails.
+//! How a call to a solver fails.
 ghost use Rattle.std.specs.Prelude.{◌≡◌};
 ghost use Rattle.sat_solver.specs.cdcl.Faults.{IsKept};
 ghost use Rattle.sat_solver.specs.solver.Failing.{failed_with};
@@ -10,7 +10,8 @@ use sat_base::CountedWrite;
 use sat_checker::ProofProcessor;
 
 impl<W: CountedWrite + Drop, P: ProofProcessor> Solver<W, P> {
-    /// Marks the solver as failed, and returns the error of a fault. Every later call fails.
+    /// Marks the solver as failed, and returns the error for `fault`. From now on, every call that can return an error
+    /// returns `HasFailed`.
     pub(crate) fn fail(&mut self, fault: Fault) -> SolverError
         requires kept { IsKept fault self.old.core.proof }
         ensures error { result ≡ fault }

@@ -30,7 +30,8 @@ pub struct Clock {
     pub rounds: u64,
 }
 
-/// Writes and stores the outcome of a search.
+/// Writes the step of a model or a failed core, and stores the answer in `reported`. Returns the state that follows
+/// from `outcome`, or `None` if `outcome` is not an answer.
 fn report<W: CountedWrite + Drop, P: ProofProcessor>(
     core: &mut Core<W, P>,
     names: &Variables,
@@ -54,8 +55,8 @@ fn report<W: CountedWrite + Drop, P: ProofProcessor>(
     }
 }
 
-/// Runs rounds up to an answer, at most as many as the parameters allow, and writes the answer's step. Returns `None`
-/// if there is no answer.
+/// Runs rounds up to an answer, but at most as many as the parameters allow, and writes the answer's step. Returns the
+/// state that follows from the answer, or `None` if there is no answer.
 pub fn find_answer<W: CountedWrite + Drop, P: ProofProcessor>(
     core: &mut Core<W, P>,
     names: &mut Variables,

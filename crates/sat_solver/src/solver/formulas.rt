@@ -1,4 +1,4 @@
-//! Adds formulas and their texts, clause by clause.
+//! Adds formulas and texts of formulas, clause by clause.
 ghost use Rattle.std.specs.Prelude.{◌≡◌, ◌≤◌, ◌+◌, false};
 ghost use Rattle.sat_base.specs.device.Device.{most_reads};
 ghost use Rattle.sat_base.specs.dimacs.Parsing.{all_taken, no_progress};
@@ -13,10 +13,10 @@ use sat_checker::ProofProcessor;
 /// The number of bytes that are requested at a time.
 const PIECE: usize = 4096;
 
-/// The maximum number of reads of a text.
+/// The maximum number of times that the reader of a text is called.
 const MAX_READS: u64 = 1 << 48;
 
-/// Returns the solver's error for an error of a text.
+/// Returns the solver's error for `error`, an error in a formula's text.
 fn text_fault(error: DimacsError) -> SolverError
     ensures { result ≡ text_fault error }
 {
@@ -29,7 +29,7 @@ fn text_fault(error: DimacsError) -> SolverError
     }
 }
 
-/// Whether the solver has failed after this error: only on an allocation failure.
+/// Whether the solver has failed after `error`, which is the case only for `OutOfMemory`.
 fn is_want(error: DimacsError) -> bool
     ensures { result ≡ is_solver_out_of_memory error }
 {
@@ -43,8 +43,8 @@ fn is_want(error: DimacsError) -> bool
 }
 
 impl<W: CountedWrite + Drop, P: ProofProcessor> Solver<W, P> {
-    /// Adds the clauses of a formula in order, as if by one call for each, up to the first that is refused. Those
-    /// before it remain. The formula's variable count introduces no name.
+    /// Adds the clauses of a formula in order, up to the first that is refused, as if by one `add_clause` for each
+    /// clause. The clauses before a refused clause remain. The formula's variable count introduces no name.
     pub fn add_formula(&mut self, formula: &CnfFormula) -> Result<(), SolverError>
         requires { IsSolver self.old }
         ensures solver { IsSolver self.new }
@@ -80,7 +80,7 @@ impl<W: CountedWrite + Drop, P: ProofProcessor> Solver<W, P> {
         Ok(())
     }
 
-    /// Adds the clauses of a text that a parser reads from its beginning.
+    /// Adds the clauses of the text that `reader` provides. `parser` must not have received any text yet.
     fn add_text<R: CountedRead>(
         &mut self,
         parser: &mut DimacsParser,
@@ -112,9 +112,9 @@ impl<W: CountedWrite + Drop, P: ProofProcessor> Solver<W, P> {
 
     /// Adds the clauses of a text in DIMACS CNF, in order. The text is read in chunks of 4,096 bytes.
     ///
-    /// Clauses before an error, or before a clause that is refused, remain. If the text cannot be read, the solver can
-    /// still be used: the error is `Malformed`, `VariableLimit` for a number above the limit, or `Read`. The header's
-    /// numbers are ignored; its variable count introduces no name.
+    /// Clauses before an error, or before a clause that is refused, remain. The solver can still be used if the text is
+    /// malformed (`Malformed`), has a number above the limit (`VariableLimit`), or cannot be read (`Read`). The numbers
+    /// in the header are ignored; its variable count introduces no name.
     pub fn add_dimacs_cnf<R: CountedRead>(&mut self, reader: &mut R) -> Result<(), SolverError>
         requires { IsSolver self.old }
         ensures solver { IsSolver self.new }

@@ -1,4 +1,4 @@
-//! Laws about solvers. Each is the contract of a function that does nothing.
+//! Laws about solvers. Each law is the contract of a function that does nothing.
 ghost use Rattle.sat_solver.specs.solver.Fronts.{CallsGoOn, FlushedIsText};
 ghost use Rattle.sat_solver.specs.solver.Resting.{SolverMatchesSomeState};
 
@@ -14,8 +14,8 @@ pub fn calls_go_on<W: CountedWrite + Drop, P: ProofProcessor>(
     ensures { CallsGoOn W.seen _old.now _new.now }
 {}
 
-/// States that names and steps of a solver that has not failed match some state of the judge. So what is stated for
-/// every such state holds for one.
+/// States that the names and the steps of a solver that has not failed match some state of the judge. Therefore,
+/// whatever contracts state for every matching state holds for at least one state.
 pub fn solvers_are_judged<W: CountedWrite + Drop, P: ProofProcessor>(_solver: &Solver<W, P>)
     ensures { SolverMatchesSomeState _solver.now }
 {}

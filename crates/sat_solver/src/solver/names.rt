@@ -1,4 +1,4 @@
-//! Introducing and hiding names, and setting their modes.
+//! Introduces and hides names, and sets their modes.
 ghost use Rattle.std.specs.Prelude.{◌≡◌, ◌==◌, ◌||◌, not, length, true, false, IfOk, IfErr, OnOk};
 ghost use Rattle.sat_solver.specs.solver.Naming.{Hides, Witnesses, Samples, SetsMode, NamesNew, NamesFail, Observed};
 ghost use Rattle.sat_solver.specs.variables.Coming.{LeavesNoneIdle};
@@ -16,7 +16,7 @@ use crate::variables::user_vars::new_user_var;
 use sat_base::{CountedWrite, Var};
 use sat_checker::ProofProcessor;
 
-/// Whether the error says that no variable was left.
+/// Whether `error` is `VariableLimit`.
 fn is_limit(error: &NameError) -> bool
     ensures limit { result ≡ true → error.now ≡ NameError.VariableLimit }
     ensures other { result ≡ false → error.now ≡ NameError.VariableLimit → ⊥ }
@@ -29,7 +29,7 @@ fn is_limit(error: &NameError) -> bool
     }
 }
 
-/// Whether a solver is used after it has introduced these names.
+/// Whether a solver counts as used after it has introduced the names `users`. `used` says whether it did before.
 fn is_used(used: bool, users: &[Var]) -> bool
     ensures { result ≡ (used || not (length users.now == 0)) }
 {
@@ -39,9 +39,10 @@ fn is_used(used: bool, users: &[Var]) -> bool
 impl<W: CountedWrite + Drop, P: ProofProcessor> Solver<W, P> {
     /// Hides a name, which is introduced first if it is not in use.
     ///
-    /// Its variable remains in the clauses, and the name may be given to a new variable. A variable without an index,
-    /// which is in no clause, is deleted at once. The answer is unchanged. Errors: `AssumedVariable` if the name is
-    /// assumed; `VariableLimit` if there is no variable for a name that would be introduced.
+    /// The variable of the name remains in the clauses, and the name can be introduced again, for a new variable.
+    /// If the variable has no index, it is in no clause and is deleted immediately. The answer is unchanged.
+    /// Errors: `AssumedVariable` if the name is assumed; `VariableLimit` if there is no variable for a name that
+    /// would be introduced.
     pub fn hide_var(&mut self, user: Var) -> Result<(), SolverError>
         requires { IsSolver self.old }
         ensures solver { IsSolver self.new }
@@ -64,7 +65,8 @@ impl<W: CountedWrite + Drop, P: ProofProcessor> Solver<W, P> {
         }
     }
 
-    /// Introduces a name if it is new, and sets its mode.
+    /// Sets the mode of a name to sample if `sample` is true, and to witness otherwise. If the name is not in use, it
+    /// is introduced first.
     fn set_mode(&mut self, user: Var, sample: bool) -> Result<(), SolverError>
         requires { IsSolver self.old }
         ensures solver { IsSolver self.new }
@@ -86,10 +88,11 @@ impl<W: CountedWrite + Drop, P: ProofProcessor> Solver<W, P> {
         }
     }
 
-    /// Sets the mode of a name to witness, after introducing the name if it is not in use.
+    /// Sets the mode of a name to witness. If the name is not in use, it is introduced first.
     ///
-    /// From then on, no clause and no assumption with it is accepted. The answer is unchanged. Errors:
-    /// `AssumedVariable` if the name is assumed, even if it has this mode already; `VariableLimit` as for `hide_var`.
+    /// From then on, clauses and assumptions that contain the name are refused. The answer is unchanged. Errors:
+    /// `AssumedVariable` if the name is assumed, even if it already has this mode; `VariableLimit` if there is no
+    /// variable for a name that would be introduced.
     pub fn witness_var(&mut self, user: Var) -> Result<(), SolverError>
         requires { IsSolver self.old }
         ensures solver { IsSolver self.new }
@@ -98,10 +101,11 @@ impl<W: CountedWrite + Drop, P: ProofProcessor> Solver<W, P> {
         self.set_mode(user, false)
     }
 
-    /// Sets the mode of a name to sample, as new names have it, after introducing the name if it is not in use.
+    /// Sets the mode of a name to sample, which is also the mode of new names. If the name is not in use, it is
+    /// introduced first.
     ///
-    /// The answer is unchanged. Errors: `AssumedVariable` if the name is assumed, even if it has this mode already;
-    /// `VariableLimit` as for `hide_var`.
+    /// The answer is unchanged. Errors: `AssumedVariable` if the name is assumed, even if it already has this mode;
+    /// `VariableLimit` if there is no variable for a name that would be introduced.
     pub fn sample_var(&mut self, user: Var) -> Result<(), SolverError>
         requires { IsSolver self.old }
         ensures solver { IsSolver self.new }
@@ -110,10 +114,10 @@ impl<W: CountedWrite + Drop, P: ProofProcessor> Solver<W, P> {
         self.set_mode(user, true)
     }
 
-    /// Introduces the lowest hidden name, or the first never used if none is hidden, and returns it.
+    /// Introduces a name and returns it: the lowest hidden name, or the lowest name never used if no name is hidden.
     ///
-    /// The answer is unchanged: in a model the name is false. `VariableLimit` occurs only if every variable of the
-    /// proof is in use, and changes nothing.
+    /// The answer is unchanged; the new name is false in a model. Returns `VariableLimit`, and changes nothing, only if
+    /// every proof variable is in use.
     pub fn new_var(&mut self) -> Result<Var, SolverError>
         requires { IsSolver self.old }
         ensures solver { IsSolver self.new }
@@ -137,10 +141,11 @@ impl<W: CountedWrite + Drop, P: ProofProcessor> Solver<W, P> {
         }
     }
 
-    /// Gives every hidden variable that is still in use a name and mode witness. Returns the names.
+    /// Gives every hidden variable that is still in use a name with the mode witness. Returns the names.
     ///
-    /// The variables are visited in increasing order, and each gets the name that `new_var` would return. The answer is
-    /// unchanged. If there is no such variable, a proof may still be opened. If memory runs out, the solver has failed.
+    /// Visits the variables in increasing order, and gives each the name that `new_var` would return. The answer is
+    /// unchanged. If there is no hidden variable, this call does not prevent a proof from being opened. If memory runs
+    /// out, the solver has failed.
     pub fn observe_internal_vars(&mut self) -> Result<Vec<Var>, SolverError>
         requires { IsSolver self.old }
         ensures solver { IsSolver self.new }

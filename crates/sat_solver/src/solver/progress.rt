@@ -12,7 +12,7 @@ use sat_base::{CountedWrite, Var};
 use sat_checker::ProofProcessor;
 use sat_store::Tier;
 
-/// Whether a variable has this index, and no value.
+/// Whether the variable `global` has the index `index`, and this index has no value.
 fn is_open(names: &Variables, global: Var, index: usize, values: &[Option<bool>]) -> bool
     ensures { AreTidy names.now → slice_index_or names.now.globals.items index 0 ≡ global
         → result ≡ is_open_at names.now values.now index }
@@ -26,7 +26,7 @@ fn is_open(names: &Variables, global: Var, index: usize, values: &[Option<bool>]
     values[index].is_none()
 }
 
-/// Returns the number of variables that have an index, and no value.
+/// Returns the number of variables that have an index but no value.
 fn open_count(names: &Variables, values: &[Option<bool>]) -> u64
     ensures { AreTidy names.now → result ≡ open_vars names.now values.now }
 {
@@ -40,10 +40,11 @@ fn open_count(names: &Variables, values: &[Option<bool>]) -> u64
 }
 
 impl<W: CountedWrite + Drop, P: ProofProcessor> Solver<W, P> {
-    /// Returns the current number of rounds, restarts, variables without a value, and clauses by kind. Never allocates.
+    /// Returns the current number of rounds, of restarts, of variables without a value, and of clauses by kind.
+    /// Never allocates.
     ///
-    /// After a failed call, only the numbers of rounds and restarts are exact. The numbers of clauses are not exact
-    /// either once the clauses are known to be unsatisfiable.
+    /// After a failed call, only the numbers of rounds and restarts are exact. Once the clauses are known to be
+    /// unsatisfiable, the numbers of clauses are not exact either.
     pub fn progress(&self) -> Progress
         ensures conflicts { result.conflicts ≡ rounds_in self.now }
         ensures restarts { result.restarts ≡ restarts_in self.now }

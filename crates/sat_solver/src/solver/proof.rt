@@ -20,11 +20,11 @@ pub struct HandedBack<W, P> {
 }
 
 impl<W: CountedWrite + Drop, P: ProofProcessor> Solver<W, P> {
-    /// Writes all further steps to this target, in this format.
+    /// Opens a proof: all further steps are written to `target` in the format `format`.
     ///
-    /// Returns `TooLate` after a clause, a name, assumptions or an ask, and while a proof is open. Then the target is
-    /// dropped. While DRAT lines are written, `assume` returns `NotInDrat`, and so does `add_clause` after the first
-    /// `solve`.
+    /// Returns `TooLate` if the solver has received a clause, a name, assumptions or an ask, or if a proof is open.
+    /// After an error, the target has been dropped. While DRAT lines are written, `assume` returns `NotInDrat`, and so
+    /// does `add_clause` after the first `solve`.
     pub fn write_proof(&mut self, target: W, format: ProofFormat) -> Result<(), SolverError>
         requires { IsSolver self.old }
         ensures solver { IsSolver self.new }
@@ -40,10 +40,11 @@ impl<W: CountedWrite + Drop, P: ProofProcessor> Solver<W, P> {
         Ok(())
     }
 
-    /// Starts a checker of the solver's own, which receives all further steps.
+    /// Starts the solver's own checker, which receives all further steps.
     ///
-    /// It receives them as a file in bytes would have them, except for the ends of proofs, and rejects none. Returns
-    /// `TooLate` after a clause, a name, assumptions or an ask.
+    /// The checker receives the steps that a proof in the format `Varisat` would contain, except for the ends of
+    /// proofs, and rejects none of these steps. Returns `TooLate` if the solver has received a clause, a name,
+    /// assumptions or an ask.
     pub fn enable_self_checking(&mut self) -> Result<(), SolverError>
         requires { IsSolver self.old }
         ensures solver { IsSolver self.new }
@@ -62,8 +63,8 @@ impl<W: CountedWrite + Drop, P: ProofProcessor> Solver<W, P> {
 
     /// Adds a listener to the solver's own checker, which is started if there is none.
     ///
-    /// Returns `TooLate` when `enable_self_checking` does. If memory runs out, the solver has failed. In both cases the
-    /// listener is dropped.
+    /// Returns `TooLate` when `enable_self_checking` does. If memory runs out, the solver has failed. After an error,
+    /// the listener has been dropped.
     pub fn add_proof_processor(&mut self, processor: P) -> Result<(), SolverError>
         requires { IsSolver self.old }
         ensures solver { IsSolver self.new }
@@ -83,8 +84,8 @@ impl<W: CountedWrite + Drop, P: ProofProcessor> Solver<W, P> {
         }
     }
 
-    /// Writes the last step, flushes, and returns the target, or `None` if no proof is open. After an error the solver
-    /// keeps the target.
+    /// Writes the `End` step, flushes the target and returns it. Returns `None` if no proof is open. After an error,
+    /// the solver keeps the target.
     pub fn close_proof(&mut self) -> Result<Option<W>, SolverError>
         requires { IsSolver self.old }
         ensures solver { IsSolver self.new }
@@ -99,8 +100,8 @@ impl<W: CountedWrite + Drop, P: ProofProcessor> Solver<W, P> {
         }
     }
 
-    /// Returns the target as it is, if a proof is open or its target failed; its pending bytes are lost. It has
-    /// received a prefix of the text of steps that a checker accepts, even if the solver has failed.
+    /// Returns the target without flushing it, if a proof is open or its target failed. Pending bytes are lost. The
+    /// target has received a prefix of the text of steps that a checker accepts, even if the solver has failed.
     pub fn into_target(self) -> Option<W>
         ensures gives { GivesWriter (target_in W.seen self) (handed_writer W.seen result) }
         ensures front { HandsFront W.seen result self }
@@ -111,11 +112,11 @@ impl<W: CountedWrite + Drop, P: ProofProcessor> Solver<W, P> {
         target
     }
 
-    /// Returns the listeners in the order in which they were added, and the target. This works after a failure, too.
+    /// Returns the listeners in the order in which they were added, and the target, even after a failure.
     ///
-    /// After two contradictory units, the empty clause that follows from them is announced by the next step or the next
-    /// `solve`; if there was neither, the listeners have not heard of it. The target is returned as it is, if a proof
-    /// is open or its target failed; its pending bytes are lost.
+    /// After two contradictory units, the empty clause that follows from them is announced with the next step or the
+    /// next `solve`. If there was neither, the listeners have not been notified of the empty clause. The target is
+    /// returned without flushing it, if a proof is open or its target failed; its pending bytes are lost.
     pub fn into_processors(self) -> HandedBack<W, P>
         ensures target { GivesWriter (target_in W.seen self) (handed_writer W.seen result.target) }
         ensures front { HandsFront W.seen result.target self }

@@ -1,4 +1,4 @@
-//! Writes answers to the proof, over all its variables, and lists them for the caller, over names.
+//! Writes answers to the proof, over proof variables, and lists failed cores for the caller, over names.
 ghost use Rattle.std.specs.Prelude.{◌≡◌, OnOk, map};
 ghost use Rattle.sat_solver.specs.variables.Variables.{global_at};
 ghost use Rattle.sat_solver.specs.cdcl.Turns.{IsComplete, IsFailing};
@@ -14,7 +14,7 @@ use sat_base::{CountedWrite, Lit, ProofStep, Var};
 use sat_checker::ProofProcessor;
 use std::alloc::AllocError;
 
-/// Returns the name of the variable that has this index, or `None`.
+/// Returns the name of the variable whose index is `index`, or `None`.
 fn name_at(names: &Variables, index: Var) -> Option<Var>
     ensures { result ≡ user_by names.now (global_at names.now index) }
 {
@@ -24,7 +24,7 @@ fn name_at(names: &Variables, index: Var) -> Option<Var>
     }
 }
 
-/// Returns the literal over names for one of the search. If its variable has no name, the literal is unchanged.
+/// Returns the literal over names for `lit`, a literal of the search. If its variable has no name, returns `lit`.
 fn name_lit(names: &Variables, lit: Lit) -> Lit
     ensures { result ≡ lit_over_names names.now lit }
 {
@@ -34,7 +34,7 @@ fn name_lit(names: &Variables, lit: Lit) -> Lit
     }
 }
 
-/// Replaces the content of a list with the literals over names for these of the search.
+/// Replaces the content of `named` with the literals over names for `lits`, which are literals of the search.
 fn name_lits(names: &Variables, lits: &[Lit], named: &mut Vec<Lit>) -> Result<(), AllocError>
     ensures { OnOk result (named.new.items ≡ map (lit_over_names names.now) lits.now) }
 {
@@ -45,7 +45,7 @@ fn name_lits(names: &Variables, lits: &[Lit], named: &mut Vec<Lit>) -> Result<()
     Ok(())
 }
 
-/// Writes the model that a search found: a literal for every proof variable in use.
+/// Writes the model that a search found: a literal for every proof variable in use. Stores the literals in `model`.
 pub fn show_model<W: CountedWrite + Drop, P: ProofProcessor>(
     core: &mut Core<W, P>,
     names: &Variables,
@@ -62,7 +62,8 @@ pub fn show_model<W: CountedWrite + Drop, P: ProofProcessor>(
     Ok(())
 }
 
-/// Writes the assumptions that contradict the clauses, and lists them over names.
+/// Writes the failed core, which consists of assumptions that contradict the clauses. Lists the core over names
+/// in `failed_core`.
 pub fn fail_core<W: CountedWrite + Drop, P: ProofProcessor>(
     core: &mut Core<W, P>,
     names: &Variables,

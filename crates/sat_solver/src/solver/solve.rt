@@ -1,4 +1,4 @@
-//! Answers under assumptions.
+//! Answers asks.
 ghost use Rattle.std.specs.Prelude.{◌≡◌, OnOk};
 ghost use Rattle.sat_solver.specs.solver.Whole.{IsSolver, SolverInvariant};
 ghost use Rattle.sat_solver.specs.solver.Calls.{Solves};
@@ -44,10 +44,11 @@ impl<W: CountedWrite + Drop, P: ProofProcessor> Solver<W, P> {
 
     /// Returns whether the clauses and the assumptions can be satisfied.
     ///
-    /// Returns `Interrupted` if the rounds that the parameters allow for this call are exhausted, or the count of all
-    /// rounds is. If no clause and no assumptions were accepted since an answer, returns this answer again, without a
-    /// round or a step. Before it returns an answer or `Interrupted`, an open target is flushed, and the solver's own
-    /// checker, if any, has received all steps and announced what was pending in it.
+    /// Returns `Interrupted` if the rounds that the parameters allow for this call are exhausted, or if the number of
+    /// rounds over all calls has reached 2^64-1. If neither a clause nor assumptions were accepted since the last
+    /// answer, returns that answer again, without running a round or making a step. Before this call returns an answer
+    /// or `Interrupted`, it flushes an open target, and the solver's own checker, if any, has received all steps and
+    /// announced everything that was pending.
     pub fn solve(&mut self) -> Result<bool, SolverError>
         requires { IsSolver self.old }
         ensures solver { IsSolver self.new }

@@ -17,7 +17,7 @@ use sat_checker::ProofProcessor;
 use sat_parts::Parts;
 use sat_parts::parts::clauses::remove_binary;
 
-/// Whether neither of two literals has a value.
+/// Whether neither `first` nor `second` has a value.
 fn are_open(parts: &Parts, first: Lit, second: Lit) -> bool
     requires first { variable first < length parts.now.assignment.current }
     requires second { variable second < length parts.now.assignment.current }
@@ -27,9 +27,10 @@ fn are_open(parts: &Parts, first: Lit, second: Lit) -> bool
     values.var_value(first.var()).is_none() && values.var_value(second.var()).is_none()
 }
 
-/// Deletes the clause by which a literal implies another, if one of its variables has a value.
+/// Writes the deletion of a binary clause if one of its variables has a value.
 ///
-/// The clause is found in the list of its lower literal.
+/// The clause consists of `!lit` and the literal at position `at` of the list of `lit`. Every binary clause is in two
+/// lists, so the clause is skipped unless `!lit` is its lower literal.
 fn delete_pair<W: CountedWrite + Drop, P: ProofProcessor>(
     proof: &mut Proof<W, P>,
     search: &mut Search,
@@ -57,7 +58,7 @@ fn delete_pair<W: CountedWrite + Drop, P: ProofProcessor>(
     delete_satisfied(proof, &search.globals, &pair, &mut search.scratch.clause)
 }
 
-/// Deletes such clauses of the list of a literal.
+/// Calls `delete_pair` for every position of the list of `lit`.
 fn delete_pairs_of<W: CountedWrite + Drop, P: ProofProcessor>(
     proof: &mut Proof<W, P>,
     search: &mut Search,
@@ -77,7 +78,8 @@ fn delete_pairs_of<W: CountedWrite + Drop, P: ProofProcessor>(
     Ok(())
 }
 
-/// Deletes the binary clauses with an assigned variable, each once, in the order of the lists.
+/// Removes the binary clauses that have an assigned variable. Writes the deletion of each clause once, in the order of
+/// the lists.
 pub fn simplify_binary<W: CountedWrite + Drop, P: ProofProcessor>(
     proof: &mut Proof<W, P>,
     search: &mut Search,

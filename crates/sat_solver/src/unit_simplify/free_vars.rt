@@ -19,7 +19,8 @@ use sat_base::Var;
 use sat_parts::Parts;
 use sat_parts::parts::unused::mark_used;
 
-/// Removes the index of a variable, whose unit is already stored. A hidden variable is deleted.
+/// Removes the index of the variable `global`, whose unit must already be stored. If the variable is hidden and not
+/// assumed, deletes it.
 fn give_up<S: StepLog>(
     variables: &mut Variables,
     writer: &mut S,
@@ -43,7 +44,7 @@ fn give_up<S: StepLog>(
     forget_idle(variables, writer, global)
 }
 
-/// Marks an index.
+/// Marks `index` in `used`.
 fn mark(used: &mut Vec<bool>, index: Var)
     requires { index < length used.old.items }
     ensures { used.new.items ≡ slice_set used.old.items index true }
@@ -51,8 +52,8 @@ fn mark(used: &mut Vec<bool>, index: Var)
     used[index.index()] = true;
 }
 
-/// Releases an index that no clause uses, or marks it if its variable is assumed or no variable has it. The search
-/// still has its value.
+/// Releases `index`, which no clause may use. If its variable is assumed, or no variable has the index, marks the index
+/// in `used` instead. The search keeps the value of the index.
 fn release_unused<S: StepLog>(
     variables: &mut Variables,
     writer: &mut S,
@@ -87,7 +88,8 @@ fn release_unused<S: StepLog>(
     Ok(())
 }
 
-/// Frees the variables without a mark, from the last one to the first. Among equal activities each is then picked last.
+/// Clears the values of the indices that are not marked in `used`, and makes these indices unavailable for decisions,
+/// from the last to the first.
 fn free_unmarked(parts: &mut Parts, used: &Vec<bool>)
     requires size { length used.now.items ≤ length parts.old.assignment.current }
     requires queue { length used.now.items ≤ length parts.old.vsids.available }
@@ -104,8 +106,8 @@ fn free_unmarked(parts: &mut Parts, used: &Vec<bool>)
     }
 }
 
-/// Releases, in order, the indices that neither a clause nor an assumption has. Stores their units; hidden variables
-/// are deleted.
+/// Releases, in order, the indices of the variables that are in no clause and not assumed. Stores the units of these
+/// variables, and deletes those that are hidden.
 pub fn free_indices<S: StepLog>(
     variables: &mut Variables,
     writer: &mut S,

@@ -18,7 +18,7 @@ use sat_checker::ProofProcessor;
 use sat_parts::parts::clauses::delete_long;
 use sat_store::ClauseRef;
 
-/// Deletes a clause with a true literal.
+/// Deletes a long clause that has a true literal, and writes the step of the deletion.
 fn delete_true<W: CountedWrite + Drop, P: ProofProcessor>(
     proof: &mut Proof<W, P>,
     search: &mut Search,
@@ -47,8 +47,7 @@ fn delete_true<W: CountedWrite + Drop, P: ProofProcessor>(
     Ok(())
 }
 
-/// Deletes a live long clause if a unit satisfies it. If units falsify some of its literals, replaces it with what
-/// is left.
+/// Deletes a live long clause if one of its literals is true. Otherwise, removes its false literals, if any.
 fn simplify_clause<W: CountedWrite + Drop, P: ProofProcessor>(
     proof: &mut Proof<W, P>,
     search: &mut Search,
@@ -68,8 +67,8 @@ fn simplify_clause<W: CountedWrite + Drop, P: ProofProcessor>(
     }
 }
 
-/// Visits the long clauses in the order of their list, including redundant ones. Afterwards none of their literals has
-/// a value.
+/// Simplifies every live long clause in the order of the list of clauses, including redundant ones. Afterwards, no
+/// literal of a live long clause has a value.
 pub fn simplify_clauses<W: CountedWrite + Drop, P: ProofProcessor>(
     proof: &mut Proof<W, P>,
     search: &mut Search,

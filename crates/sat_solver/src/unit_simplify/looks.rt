@@ -13,13 +13,14 @@ use sat_store::ClauseRef;
 pub enum Looks {
     /// A literal is true.
     Satisfied,
-    /// None is true or false.
+    /// No literal is true or false.
     Whole,
-    /// None is true, and some are false.
+    /// No literal is true, and some literals are false.
     Shorter,
 }
 
-/// Looks for a true literal from a position on at which a literal is false.
+/// Returns the status of a clause whose literal at position `from` is false, and none of whose literals before `from`
+/// is true.
 fn look_on(parts: &Parts, cref: ClauseRef, from: usize) -> Looks
     requires holds { PartsInvariant parts.now }
     requires live { HasClause parts.now cref }
@@ -37,7 +38,7 @@ fn look_on(parts: &Parts, cref: ClauseRef, from: usize) -> Looks
     Looks::Shorter
 }
 
-/// Returns the status of a clause under the values. Its literals are visited up to the first true one.
+/// Returns the status of a clause under the current values. Reads the literals of the clause up to the first true one.
 pub fn look(parts: &Parts, cref: ClauseRef) -> Looks
     requires holds { PartsInvariant parts.now }
     requires live { HasClause parts.now cref }

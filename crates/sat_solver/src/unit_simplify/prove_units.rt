@@ -1,4 +1,4 @@
-//! Writes units of level 0, and takes them off the trail.
+//! Writes units of level 0, and removes them from the trail.
 ghost use Rattle.std.specs.Prelude.{◌≡◌, ◌+◌, ◌<◌, ◌≤◌, length};
 ghost use Rattle.sat_solver.specs.proof.ProofView.{HasAllowedSteps, session_of};
 ghost use Rattle.sat_parts.specs.parts.Round.{UnitsAreUncaused, IsBased};
@@ -17,7 +17,7 @@ use sat_checker::ProofProcessor;
 use sat_parts::Parts;
 use sat_parts::parts::units::clear_units;
 
-/// Writes the units of the trail that have a clause as their reason.
+/// Writes the literals of the trail whose reason is a clause, as units. The search must be at level 0.
 pub fn write_units<W: CountedWrite + Drop, P: ProofProcessor>(
     proof: &mut Proof<W, P>,
     parts: &Parts,
@@ -41,7 +41,7 @@ pub fn write_units<W: CountedWrite + Drop, P: ProofProcessor>(
     Ok(())
 }
 
-/// At level 0, writes the units and takes them off the trail.
+/// Writes the units of the trail and removes them from the trail, if the search is at level 0.
 pub fn settle<W: CountedWrite + Drop, P: ProofProcessor>(
     proof: &mut Proof<W, P>,
     parts: &mut Parts,

@@ -13,7 +13,7 @@ use crate::proof::Proof;
 use sat_base::{CountedWrite, DeleteClauseProof, Lit, ProofStep};
 use sat_checker::ProofProcessor;
 
-/// Returns why a clause may be deleted: it is redundant, or otherwise this reason.
+/// Returns why a clause may be deleted: it is redundant if `redundant` is true; otherwise the reason is `other`.
 pub fn deletion_for(redundant: bool, other: DeleteClauseProof) -> DeleteClauseProof
     ensures { deletion_of result ≡ deletion redundant (deletion_of other) }
 {
@@ -23,15 +23,15 @@ pub fn deletion_for(redundant: bool, other: DeleteClauseProof) -> DeleteClausePr
     other
 }
 
-/// Returns whether the step that strengthens a clause is redundant: only if the clause was redundant and at least three
-/// literals are left.
+/// Returns whether the step that strengthens a clause to `len` literals says that the result is redundant: only if the
+/// clause was redundant and `len` is at least three.
 fn left_redundant(redundant: bool, len: usize) -> bool
     ensures { result ≡ (redundant && nat_lt 2 len) }
 {
     redundant && len > 2
 }
 
-/// Derives what is left of a clause, and deletes the clause.
+/// Writes two steps: the first derives `part`, the literals that remain of a clause, and the second deletes the clause.
 pub fn write_cut<W: CountedWrite + Drop, P: ProofProcessor>(
     proof: &mut Proof<W, P>,
     scratch: &Scratch,

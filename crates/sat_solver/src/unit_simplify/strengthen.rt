@@ -23,8 +23,8 @@ use sat_parts::{Conflict, Parts};
 use sat_store::ClauseRef;
 use std::alloc::AllocError;
 
-/// Moves the open literals of a clause to its beginning, in order; the first two are there already.
-/// Returns their number.
+/// Moves the literals of a clause that have no value to the beginning of the clause, in order. Returns their number. No
+/// literal may be true, and the first two literals must have no value.
 fn gather_open(parts: &mut Parts, cref: ClauseRef) -> usize
     requires holds { PartsInvariant parts.old }
     requires live { HasClause parts.old cref }
@@ -45,7 +45,8 @@ fn gather_open(parts: &mut Parts, cref: ClauseRef) -> usize
     kept
 }
 
-/// Moves the open literals of a clause to its beginning, and prepares its steps. Returns their number.
+/// Moves the literals of a clause that have no value to the beginning of the clause, and fills `search.scratch` and
+/// `part` for the steps that strengthen the clause. Returns the number of these literals.
 fn name_cut(search: &mut Search, cref: ClauseRef, part: &mut Vec<Lit>) -> Result<usize, AllocError>
     requires holds { PartsInvariant search.old.parts }
     requires flat { HasEmptyTrail search.old.parts }
@@ -69,7 +70,7 @@ fn name_cut(search: &mut Search, cref: ClauseRef, part: &mut Vec<Lit>) -> Result
     Ok(len)
 }
 
-/// Replaces a clause with its first literals.
+/// Replaces a clause with its first `len` literals.
 fn replace(parts: &mut Parts, cref: ClauseRef, len: usize) -> Result<(), AllocError>
     requires holds { PartsInvariant parts.old }
     requires flat { HasEmptyTrail parts.old }
@@ -89,7 +90,8 @@ fn replace(parts: &mut Parts, cref: ClauseRef, len: usize) -> Result<(), AllocEr
     Ok(())
 }
 
-/// Replaces a clause with what is left of it, if some of its literals are false and none is true.
+/// Removes the false literals of a clause, and writes the steps. Some literals of the clause must be false, and none
+/// may be true.
 pub fn cut_clause<W: CountedWrite + Drop, P: ProofProcessor>(
     proof: &mut Proof<W, P>,
     search: &mut Search,

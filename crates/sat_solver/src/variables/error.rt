@@ -12,7 +12,7 @@ pub enum NameError {
     VariableLimit,
     OutOfMemory,
 
-    /// A call of the proof's target failed. The underlying error is stored with the proof.
+    /// A call to the proof's target failed. The underlying error is stored with the proof.
     Write(Kept<io::Error>),
 
     /// The solver's own checker failed.

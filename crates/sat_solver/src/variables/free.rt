@@ -8,9 +8,11 @@ ghost use Rattle.sat_solver.specs.variables.Free.{IsCounted};
 use sat_base::Var;
 use std::alloc::{AllocError, Global};
 
-/// A set of indices below a bound, as a binary tree of flags in one list. Node 1 is the root, and the children of node
-/// k are 2 k and 2 k + 1. The second half are the leaves, one for every index. A node says whether a leaf below it is
-/// in the set.
+/// A set of indices below a bound, as a binary tree of flags in one list.
+///
+/// Node 1 is the root, and the children of node k are nodes 2 k and 2 k + 1. The leaves, one for every index, are the
+/// second half of the list. The flag of a leaf says whether its index is in the set, and the flag of any other node
+/// says whether the flag of one of its children is set.
 #[derive(Drop)]
 pub struct FreeIndices {
     nodes: Vec<bool>,
@@ -25,7 +27,8 @@ pub struct FreeIndices {
     count: usize,
 }
 
-/// Returns the number of free indices after the flag of one of them has changed.
+/// Returns the number of indices in the set after the flag of one index has changed from `before` to `after`. `count`
+/// is the number of indices before the change.
 fn recount_free(count: usize, before: bool, after: bool) -> usize
     requires some { before ≡ true → 0 < count }
     requires small { count ≤ var_limit }
@@ -56,7 +59,7 @@ fn refresh(nodes: &mut Vec<bool>, at: usize)
     nodes[at] = any;
 }
 
-/// Returns the lower child of a node that has an index in the set.
+/// Returns the first child of node `at` whose flag is set. At least one child must have its flag set.
 fn child(nodes: &Vec<bool>, at: usize) -> usize
     requires within { 2 * at + 1 < length nodes.now.items }
     requires some { (slice_index_or nodes.now.items (2 * at) false || slice_index_or nodes.now.items (2 * at + 1) false)
@@ -69,7 +72,7 @@ fn child(nodes: &Vec<bool>, at: usize) -> usize
     2 * at + 1
 }
 
-/// Extends the list with cleared nodes.
+/// Extends the list to `count` nodes. The flags of the new nodes are not set.
 pub(crate) fn widen(nodes: &mut Vec<bool>, count: usize) -> Result<(), AllocError>
     requires more { length nodes.old.items ≤ count }
     ensures size { OnOk result (length nodes.new.items ≡ count) }
@@ -80,7 +83,7 @@ pub(crate) fn widen(nodes: &mut Vec<bool>, count: usize) -> Result<(), AllocErro
     Ok(())
 }
 
-/// Copies the leaves of the first half of the list one level down.
+/// Copies the leaves of a tree of `room` leaves to where the first `room` leaves of a tree of twice that size are.
 fn copy_leaves(nodes: &mut Vec<bool>, room: usize)
     requires size { length nodes.old.items ≡ 4 * room }
     ensures { CopiesLeaves nodes.old.items nodes.new.items room }
@@ -124,7 +127,8 @@ impl FreeIndices {
         Some(Var::from_index(at - self.room))
     }
 
-    /// Adds an index to the set, or removes it. If nothing changes, only its leaf is read.
+    /// Adds `index` to the set if `free` is true, and removes it otherwise. If the set does not change, reads only the
+    /// leaf of the index.
     fn set(&mut self, index: usize, free: bool)
         requires tree { IsTree self.old }
         requires within { index < self.old.room }
@@ -138,7 +142,8 @@ impl FreeIndices {
         self.change(index, free);
     }
 
-    /// Adds an index or removes it, and updates the nodes from its leaf up to the first that does not change.
+    /// Adds `index` to the set if `free` is true, and removes it otherwise. Updates the nodes above the leaf of the
+    /// index, up to the first node that does not change.
     fn change(&mut self, index: usize, free: bool)
         requires tree { IsTree self.old }
         requires within { index < self.old.room }
@@ -159,7 +164,7 @@ impl FreeIndices {
         }
     }
 
-    /// Adds an index. Never allocates.
+    /// Adds an index to the set. There must be room for the index. Never allocates.
     pub fn put(&mut self, index: Var)
         requires tree { IsTree self.old }
         requires within { index < self.old.room }
@@ -170,7 +175,7 @@ impl FreeIndices {
         self.set(index.index(), true);
     }
 
-    /// Removes an index if it is in the set. Never allocates.
+    /// Removes an index from the set, if the set contains it. There must be room for the index. Never allocates.
     pub fn take(&mut self, index: Var)
         requires tree { IsTree self.old }
         requires within { index < self.old.room }
@@ -222,7 +227,7 @@ impl FreeIndices {
         Ok(())
     }
 
-    /// Makes room for the index, which is at most the first one past the room.
+    /// Makes room for `index`, which must be at most the lowest index for which there is no room.
     pub fn reserve(&mut self, index: Var) -> Result<(), AllocError>
         requires tree { IsTree self.old }
         requires next { index ≤ self.old.room }

@@ -1,4 +1,4 @@
-//! Laws about names. Each is the contract of a function that does nothing.
+//! Laws about names. Each law is the contract of a function that does nothing.
 ghost use Rattle.sat_solver.specs.variables.Searching.{SearchesStand, SearchesAgree, UnitsStand};
 
 /// States that steps of the search preserve the invariant of names, and leave the judge's state unchanged.
@@ -7,7 +7,7 @@ pub fn searches_stand()
     ensures agree { SearchesAgree }
 {}
 
-/// States the same for storing the value of a unit.
+/// States that storing the value of a unit preserves the invariant of names, and leaves the judge's state unchanged.
 pub fn units_stand()
     ensures { UnitsStand }
 {}

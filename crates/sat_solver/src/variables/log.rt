@@ -1,4 +1,4 @@
-//! What receives the steps of a proof.
+//! Receivers of proof steps.
 ghost use Rattle.std.specs.Prelude.{◌≡◌, ◌∷◌, List, OnOk, IfErr};
 ghost use Rattle.sat_base.specs.steps.Steps.{Step};
 ghost use Rattle.sat_base.specs.steps.StepViews.{step_of};
@@ -12,7 +12,7 @@ use crate::variables::error::NameError;
 use sat_base::{CountedWrite, ProofStep};
 use sat_checker::ProofProcessor;
 
-/// What receives the steps of a proof one after another.
+/// A receiver of proof steps. It receives the steps one after another.
 pub trait StepLog: Drop {
     /// The steps so far, the newest first.
     ghost steps: { Self → List Step };
@@ -20,13 +20,13 @@ pub trait StepLog: Drop {
     /// The invariant between steps.
     ghost keeps: { Self → Type 0 };
 
-    /// Steps were made and accepted.
+    /// Whether steps were made and accepted between two states.
     ghost took: { Self → Self → Type 0 };
 
-    /// Steps were made, and the last one was not accepted, for this reason.
+    /// Whether steps were made between two states, and the last step was not accepted because of this fault.
     ghost broke: { Self → Fault → Self → Type 0 };
 
-    /// Receives a step that is allowed after those before it.
+    /// Receives a step, which must be allowed after the steps so far.
     fn step(&mut self, step: &ProofStep<'_>) -> Result<(), NameError>
         requires keeps { keeps self.old }
         requires may { May (session_after (steps self.old)) (step_of step.now) }

@@ -8,7 +8,7 @@ use sat_base::Var;
 use sat_store::{SamplingMode, VarBiMap, VarData};
 use std::alloc::AllocError;
 
-/// Maps a variable to another, and back.
+/// Maps `from` to `into`, and `into` back to `from`. Neither variable may be mapped yet.
 pub(crate) fn link(map: &mut VarBiMap, from: Var, into: Var) -> Result<(), AllocError>
     requires from_unmapped { target map.old.fwd from ≡ None }
     requires into_unmapped { target map.old.bwd into ≡ None }
@@ -21,7 +21,7 @@ pub(crate) fn link(map: &mut VarBiMap, from: Var, into: Var) -> Result<(), Alloc
 }
 
 #[tactic(auto, using(crate::proofs::lemmas::variables::MapLemmas::pushed))]
-/// Replaces what is stored for a variable; its index is at most the length of the list.
+/// Sets the data of a variable. The index of the variable must be at most the length of the list.
 pub(crate) fn put_data(list: &mut Vec<VarData>, var: Var, new: VarData) -> Result<(), AllocError>
     requires within { var ≤ length list.old.items }
     ensures put { OnOk result ((v : ℕ) → slice_index_or list.new.items v unused_variable ≡
@@ -38,7 +38,7 @@ pub(crate) fn put_data(list: &mut Vec<VarData>, var: Var, new: VarData) -> Resul
 }
 
 #[tactic(auto, using(crate::proofs::lemmas::variables::MapLemmas::pushed))]
-/// Replaces the variable of an index, which is at most the length of the list.
+/// Sets the variable of the index `solver`, which must be at most the length of the list.
 pub(crate) fn put_global(list: &mut Vec<Var>, solver: Var, global: Var) -> Result<(), AllocError>
     requires within { solver ≤ length list.old.items }
     ensures put { OnOk result ((x : ℕ) → slice_index_or list.new.items x 0
@@ -54,7 +54,7 @@ pub(crate) fn put_global(list: &mut Vec<Var>, solver: Var, global: Var) -> Resul
     Ok(())
 }
 
-/// Removes the mapping between two variables.
+/// Removes the mapping between `from` and `into`.
 pub(crate) fn unlink(map: &mut VarBiMap, from: Var, into: Var)
     requires { target map.old.fwd from ≡ Some into }
     ensures unlinked { Unlinks map.old map.new from into }
@@ -64,7 +64,7 @@ pub(crate) fn unlink(map: &mut VarBiMap, from: Var, into: Var)
     let _inverse = map.fwd();
 }
 
-/// Replaces what is stored for a variable.
+/// Sets the data of a variable, whose index must be less than the length of the list.
 pub(crate) fn set_data(list: &mut Vec<VarData>, var: Var, new: VarData)
     requires within { var < length list.old.items }
     ensures put { (v : ℕ) → slice_index_or list.new.items v unused_variable ≡
@@ -74,7 +74,7 @@ pub(crate) fn set_data(list: &mut Vec<VarData>, var: Var, new: VarData)
     list[var.index()] = new;
 }
 
-/// Changes the mode of a variable.
+/// Sets the mode of a variable.
 pub(crate) fn set_mode(list: &mut Vec<VarData>, var: Var, mode: SamplingMode)
     requires within { var < length list.old.items }
     ensures put { (v : ℕ) → slice_index_or list.new.items v unused_variable ≡
@@ -85,7 +85,7 @@ pub(crate) fn set_mode(list: &mut Vec<VarData>, var: Var, mode: SamplingMode)
     list[var.index()].sampling_mode = mode;
 }
 
-/// Marks a variable as assumed, or not.
+/// Sets whether a variable is marked as assumed.
 pub(crate) fn set_assumed(list: &mut Vec<VarData>, var: Var, assumed: bool)
     requires within { var < length list.old.items }
     ensures put { (v : ℕ) → slice_index_or list.new.items v unused_variable ≡
@@ -96,7 +96,7 @@ pub(crate) fn set_assumed(list: &mut Vec<VarData>, var: Var, assumed: bool)
     list[var.index()].assumed = assumed;
 }
 
-/// Stores the unit of a variable, or `None`.
+/// Stores the value of a variable's unit, or `None`.
 pub(crate) fn set_unit(list: &mut Vec<VarData>, var: Var, unit: Option<bool>)
     requires within { var < length list.old.items }
     ensures put { (v : ℕ) → slice_index_or list.new.items v unused_variable ≡

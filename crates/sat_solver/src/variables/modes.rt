@@ -20,7 +20,7 @@ use crate::variables::user_vars::global_from_user;
 use sat_base::{ProofStep, Var};
 use sat_store::SamplingMode;
 
-/// Hides a variable, which loses its name.
+/// Hides the variable `global`, whose name is `user`, and writes the step.
 fn hide_global<W: StepLog>(
     variables: &mut Variables,
     writer: &mut W,
@@ -47,7 +47,7 @@ fn hide_global<W: StepLog>(
     Ok(())
 }
 
-/// Deletes a hidden variable without an index that is in no clause and not assumed.
+/// Deletes a hidden variable, which must have no index and must not be assumed. Such a variable is in no clause.
 pub fn delete_var<W: StepLog>(
     variables: &mut Variables,
     writer: &mut W,
@@ -75,7 +75,7 @@ pub fn delete_var<W: StepLog>(
     Ok(())
 }
 
-/// Deletes a hidden variable without an index, which is in no clause, unless it is assumed.
+/// Deletes a hidden variable if it has no index and is not assumed. Such a variable is in no clause.
 pub(crate) fn forget_idle<W: StepLog>(
     variables: &mut Variables,
     writer: &mut W,
@@ -104,8 +104,8 @@ pub(crate) fn forget_idle<W: StepLog>(
     Ok(())
 }
 
-/// Introduces a name if it is new, and hides its variable, which is deleted at once if it has no index. The name
-/// is not assumed.
+/// Introduces a name if it is not in use, and hides its variable. If the variable has no index, it is deleted
+/// immediately. The name must not be assumed.
 pub fn hide_var<W: StepLog>(
     variables: &mut Variables,
     writer: &mut W,
@@ -132,7 +132,8 @@ pub fn hide_var<W: StepLog>(
     forget_idle(variables, writer, global)
 }
 
-/// Returns the mode that a caller sets: sample or witness. Mode hide occurs only when a name is lost.
+/// Returns the mode sample if `sample` is true, and witness otherwise. The mode hide is set only when a variable loses
+/// its name.
 fn mode_of(sample: bool) -> SamplingMode
     ensures { result ≡ mode_for sample }
 {
@@ -143,7 +144,7 @@ fn mode_of(sample: bool) -> SamplingMode
     }
 }
 
-/// Whether a variable already has the mode that is to be set.
+/// Whether `mode` is sample if `sample` is true, or witness otherwise.
 #[tactic(auto, using(crate::proofs::lemmas::variables::ModeChanges::other_modes))]
 fn is_mode(mode: SamplingMode, sample: bool) -> bool
     ensures same { result ≡ true → mode ≡ mode_for sample }
@@ -156,7 +157,8 @@ fn is_mode(mode: SamplingMode, sample: bool) -> bool
     }
 }
 
-/// Sets the mode of a variable with a name to sample or witness. If it has this mode already, nothing is written.
+/// Sets the mode of `global`, the variable of the name `user`, to sample if `sample` is true, and to witness otherwise.
+/// If the variable already has this mode, nothing is written.
 fn set_global_mode<W: StepLog>(
     variables: &mut Variables,
     writer: &mut W,
@@ -189,7 +191,7 @@ fn set_global_mode<W: StepLog>(
     Ok(())
 }
 
-/// Introduces a name if it is new, and sets the mode of its variable. The name is not assumed.
+/// Introduces a name if it is not in use, and sets the mode of its variable. The name must not be assumed.
 pub fn set_sampling_mode<W: StepLog>(
     variables: &mut Variables,
     writer: &mut W,

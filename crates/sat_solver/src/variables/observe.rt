@@ -10,7 +10,7 @@ use crate::variables::error::NameError;
 use crate::variables::log::StepLog;
 use sat_base::{ProofStep, Var};
 
-/// Whether a variable that was used is in use and has no name.
+/// Whether a variable is in use and has no name. The variable must have been introduced at some point.
 fn is_hidden(variables: &Variables, global: Var) -> bool
     requires within { global < variables_used variables.now }
     ensures hidden { result ≡ true → IsHidden variables.now global }
@@ -22,7 +22,7 @@ fn is_hidden(variables: &Variables, global: Var) -> bool
     variables.global_from_user.bwd().get(global).is_none()
 }
 
-/// Gives a hidden variable the next name, and mode witness. There is a name for it.
+/// Gives the next name and the mode witness to a hidden variable, and returns the name. Never returns `VariableLimit`.
 fn observe_var<W: StepLog>(
     variables: &mut Variables,
     writer: &mut W,
@@ -52,8 +52,8 @@ fn observe_var<W: StepLog>(
     Ok(user)
 }
 
-/// Gives every hidden variable in use the next name and mode witness, by increasing variable. Replaces the content of a
-/// list by these names.
+/// Gives a name and the mode witness to every hidden variable in use, by increasing variable. Replaces the content of
+/// `users` with these names.
 pub fn observe_internal_vars<W: StepLog>(
     variables: &mut Variables,
     writer: &mut W,

@@ -1,4 +1,4 @@
-//! Which calls are refused, before anything changes.
+//! Checks whether calls are refused, before anything changes.
 ghost use Rattle.std.specs.Prelude.{◌≡◌, ◌+◌, true, false, IfNone};
 ghost use Rattle.sat_base.specs.script.ScriptState.{ScriptState, has_witness, identity_of, refused_literal};
 ghost use Rattle.sat_checker.specs.matching.Bridge.{Live};
@@ -10,7 +10,7 @@ use crate::variables::Variables;
 use sat_base::{Lit, Var};
 use sat_store::SamplingMode;
 
-/// Whether clauses and assumptions over a name of this mode are refused.
+/// Whether clauses and assumptions are refused if they contain a name with this mode.
 fn is_witness_mode(mode: SamplingMode) -> bool
     ensures { result ≡ is_witness_kept mode }
 {
@@ -20,7 +20,7 @@ fn is_witness_mode(mode: SamplingMode) -> bool
     }
 }
 
-/// Whether a name is in use and of mode witness.
+/// Whether a name is in use and has the mode witness.
 fn is_witness(variables: &Variables, user: Var) -> bool
     requires { AreTidy variables.now }
     ensures judged { (j : ScriptState) (live : Live) → NamesMatchState variables.now j live
@@ -36,7 +36,7 @@ fn is_witness(variables: &Variables, user: Var) -> bool
     is_witness_mode(variables.mode(global))
 }
 
-/// Returns the leftmost literal over a name of mode witness, or `None`.
+/// Returns the leftmost name in `lits` that has the mode witness, or `None`.
 pub fn leftmost_witness(variables: &Variables, lits: &[Lit]) -> Option<Var>
     requires { AreTidy variables.now }
     ensures judged { (j : ScriptState) (live : Live) → NamesMatchState variables.now j live
@@ -53,7 +53,7 @@ pub fn leftmost_witness(variables: &Variables, lits: &[Lit]) -> Option<Var>
     None
 }
 
-/// Whether a name is in use and assumed, so that its mode may not change.
+/// Whether a name is in use and assumed, so that it cannot be hidden and its mode cannot be set.
 pub fn is_assumed(variables: &Variables, user: Var) -> bool
     requires { AreTidy variables.now }
     ensures assumed { result ≡ true → IsAssumed variables.now user }

@@ -1,4 +1,4 @@
-//! Whether there is a variable for every name that is introduced.
+//! Checks whether there is a variable for every name that would be introduced.
 ghost use Rattle.std.specs.Prelude.{◌≡◌, ◌+◌, ◌<◌, ◌≤◌, [], ◌∷◌, length};
 ghost use Rattle.sat_base.specs.values.Literals.{var_limit};
 ghost use Rattle.sat_checker.specs.LiteralSets.{mentions};
@@ -17,7 +17,8 @@ fn left_count(variables: &Variables) -> usize
     Var::max_count() - live
 }
 
-/// Returns the first name above those that were used and those of the literals.
+/// Returns the lowest name that is above all names that were ever used, of which there are `used`, and above all names
+/// in `lits`.
 fn name_reach(used: usize, lits: &[Lit]) -> usize
     requires { used ≤ var_limit }
     ensures is { result ≡ reach used (users_in lits.now) }
@@ -30,7 +31,7 @@ fn name_reach(used: usize, lits: &[Lit]) -> usize
     top
 }
 
-/// Whether a literal is over this name.
+/// Whether one of the literals has the name `user`.
 #[tactic(auto, using(sat_checker::proofs::lemmas::state::Scanning::any_literal))]
 fn has_name(lits: &[Lit], user: Var) -> bool
     ensures { result ≡ mentions lits.now user }
@@ -43,9 +44,9 @@ fn has_name(lits: &[Lit], user: Var) -> bool
     false
 }
 
-/// Counts the name of the literal at this position if it was used and is not in use.
+/// Returns `count`, plus one if the name of the literal at position `at` was used and is not in use.
 ///
-/// It is not counted if a later literal is over the same name.
+/// The name is not counted if a later literal has the same name.
 fn count_hidden_name(variables: &Variables, lits: &[Lit], at: usize, count: usize) -> usize
     requires within { at < length lits.now }
     requires count { count ≤ var_limit }
@@ -64,7 +65,7 @@ fn count_hidden_name(variables: &Variables, lits: &[Lit], at: usize, count: usiz
     count + 1
 }
 
-/// Returns how many names of the literals were used and are not in use, each counted once.
+/// Returns how many names in `lits` were used and are not in use. Each name is counted once.
 fn count_hidden(variables: &Variables, lits: &[Lit]) -> usize
     requires { AreTidy variables.now }
     ensures { result ≡ hidden_count variables.now (users_in lits.now) }
@@ -76,8 +77,9 @@ fn count_hidden(variables: &Variables, lits: &[Lit]) -> usize
     count
 }
 
-/// Whether there is a variable for every name that is introduced with these literals. If that depends on how often a
-/// name occurs, every hidden name is searched for among the later literals.
+/// Whether there is a variable for every name that would be introduced with `lits`.
+///
+/// If this depends on how many times names occur, every hidden name is searched for among the later literals.
 pub fn has_room(variables: &Variables, lits: &[Lit]) -> bool
     requires { AreTidy variables.now }
     ensures { SaysRoom result variables.now (users_in lits.now) }
@@ -95,7 +97,7 @@ pub fn has_room(variables: &Variables, lits: &[Lit]) -> bool
     hidden <= left - never
 }
 
-/// Whether there is a variable for every name that is introduced with this one.
+/// Whether there is a variable for every name that would be introduced with `user`.
 pub fn has_room_for(variables: &Variables, user: Var) -> bool
     requires { AreTidy variables.now }
     ensures { SaysRoom result variables.now (user ∷ []) }

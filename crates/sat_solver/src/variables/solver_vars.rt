@@ -1,4 +1,4 @@
-//! Indices of the search, and the steps about them.
+//! Gives indices of the search to variables and removes them, and writes the steps.
 ghost use Rattle.std.specs.Prelude.{◌≡◌, false, Some, None, IfOk, IfErr, OnOk};
 ghost use Rattle.sat_solver.specs.session.Session.{session_after};
 ghost use Rattle.sat_solver.specs.variables.Variables.{data_at, solver_of, IsUnitOf, IsInNoNonUnitClause};
@@ -18,7 +18,8 @@ pub struct Given {
     pub unit: Option<bool>,
 }
 
-/// Gives a variable that has no index the lowest free one. Its unit is passed on with it.
+/// Gives the lowest free index to a variable that has no index. Appends the index and the value of the variable's unit
+/// to `given`.
 fn new_index<W: StepLog>(
     variables: &mut Variables,
     writer: &mut W,
@@ -46,7 +47,8 @@ fn new_index<W: StepLog>(
     Ok(solver)
 }
 
-/// Returns the index of a variable. A variable without one gets the lowest free one, which is appended to those given.
+/// Returns the index of a variable. A variable without an index gets the lowest free index, which is appended
+/// to `given`.
 pub fn solver_from_global<W: StepLog>(
     variables: &mut Variables,
     writer: &mut W,
@@ -68,7 +70,8 @@ pub fn solver_from_global<W: StepLog>(
     new_index(variables, writer, global, given)
 }
 
-/// Removes the index of a variable, whose unit is already stored.
+/// Removes the index of a variable. The unit of the variable must already be stored, and no clause of two or more
+/// literals may contain the variable.
 pub fn remove_solver_var<W: StepLog>(
     variables: &mut Variables,
     writer: &mut W,

@@ -12,7 +12,7 @@ use crate::variables::error::NameError;
 use crate::variables::log::StepLog;
 use sat_base::{ProofStep, Var};
 
-/// Gives a name that is not in use to a new variable.
+/// Introduces the name `user`, which must not be in use, and returns its new variable.
 fn new_name<W: StepLog>(
     variables: &mut Variables,
     writer: &mut W,
@@ -41,7 +41,7 @@ fn new_name<W: StepLog>(
 }
 
 #[tactic(auto, using(crate::proofs::lemmas::variables::NamingSteps::none_yet, crate::proofs::lemmas::variables::NamingSteps::last_named))]
-/// Introduces all names from the first never used up to this one.
+/// Introduces all names from the lowest name never used up to `user`. Returns the variable of `user`.
 fn bring_new<W: StepLog>(
     variables: &mut Variables,
     writer: &mut W,
@@ -64,8 +64,8 @@ fn bring_new<W: StepLog>(
     new_name(variables, writer, user)
 }
 
-/// Returns the variable of a name. A name that is not in use is introduced, with all names below it that
-/// were never used.
+/// Returns the variable of a name. If the name is not in use, introduces it, together with all lower names that were
+/// never used.
 #[tactic(auto, using(crate::proofs::lemmas::variables::NamingSteps::last_named, crate::proofs::lemmas::variables::BroughtIn::ok_new))]
 pub fn global_from_user<W: StepLog>(
     variables: &mut Variables,
@@ -92,7 +92,8 @@ pub fn global_from_user<W: StepLog>(
     new_name(variables, writer, user)
 }
 
-/// Introduces the lowest hidden name, otherwise the first never used. If no variable is left, nothing changes.
+/// Introduces a name and returns it: the lowest hidden name, or the lowest name never used if no name is hidden. If no
+/// variable is left, nothing changes.
 pub fn new_user_var<W: StepLog>(variables: &mut Variables, writer: &mut W) -> Result<Var, NameError>
     requires stands { NamesInvariant variables.old (W.steps writer.old) }
     requires keeps { W.keeps writer.old }
