@@ -1,4 +1,4 @@
-//! The text of answers, written and read.
+//! Writes and reads the text of answers.
 
 pub mod read;
 pub(crate) mod refused;

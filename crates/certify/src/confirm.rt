@@ -28,7 +28,7 @@ use sat_checker::Looks;
 use std::alloc::Global;
 use stop::Stop;
 
-/// Returns the verdict of a confirmation that ended so, after this number of completely confirmed asks.
+/// Returns the verdict of a confirmation that ended with `ended`, after `asks` completely confirmed asks.
 fn conclude(ended: Result<(), Stop>, asks: u64) -> Result<Verdict, ConfirmFault>
     ensures { result ≡ said_by ended asks }
 {
@@ -46,8 +46,8 @@ fn conclude(ended: Result<(), Stop>, asks: u64) -> Result<Verdict, ConfirmFault>
     }
 }
 
-/// Compares a script, answers and a certificate as far as they match. Returns how that ended, and the number of
-/// completely confirmed asks.
+/// Compares a script, answers and a certificate up to the first mismatch or fault. Returns how the comparison ended,
+/// and the number of completely confirmed asks.
 fn compare<S: CountedRead, A: CountedRead, C: CountedRead>(
     alloc: Global,
     script: &mut S,
@@ -71,9 +71,9 @@ fn compare<S: CountedRead, A: CountedRead, C: CountedRead>(
     (ended, asks)
 }
 
-/// Compares a script, answers and a certificate, and returns `Yes` exactly if they match. They are read in chunks of at
-/// most 4,096 bytes, no further than the next decision needs, and none is held completely. The looks of the checker
-/// that the certificate's steps are fed to are added to `looks`, whatever is returned.
+/// Compares a script, answers and a certificate, and returns `Yes` exactly if they match. The texts are read in chunks
+/// of at most 4,096 bytes, no further than the next decision needs, and no text is held in memory as a whole. The looks
+/// of the checker that receives the certificate's steps are added to `looks`, whatever is returned.
 pub fn confirm<S: CountedRead, A: CountedRead, C: CountedRead>(
     alloc: Global,
     script: &mut S,
@@ -81,27 +81,27 @@ pub fn confirm<S: CountedRead, A: CountedRead, C: CountedRead>(
     certificate: &mut C,
     looks: &mut Looks,
 ) -> Result<Verdict, ConfirmFault>
-    // `Yes` means that the texts that the three readers gave match, whatever would follow; and if they match, it is
-    // `Yes`.
+    // `Yes` means that the bytes that the three readers gave match, whatever bytes would follow; and if they match, the
+    // verdict is `Yes`.
     ensures exact { IsExact result S.seen A.seen C.seen (script.old, answers.old, certificate.old)
         (script.new, answers.new, certificate.new) }
-    // `Yes` means right answers, whatever answers and certificate are.
+    // `Yes` means that the answers are correct, whoever wrote the answers and the certificate.
     ensures sound { IfOk result (IsSoundVerdict (gave S.seen script.old script.new)
         (gave A.seen answers.old answers.new)) }
 
-    // A fault is returned only for its cause: exactly one read failed, or there were 2^48 of which none did.
+    // The fault of a reader is returned only for its cause: exactly one of its reads failed, or none of 2^48 reads did.
     ensures script_read { IsErrOf result ConfirmFault.ScriptRead → ReadFails (S.seen script.old) (S.seen script.new) }
     ensures answers_read { IsErrOf result ConfirmFault.AnswersRead
         → ReadFails (A.seen answers.old) (A.seen answers.new) }
     ensures certificate_read { IsErrOf result ConfirmFault.CertificateRead
         → ReadFails (C.seen certificate.old) (C.seen certificate.new) }
-    // No count exceeds 64 bits by the bytes that readers give, which are at most 2^60 of each text.
+    // No count ever exceeds 64 bits, since each reader gives at most 2^60 bytes.
     ensures counter_end { IsErrOf result ConfirmFault.CounterEnd → ⊥ }
-    // The looks rise by at most 16 (n + 1)^2 for n bytes that the certificate gave: at most by the bounds of its
-    // accepted steps so far, and perhaps of one that is not accepted.
+    // If the certificate's reader gave n bytes, `looks` rises by at most 16 (n + 1)^2: by at most the sum of the bounds
+    // of the accepted steps, and of at most one step that is not accepted.
     ensures looks { TakesLooks (C.seen certificate.old) (C.seen certificate.new) looks.old looks.new }
 
-    // A read of a text has failed only if that text's fault is returned: no verdict follows a failed read.
+    // A read has failed only if the fault of its reader is returned: no verdict follows a failed read.
     ensures kept_script { IsErrOf result ConfirmFault.ScriptRead ⊎ ReadsKept S.seen script.old script.new }
     ensures kept_answers { IsErrOf result ConfirmFault.AnswersRead ⊎ ReadsKept A.seen answers.old answers.new }
     ensures kept_certificate { IsErrOf result ConfirmFault.CertificateRead

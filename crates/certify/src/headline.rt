@@ -1,4 +1,5 @@
-//! The headline over texts in memory: runs a script, confirms what was written, and confirms any other answers to it.
+//! The headline for texts in memory: runs a script, confirms what that wrote, and confirms any other answers to
+//! the script.
 ghost use Rattle.std.specs.Prelude.{◌≤◌, ◌+◌, IfOk, OnOk};
 ghost use Rattle.certify.specs.laws.EndToEnd.{Certified, VerdictSays, most_looks_over};
 ghost use Rattle.certify.specs.laws.Headline.{Headline};
@@ -75,7 +76,7 @@ pub(crate) fn confirm_over(
     confirm(alloc, &mut script, &mut answers, &mut certificate, looks)
 }
 
-/// Returns the verdict on what a run wrote, and the verdict on other answers to its script.
+/// Returns the verdict on what a run wrote, and the verdict on the answers `claimed` with the certificate `shown`.
 fn verdicts_over(
     alloc: Global,
     script: &[u8],
@@ -100,7 +101,7 @@ fn verdicts_over(
     }
 }
 
-/// Answers a script, confirms what was written, and confirms other answers to it by another certificate.
+/// Answers a script, confirms what that wrote, and confirms the answers `claimed` with the certificate `shown`.
 pub fn certify_over(
     alloc: Global,
     script: &[u8],
@@ -125,8 +126,8 @@ pub fn certify_over(
     }
 }
 
-/// Runs `script` with `budget` rounds for each ask, and confirms what that wrote. Then confirms the answers `claimed`
-/// with the certificate `shown`, whoever made them. Returns what was written, and both verdicts.
+/// Runs `script` with at most `budget` rounds for each ask, and confirms what that wrote. Then confirms the answers
+/// `claimed` with the certificate `shown`, whoever made them. Returns what was written, and both verdicts.
 pub fn headline_over(
     alloc: Global,
     script: &[u8],
@@ -135,11 +136,11 @@ pub fn headline_over(
     shown: &[u8],
     looks: &mut Looks,
 ) -> Result<Verdicts, HeadlineFault>
-    // One right answer for every accepted ask, unknown only if its rounds are exhausted; a yes to what was written;
-    // right answers whenever there is a yes; and few looks.
+    // Every accepted ask gets one correct answer, which is unknown only if its rounds are exhausted. The verdict on
+    // what was written is `Yes`. Whenever a verdict is `Yes`, the answers are correct. The number of looks is bounded.
     ensures headline { IfOk result (λ v. Headline script.now budget (rounds_of_asks v.written.summary.asks.items)
         v.written.answers.items v.written.certificate.items v.own claimed.now shown.now v.other looks.old looks.new) }
-    // Both verdicts are those of `confirm`: yes exactly if the three texts match.
+    // Both verdicts are those of `confirm`: `Yes` exactly if the three texts match.
     ensures verdicts { IfOk result (λ v.
         VerdictSays script.now v.written.answers.items v.written.certificate.items v.own
         × VerdictSays script.now claimed.now shown.now v.other) }

@@ -1,7 +1,7 @@
-//! Decides which commands of a script are refused, only by the names in use and their modes.
+//! Decides which commands of a script are refused. This depends only on the names in use and their modes.
 //!
-//! A command is refused if it has a name past the limit, or if it is a clause or an ask with a name in use of mode
-//! witness. The leftmost such name is the reason.
+//! A command is refused if it has a name past the limit, or if it is a clause or an ask that has a name in use whose
+//! mode is witness. The leftmost such name is the reason.
 
 mod names;
 
@@ -13,9 +13,9 @@ use sat_base::Var;
 pub(crate) enum NameState {
     /// Not in use.
     Hidden,
-    /// In use, of mode sample.
+    /// In use, with the mode sample.
     Sampled,
-    /// In use, of mode witness.
+    /// In use, with the mode witness.
     Witnessed,
 }
 
@@ -24,6 +24,6 @@ pub(crate) enum NameState {
 pub enum Refusal {
     /// A name is past 2^28.
     Limit,
-    /// The name of this index is in use, and of mode witness.
+    /// The name with this index is in use, and its mode is witness.
     Witness(Var),
 }

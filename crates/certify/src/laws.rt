@@ -1,4 +1,4 @@
-//! Laws of answers, of matching and of the checker: every law is the contract of a function that does nothing.
+//! Laws about answers, matching and the checker. Each law is the contract of a function that does nothing.
 ghost use Rattle.certify.specs.laws.Confirmed.{CertifiedMatches};
 ghost use Rattle.certify.specs.laws.EndToEnd.{FinishedIsConfirmed};
 ghost use Rattle.certify.specs.laws.HeadlineLaws.{CertifiedIsHeadline, RightByAsks, RightByOutcomes, SameAnswers};
@@ -22,28 +22,31 @@ ghost use Rattle.certify.specs.laws.Rows.{WitnessRefusesAsk};
 pub mod commands;
 pub mod names;
 
-/// If script, answers and certificate match, the answers are right: by steps and outcomes, and by the three texts.
+/// States that the answers are correct if script, answers and certificate match: for steps and outcomes, and for the
+/// three texts.
 pub fn matching_is_right()
     ensures steps { MatchingIsRight }
     ensures texts { TextsThatMatchAreRight }
 {}
 
-/// Right answers and the certificate that a run writes for them match their script, so they are confirmed.
+/// States that correct answers, and the certificate that a run writes for them, match their script, so they
+/// are confirmed.
 pub fn certified_is_confirmed()
     ensures { CertifiedMatches }
 {}
 
-/// What a finished run wrote is confirmed, if the three texts are read as they were written.
+/// States that what a finished run wrote is confirmed, if the three texts are read as they were written.
 pub fn finished_is_confirmed()
     ensures { FinishedIsConfirmed }
 {}
 
-/// The promise of `certify_over` implies the headline.
+/// States that the contract of `certify_over` implies the headline.
 pub fn certified_is_headline()
     ensures { CertifiedIsHeadline }
 {}
 
-/// The short definitions in the contract of `confirm` equal those that matching and runs are proved against.
+/// States that the short definitions in the contracts of `run` and `confirm` are equivalent to those that the proofs
+/// about matching and runs use.
 pub fn short_says_the_same()
     ensures script { SaysTheSame }
     ensures answers { SameAnswers }
@@ -53,39 +56,40 @@ pub fn short_says_the_same()
     ensures reports { SameReports }
 {}
 
-/// The certificate of a finished run has a hint text, which is proved: `convert` does not refuse it.
+/// States that the certificate of a finished run has a hint text, and that this text is proved: `convert` does not
+/// refuse the certificate.
 pub fn runs_have_hints()
     ensures { RunsHaveHints }
 {}
 
-/// The checker of proofs has the seven properties that matching needs.
+/// States that the proof checker has the seven properties that matching needs.
 pub fn checking_is_sound()
     ensures { IsSound checker_rules }
 {}
 
-/// No ask has both a right model and a right core.
+/// States that no ask has both a correct model and a correct core.
 pub fn not_both()
     ensures { NotBoth }
 {}
 
-/// Neither a literal's repetition nor a tautology changes which valuations satisfy the clauses.
+/// States that neither a repeated literal nor a tautology changes which valuations satisfy the clauses.
 pub fn clauses_as_sets()
     ensures repeat { RepeatChangesNothing }
     ensures tautology { TautologyChangesNothing }
 {}
 
-/// The literals of an ask do not bind a later one: only the names that they introduced remain.
+/// States that the literals of an ask don't constrain later asks: only the names that the ask introduced remain.
 pub fn ask_binds_nothing()
     ensures clauses { AskBindsNothing }
     ensures names { AskLeavesNames }
 {}
 
-/// Different outcomes have different texts.
+/// States that different outcomes have different texts.
 pub fn texts_determine_outcomes()
     ensures { TextsDetermineOutcomes }
 {}
 
-/// Examples of texts: what is answered, refused and malformed.
+/// States examples of scripts and their answers, also of scripts with refused commands and of a malformed script.
 pub fn rows_of_text()
     ensures empty { EmptyText }
     ensures ask_alone { AskAloneText }
@@ -96,7 +100,7 @@ pub fn rows_of_text()
     ensures malformed { MalformedText }
 {}
 
-/// Examples of names: identities, and the expected steps.
+/// States examples about names: their identities, and the expected steps.
 pub fn rows_of_names()
     ensures hidden { HiddenAtOnceState }
     ensures back { HiddenAndBackState }
@@ -104,7 +108,7 @@ pub fn rows_of_names()
     ensures expected { ClauseAndAskExpected }
 {}
 
-/// Examples that match, by steps and by bytes, with right answers.
+/// States examples of scripts, answers and certificates that match, as steps and as bytes, with correct answers.
 pub fn rows_that_match()
     ensures empty { EmptyMatches }
     ensures model_bytes { ClauseAndAskMatches }
@@ -115,8 +119,8 @@ pub fn rows_that_match()
     ensures core_steps { TwoUnitsSteps }
 {}
 
-/// Examples that do not match: a name that gets its old variable again, a certificate with only `End`, missing answers,
-/// and answers written twice.
+/// States examples that don't match: a name that gets its old variable again, a certificate with only `End`, missing
+/// answers, and answers written twice.
 pub fn rows_that_fail()
     ensures old_variable { NameOnOldVariable }
     ensures end_alone { EndAloneMatches }
@@ -124,7 +128,8 @@ pub fn rows_that_fail()
     ensures extra { AnswersTwice }
 {}
 
-/// Examples of a run's certificate: steps that it can have, and steps that lack something, or have more after `End`.
+/// States examples of certificates: steps that a run can write, and steps that it can't, since some step is missing or
+/// follows `End`.
 pub fn rows_of_certificates()
     ensures model { ClauseAndAskCertified }
     ensures left_out { LeftOutCertified }

@@ -1,4 +1,4 @@
-//! Answers scripts of clauses, asks and names, with a certificate that is checked.
+//! Answers scripts of clauses, asks and names with a certificate, and confirms such answers with a proof checker.
 #![tactic(auto)]
 
 pub mod answers;

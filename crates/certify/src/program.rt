@@ -1,4 +1,4 @@
-//! The program: what it does with its arguments and its standard streams.
+//! What the program does with its arguments and its standard streams.
 ghost use Rattle.std.specs.Prelude.{◌≡◌, ◌≤◌, [], map, IfOk};
 ghost use Rattle.std.specs.String.{string_bytes};
 ghost use Rattle.certify.specs.Devices.{gave, took};
@@ -27,25 +27,28 @@ use sat_base::{CountedRead, CountedWrite};
 use std::fs::Files;
 use std::io;
 
-/// Does what the arguments ask for; the program's own name is not one of them.
+/// Does what the arguments ask for. `arguments` does not contain the program's own name.
 ///
-/// - None: answers the script on `input`, confirms the answers by a certificate that is kept in memory, and writes the answers and
-///   `c confirmed` to `output`.
-/// - `run S A C [STEPS]`: answers the script in the file S, with the answers in A and the certificate in C. Each ask may take STEPS
-///   rounds of search, at most 2^64-1, which is the default.
-/// - `confirm S A C`: writes to `output` whether the answers in A are confirmed by the certificate in C, `yes` or `no ASK WHY`.
+/// - Without arguments: answers the script on `input`, confirms the answers with a certificate that is kept in memory,
+///   and writes the answers and `c confirmed` to `output`.
+/// - `run S A C [STEPS]`: answers the script in the file S, and writes the answers to A and the certificate to C. Each
+///   ask may take at most STEPS rounds of search. STEPS is at most 2^64-1, which is the default.
+/// - `confirm S A C`: checks whether the answers in A to the script in S are confirmed with the certificate in C, and
+///   writes `yes` or `no ASK WHY` to `output`.
 /// - `hints C H`: writes the hint text of the certificate in C to the file H.
-/// - `check H`: writes to `output` what the hint text in H is, `proved empty=E cores=K lines=L`, E being 0 or 1, or `bad LINE WHY`.
+/// - `check H`: checks the hint text in H, and writes `proved empty=E cores=K lines=L`, where E is 0 or 1, or `bad LINE
+///   WHY` to `output`.
 ///
-/// An output that is the input, or the other output, is refused like wrong arguments, before any file is opened to be
-/// written: if the words are the same, or both lead to one regular file. Two outputs may be one file that is not
-/// regular. Files are opened in the order of the arguments. After a finished run, one line with its solver's counts is
-/// written to `errors`.
+/// An output must not be the input or the other output: the two arguments must not be equal, and must not lead to the
+/// same regular file. Otherwise the call is refused like invalid arguments, before any file is opened for writing,
+/// unless only the creation of the first output shows that both outputs are the same file. The two outputs may be the
+/// same file if it is not regular. Files are opened in the order of the arguments. After a finished run, one line with
+/// the solver's counts is written to `errors`.
 ///
-/// Returns the status: 0 if all is done, confirmed or proved; 1 if the script is malformed, the answers are not
-/// confirmed or the hint text is bad, or if a certificate is refused, with `certify: Refused` on `errors`; 2 for other
-/// arguments, or arguments that are not text, with the usage on `errors`; 3 after a fault, with its name on `errors`.
-/// After a fault nothing more is written to `output`. Faults of `errors` are ignored.
+/// Returns the status: 0 if everything is done, confirmed or proved; 1 if the script is malformed, the answers are not
+/// confirmed or the hint text is bad, or if a certificate has no hint text, with the reason on `errors`; 2 for any
+/// other arguments, or arguments that are not text, with the usage on `errors`; 3 after a fault, with its name on
+/// `errors`. After a fault nothing more is written to `output`. Faults of `errors` are ignored.
 pub fn program<R: AllocGlobal + Files, I: CountedRead, O: CountedWrite, E: CountedWrite>(
     rt: &R,
     arguments: io::Result<Vec<String>>,
@@ -54,16 +57,18 @@ pub fn program<R: AllocGlobal + Files, I: CountedRead, O: CountedWrite, E: Count
     errors: &mut E,
 ) -> u8
     ensures status { result ≤ 3 }
-    // Arguments that are text and no call have status 2. Others have it only if the call writes files.
+    // If the arguments are text but not a valid call, the status is 2. For a valid call it is 2 only if the call
+    // writes files.
     ensures usage { IfOk arguments (λ words. ReportsUsage (map string_bytes words.items) result) }
-    // Without arguments and with status 0 or 1, the output received right answers to the script, none of them unknown
-    // unless all rounds are exhausted, and then `c confirmed`. 0 means that the script is not malformed.
+    // Without arguments and with status 0 or 1, the output received correct answers to the script, each unknown only if
+    // its rounds are exhausted, and then `c confirmed`. Status 0 means that the script is not malformed.
     ensures printed { IfOk arguments (λ words. words.items ≡ [] → result ≤ 1
         → PrintsVerdict result (gave I.seen input.old input.new) (took O.seen output.old output.new)) }
-    // Without arguments and with any status, the output received nothing, or a prefix of such a text.
+    // Without arguments and with any status, the output received a prefix of such a text, perhaps an empty one.
     ensures prefix { IfOk arguments (λ words. words.items ≡ []
         → PrintsAtMost (gave I.seen input.old input.new) (took O.seen output.old output.new)) }
-    // Of a call over files with status 0 or 1, what was opened was read and written as the call asks.
+    // After a call that names files, with status 0 or 1, the files that were opened were read and written as the
+    // call asks.
     ensures files { IfOk arguments (λ words. DoneOverFiles R.File.remaining R.File.contents
         (map string_bytes words.items) result (took O.seen output.old output.new)) }
 {
@@ -78,7 +83,7 @@ pub fn program<R: AllocGlobal + Files, I: CountedRead, O: CountedWrite, E: Count
     }
 }
 
-/// Does what these words ask for. Returns the status.
+/// Does what the arguments `words` ask for. Returns the status.
 fn obey<R: AllocGlobal + Files, I: CountedRead, O: CountedWrite, E: CountedWrite>(
     rt: &R,
     words: &[String],
@@ -110,7 +115,7 @@ fn obey<R: AllocGlobal + Files, I: CountedRead, O: CountedWrite, E: CountedWrite
     }
 }
 
-/// Does a call over files. Returns the status.
+/// Does a call that names files. Returns the status.
 fn serve<R: AllocGlobal + Files, O: CountedWrite, E: CountedWrite>(
     rt: &R,
     call: &Call<'_>,

@@ -1,4 +1,4 @@
-//! Answers a script as it is read, and writes a certificate.
+//! Answers a script while reading it, and writes a certificate.
 ghost use Rattle.std.specs.Prelude.{◌≡◌, ◌+◌, ◌≤◌, ◌⊎◌, true, IfOk, OnErr, OnOk, IsErrOf};
 ghost use Rattle.sat_base.specs.device.Device.{most_reads, ReadFails};
 ghost use Rattle.certify.specs.Devices.{gave, took};
@@ -27,7 +27,7 @@ use serve::serve_all;
 use session::RunState;
 use std::alloc::Global;
 
-/// Answers a script. Returns the certificate's writer, too.
+/// Answers a script. Returns the certificate's writer, and a summary or a fault.
 fn answer<S: CountedRead, A: CountedWrite, C: CountedWrite + Drop>(
     alloc: Global,
     script: &mut S,
@@ -50,7 +50,7 @@ fn answer<S: CountedRead, A: CountedWrite, C: CountedWrite + Drop>(
     end_run(session, answers, served)
 }
 
-/// Answers a script, with a borrowed writer of the certificate.
+/// Answers a script, and writes the certificate to a borrowed writer.
 fn answer_into<S: CountedRead, A: CountedWrite, C: CountedWrite>(
     alloc: Global,
     script: &mut S,
@@ -72,8 +72,8 @@ fn answer_into<S: CountedRead, A: CountedWrite, C: CountedWrite>(
     result
 }
 
-/// Answers every ask of a script, with at most `budget` rounds of search each. Writes the answers and a certificate
-/// after what the writers hold.
+/// Answers every ask of a script, with at most `budget` rounds of search each. Appends the answers and a certificate to
+/// what the writers already hold.
 ///
 /// A command is served as soon as it is read; at most 4,096 bytes are read at a time. Both writers are flushed before a
 /// summary is returned.
@@ -84,36 +84,36 @@ pub fn run<S: CountedRead, A: CountedWrite, C: CountedWrite>(
     certificate: &mut C,
     budget: u64,
 ) -> Result<Summary, RunFault>
-    // The answers' writer received right answers to the text that was given, whatever would follow.
+    // The answers' writer received correct answers to the bytes that were read, whatever bytes would follow them.
     ensures answered { IfOk result
         (λ s. WritesAnswers budget s (gave S.seen script.old script.new) (took A.seen answers.old answers.new)) }
-    // The certificate's writer received the steps of the accepted commands and of these answers, each accepted in its
-    // turn. Once they record that the clauses are unsatisfiable, an ask is answered so without a round of search. Every
-    // round of another ask derived a clause that advances, except the one that answered, and no other clause of it
-    // advances. If no command hides a name, no variable is deleted.
+    // The certificate's writer received the steps of the accepted commands and of these answers, and a checker accepts
+    // each step in order. Once the steps record that the clauses are unsatisfiable, every ask is answered `Unsat`
+    // without a round of search. In any other ask, every round derived a clause that advances, except the round that
+    // found the answer, and no other clause of the ask advances. If no command hides a name, no variable is deleted.
     ensures backed { CertificateIsGuaranteed result budget S.seen A.seen C.seen (script.old, answers.old, certificate.old)
         (script.new, answers.new, certificate.new) }
     ensures flushed { OnOk result (((A.seen answers.new).flushed ≡ true) × ((C.seen certificate.new).flushed ≡ true)) }
-    // If it is not finished, the answers' writer received a prefix of right answers to the text that was given, whatever
-    // would follow. An unknown one among them has exhausted its rounds.
+    // If the run is not finished, the answers' writer received a prefix of correct answers to the bytes that were read,
+    // whatever bytes would follow them. Every unknown answer among them has exhausted its rounds.
     ensures unfinished { OnErr result
         (Unfinished budget (gave S.seen script.old script.new) (took A.seen answers.old answers.new)) }
     // Whatever is returned, the certificate's writer received a prefix of the text of steps that a checker accepts, and
     // nothing else.
     ensures steps { TookSteps (took C.seen certificate.old certificate.new) }
 
-    // A fault is returned only for its cause: exactly one call of the device failed, or there were 2^48 reads and none
-    // did.
+    // The fault of a device is returned only for its cause: exactly one call to the device failed, or none of 2^48
+    // reads did.
     ensures script_read { IsErrOf result RunFault.ScriptRead → ReadFails (S.seen script.old) (S.seen script.new) }
     ensures answers_write { IsErrOf result RunFault.AnswersWrite
         → WriteFails (A.seen answers.old) (A.seen answers.new) }
     ensures certificate_write { IsErrOf result RunFault.CertificateWrite
         → WriteFails (C.seen certificate.old) (C.seen certificate.new) }
-    // A counter has ended only if the text that was given has 2^64-1 commands; or if one of them lacks variables for its
-    // names, after the steps of whose text the certificate's writer received a prefix.
+    // `CounterEnd` is returned only if the bytes that were read contain 2^64-1 commands, or a command for whose names
+    // there are not enough variables, after steps of whose text the certificate's writer received a prefix.
     ensures counter_end { IsErrOf result RunFault.CounterEnd → CounterEnds (gave S.seen script.old script.new)
         (took C.seen certificate.old certificate.new) }
-    // A call of a device has failed only if that fault is returned.
+    // A call to a device has failed only if the fault of that device is returned.
     ensures kept_script { IsErrOf result RunFault.ScriptRead
         ⊎ ((S.seen script.new).failures ≡ (S.seen script.old).failures) }
     ensures kept_answers { IsErrOf result RunFault.AnswersWrite ⊎ WritesKept A.seen answers.old answers.new }

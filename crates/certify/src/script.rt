@@ -1,4 +1,4 @@
-//! Reads scripts, and lends every command as soon as it is complete.
+//! Reads scripts, and returns a reference to every command as soon as it is complete.
 
 pub(crate) mod ahead;
 mod commands;
@@ -12,36 +12,37 @@ use sat_base::Lit;
 /// The kind of a command.
 #[derive(Clone, Copy, Debug, Drop, PartialEq, Eq)]
 pub enum CommandKind {
-    /// A clause of the literals; without literals it is false.
+    /// A clause of the literals. A clause without literals is false.
     Clause,
-    /// An ask about the clauses so far, under the literals.
+    /// An ask about the clauses so far, with the literals as assumptions.
     Ask,
-    /// Hides the names.
+    /// A command that hides the names.
     Hide,
-    /// Gives the names mode witness.
+    /// A command that sets the mode of the names to witness.
     Witness,
-    /// Gives the names mode sample.
+    /// A command that sets the mode of the names to sample.
     Sample,
 }
 
-/// A command that is lent.
+/// A command, whose literals are borrowed from its reader.
 #[derive(Clone, Copy, Debug)]
 pub struct Command<'a> {
     pub kind: CommandKind,
-    /// The literals, up to the first one whose name is past 2^28. A name is a positive literal.
+    /// The literals before the first one whose name is past 2^28. In a command that lists names, a name is a
+    /// positive literal.
     pub literals: &'a [Lit],
-    /// Whether a name is past 2^28, and the literals end before it.
+    /// Whether a name of the command is past 2^28. Then `literals` ends before that name.
     pub past_limit: bool,
 }
 
-/// What a reader of scripts reached.
+/// How far a reader of scripts came.
 #[derive(Clone, Copy, Debug, Drop, PartialEq, Eq)]
 pub enum Reached {
     /// The end of the bytes.
     More,
     /// The end of a command.
     Command,
-    /// A byte that makes the text malformed, where the next command would be.
+    /// A byte that makes the text malformed, at the command after the last complete one.
     Malformed,
 }
 
@@ -49,7 +50,7 @@ pub enum Reached {
 #[derive(Clone, Copy, Debug, Drop, PartialEq, Eq)]
 pub enum ScriptEnd {
     Clean,
-    /// Cleanly, after a header that no ask followed: an ask under no literals is due.
+    /// Cleanly, with a header but without an ask: an ask without literals is due.
     Asked,
     Malformed,
 }

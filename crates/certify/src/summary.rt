@@ -5,11 +5,11 @@ use sat_solver::Progress;
 /// The kind of an answer.
 #[derive(Clone, Copy, Debug, Drop, PartialEq, Eq)]
 pub enum Answer {
-    /// Some valuation satisfies the clauses, and the answer lists one.
+    /// Some valuation satisfies the clauses and the literals of the ask. The answer lists one.
     Sat,
-    /// No valuation does.
+    /// No valuation satisfies the clauses and the literals of the ask.
     Unsat,
-    /// The rounds were exhausted before either was known.
+    /// The rounds were exhausted before the search found an answer.
     Unknown,
 }
 
@@ -17,18 +17,18 @@ pub enum Answer {
 #[derive(Clone, Copy, Debug, Drop, PartialEq, Eq)]
 pub struct AskReport {
     pub answer: Answer,
-    /// Rounds of search, each up to a conflict or an answer.
+    /// The number of rounds of search. Each ends with a conflict or an answer.
     pub steps: u64,
 }
 
 /// What a finished run did.
 #[derive(Debug, Drop)]
 pub struct Summary {
-    /// The number of commands in the text, with the refused ones.
+    /// The number of commands in the text, including the refused ones.
     pub commands: u64,
     /// The number of refused commands.
     pub refused: u64,
-    /// The number of the command at which the text is malformed, counted from 1.
+    /// The number, counted from 1, of the command at which the text is malformed.
     pub malformed: Option<u64>,
     /// One report for every accepted ask, in order.
     pub asks: Vec<AskReport>,

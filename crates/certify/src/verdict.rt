@@ -11,7 +11,7 @@ use thiserror::Error;
 pub enum Verdict {
     /// The three texts match.
     Yes,
-    /// They do not match. `ask` is one more than the number of accepted asks that are confirmed completely.
+    /// The three texts do not match. `ask` is one more than the number of accepted asks that are confirmed completely.
     No { ask: u64, why: Why },
 }
 
@@ -20,30 +20,30 @@ pub enum Verdict {
 pub enum Why {
     /// The answers end where a line is expected.
     AnswerMissing,
-    /// The answers go on after the last expected line.
+    /// The answers have more bytes after the last expected line.
     AnswerExtra,
-    /// The answers' bytes are not a line that is allowed there.
+    /// The next bytes of the answers are not a line that is allowed there.
     AnswerText,
-    /// A clause is not the script's.
+    /// A clause of the certificate is not the script's next clause.
     ClauseDiffers,
-    /// A name is not the script's next one.
+    /// A name in the certificate is not the script's next name.
     NameDiffers,
-    /// A name gets a variable that the checker knows already.
+    /// A name gets a variable that the checker already knows.
     NameNotFresh,
     /// The assumptions are not those of the script's ask.
     AskDiffers,
     /// An answer is not the one that the certificate shows.
     AnswerDiffers,
-    /// The checker refuses a step, or the bytes are no step.
+    /// The checker refuses a step, or the bytes don't encode a step.
     StepRefused,
     /// The certificate ends where a step is expected.
     CertificateEnds,
-    /// A step is of another kind than the expected one.
+    /// A step is not of the expected kind.
     StepOutOfPlace,
 }
 
 impl Why {
-    /// Returns the variant's name, which is printed for a `No`.
+    /// Returns the name of the variant, as it is printed for a `No`.
     pub fn word(self) -> &'static str
         ensures { result.now ≡ why_text self }
     {
@@ -83,7 +83,7 @@ pub enum ConfirmFault {
     CertificateRead,
     #[error("OutOfMemory")]
     OutOfMemory,
-    /// A count exceeds 64 bits. It is never returned, since a reader gives at most 2^60 bytes.
+    /// A count exceeds 64 bits. `confirm` never returns this variant, since a reader gives at most 2^60 bytes.
     #[error("CounterEnd")]
     CounterEnd,
 }

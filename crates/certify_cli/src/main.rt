@@ -1,4 +1,4 @@
-//! The program `certify`: passes its arguments and its standard streams to `certify::program`.
+//! The program `certify`, which passes its arguments and its standard streams to `certify::program`.
 #![tactic(auto)]
 
 ghost use Rattle.std.specs.Prelude.{◌≡◌, IfOk, drop};
@@ -14,12 +14,12 @@ use std::process::ExitCode;
 use std::rt::Env;
 use std::{env, io};
 
-/// The status of a fault.
+/// The exit status after a fault.
 const FAILED: u8 = 3;
-/// The error of the system for a descriptor that is not open, `EBADF`.
+/// The system's error code for a descriptor that is not open, `EBADF`.
 const NOT_OPEN: i32 = 9;
 
-/// Returns the words after the first.
+/// Returns all arguments but the first.
 fn behind_first(alloc: Global, mut words: Args) -> Result<Vec<String>, AllocError>
     ensures { IfOk result (λ behind. behind.items ≡ drop 1 (into_iter_items words)) }
 {
@@ -45,8 +45,8 @@ fn is_open<S: AsFd>(stream: &S) -> bool {
     }
 }
 
-/// Opens `/dev/null` under the descriptor of a stream that is not open: the next file would get that descriptor, and
-/// what is written to the stream. All lower descriptors must be open.
+/// Opens `/dev/null` as the descriptor of a stream if that is not open. Otherwise the next file to be opened would get
+/// the descriptor, and receive what is written to the stream. All lower descriptors must be open.
 fn hold<S: AsFd>(rt: &HostRuntime, stream: &S) -> io::Result<Option<File>> {
     if is_open(stream) {
         return Ok(None);
@@ -56,7 +56,7 @@ fn hold<S: AsFd>(rt: &HostRuntime, stream: &S) -> io::Result<Option<File>> {
     Ok(Some(options.open(rt, "/dev/null")?))
 }
 
-/// Calls the program with open standard streams.
+/// Calls the program, after opening any standard stream that is closed.
 fn call(rt: &HostRuntime) -> io::Result<u8> {
     let input = rt.stdin();
     let output = rt.stdout();
@@ -71,8 +71,8 @@ fn call(rt: &HostRuntime) -> io::Result<u8> {
     Ok(program(rt, arguments, &mut input, &mut output, &mut errors))
 }
 
-/// Ends with the program's status. Does nothing, and ends with that of a fault, if the descriptor of a closed standard
-/// stream cannot be held.
+/// Runs the program, and returns its status. If a closed standard stream can't be opened, returns the status of a fault
+/// without doing anything.
 fn main(rt: HostRuntime) -> ExitCode {
     ExitCode::from(call(&rt).unwrap_or(FAILED))
 }

@@ -10,7 +10,7 @@ use sat_base::{Counted, CountedRead};
 use sat_checker::Looks;
 use std::alloc::Global;
 
-/// Whether a certificate shows that these answers to a script are right.
+/// Whether a certificate shows that the answers to a script are correct.
 fn are_right<S: CountedRead, A: CountedRead, C: CountedRead>(
     alloc: Global,
     script: &mut S,

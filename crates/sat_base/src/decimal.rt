@@ -1,12 +1,12 @@
-//! Numbers in decimal.
+//! Writes numbers in decimal.
 ghost use Rattle.std.specs.Prelude.{◌≡◌, ◌+◌, ◌/◌, ◌%◌, ◌<◌, ◌≤◌, ◌++◌, ◌∷◌, [], length, take, decimal, OnOk};
 
 use std::alloc::AllocError;
 
-/// No number of 64 bits has more digits.
+/// The largest number of decimal digits of a 64-bit number.
 pub const MOST_DIGITS: usize = 20;
 
-/// Writes a number below 100 as two digits.
+/// Writes a number below 100 at position `at`, as two digits.
 #[inline(always)]
 fn write_pair(bytes: &mut [u8], at: usize, pair: u8)
     requires room { at + 1 < length bytes.old }
@@ -18,7 +18,7 @@ fn write_pair(bytes: &mut [u8], at: usize, pair: u8)
     bytes[at + 1] = b'0' + pair % 10;
 }
 
-/// Writes the digits of a number below 10,000 after the first `len` bytes. Returns where they end.
+/// Writes the digits of a number below 10,000 after the first `len` bytes. Returns the position after the last digit.
 #[inline(always)]
 fn write_short(bytes: &mut [u8], len: usize, number: u64) -> usize
     requires room { len + length (decimal number) ≤ length bytes.old }
@@ -45,7 +45,7 @@ fn write_short(bytes: &mut [u8], len: usize, number: u64) -> usize
     len + 4
 }
 
-/// Does what `write_decimal` does, without looking for short numbers first.
+/// Does what `write_decimal` does, by a recursion over pairs of digits.
 fn write_long(bytes: &mut [u8], len: usize, number: u64) -> usize
     requires { len + length (decimal number) ≤ length bytes.old }
     ensures end { result ≡ len + length (decimal number) }
@@ -60,8 +60,8 @@ fn write_long(bytes: &mut [u8], len: usize, number: u64) -> usize
     at + 2
 }
 
-/// Writes a number in decimal, without leading zeros, after the first `len` bytes. Returns the position after its last
-/// digit. Most numbers are short, so those below 10,000 are written without a loop.
+/// Writes a number in decimal, without leading zeros, after the first `len` bytes. Returns the position after the last
+/// digit. Most numbers are short, so numbers below 10,000 have a fast path.
 #[inline(always)]
 pub fn write_decimal(bytes: &mut [u8], len: usize, number: u64) -> usize
     requires { len + length (decimal number) ≤ length bytes.old }

@@ -1,4 +1,4 @@
-//! Readers and writers whose contracts see what was read and written, and how many calls failed.
+//! Readers and writers whose contracts describe what was read and written, and how many calls failed.
 ghost use Rattle.std.specs.Prelude.{◌≡◌};
 ghost use Rattle.std.specs.Io.{ReadsAtMost, WritesAtMost};
 ghost use Rattle.sat_base.specs.device.Device.{Reader, Writer, ReadsOnce, WritesOnce, FlushesOnce, WritesText, lent_reader};
@@ -20,25 +20,26 @@ pub use self::whole::{Feed, ReadError, read_into, read_whole};
 use std::io;
 use std::io::{ErrorKind, Read, Write};
 
-/// A reader whose contracts see the number of reads, the number of those that failed, the bytes given, and whether the
-/// last read found the end.
+/// A reader whose contracts see the number of reads, the number of failed reads, the bytes that were read, and whether
+/// the last read found the end.
 pub trait CountedRead: Read {
     ghost seen: { Self → Reader };
 
-    /// Reads once. Every `Err` is a failed call, even if it was interrupted, and is not repeated.
+    /// Reads once. Every `Err` counts as a failed call, even `Interrupted`, and the call is not repeated.
     fn read_counted(&mut self, buf: &mut [u8]) -> io::Result<usize>
         ensures bound { ReadsAtMost result buf.new }
         ensures once { ReadsOnce result buf.new (seen self.old) (seen self.new) };
 
-    // The bytes still to come are those that std's reader states.
+    // The bytes still to come are those that the contracts of `Read` describe.
     ghost tells: { (r : Self) → (seen r).to_come ≡ Self.remaining r };
 }
 
-/// A writer whose contracts see the number of calls, the number of those that failed, and the bytes received.
+/// A writer whose contracts see the number of calls, the number of failed calls, and the bytes received.
 pub trait CountedWrite: Write {
     ghost seen: { Self → Writer };
 
-    /// Writes once. The call counts as failed if it returns `Err`, or if it accepts no byte of a nonempty piece.
+    /// Writes once. The call counts as failed if it returns `Err`, or if it accepts no byte although `piece` is
+    /// not empty.
     fn write_counted(&mut self, piece: &[u8]) -> io::Result<usize>
         ensures bound { WritesAtMost result piece.now }
         ensures once { WritesOnce result piece.now (seen self.old) (seen self.new) };
@@ -47,8 +48,8 @@ pub trait CountedWrite: Write {
     fn flush_counted(&mut self) -> io::Result<()>
         ensures { FlushesOnce result (seen self.old) (seen self.new) };
 
-    /// Writes the complete piece, in as many writes as are needed, up to the first that fails. Then a prefix of the
-    /// piece may have been written.
+    /// Writes all of `piece`, in as many calls as are needed, or up to the first call that fails. After a failure, a
+    /// prefix of `piece` may have been written.
     fn write_all_counted(&mut self, piece: &[u8]) -> io::Result<()>
         ensures { WritesText piece.now result (seen self.old) (seen self.new) }
     {
@@ -63,7 +64,7 @@ pub trait CountedWrite: Write {
         Ok(())
     }
 
-    // The bytes that it holds are those that std's writer states.
+    // The bytes that the writer holds are those that the contracts of `Write` describe.
     ghost tells: { (w : Self) → (seen w).contents ≡ Self.contents w };
 }
 

@@ -1,4 +1,4 @@
-//! Formulas in DIMACS CNF, read in any chunking.
+//! Parses formulas in DIMACS CNF, in any chunking.
 ghost use Rattle.std.specs.Prelude.{◌≡◌, ◌≤◌, ◌<◌, ◌+◌, ◌++◌, ◌⊎◌, false, length, Ok, Err, IfOk, IfErr, OnOk, IsErrOf};
 ghost use Rattle.std.specs.Io.{ReadsAtMost};
 ghost use Rattle.sat_base.specs.device.Device.{most_reads, ReadFails, GaveEnough};
@@ -27,11 +27,12 @@ use std::alloc::Global;
 use std::io;
 use std::marker::Model;
 
-/// A parser of DIMACS CNF, which is fed a formula's text in chunks. It looks at every byte once. Of the text it holds
-/// the clauses that were not taken yet, the unfinished clause, and the header.
+/// A parser of DIMACS CNF, which receives the text of a formula in chunks. Of the text it stores only the clauses that
+/// have not been taken yet, the unfinished clause, and the header.
 ///
-/// Contracts see the bytes that were fed, the clauses that were taken, and whether it has stopped. It stops at a fault
-/// of the text, if memory runs out, and when the text is finished. The clauses read so far can be taken then, too.
+/// Contracts see the bytes that were fed, the clauses that were taken, and whether the parser has stopped. The parser
+/// stops at a fault of the text, if memory runs out, and when the text is finished. Even then, the clauses read so far
+/// can be taken.
 #[derive(Drop)]
 pub struct DimacsParser {
     parser: Parser,
@@ -49,7 +50,7 @@ impl Model for DimacsParser {
     ghost invariant = { λ d. IsParser d.parser };
 }
 
-/// Returns the closure's refusal, or else the parser's answer.
+/// Returns the error of the closure, if there is one, and the result of the parser otherwise.
 fn refusal_or<E: Drop>(
     seen: Result<(), E>,
     answer: Result<(), DimacsError>,
@@ -68,7 +69,7 @@ fn refusal_or<E: Drop>(
 }
 
 impl DimacsParser {
-    /// Returns a parser before the first byte of a text. Does not allocate.
+    /// Returns a parser for a new text. Does not allocate.
     pub fn new(alloc: Global) -> DimacsParser
         ensures { result ≡ no_progress }
     {
@@ -77,26 +78,27 @@ impl DimacsParser {
         }
     }
 
-    /// Feeds the next bytes of the text. After an `Err` the parser has stopped: at a fault, on the line of the wrong
-    /// word or of the number above 2^28, or because memory ran out. A wrong word is reported at the first byte after
-    /// which it can no longer become right.
+    /// Feeds the next bytes of the text to the parser. After an `Err` the parser has stopped, either at a fault or
+    /// because memory ran out. A fault is on the line of the malformed word, or of the number above 2^28. A malformed
+    /// word is reported at the first byte after which it can no longer become valid.
     pub fn feed(&mut self, piece: &[u8]) -> Result<(), DimacsError>
         ensures answer { FeedsPiece result piece.now self.old self.new }
-        // No finished line has a fault, and no word is wrong whatever follows.
+        // No finished line has a fault, and the unfinished word can still become valid.
         ensures sound { OnOk result (IsSoundSoFar self.new) }
     {
         self.parser.feed(piece)
     }
 
-    /// Finishes the text. A text that ends inside a clause is malformed on its last line, even if no memory is left:
-    /// memory is needed only for a last clause that ends there.
+    /// Finishes the text. A text that ends inside a clause is malformed on its last line. This is reported even if no
+    /// memory is left, since only a last clause that is complete needs memory.
     pub fn finish(&mut self) -> Result<(), DimacsError>
         ensures { Finishes result self.old self.new }
     {
         self.parser.finish()
     }
 
-    /// Returns the clauses read since they were last taken, with `var_count` variables. Does not allocate.
+    /// Returns a formula with the clauses that were read since the last call, and with `var_count` variables. Does
+    /// not allocate.
     pub fn take_formula(&mut self) -> CnfFormula
         ensures progress { self.new ≡ all_taken self.old }
         ensures clauses { clauses_read self.old ≡ self.old.taken ++ result.clauses }
@@ -105,7 +107,7 @@ impl DimacsParser {
         self.parser.take_formula()
     }
 
-    /// Returns the highest number of a variable in a complete clause of the text so far, or 0.
+    /// Returns the highest variable number in the complete clauses of the text so far, or 0.
     pub fn var_count(&self) -> usize
         ensures count { result ≡ vars_of (clauses_read self.now) }
         ensures bound { result ≤ var_limit }
@@ -120,7 +122,7 @@ impl DimacsParser {
         self.parser.clauses.count
     }
 
-    /// Returns the header's numbers of variables and of clauses, if there is a header. Both are capped at 2^64-1, and
+    /// Returns the numbers of variables and of clauses in the header, if there is one. Both are capped at 2^64-1. They
     /// are not checked against the clauses.
     pub fn header(&self) -> Option<(u64, u64)>
         ensures { result ≡ held_numbers (dimacs_header (lines_read self.now)) }
@@ -128,26 +130,27 @@ impl DimacsParser {
         self.parser.clauses.header
     }
 
-    /// Whether a line that begins with `%` has ended the text: no byte after it is looked at, and only `finish` is due.
+    /// Whether a line that begins with `%` has ended the text. If so, all later bytes are ignored, and only `finish`
+    /// needs to be called.
     pub fn has_ended(&self) -> bool
         ensures { SaysEnded result self.now }
     {
         self.parser.has_ended()
     }
 
-    /// Reads a formula to the end of its text, which is the end of the reader or a line that begins with `%`. Returns
-    /// `OutOfMemory` only if the bytes that the reader gave have no fault.
+    /// Reads a formula up to the end of its text, which is the end of the reader or a line that begins with `%`.
+    /// Returns `OutOfMemory` only if the bytes that were read have no fault.
     pub fn parse<R: CountedRead>(alloc: Global, reader: &mut R) -> Result<CnfFormula, DimacsError>
-        // The formula and the faults are those of the text that was given, whatever follows.
+        // The formula or the fault is that of the bytes that were read, whatever bytes would follow them.
         ensures given { GaveEnough (R.seen reader.old) (R.seen reader.new) (Parses result) }
-        // A read has failed only if this is returned, and no read is repeated.
+        // A read has failed only if `Read` is returned, and no read is repeated.
         ensures kept { IsErrOf result DimacsError.Read ⊎ ((R.seen reader.new).failures ≡ (R.seen reader.old).failures) }
         ensures read { IsErrOf result DimacsError.Read → ReadFails (R.seen reader.old) (R.seen reader.new) }
-        // If a read fails or memory runs out, no line that was given has a fault, and no word is wrong whatever
-        // follows.
+        // If a read fails or memory runs out, no line that was read has a fault, and the unfinished word can still
+        // become valid.
         ensures sound { IsErrOf result DimacsError.Read ⊎ IsErrOf result DimacsError.OutOfMemory
             → GaveSound (R.seen reader.old) (R.seen reader.new) }
-        // No piece is read after a line that ends the text.
+        // Nothing is read after the line that ends the text.
         ensures stops { StopsReading (R.seen reader.old) (R.seen reader.new) }
         ensures reads { (R.seen reader.new).calls ≤ (R.seen reader.old).calls + most_reads }
         ensures fresh { IsErrOf result DimacsError.HasFailed → ⊥ }
@@ -156,7 +159,7 @@ impl DimacsParser {
         parser.read_formula(reader)
     }
 
-    /// Reads the next bytes of the text, or none if it has ended.
+    /// Reads the next bytes of the text, or none if a line that begins with `%` has ended the text.
     fn read_next<R: CountedRead>(&self, reader: &mut R, room: &mut [u8]) -> io::Result<usize>
         ensures bound { ReadsAtMost result room.new }
         ensures reads { ReadsNext result room.new self.now.fed (R.seen reader.old) (R.seen reader.new) }
@@ -168,7 +171,8 @@ impl DimacsParser {
         reader.read_counted(room)
     }
 
-    /// Feeds the next bytes of a text that is parsed completely or not at all.
+    /// Feeds the next bytes to the parser. If memory runs out, returns the first fault of these bytes instead, if there
+    /// is one.
     fn feed_or_find_fault(&mut self, piece: &[u8]) -> Result<(), DimacsError>
         ensures fed { OnOk result (FeedsPiece (Ok tt) piece.now self.old self.new) }
         ensures sound { OnOk result (IsSoundSoFar self.new) }
@@ -177,7 +181,7 @@ impl DimacsParser {
         self.parser.feed_or_find_fault(piece)
     }
 
-    /// Reads a text to its end, and returns all of its clauses.
+    /// Reads a text up to its end, and returns all of its clauses.
     fn read_formula<R: CountedRead>(&mut self, reader: &mut R) -> Result<CnfFormula, DimacsError>
         requires { self.old ≡ no_progress }
         ensures given { GaveEnough (R.seen reader.old) (R.seen reader.new) (Parses result) }
@@ -203,24 +207,25 @@ impl DimacsParser {
         Err(DimacsError::Read)
     }
 
-    /// Reads a formula to the end of its text, as `parse` does, and calls the closure with the parser after every chunk
-    /// and after the end. It is also called after a chunk that has a fault or needs too much memory, but not after a
-    /// failed read. The closure's refusal is returned at once, even instead of a fault. Clauses that a closure does not
-    /// take remain in the parser.
+    /// Reads a formula up to the end of its text, as `parse` does, and calls the closure with the parser after every
+    /// chunk and after the end. The closure is also called after a chunk that has a fault or needs too much memory, but
+    /// not after a failed read. If the closure returns an error, that error is returned immediately, even if the text
+    /// has a fault. Clauses that the closure does not take remain in the parser.
     pub fn parse_incremental<R: CountedRead, E: Drop, F: FnMut(&mut DimacsParser) -> Result<(), E>>(
         alloc: Global,
         reader: &mut R,
         closure: F,
     ) -> Result<DimacsParser, IncrementalError<E>>
         requires { F.IsAlwaysCallable closure }
-        // If no call does more than take clauses, the answer is that of the text that was given, whatever follows. The
-        // clauses taken and those that remain are also those of the text, by what `take_formula` ensures.
+        // If no call of the closure does more than take clauses, the result is that of the bytes that were read,
+        // whatever bytes would follow them. By the contract of `take_formula`, the clauses that were taken and those
+        // that remain are together the clauses of the text.
         ensures given { KeepsText (λ f p r q g. F.step f p r q g) closure
             → ParsesInParts (R.seen reader.old) (R.seen reader.new) result }
         // Whatever the closure does, it was called with the parser after every chunk that the reader gave.
         ensures visited { VisitsAll (λ f p r q g. F.step f p r q g) closure (R.seen reader.old) (R.seen reader.new)
             result }
-        // A read has failed only if this is returned, and no read is repeated.
+        // A read has failed only if `Read` is returned, and no read is repeated.
         ensures kept { IsErrOf result (IncrementalError.Dimacs DimacsError.Read)
             ⊎ ((R.seen reader.new).failures ≡ (R.seen reader.old).failures) }
         ensures read { IsErrOf result (IncrementalError.Dimacs DimacsError.Read)
@@ -234,7 +239,7 @@ impl DimacsParser {
         }
     }
 
-    /// Reads a text to its end, and calls the closure after every chunk and after the end.
+    /// Reads a text up to its end, and calls the closure after every chunk and after the end.
     fn read_parts<R: CountedRead, E: Drop, F: FnMut(&mut DimacsParser) -> Result<(), E>>(
         &mut self,
         reader: &mut R,

@@ -1,4 +1,4 @@
-//! Writing formulas as DIMACS CNF.
+//! Writes formulas as DIMACS CNF.
 ghost use Rattle.std.specs.Prelude.{◌≡◌, decimal, OnOk, []};
 ghost use Rattle.sat_base.specs.dimacs.DimacsText.{clause_line, clause_lines, dimacs_text, header_line, number_text};
 ghost use Rattle.sat_base.specs.device.Device.{WritesText};
@@ -14,7 +14,7 @@ use crate::{CnfFormula, CountedWrite, Lit};
 use std::io;
 
 impl<W: CountedWrite, P: Room> Output<W, P> {
-    /// Puts a number in decimal.
+    /// Writes a number in decimal to the buffer.
     fn put_decimal(&mut self, number: u64) -> Result<(), WriteFailed>
         ensures { SendsText (decimal number) result (sink_of W.seen P.waiting self.old)
             (sink_of W.seen P.waiting self.new) }
@@ -24,7 +24,7 @@ impl<W: CountedWrite, P: Room> Output<W, P> {
         self.put_all(&digits[..end])
     }
 
-    /// Puts the number of a literal, after `-` if it is negative.
+    /// Writes the number of a literal to the buffer, with a `-` if the literal is negative.
     fn put_literal(&mut self, lit: Lit) -> Result<(), WriteFailed>
         ensures { SendsText (number_text lit) result (sink_of W.seen P.waiting self.old)
             (sink_of W.seen P.waiting self.new) }
@@ -37,7 +37,7 @@ impl<W: CountedWrite, P: Room> Output<W, P> {
         self.put_decimal(number)
     }
 
-    /// Puts the line of a clause.
+    /// Writes the line of a clause to the buffer.
     fn put_clause(&mut self, lits: &[Lit]) -> Result<(), WriteFailed>
         ensures { SendsText (clause_line lits.now) result (sink_of W.seen P.waiting self.old)
             (sink_of W.seen P.waiting self.new) }
@@ -49,7 +49,7 @@ impl<W: CountedWrite, P: Room> Output<W, P> {
         self.put_all(b"0\n")
     }
 
-    /// Puts the lines of all clauses.
+    /// Writes the lines of all clauses to the buffer.
     fn put_clauses(&mut self, formula: &CnfFormula) -> Result<(), WriteFailed>
         ensures { SendsText (clause_lines formula.now.clauses) result (sink_of W.seen P.waiting self.old)
             (sink_of W.seen P.waiting self.new) }
@@ -60,7 +60,7 @@ impl<W: CountedWrite, P: Room> Output<W, P> {
         Ok(())
     }
 
-    /// Puts the line `p cnf V C`.
+    /// Writes the line `p cnf V C` to the buffer.
     fn put_header(&mut self, vars: u64, clauses: u64) -> Result<(), WriteFailed>
         ensures { SendsText (header_line vars clauses) result (sink_of W.seen P.waiting self.old)
             (sink_of W.seen P.waiting self.new) }
@@ -72,7 +72,7 @@ impl<W: CountedWrite, P: Room> Output<W, P> {
         self.put(b'\n')
     }
 
-    /// Writes out the text of a formula.
+    /// Writes the text of a formula, until no bytes are pending.
     fn write_formula(&mut self, formula: &CnfFormula) -> Result<(), WriteFailed>
         ensures sends { SendsText (dimacs_text formula.now) result (sink_of W.seen P.waiting self.old)
             (sink_of W.seen P.waiting self.new) }
@@ -85,8 +85,8 @@ impl<W: CountedWrite, P: Room> Output<W, P> {
 }
 
 /// Writes a formula in DIMACS CNF: a line `p cnf V C` with the numbers of variables and clauses, then a line for every
-/// clause, with its numbers and `0`. It writes in pieces of 4,096 bytes, and does not allocate. After an error, a
-/// prefix of the text may have been written.
+/// clause, with the numbers of its literals and `0`. Writes in pieces of at most 4,096 bytes, and does not allocate.
+/// After an error, a prefix of the text may have been written.
 pub fn write_dimacs<W: CountedWrite>(writer: &mut W, formula: &CnfFormula) -> io::Result<()>
     ensures { WritesText (dimacs_text formula.now) result (W.seen writer.old) (W.seen writer.new) }
 {

@@ -1,28 +1,29 @@
-//! A trait for everything that clauses and variables can be added to.
+//! A trait for everything to which clauses and variables can be added.
 ghost use Rattle.std.specs.Prelude.{◌≡◌, ℕ, List, true, MatchResult};
 ghost use Rattle.sat_base.specs.values.Literals.{coded};
 
 use crate::{Lit, Var};
 
-/// A formula that grows, or an owner of one, such as a solver. Every implementation defines relations that say what its
-/// calls mean. In them, clauses are lists of codes of literals, and variables are indices.
+/// A formula to which clauses and variables can be added, or an owner of such a formula, for example a solver. Every
+/// implementation defines relations that specify the effects of its methods. In these relations, a clause is a list of
+/// literal codes, and a variable is an index.
 pub trait ExtendFormula {
     /// Why a clause was not added, or no variable was returned.
     type Error;
 
-    /// What has to hold between calls. Every call preserves it, whatever it returns.
+    /// The invariant between calls. Every call preserves the invariant, whatever the call returns.
     ghost ready: { Self → Type 0 };
 
-    /// Adding this clause leads from the state before to the state after.
+    /// Relates the states before and after a clause is added.
     ghost adds: { Self → List ℕ → Self → Type 0 };
 
-    /// Refusing this clause for this reason leads from the state before to the state after.
+    /// Relates the states before and after a clause is refused with an error.
     ghost refuses_clause: { Self → List ℕ → Self.Error → Self → Type 0 };
 
-    /// Returning this variable leads from the state before to the state after.
+    /// Relates the states before and after a new variable is returned.
     ghost makes: { Self → ℕ → Self → Type 0 };
 
-    /// Returning no variable, for this reason, leads from the state before to the state after.
+    /// Relates the states before and after an error is returned instead of a new variable.
     ghost refuses_variable: { Self → Self.Error → Self → Type 0 };
 
     /// Adds a clause.
@@ -32,7 +33,7 @@ pub trait ExtendFormula {
         ensures adds { MatchResult result (λ _. adds self.old lits.now self.new)
             (λ e. refuses_clause self.old lits.now e self.new) };
 
-    /// Returns a variable that is used nowhere else.
+    /// Returns a new variable.
     fn new_var(&mut self) -> Result<Var, Self::Error>
         requires { ready self.old }
         ensures ready { ready self.new }

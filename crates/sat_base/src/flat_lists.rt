@@ -1,4 +1,4 @@
-//! Lists of lists in one buffer: their items one after another, and the end of every list.
+//! Lists of lists, stored as a buffer with the items of all lists, and the position where every list ends.
 #![tactic(auto, using(crate::proofs::lemmas::values::FlatLemmas::flat))]
 
 ghost use Rattle.std.specs.Prelude.{◌≡◌, ◌≤◌, ◌<◌, ◌↔◌, ◌++◌, ◌∷◌, [], List, IsTrue, length, slice_index};
@@ -10,7 +10,7 @@ pub use self::iter::FlatListsIter;
 use std::alloc::{AllocError, Global};
 use std::marker::Model;
 
-/// Lists in the order in which they were added. Contracts see a list of lists.
+/// A list of lists, in the order in which they were added. Contracts see a list of lists.
 #[derive(Debug, Drop)]
 pub struct FlatLists<T> {
     items: Vec<T>,
@@ -28,7 +28,7 @@ impl<T> Model for FlatLists<T> {
     ghost invariant = { λ f. AreEnds 0 f.ends.items f.items.items };
 }
 
-/// Returns where the list at this place begins.
+/// Returns the position where the list with the index `place` begins.
 fn start_at(ends: &[usize], place: usize) -> usize
     requires { place ≤ length ends.now }
     ensures { result ≡ slice_index (0 ∷ ends.now) place }
@@ -61,7 +61,7 @@ impl<T: Copy> FlatLists<T> {
         self.len() == 0
     }
 
-    /// Returns the list at this place.
+    /// Returns the list with the index `place`, as a slice.
     pub fn get(&self, place: usize) -> &[T]
         requires { place < length self.now }
         ensures { result.now ≡ slice_index_or self.now place [] }
@@ -70,7 +70,7 @@ impl<T: Copy> FlatLists<T> {
         &self.items[start..self.ends[place]]
     }
 
-    /// Adds a list after the others.
+    /// Appends a list.
     pub fn push(&mut self, list: &[T]) -> Result<(), AllocError>
         ensures ok { OnOk result (self.new ≡ self.old ++ list.now ∷ []) }
         ensures err { OnErr result (self.new ≡ self.old) }

@@ -15,11 +15,11 @@ use crate::{Lit, Var};
 use std::alloc::Global;
 use std::marker::Model;
 
-/// An iterator that lends the clauses of a formula, in order.
+/// An iterator over references to the clauses of a formula, in order.
 pub type CnfFormulaIter<'a> = FlatListsIter<'a, Lit>;
 
-/// A formula in conjunctive normal form: its clauses, in the order in which they were added, and its number of
-/// variables, at most 2^28.
+/// A formula in conjunctive normal form: clauses, in the order in which they were added, and a number of variables,
+/// which is at most 2^28.
 #[derive(Debug, Drop)]
 pub struct CnfFormula {
     var_count: usize,
@@ -49,7 +49,7 @@ impl CnfFormula {
         }
     }
 
-    /// Returns the number of variables. Their indices are the numbers below it.
+    /// Returns the number of variables. The indices of the variables are the numbers below this.
     pub fn var_count(&self) -> usize
         ensures count { result ≡ self.now.var_count }
         ensures covers { vars_of self.now.clauses ≤ self.now.var_count }
@@ -89,7 +89,7 @@ impl CnfFormula {
     }
 }
 
-/// Returns one more than the highest index of a variable of these literals, or 0 if there are none.
+/// Returns one more than the highest variable index among the literals, or 0 if there are no literals.
 #[tactic(auto, using(crate::proofs::lemmas::values::FlatLemmas::vars_next))]
 fn vars_in(lits: &[Lit]) -> usize
     ensures count { result ≡ vars_in lits.now }

@@ -4,13 +4,13 @@ ghost use Rattle.sat_base.specs.values.Hashes.{literal_hash, hash_of};
 
 use crate::Lit;
 
-/// The hash of a clause: the exclusive or of the hashes of its literals, in any order.
+/// The hash of a clause: the exclusive or of the hashes of its literals. Their order doesn't matter.
 pub type ClauseHash = u64;
 
-/// The odd constant by which a literal is multiplied: 2^64 divided by the golden ratio.
+/// The odd number by which a literal's code plus one is multiplied: 2^64 divided by the golden ratio, rounded down.
 const MULTIPLIER: u64 = 0x9e37_79b9_7f4a_7c15;
 
-/// Returns the hash of a literal: its code plus one, times a constant, modulo 2^64.
+/// Returns the hash of a literal: its code plus one, times `MULTIPLIER`, modulo 2^64.
 pub fn lit_hash(lit: Lit) -> ClauseHash
     ensures { result ≡ literal_hash lit }
 {
@@ -18,7 +18,7 @@ pub fn lit_hash(lit: Lit) -> ClauseHash
 }
 
 #[tactic(auto, using(crate::proofs::lemmas::values::HashLemmas::hash_next))]
-/// Returns the hash of a clause: the exclusive or of its literals' hashes, or 0 if it has none.
+/// Returns the hash of a clause: the exclusive or of the hashes of its literals, or 0 if there are none.
 pub fn clause_hash(lits: &[Lit]) -> ClauseHash
     ensures { result ≡ hash_of lits.now }
 {

@@ -1,26 +1,27 @@
-//! Laws of formulas' texts, only for proofs.
+//! Laws about the texts of formulas, which only proofs use.
 ghost use Rattle.sat_base.specs.dimacs.DimacsRows.{CleanRows, FaultRows, HeaderRows, PartRows};
 ghost use Rattle.sat_base.specs.dimacs.DimacsSpelling.{OneFormula, CleanIfSpelled};
 ghost use Rattle.sat_base.specs.dimacs.WrittenDimacs.{WrittenIsRead};
 
-/// Every text has one list of clauses and one end. It reads cleanly as clauses exactly if its words outside comments
-/// and before a `%` line spell them, one clause after another, after a header or none. The call does nothing.
+/// States that every text is read as exactly one list of clauses and one end. A text is read as some clauses without a
+/// fault exactly if its words outside comments and before a `%` line spell them: an optional header, and then one
+/// clause after another. The call does nothing.
 pub fn dimacs_laws()
     ensures one { OneFormula }
     ensures spelled { CleanIfSpelled }
 {}
 
-/// The text that is written for a formula is read as that formula: its clauses in order, a clean end, and a header with
-/// the numbers of variables and clauses. The call does nothing.
+/// States that the text that is written for a formula is read as that formula: its clauses in order, without a fault,
+/// and a header with the numbers of variables and clauses. The call does nothing.
 pub fn written_dimacs_is_read()
     ensures { WrittenIsRead }
 {}
 
-/// Example texts, with their meaning. The call does nothing.
+/// States the meaning of example texts. The call does nothing.
 pub fn dimacs_rows()
     ensures clean { CleanRows }
     ensures faults { FaultRows }
     ensures headers { HeaderRows }
-    // A text up to its last blank, and up to its last LF.
+    // The prefix of a text up to its last blank, and the prefix up to its last LF.
     ensures parts { PartRows }
 {}

@@ -1,10 +1,10 @@
-//! Laws of the state that a script's commands leave.
+//! Laws about the state after the commands of a script.
 ghost use Rattle.sat_base.specs.script.ScriptStateLaws.{GivenIdentitiesSuffice, ScriptStateInvariantHolds, NamesAreInUse, NamesAreListed};
 
-/// After every script, names in use increase and stay within the limit, and every identity has a mode. Identities that
-/// were not given out do not matter for the clauses and the names in use. An increasing list of exactly the names in
-/// use is the list of them. Names are in use once a command introduced them, and so are those of right models and cores.
-/// The call does nothing.
+/// States the following about the state after a script. The list of names in use is increasing and within the limit,
+/// and every identity has a mode. The clauses and the names in use don't depend on identities that have not been
+/// assigned. An increasing list with exactly the names in use is equal to the list of names in use. A name that a
+/// command introduces is in use, and so are all names in correct models and cores. The call does nothing.
 pub fn judge_laws()
     ensures kept { ScriptStateInvariantHolds }
     ensures given { GivenIdentitiesSuffice }

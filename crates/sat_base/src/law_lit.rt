@@ -1,4 +1,4 @@
-//! How variables and literals are ordered and hashed, as contracts see it.
+//! Laws about how variables and literals are ordered and hashed.
 ghost use Rattle.std.specs.Ordering.{nat_cmp};
 ghost use Rattle.std.specs.Prelude.{◌≡◌, IsTrue, fold};
 ghost use Rattle.std.specs.Hash.DefaultHasher as sip;
@@ -7,14 +7,15 @@ use crate::{Lit, Var};
 use std::cmp::Ordering;
 use std::hash::{DefaultHasher, Hash, Hasher};
 
-/// Variables are ordered by their indices.
+/// Compares two variables. States that variables are ordered by their indices.
 pub fn order_of_variables(a: Var, b: Var) -> Ordering
     ensures { result ≡ nat_cmp a b }
 {
     a.cmp(&b)
 }
 
-/// Literals are ordered by their codes: by variable, the positive one first.
+/// Compares two literals. States that literals are ordered by their codes: by variable, with the positive
+/// literal first.
 pub fn order_of_literals(l: Lit, m: Lit) -> Ordering
     ensures { result ≡ nat_cmp l m }
 {
@@ -30,14 +31,14 @@ fn fed<T: Hash>(value: &T) -> u64
     state.finish()
 }
 
-/// Equal variables feed a hasher the same.
+/// Returns true. States that equal variables pass the same input to a hasher.
 pub fn equal_variables_hash_alike(a: &Var, b: &Var) -> bool
     ensures { IsTrue result }
 {
     *a != *b || fed(a) == fed(b)
 }
 
-/// Equal literals feed a hasher the same.
+/// Returns true. States that equal literals pass the same input to a hasher.
 pub fn equal_literals_hash_alike(l: &Lit, m: &Lit) -> bool
     ensures { IsTrue result }
 {

@@ -1,4 +1,4 @@
-//! Literals, hashes, texts of clauses and scripts, proof steps and their bytes.
+//! Literals, hashes, texts of clauses and scripts, and proof steps and their encoding.
 #![tactic(auto)]
 
 mod decimal;

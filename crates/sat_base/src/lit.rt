@@ -7,8 +7,8 @@ use crate::Var;
 use std::marker::Model;
 use std::ops::{BitXor, Not};
 
-/// A literal: a variable or its negation. Contracts see its code: twice the variable's index, plus one if negative.
-/// Literals are ordered by their codes.
+/// A literal: a variable or its negation. Contracts see the literal's code: twice the variable's index, plus one if the
+/// literal is negative. Literals are ordered by their codes.
 #[derive(Clone, Copy, Debug, PartialEq, Eq, PartialOrd, Ord, Hash)]
 pub struct Lit {
     code: u32,
@@ -28,7 +28,7 @@ impl Model for Lit {
 }
 
 impl Lit {
-    /// Returns the literal of a variable, positive or negative.
+    /// Returns the positive literal of `var` if `positive` is true, and the negative one otherwise.
     pub fn from_var(var: Var, positive: bool) -> Lit
         ensures { result ≡ coded var positive }
     {
@@ -49,7 +49,8 @@ impl Lit {
         Lit::from_var(var, false)
     }
 
-    /// Returns the literal of the variable with this index, positive or negative.
+    /// Returns the positive literal of the variable with this index if `positive` is true, and the negative
+    /// one otherwise.
     pub fn from_index(index: usize, positive: bool) -> Lit
         requires { index < var_limit }
         ensures { result ≡ coded index positive }
@@ -68,8 +69,8 @@ impl Lit {
         Lit { code: code as u32 }
     }
 
-    /// Returns the literal that DIMACS writes as this number: that of the variable with its absolute value, with the
-    /// sign of the number. Returns `None` for 0, and if the absolute value is above 2^28.
+    /// Returns the literal for a number in DIMACS: the absolute value is the number of the variable, and the sign is
+    /// that of the literal. Returns `None` if the number is 0, or its absolute value is above 2^28.
     pub fn from_dimacs(number: i64) -> Option<Lit>
         ensures { MatchOption result (IsNoNumeral number) (λ l. number ≡ numeral l) }
     {
@@ -77,7 +78,7 @@ impl Lit {
         Some(var.lit(number > 0))
     }
 
-    /// Returns the number that DIMACS writes for the literal.
+    /// Returns the number of the literal in DIMACS.
     pub fn to_dimacs(self) -> i64
         ensures { result ≡ numeral self }
     {
@@ -122,7 +123,7 @@ impl Lit {
         !self.is_positive()
     }
 
-    /// Returns the literal with the same sign whose variable is what `f` returns.
+    /// Returns the literal with its variable replaced by the one that `f` returns.
     pub fn map_var<F: FnOnce(Var) -> Var>(self, f: F) -> Lit
         requires { F.pre f (variable self) }
         ensures { (v : ℕ) × F.post f (variable self) v × (result ≡ coded v (is_positive self)) }

@@ -1,4 +1,4 @@
-//! Proof steps, and reading and writing their bytes.
+//! Proof steps, and their encoding as bytes.
 
 mod error;
 mod fields;

@@ -1,26 +1,26 @@
-//! Tables from places to values.
+//! Tables of values, indexed by numbers that are called *places*.
 ghost use Rattle.std.specs.Prelude.{ℕ, ◌≡◌, ◌≤◌, ◌<◌, ◌+◌, length, slice_index_or, OnOk, OnErr};
 ghost use Rattle.sat_base.specs.values.Tables.{near_count, value_at, HasPlaceFor, KeepsRoom, KeepsValues, SetsValue};
 
 use std::alloc::{AllocError, Global};
 use std::collections::BTreeMap;
 
-/// The number of places that may always be near.
+/// Every table can have at least this many near places.
 const FEW: usize = 1 << 18;
 
-/// The number of further places that may be near for every place for which room was made.
+/// Every place for which room is made allows this many more near places.
 const MORE: usize = 8;
 
-/// A table from places to values, most of which may be missing.
+/// A table that maps places, which are numbers, to values. Most of the values may be missing.
 ///
-/// Near places are in a list, others in a tree. The length of the list is limited by a multiple of the number of places
-/// for which room was made, or by the owner. So the memory of a table depends on how much was read, not on which
-/// numbers were read. A place in the list costs as much as in a `Vec`.
+/// The values of the *near* places, those below some number, are in a list; other values are in a tree. The length of
+/// the list is limited by the number of places for which room was made, or by the owner. So the memory of a table
+/// depends on how many places are used, not on how large they are. Accessing a near place costs as much as in a `Vec`.
 #[derive(Drop)]
 pub struct Table<T> {
     near: Vec<T>,
     far: BTreeMap<usize, T>,
-    /// The limit of near places.
+    /// Only places below this number may become near.
     limit: usize,
 }
 
@@ -36,7 +36,7 @@ impl<T: Copy> Table<T> {
         }
     }
 
-    /// Raises the limit of near places to `limit`, if it was lower. Does not allocate, and changes no value.
+    /// Allows all places below `limit` to become near. Does not allocate, and changes no value.
     #[inline(always)]
     pub fn allow(&mut self, limit: usize)
         ensures same { (missing : T) → KeepsValues missing self.old self.new }
@@ -52,7 +52,7 @@ impl<T: Copy> Table<T> {
         self.near.len()
     }
 
-    /// Returns the values at the near places.
+    /// Returns the values of the near places, as a slice.
     #[inline(always)]
     pub fn near(&self) -> &[T]
         ensures count { length result.now ≡ near_count self.now }
@@ -62,7 +62,7 @@ impl<T: Copy> Table<T> {
         self.near.as_slice()
     }
 
-    /// Returns the value at a place, or `missing` if there is none.
+    /// Returns the value at `place`, or `missing` if there is none.
     #[inline(always)]
     pub fn get(&self, place: usize, missing: T) -> T
         ensures { result ≡ value_at missing self.now place }
@@ -73,7 +73,7 @@ impl<T: Copy> Table<T> {
         self.get_behind(place, missing)
     }
 
-    /// Returns the value at a place that is not near.
+    /// Returns the value at `place`, which must not be near, or `missing` if there is none.
     #[inline(always)]
     fn get_behind(&self, place: usize, missing: T) -> T
         requires { length self.now.near.items ≤ place }
@@ -85,7 +85,7 @@ impl<T: Copy> Table<T> {
         self.get_far(place, missing)
     }
 
-    /// Returns the value at a place in the tree.
+    /// Returns the value at `place` from the tree, or `missing` if there is none.
     #[inline(never)]
     fn get_far(&self, place: usize, missing: T) -> T
         requires { length self.now.near.items ≤ place }
@@ -97,8 +97,8 @@ impl<T: Copy> Table<T> {
         }
     }
 
-    /// Makes room for the value at a place, which is `missing` if there was none. No value changes, even if memory runs
-    /// out.
+    /// Makes room for a value at `place`. A place without a value gets the value `missing`. Other values don't change,
+    /// even if memory runs out.
     #[inline(always)]
     pub fn make_room(&mut self, place: usize, missing: T) -> Result<(), AllocError>
         ensures room { OnOk result (HasPlaceFor self.new place) }
@@ -111,7 +111,7 @@ impl<T: Copy> Table<T> {
         self.make_room_behind(place, missing)
     }
 
-    /// Makes room for a place in the tree.
+    /// Makes room for a value at `place`, which is not near, either in the list or in the tree.
     #[inline(never)]
     fn make_room_behind(&mut self, place: usize, missing: T) -> Result<(), AllocError>
         requires { length self.old.near.items ≤ place }
@@ -140,7 +140,7 @@ impl<T: Copy> Table<T> {
         Ok(())
     }
 
-    /// Makes the next place near.
+    /// Makes the first place that is not near, `next`, near.
     fn draw_next(&mut self, next: usize, missing: T) -> Result<(), AllocError>
         requires { length self.old.near.items ≡ next }
         ensures longer { OnOk result (length self.new.near.items ≡ next + 1) }
@@ -152,7 +152,7 @@ impl<T: Copy> Table<T> {
         Ok(())
     }
 
-    /// Makes room for a place that is not near.
+    /// Makes room for a value at `place` in the tree.
     fn make_far(&mut self, place: usize, missing: T) -> Result<(), AllocError>
         requires { length self.old.near.items ≤ place }
         ensures room { OnOk result (HasPlaceFor self.new place) }
@@ -167,7 +167,7 @@ impl<T: Copy> Table<T> {
         Ok(())
     }
 
-    /// Sets the value at a place that has room. Does not allocate.
+    /// Sets the value at `place`, for which room must have been made. Does not allocate.
     #[inline(always)]
     pub fn put(&mut self, place: usize, value: T)
         requires { HasPlaceFor self.old place }
@@ -181,7 +181,7 @@ impl<T: Copy> Table<T> {
         self.put_far(place, value);
     }
 
-    /// Sets the value at a place in the tree.
+    /// Sets the value at `place` in the tree.
     #[inline(never)]
     fn put_far(&mut self, place: usize, value: T)
         requires room { HasPlaceFor self.old place }
@@ -194,7 +194,7 @@ impl<T: Copy> Table<T> {
         }
     }
 
-    /// Sets the value at a place. If memory runs out, no value changes.
+    /// Sets the value at `place`. If memory runs out, no value changes.
     pub fn set(&mut self, place: usize, value: T, missing: T) -> Result<(), AllocError>
         ensures ok { OnOk result (SetsValue missing self.old self.new place value) }
         ensures err { OnErr result (KeepsValues missing self.old self.new) }
@@ -204,7 +204,7 @@ impl<T: Copy> Table<T> {
         Ok(())
     }
 
-    /// Resets the value at a place to `missing`. Does not allocate, and needs no room.
+    /// Resets the value at `place` to `missing`. Does not allocate, and needs no room.
     #[inline(always)]
     pub fn reset(&mut self, place: usize, missing: T)
         ensures set { SetsValue missing self.old self.new place missing }
@@ -217,7 +217,7 @@ impl<T: Copy> Table<T> {
         self.reset_far(place, missing);
     }
 
-    /// Resets the value at a place in the tree.
+    /// Resets the value at `place` in the tree to `missing`.
     #[inline(never)]
     fn reset_far(&mut self, place: usize, missing: T)
         requires { length self.old.near.items ≤ place }

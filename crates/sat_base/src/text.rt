@@ -1,4 +1,4 @@
-//! Tokens of formulas and scripts, from their bytes.
+//! Splits the bytes of formulas and scripts into tokens.
 ghost use Rattle.std.specs.Prelude.{◌≡◌, ◌+◌, ◌*◌, ◌-◌, ◌<◌, ◌≤◌, ℕ, List, [], Bool, true, false, None, Some, IfSome};
 ghost use Rattle.std.specs.Prelude.{length, take};
 ghost use Rattle.sat_base.specs.text.Text.{is_blank, is_digit, is_letter, Scan, scan};
@@ -12,28 +12,30 @@ mod header;
 
 use header::{HeaderPlace, Stage, ended_in, next_in_header};
 
-/// A token: what a word says, or a header line.
+/// A token: a word, or a header line.
 #[derive(Clone, Copy, Debug, Drop, PartialEq, Eq)]
 pub enum Token {
-    /// A number: an optional `-` and digits. Larger values are capped at 2^64-1. A number of value 0 is not negative.
+    /// A number: an optional `-`, and digits. Values above 2^64-1 are capped to 2^64-1. A number with the value 0 is
+    /// not negative.
     Number { negative: bool, value: u64 },
     /// A word of one ASCII letter.
     Letter(u8),
-    /// A line `p cnf VARS CLAUSES` at a place where it is allowed. Both numbers are capped at 2^64-1, and are not
-    /// checked against the clauses.
+    /// A line `p cnf VARS CLAUSES` where a header is allowed. Both numbers are capped at 2^64-1. They are not checked
+    /// against the clauses.
     Header { vars: u64, clauses: u64 },
-    /// Any other word, such as `-0`, `+1` and `x1`, and any other line that begins with `p`.
+    /// Any other word, such as `-0`, `+1` and `x1`, or any other line that begins with `p`.
     Wrong,
 }
 
-/// A place in a text. The flag says whether a header may still come; without a flag, none may.
+/// A place in a text, as far as it matters for what follows. A flag says whether a header may still come. In a place
+/// without a flag, no further header may come.
 #[derive(Clone, Copy, Drop)]
 enum Place {
     /// At the start of a line.
     Fresh(bool),
     /// After blanks at the start of a line.
     Leading(bool),
-    /// In a comment, or after the wrong word of a header line.
+    /// In a comment, or after the malformed word of a header line.
     Comment(bool),
     Between,
     /// After a minus sign.
@@ -42,31 +44,31 @@ enum Place {
     Digits { negative: bool, value: u64 },
     /// After a letter that begins a word.
     Letter(u8),
-    /// In a word that is wrong.
+    /// In a malformed word.
     Bad,
     /// In a header line.
     Header(HeaderPlace),
-    /// In a word of a header line that is not allowed there.
+    /// In a word of a header line that makes the line malformed.
     Spoilt,
     /// After the `%` that ends the text.
     Over,
 }
 
-/// A tokenizer: it receives the bytes of a text one by one, and returns its tokens. It holds no bytes.
+/// A tokenizer, which receives the bytes of a text and returns the tokens. It stores no bytes.
 ///
-/// Blanks are space, tab, CR and LF, and a word is a longest run of other bytes. A line ends at LF. The first nonblank
-/// byte of a line decides what the line is: with `c` it is a comment, with `%` it ends the text, and with `p` it is a
-/// header line, which is one token. A header is allowed once, before the first word of other lines.
+/// Blanks are space, tab, CR and LF. A word is a maximal run of other bytes. A line ends at LF. The first nonblank byte
+/// of a line decides what kind of line it is: `c` begins a comment, `%` ends the text, and `p` begins a header line,
+/// which is a single token. A header is allowed once, before the first word of any other line.
 #[derive(Drop)]
 pub struct Tokenizer {
     place: Place,
-    /// The lines that have ended, capped at 2^64-1.
+    /// The number of lines that have ended, capped at 2^64-1.
     lines: u64,
 }
 
-// Every byte goes through several of the functions below, which pass places by value. Unless they are inlined, every
-// place is written to memory and read again. With all of them inlined, a tokenizer that is lent to no other function
-// stays in registers.
+// Every byte is passed through several of the functions below, which pass places by value. Without inlining, every
+// place would be written to memory and read back. With all of the functions inlined, a tokenizer that is not passed to
+// any other function stays in registers.
 
 /// Whether a byte is a space, a tab, a CR or an LF.
 fn is_blank(byte: u8) -> bool
@@ -89,19 +91,19 @@ fn is_letter(byte: u8) -> bool
     (byte > 64 && byte < 91) || (byte > 96 && byte < 123)
 }
 
-/// Returns the value with one more digit, capped at 2^64-1.
+/// Returns the value of the number with `digit` appended, capped at 2^64-1.
 fn grown(value: u64, digit: u8) -> u64
     requires { is_digit digit ≡ true }
     ensures { result ≡ grown value digit }
 {
-    // Most numbers are far from the limit, and a multiplication that does not test it takes half as long.
+    // Most numbers are far below the limit, and a multiplication without a check takes half as long.
     if value < 1 << 60 {
         return value * 10 + (digit - 48) as u64;
     }
     value.saturating_mul(10).saturating_add((digit - 48) as u64)
 }
 
-/// Returns the place in a word that begins with this byte.
+/// Returns the place after `byte`, which begins a word.
 #[inline(always)]
 fn word_begun(byte: u8) -> Place
     requires { is_blank byte ≡ false }
@@ -121,7 +123,7 @@ fn word_begun(byte: u8) -> Place
     }
 }
 
-/// Returns the place after the first nonblank byte of a line.
+/// Returns the place after `byte`, the first nonblank byte of a line. `may` says whether a header may still come.
 #[inline(always)]
 fn line_begun(may: bool, byte: u8) -> Place
     requires { is_blank byte ≡ false }
@@ -143,7 +145,7 @@ fn line_begun(may: bool, byte: u8) -> Place
     }
 }
 
-/// Returns the place after digits and this byte.
+/// Returns the place after `byte`, which follows the digits of a number.
 #[inline(always)]
 fn number_goes_on(negative: bool, value: u64, byte: u8) -> Place
     requires { is_blank byte ≡ false }
@@ -159,7 +161,7 @@ fn number_goes_on(negative: bool, value: u64, byte: u8) -> Place
     }
 }
 
-/// Returns the value with the digits with which these bytes begin, and the number of these digits.
+/// Appends the digits at the start of `bytes` to a number. Returns the new value, and how many digits were appended.
 #[inline(always)]
 fn digits_in(value: u64, bytes: &[u8]) -> (u64, usize)
     ensures within { result.1 ≤ length bytes.now }
@@ -176,7 +178,7 @@ fn digits_in(value: u64, bytes: &[u8]) -> (u64, usize)
     (value, bytes.len())
 }
 
-/// Returns the value of the digits with which these bytes begin, and their number, or `None` if there are none.
+/// Returns the value of the digits at the start of `bytes`, and how many digits there are, or `None` if there are none.
 #[inline(always)]
 fn some_digits_in(bytes: &[u8]) -> Option<(u64, usize)>
     ensures within { IfSome result (λ r. (0 < r.1) × (r.1 ≤ length bytes.now)) }
@@ -195,8 +197,8 @@ fn some_digits_in(bytes: &[u8]) -> Option<(u64, usize)>
     Some((value, count + 1))
 }
 
-/// Returns the sign and the value of the number with which these bytes begin, and its length, or `None` if there is
-/// none.
+/// Returns whether the number at the start of `bytes` is negative, its absolute value and its length in bytes, or
+/// `None` if `bytes` doesn't begin with a number.
 #[inline(always)]
 fn number_in(bytes: &[u8]) -> Option<(bool, u64, usize)>
     ensures within { IfSome result (λ r. (0 < r.2) × (r.2 ≤ length bytes.now)) }
@@ -216,7 +218,7 @@ fn number_in(bytes: &[u8]) -> Option<(bool, u64, usize)>
     Some((negative, value, count + 1))
 }
 
-/// Whether the next byte begins a word, unless it begins a comment or a header, or ends the text.
+/// Whether a digit or `-` begins a word at `place`.
 #[inline(always)]
 fn begins_word(place: Place) -> bool
     ensures { result ≡ true → BeginsWord place }
@@ -224,7 +226,7 @@ fn begins_word(place: Place) -> bool
     matches!(place, Place::Between | Place::Fresh(_) | Place::Leading(_))
 }
 
-/// Returns the place after a minus sign and this byte.
+/// Returns the place after `byte`, which follows a minus sign.
 #[inline(always)]
 fn number_begun(byte: u8) -> Place
     requires { is_blank byte ≡ false }
@@ -240,7 +242,7 @@ fn number_begun(byte: u8) -> Place
     }
 }
 
-/// Returns the place after a nonblank byte.
+/// Returns the place that follows `place` after the nonblank byte `byte`.
 #[inline(always)]
 fn next(place: Place, byte: u8) -> Place
     requires { is_blank byte ≡ false }
@@ -264,7 +266,7 @@ fn next(place: Place, byte: u8) -> Place
     }
 }
 
-/// Returns the token of a header line that ends here.
+/// Returns the token for a header line that ends at `place`.
 fn header_token(place: HeaderPlace) -> Token
     ensures { SaysInHand (Some result) (Place.Header place) }
 {
@@ -274,7 +276,7 @@ fn header_token(place: HeaderPlace) -> Token
     }
 }
 
-/// Returns the token that the end of the line completes, if there is one.
+/// Returns the token that is completed if the line ends at `place`, if there is one.
 #[inline(always)]
 fn token_in(place: Place) -> Option<Token>
     ensures { SaysInHand result place }
@@ -300,7 +302,7 @@ fn token_in(place: Place) -> Option<Token>
     }
 }
 
-/// Returns the token that is ended by a blank within a line, if there is one.
+/// Returns the token that a blank within a line completes at `place`, if there is one.
 #[inline(always)]
 fn token_at_blank(place: Place) -> Option<Token>
     ensures { SaysAtBlank result place }
@@ -314,7 +316,7 @@ fn token_at_blank(place: Place) -> Option<Token>
     }
 }
 
-/// Returns the place after a blank within a line.
+/// Returns the place that follows `place` after a blank within a line.
 #[inline(always)]
 fn after_blank(place: Place) -> Place
     ensures leads { LeadsBehind place result }
@@ -338,7 +340,7 @@ fn after_blank(place: Place) -> Place
     }
 }
 
-/// Whether a header may come on later lines.
+/// Whether a header may still come on later lines.
 fn may_come(place: Place) -> bool
     ensures { result ≡ may_come place }
 {
@@ -351,7 +353,7 @@ fn may_come(place: Place) -> bool
 }
 
 impl Tokenizer {
-    /// Returns a tokenizer before the first byte of a text.
+    /// Returns a tokenizer positioned before the first byte of a text.
     pub fn new() -> Tokenizer
         ensures { StandsBefore result scan }
     {
@@ -361,7 +363,7 @@ impl Tokenizer {
         }
     }
 
-    /// Returns a copy, which can receive other bytes than this one.
+    /// Returns an independent copy of the tokenizer.
     pub(crate) fn copied(&self) -> Tokenizer
         ensures { result ≡ self.now }
     {
@@ -371,7 +373,7 @@ impl Tokenizer {
         }
     }
 
-    /// Receives LF.
+    /// Receives an LF. Returns the token that the LF ends, if there is one.
     #[inline(always)]
     fn end_line(&mut self) -> Option<Token>
         ensures takes { TakesByte self.old 10 result self.new }
@@ -387,22 +389,23 @@ impl Tokenizer {
         token
     }
 
-    /// Receives the next byte, and returns the token that it ends, if there is one. A header ends at its LF, a wrong
-    /// word in a header line at the blank after it. After the `%` that ends the text, no byte ends a token.
+    /// Receives the next byte. Returns the token that the byte ends, if there is one. A header ends at its LF, and
+    /// a malformed word in a header line ends at the blank after it. After the `%` that ends the text, no byte ends
+    /// a token.
     #[inline(always)]
     pub fn push(&mut self, byte: u8) -> Option<Token>
         ensures takes { TakesByte self.old byte result self.new }
-        // Only a blank ends a word,
+        // Only a blank ends a word.
         ensures inside { is_blank byte ≡ false → result ≡ None }
-        // and after it no word is unfinished, and after LF no header line,
+        // After a blank no word is unfinished, and after LF no header line is unfinished.
         ensures quiet { is_blank byte ≡ true → (after : List ℕ → Scan) → StandsBefore self.new after
             → HoldsNoWord (after []) }
         ensures ended { byte ≡ 10 → (after : List ℕ → Scan) → StandsBefore self.new after → (after []).tokens ≡ [] }
-        // and what follows may be right.
+        // After a blank, the text can still be continued to a valid one.
         ensures right { is_blank byte ≡ true → (after : List ℕ → Scan) → StandsBefore self.new after
             → RightAhead after }
     {
-        // Most bytes are a further digit, so this place is tested first.
+        // Most bytes continue a number, so this place is tested first.
         if let Place::Digits { negative, value } = self.place {
             if is_digit(byte) {
                 self.place = number_goes_on(negative, value, byte);
@@ -421,7 +424,8 @@ impl Tokenizer {
         token
     }
 
-    /// Receives the number with which the bytes begin, if a word begins here. Returns its length.
+    /// Receives the number at the start of `bytes`, if a word begins here. Returns the length of the number, or `None`
+    /// if nothing was received.
     #[inline(always)]
     fn push_number(&mut self, bytes: &[u8]) -> Option<usize>
         ensures none { result ≡ None → self.new ≡ self.old }
@@ -436,14 +440,14 @@ impl Tokenizer {
         Some(count)
     }
 
-    /// Receives a number with which the bytes begin, and the space or LF after it, if a word begins here. Returns the
-    /// number of these bytes, whether the number is negative, and its value, capped at 2^64-1. Otherwise it receives
-    /// nothing, and `push_some` has to be called.
+    /// Receives the number at the start of `bytes` and the space or LF after it, if a word begins here. Returns how
+    /// many bytes were received, whether the number is negative, and its absolute value, capped at 2^64-1. Otherwise
+    /// receives nothing and returns `None`; then `push_some` must be called.
     #[inline(always)]
     pub fn push_whole(&mut self, bytes: &[u8]) -> Option<(usize, bool, u64)>
         ensures none { result ≡ None → self.new ≡ self.old }
         ensures within { IfSome result (λ r. (0 < r.0) × (r.0 ≤ length bytes.now)) }
-        // As if these bytes were pushed one by one: the last one ends this number.
+        // The effect is as if the bytes were pushed one by one: the last one ends the number.
         ensures takes { IfSome result (λ r.
             TakesFront self.old (take r.0 bytes.now) (Some (Token.Number r.1 r.2)) self.new) }
         ensures right { (result ≡ None → ⊥) → (after : List ℕ → Scan) → StandsBefore self.new after
@@ -453,7 +457,7 @@ impl Tokenizer {
             return None;
         }
         let (negative, value, count) = number_in(bytes)?;
-        // `-0` is a wrong word.
+        // `-0` is a malformed word.
         if count == bytes.len() || (negative && value == 0) {
             return None;
         }
@@ -470,8 +474,8 @@ impl Tokenizer {
         None
     }
 
-    /// Receives one or more bytes, only the last of which may end a token. Returns their number, and the token. All
-    /// digits of a number are received at once; the number of bytes has no other effect.
+    /// Receives one or more bytes, of which only the last can end a token. Returns how many bytes were received, and
+    /// the token, if one ended. All digits of a number are received in one call, for speed.
     #[inline(always)]
     pub fn push_some(&mut self, bytes: &[u8]) -> (usize, Option<Token>)
         requires { 0 < length bytes.now }
@@ -491,9 +495,9 @@ impl Tokenizer {
         (count + 1, self.push(bytes[count]))
     }
 
-    /// Whether the unfinished word or header line is wrong, whatever follows. It is wrong from the first byte after
-    /// which it can no longer become right. So `1x` is wrong at `x`, and `--` at the second `-`; but `-0`, which may
-    /// continue as `-01`, only at its end.
+    /// Whether the unfinished word or header line is malformed, whatever follows. It is malformed from the first byte
+    /// after which it can no longer become valid. So `1x` is malformed at the `x`, and `--` at the second `-`, but `-0`
+    /// only at its end, since it could continue as `-01`.
     #[inline(always)]
     pub fn is_wrong(&self) -> bool
         ensures wrong { result ≡ true → (before : List ℕ → Scan) → StandsBefore self.now before → WrongAhead before }
@@ -506,8 +510,8 @@ impl Tokenizer {
         }
     }
 
-    /// Whether the text has ended, at a line that begins with `%`: exactly then whatever follows is ignored, and need
-    /// not be read. In that case no token is unfinished.
+    /// Whether a line that begins with `%` has ended the text. Exactly then, all bytes that follow are ignored and need
+    /// not be read. In this case no token is unfinished.
     #[inline(always)]
     pub fn is_over(&self) -> bool
         ensures over { result ≡ true → (before : List ℕ → Scan) → StandsBefore self.now before → IgnoresRest before }
@@ -519,16 +523,16 @@ impl Tokenizer {
         matches!(self.place, Place::Over)
     }
 
-    /// Returns the token that is completed if the text ends here, or `None` if there is none.
+    /// Returns the token that is completed if the text ends here, or `None`.
     pub fn finish(&self) -> Option<Token>
         ensures { (before : List ℕ → Scan) → StandsBefore self.now before → GivesLast result (before []) }
     {
         token_in(self.place)
     }
 
-    /// Returns the line of the last byte, from 1, capped at 2^64-1, or 0 before the first byte. After the `%` that ends
-    /// the text it is the line of the `%`. The token that the last byte ended is on this line, and so is the one that
-    /// `finish` returns.
+    /// Returns the line number of the last byte, or 0 before the first byte. Lines are counted from 1, and the number
+    /// is capped at 2^64-1. After the `%` that ends the text, it is the line of the `%`. The token that the last byte
+    /// ended is on this line, and so is the token that `finish` returns.
     pub fn line(&self) -> u64
         ensures { (before : List ℕ → Scan) → StandsBefore self.now before → result ≡ held (before []).last }
     {

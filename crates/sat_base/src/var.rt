@@ -9,7 +9,7 @@ use std::marker::Model;
 /// The largest number of variables.
 pub(crate) const MAX_COUNT: usize = 1 << 28;
 
-/// A variable. Contracts see its index, which is from 0 to 2^28 - 1.
+/// A variable. Contracts see the variable's index, which is from 0 to 2^28 - 1.
 #[derive(Clone, Copy, Debug, PartialEq, Eq, PartialOrd, Ord, Hash)]
 pub struct Var {
     index: u32,
@@ -39,7 +39,7 @@ impl Var {
         }
     }
 
-    /// Returns the index, from 0.
+    /// Returns the index, which is counted from 0.
     pub fn index(self) -> usize
         ensures value { result ≡ self }
         ensures bound { result < var_limit }
@@ -47,7 +47,8 @@ impl Var {
         self.index as usize
     }
 
-    /// Returns the variable with this DIMACS number, which counts from 1, or `None` for numbers below 1 and above 2^28.
+    /// Returns the variable with this number in DIMACS, where variables are counted from 1. Returns `None` if the
+    /// number is below 1 or above 2^28.
     pub fn from_dimacs(number: i64) -> Option<Var>
         ensures { MatchOption result (IsNoVariable number) (λ v. number ≡ pos (v + 1)) }
     {
@@ -59,7 +60,7 @@ impl Var {
         })
     }
 
-    /// Returns the number of the variable in DIMACS, which counts from 1.
+    /// Returns the number of the variable in DIMACS, where variables are counted from 1.
     pub fn to_dimacs(self) -> i64
         ensures value { result ≡ pos (self + 1) }
         ensures bound { self < var_limit }
@@ -67,7 +68,7 @@ impl Var {
         self.index as i64 + 1
     }
 
-    /// Returns the literal of the variable, positive or negative.
+    /// Returns the positive literal of the variable if `positive` is true, and the negative one otherwise.
     pub fn lit(self, positive: bool) -> Lit
         ensures { result ≡ coded self positive }
     {
@@ -88,7 +89,7 @@ impl Var {
         self.lit(false)
     }
 
-    /// Returns the largest number of variables, which is also the largest number of a variable in DIMACS.
+    /// Returns the largest number of variables, which is also the largest variable number in DIMACS.
     pub const fn max_count() -> usize
         ensures { result ≡ var_limit }
     {

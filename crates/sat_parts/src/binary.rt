@@ -12,7 +12,8 @@ use sat_base::Lit;
 use std::alloc::{AllocError, Global};
 use std::marker::Model;
 
-/// The part of the common list for the literals that one literal implies: `len` of them, in `room` positions.
+/// The part of the common list that holds the literals that one literal implies. It has `len` literals, and capacity
+/// for `room` literals.
 #[derive(Clone, Copy)]
 struct Place {
     start: u32,
@@ -30,7 +31,7 @@ fn is_unset(assignment: &Assignment, index: usize) -> bool
     }
 }
 
-/// Changes the number of places. New places have no room.
+/// Changes the number of places. New places have no capacity.
 fn resize(places: &mut Vec<Place>, count: usize) -> Result<(), AllocError>
     ensures done { OnOk result (places.new.items
         ≡ take count places.old.items ++ replicate (count - length places.old.items) no_place) }
@@ -49,7 +50,7 @@ fn resize(places: &mut Vec<Place>, count: usize) -> Result<(), AllocError>
     Ok(())
 }
 
-/// Copies a part of the list to its end, and fills it up to `room` positions.
+/// Copies a part of the list to the end of the list, and pads the copy to `room` literals.
 fn copy_part(lits: &mut Vec<Lit>, start: usize, len: usize, room: usize) -> Result<(), AllocError>
     requires within { start + len ≤ length lits.old.items }
     requires fits { len ≤ room }
@@ -64,7 +65,7 @@ fn copy_part(lits: &mut Vec<Lit>, start: usize, len: usize, room: usize) -> Resu
     Ok(())
 }
 
-/// Copies a part of the list to its end, for which capacity is reserved.
+/// Copies a part of the list to the end of the list. Capacity for the copy must have been reserved.
 fn push_part(lits: &mut Vec<Lit>, start: usize, len: usize)
     requires within { start + len ≤ length lits.old.items }
     requires room { length lits.old.items + len ≤ vec_capacity lits.old }
@@ -77,9 +78,9 @@ fn push_part(lits: &mut Vec<Lit>, start: usize, len: usize)
     }
 }
 
-/// Copies a literal's list to the end of the common list, with twice the room.
+/// Moves a literal's list to the end of the common list, and doubles its capacity.
 ///
-/// Positions have 32 bits. A common list that would be longer is reported as out of memory.
+/// Positions have 32 bits. If the common list would become longer than that, returns an error.
 fn move_list(places: &mut Vec<Place>, lits: &mut Vec<Lit>, code: usize) -> Result<(), AllocError>
     requires places { ArePlaces places.old.items (length lits.old.items) }
     requires below { code < length places.old.items }
@@ -103,7 +104,7 @@ fn move_list(places: &mut Vec<Place>, lits: &mut Vec<Lit>, code: usize) -> Resul
     Ok(())
 }
 
-/// Makes room for one more literal in a literal's list.
+/// Makes room for one more literal in the list of the literal with this code.
 fn make_room(places: &mut Vec<Place>, lits: &mut Vec<Lit>, code: usize) -> Result<(), AllocError>
     requires places { ArePlaces places.old.items (length lits.old.items) }
     requires below { code < length places.old.items }
@@ -119,7 +120,7 @@ fn make_room(places: &mut Vec<Place>, lits: &mut Vec<Lit>, code: usize) -> Resul
     move_list(places, lits, code)
 }
 
-/// Appends a literal to a literal's list, which has room for it.
+/// Appends `implied` to the list of the literal with this code. The list must have room for one more literal.
 fn push(places: &mut Vec<Place>, lits: &mut Vec<Lit>, code: usize, implied: Lit)
     requires places { ArePlaces places.old.items (length lits.old.items) }
     requires below { code < length places.old.items }
@@ -137,7 +138,7 @@ fn push(places: &mut Vec<Place>, lits: &mut Vec<Lit>, code: usize, implied: Lit)
     };
 }
 
-/// Removes the last literal of a literal's list.
+/// Removes the last literal from the list of the literal with this code.
 fn pop(places: &mut Vec<Place>, lits: &Vec<Lit>, code: usize)
     requires places { ArePlaces places.old.items (length lits.now.items) }
     requires below { code < length places.old.items }
@@ -153,7 +154,7 @@ fn pop(places: &mut Vec<Place>, lits: &Vec<Lit>, code: usize)
     };
 }
 
-/// Moves the unassigned literals of a place to its start, and returns their number.
+/// Moves the unassigned literals of a place to its start, and returns how many there are.
 ///
 /// Returns 0 if the variable with this index has a value.
 fn open_part(lits: &mut Vec<Lit>, place: Place, assignment: &Assignment, index: usize) -> u32
@@ -180,9 +181,9 @@ fn open_part(lits: &mut Vec<Lit>, place: Place, assignment: &Assignment, index: 
     left
 }
 
-/// Removes the assigned literals of a literal's list, and returns how many are left.
+/// Removes the assigned literals from the list of the literal with this code. Returns how many literals are left.
 ///
-/// Removes all of them if the literal that implies them is assigned.
+/// Removes all literals from the list if the literal with this code is assigned.
 fn keep_open(
     places: &mut Vec<Place>,
     lits: &mut Vec<Lit>,
@@ -209,11 +210,11 @@ fn keep_open(
 
 /// The binary clauses, each stored as two implications.
 ///
-/// Contracts see the literals that every literal implies, by its code, and the number of clauses.
+/// Contracts see the list of implied literals for every literal, indexed by literal code, and the number of clauses.
 #[derive(Drop)]
 pub struct BinaryClauses {
     by_lit: Vec<Place>,
-    /// The literals of all lists. A list that is full moves to the end.
+    /// The literals of all lists. When a list is full, it is moved to the end.
     lits: Vec<Lit>,
     count: usize,
 }
@@ -231,7 +232,7 @@ impl Model for BinaryClauses {
 }
 
 impl BinaryClauses {
-    /// Returns an empty set of clauses over no variables. Never allocates.
+    /// Returns an empty set of binary clauses without variables. Never allocates.
     pub fn new(alloc: Global) -> BinaryClauses
         ensures implied { result.implied ≡ [] }
         ensures count { result.count ≡ 0 }
@@ -254,7 +255,7 @@ impl BinaryClauses {
         Ok(())
     }
 
-    /// Returns the literals that a literal implies through binary clauses.
+    /// Returns the literals that `lit` implies through binary clauses, as a slice.
     pub fn implied(&self, lit: Lit) -> &[Lit]
         requires { lit < length self.now.implied }
         ensures { result.now ≡ implied_by self.now.implied lit }
@@ -264,14 +265,14 @@ impl BinaryClauses {
         &self.lits[start..start + place.len as usize]
     }
 
-    /// Returns the number of clauses. It saturates at 2^64 - 1.
+    /// Returns the number of clauses. The number saturates at 2^64 - 1.
     pub fn count(&self) -> usize
         ensures { result ≡ self.now.count }
     {
         self.count
     }
 
-    /// Returns the number of implications, two for every clause. It saturates at 2^64 - 1.
+    /// Returns the number of implications, which is two for every clause. The number saturates at 2^64 - 1.
     pub fn implications(&self) -> usize
         ensures { result ≡ implications self.now.implied }
     {
@@ -283,7 +284,7 @@ impl BinaryClauses {
         all
     }
 
-    /// Appends a literal to those that another implies.
+    /// Appends `implied` to the literals that `lit` implies.
     fn add_implied(&mut self, lit: Lit, implied: Lit) -> Result<(), AllocError>
         requires { lit < length self.old.implied }
         ensures done { OnOk result (self.new
@@ -295,7 +296,7 @@ impl BinaryClauses {
         Ok(())
     }
 
-    /// Removes the last of the literals that a literal implies.
+    /// Removes the last of the literals that `lit` implies.
     fn pop_implied(&mut self, lit: Lit)
         requires { lit < length self.old.implied }
         ensures { self.new ≡ record self.old { implied = without_last_implied lit self.old.implied } }
@@ -321,7 +322,7 @@ impl BinaryClauses {
         Ok(())
     }
 
-    /// Removes the clauses with an assigned variable. The other clauses keep their order.
+    /// Removes the clauses that contain an assigned variable. The other clauses keep their order.
     pub fn remove_assigned(&mut self, assignment: &Assignment)
         ensures { RemovesAssigned assignment.now.current self.old self.new }
     {

@@ -1,4 +1,4 @@
-//! The set of long clauses: its list, activities, garbage collection and reductions.
+//! The long clauses: their list, activities, garbage collection and reductions.
 pub mod activity;
 pub mod db;
 pub mod filter;

@@ -1,4 +1,4 @@
-//! The glue of a clause: the number of different levels of its literals.
+//! Computes the glue of clauses. The glue of a clause is the number of distinct levels among its literals.
 ghost use Rattle.std.specs.Prelude.{ℕ, ◌≡◌, ◌<◌, ◌≤◌, min, length, take, slice_index_or, false};
 ghost use Rattle.sat_store.specs.clause.Buffer.{IsClause, lits_at};
 ghost use Rattle.sat_parts.specs.clause.Glue.{levels_of, different, HaveNodes, HaveFlags, AreClear, MarksLevels};
@@ -7,7 +7,7 @@ use crate::prop::graph::ImplGraph;
 use sat_base::Lit;
 use sat_store::{ClauseAlloc, ClauseRef, TmpFlags};
 
-/// Returns the number of different levels of literals. All flags must be false, and are false again afterwards.
+/// Returns the number of distinct levels among the literals. All flags must be false, and are false again afterwards.
 pub fn compute_glue(flags: &mut TmpFlags, graph: &ImplGraph, lits: &[Lit]) -> usize
     requires nodes { HaveNodes graph.now lits.now }
     requires levels { HaveFlags graph.now flags.old.flags.items lits.now }
@@ -20,7 +20,7 @@ pub fn compute_glue(flags: &mut TmpFlags, graph: &ImplGraph, lits: &[Lit]) -> us
     glue
 }
 
-/// Sets the flag of every level of the literals, and returns the number of levels.
+/// Sets the flag of every level among the literals, and returns the number of levels.
 fn mark_levels(flags: &mut TmpFlags, graph: &ImplGraph, lits: &[Lit]) -> usize
     requires nodes { HaveNodes graph.now lits.now }
     requires levels { HaveFlags graph.now flags.old.flags.items lits.now }
@@ -40,7 +40,7 @@ fn mark_levels(flags: &mut TmpFlags, graph: &ImplGraph, lits: &[Lit]) -> usize
     glue
 }
 
-/// Clears the flag of every level of the literals.
+/// Clears the flag of every level among the literals.
 fn clear_levels(flags: &mut TmpFlags, graph: &ImplGraph, lits: &[Lit])
     requires nodes { HaveNodes graph.now lits.now }
     requires levels { HaveFlags graph.now flags.old.flags.items lits.now }
@@ -54,7 +54,8 @@ fn clear_levels(flags: &mut TmpFlags, graph: &ImplGraph, lits: &[Lit])
     }
 }
 
-/// Returns the number of different levels of a long clause. All flags must be false, and are false again afterwards.
+/// Returns the number of distinct levels among the literals of a long clause. All flags must be false, and are false
+/// again afterwards.
 pub fn compute_clause_glue(
     flags: &mut TmpFlags,
     graph: &ImplGraph,
@@ -71,9 +72,9 @@ pub fn compute_clause_glue(
     compute_clause_glue_below(flags, graph, clauses, cref, clauses.len(cref))
 }
 
-/// Returns the number of different levels of a long clause, or `limit` if there are more.
+/// Returns the number of distinct levels among the literals of a long clause, or `limit` if there are more.
 ///
-/// Stops reading the clause at the limit. All flags must be false, and are false again afterwards.
+/// Stops reading the clause once the limit is reached. All flags must be false, and are false again afterwards.
 pub fn compute_clause_glue_below(
     flags: &mut TmpFlags,
     graph: &ImplGraph,
@@ -93,7 +94,8 @@ pub fn compute_clause_glue_below(
     glue
 }
 
-/// Sets the flags of the levels of a clause, up to `limit` levels. Returns the numbers of levels and of literals read.
+/// Sets the flags of the levels of a clause, for at most `limit` levels. Returns the number of these levels, and the
+/// number of literals that were read.
 fn mark_clause_levels(
     flags: &mut TmpFlags,
     graph: &ImplGraph,

@@ -1,4 +1,4 @@
-//! Laws about the definitions. Each law is the contract of a function with an empty body.
+//! Laws about propagation and the search. Each law is the contract of a function with an empty body.
 ghost use Rattle.sat_parts.specs.prop.Implied.{AssignedIsImplied};
 ghost use Rattle.sat_parts.specs.prop.TrailWord.{LevelsStay, WordsRise};
 
@@ -14,7 +14,7 @@ pub fn levels_stay()
     ensures { LevelsStay }
 {}
 
-/// States how the word of a trail ends, and that it is greater than the word before levels were undone.
+/// States facts about the word of a trail: how it ends, and that it is greater than the word before levels were undone.
 pub fn words_rise()
     ensures { WordsRise }
 {}

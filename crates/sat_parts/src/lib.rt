@@ -1,4 +1,4 @@
-//! Unit propagation and the data that it uses: values, trail, reasons, clauses; and all of these as one struct.
+//! Unit propagation, the data on which it works (values, trail, reasons, clauses), and a struct that holds all of this.
 #![tactic(auto)]
 
 pub mod binary;

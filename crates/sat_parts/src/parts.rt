@@ -1,4 +1,4 @@
-//! The parts of a search as one struct, and the steps on it.
+//! The data of a search as one struct, and the operations on it.
 ghost use Rattle.std.specs.Prelude.{◌≡◌, ◌≤◌, OnOk, length, []};
 ghost use Rattle.sat_base.specs.values.Literals.{var_limit};
 ghost use Rattle.sat_parts.specs.prop.Trails.{no_trail};
@@ -34,7 +34,7 @@ pub struct Parts {
 
 /// Raises the number of variables to `count`, which must not be lower than before.
 ///
-/// New variables have no value, are in no clause, and may not be picked.
+/// New variables have no value, are in no clause, and are not available for decisions.
 pub fn grow(alloc: Global, parts: &mut Parts, count: usize) -> Result<(), AllocError>
     requires holds { PartsInvariant parts.old }
     requires more { length parts.old.assignment.current ≤ count }
@@ -50,7 +50,7 @@ pub fn grow(alloc: Global, parts: &mut Parts, count: usize) -> Result<(), AllocE
     parts.vsids.set_var_count(count)
 }
 
-/// Returns parts without variables or clauses. The first propagation builds the watch lists.
+/// Returns the data of a search without variables or clauses. The first propagation builds the watch lists.
 pub fn no_parts(alloc: Global) -> Parts
     ensures holds { PartsInvariant result }
     ensures none { result.assignment.current ≡ [] }

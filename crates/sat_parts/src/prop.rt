@@ -1,4 +1,4 @@
-//! Unit propagation, and the data that it works on.
+//! Unit propagation, and the data on which it works.
 ghost use Rattle.std.specs.Prelude.{◌≡◌, true, IfOk, OnOk};
 ghost use Rattle.sat_parts.specs.clause.Db.{HoldsDb};
 ghost use Rattle.sat_parts.specs.prop.Ready.{state_of};
@@ -24,10 +24,11 @@ use crate::prop::watch::{Watchlists, enable_watchlists};
 use sat_store::ClauseAlloc;
 use std::alloc::{AllocError, Global};
 
-/// Propagates all literals in the queue, each over the binary clauses and then over the long ones.
+/// Propagates all literals in the queue, each over the binary clauses and then over the long clauses.
 ///
 /// Builds the watch lists first if they are disabled. Returns `Ok(Ok(()))` if every literal was propagated, and
-/// `Ok(Err(conflict))` if a clause is falsified. If memory runs out, the parts must not be used again.
+/// `Ok(Err(conflict))` if a clause is falsified. If memory runs out, the state may be inconsistent and must not be
+/// used again.
 pub fn propagate(
     alloc: Global,
     clauses: &mut ClauseAlloc,

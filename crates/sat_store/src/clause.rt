@@ -1,4 +1,4 @@
-//! Long clauses in one buffer: a header of three words, then the literals.
+//! Long clauses in a common buffer. A clause consists of a header of three words, and then the literals.
 pub mod alloc;
 pub mod edit;
 pub mod header;

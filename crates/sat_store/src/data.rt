@@ -4,30 +4,30 @@ ghost use Rattle.std.specs.Prelude.{◌≡◌};
 /// How a variable takes part in models.
 #[derive(Clone, Copy, Debug, PartialEq, Eq)]
 pub enum SamplingMode {
-    /// Every model gives it a value.
+    /// Every model gives the variable a value.
     Sample,
-    /// Some value of it completes every model of the other variables.
+    /// For every model of the other variables, some value of the variable completes the model.
     Witness,
-    /// It has no user name.
+    /// The variable has no user name.
     Hide,
 }
 
 /// The data of a variable, whether or not the search uses it.
 #[derive(Clone, Drop)]
 pub struct VarData {
-    /// How it takes part in models.
+    /// How the variable takes part in models.
     pub sampling_mode: SamplingMode,
 
-    /// The value that a unit clause gives it, or `None`.
+    /// The value that a unit clause gives the variable, or `None`.
     pub unit: Option<bool>,
 
-    /// Whether no clause except its unit has it.
+    /// Whether no clause contains the variable, except perhaps a unit clause.
     pub isolated: bool,
 
-    /// Whether an assumption has it.
+    /// Whether an assumption contains the variable.
     pub assumed: bool,
 
-    /// Whether it is not in use.
+    /// Whether the variable is not in use.
     pub deleted: bool,
 }
 

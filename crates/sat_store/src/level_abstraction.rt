@@ -1,13 +1,13 @@
-//! A filter for sets of decision levels.
+//! A filter for sets of levels.
 ghost use Rattle.std.specs.Prelude.{ℕ, ◌≡◌, ◌%◌, ◌==◌, if◌then◌else◌, true, false};
 ghost use Rattle.sat_store.specs.levels.Levels.{level_passes};
 
 use std::marker::Model;
 
-/// A set of decision levels, kept as one bit for each remainder modulo 64.
+/// A set of levels, stored as one bit for each remainder modulo 64.
 #[derive(Clone, Copy)]
 pub struct LevelAbstraction {
-    /// The bit `level % 64` is set for each level that was added.
+    /// Bit `level % 64` is set for each level that was added.
     bits: u64,
 }
 
@@ -34,7 +34,7 @@ impl Default for LevelAbstraction {
 }
 
 impl LevelAbstraction {
-    /// Adds a level, and so all levels with the same remainder.
+    /// Adds a level, and with it all levels that have the same remainder.
     pub fn add(&mut self, level: usize)
         ensures { (other : ℕ) → level_passes self.new other
             ≡ (if other % 64 == level % 64 then true else level_passes self.old other) }
@@ -42,7 +42,7 @@ impl LevelAbstraction {
         self.bits |= 1 << (level % 64);
     }
 
-    /// Whether the level, or one with the same remainder, was added.
+    /// Whether `level`, or any level with the same remainder, was added.
     pub fn test(&self, level: usize) -> bool
         ensures { result ≡ level_passes self.now level }
     {

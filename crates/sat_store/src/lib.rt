@@ -1,4 +1,4 @@
-//! The data structures of a solver: clause buffer, variable queue, restart sequence, level filter, variable maps.
+//! The data structures of a solver: clause buffer, variable queue, restart sequence, level filter, and variable maps.
 #![tactic(auto)]
 
 pub mod clause;

@@ -1,12 +1,12 @@
-//! The Luby sequence, which gives the gaps between restarts.
+//! The Luby sequence, which determines the gaps between restarts.
 ghost use Rattle.std.specs.Prelude.{◌≡◌, ◌+◌, ◌<◌, ◌≤◌, ◌^◌};
 ghost use Rattle.sat_store.specs.schedule.Luby.{luby, wrapped_number};
 
 use std::marker::Model;
 
-/// The Luby sequence: 1, 1, 2, 1, 1, 2, 4 and so on. After term 2^64 - 1 it starts again with the first.
+/// The Luby sequence: 1, 1, 2, 1, 1, 2, 4 and so on. After term 2^64 - 1, it starts again with the first term.
 ///
-/// Contracts see the number of the last term that was returned, 0 at first.
+/// Contracts see the number of the last term that was returned, which is initially 0.
 #[derive(Drop)]
 pub struct LubySequence {
     /// The number of the last term that was returned.
@@ -46,7 +46,7 @@ impl LubySequence {
     }
 }
 
-/// Returns the term with this number, counting from 1.
+/// Returns the term with this number. Terms are counted from 1.
 fn luby_term(number: u64) -> u64
     requires { 0 < number }
     ensures { result ≡ luby number }

@@ -1,4 +1,4 @@
-//! Scratch lists that the parts of a solver share.
+//! Scratch lists that several parts of a solver share.
 ghost use Rattle.std.specs.Prelude.{◌≡◌, ◌≤◌, [], OnOk, OnErr};
 ghost use Rattle.sat_store.specs.variables.Flags.{flags_for, GrowsFlags};
 ghost use Rattle.sat_base.specs.values.Literals.{var_limit};
@@ -6,7 +6,7 @@ ghost use Rattle.sat_base.specs.values.Literals.{var_limit};
 use sat_base::Lit;
 use std::alloc::{AllocError, Global};
 
-/// Two scratch lists of literals. Their contents mean nothing between calls.
+/// Two scratch lists of literals. The contents have no meaning between calls.
 #[derive(Drop)]
 pub struct TmpData {
     pub lits: Vec<Lit>,
@@ -26,7 +26,8 @@ impl TmpData {
     }
 }
 
-/// A flag for every literal. Whoever sets one clears it again: all are false between the solver's calls.
+/// A flag for every literal. Code that sets a flag must clear it again, so that all flags are false between calls to
+/// the solver.
 #[derive(Drop)]
 pub struct TmpFlags {
     pub flags: Vec<bool>,
@@ -52,7 +53,7 @@ impl TmpFlags {
         self.resize_flags(count)
     }
 
-    /// Resizes the list, with the contract from which `set_var_count` proves its own.
+    /// Resizes the list. The contract of `set_var_count` is proved from this contract.
     fn resize_flags(&mut self, count: usize) -> Result<(), AllocError>
         requires { count ≤ var_limit }
         ensures flags { OnOk result (self.new.flags.items ≡ flags_for count self.old.flags.items) }

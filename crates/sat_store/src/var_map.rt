@@ -8,10 +8,10 @@ use sat_base::Var;
 use std::alloc::{AllocError, Global};
 use std::marker::Model;
 
-/// A map from variables to variables. Contracts see the list of the targets, by index.
+/// A map from variables to variables. Contracts see the list of targets, indexed by variable.
 #[derive(Debug, Drop)]
 pub struct VarMap {
-    /// For every index one more than its target, or 0 if it has none.
+    /// For every variable, one more than the index of its target, or 0 if the variable has no target.
     codes: Vec<u32>,
 }
 
@@ -36,7 +36,7 @@ impl VarMap {
         }
     }
 
-    /// Returns the target of a variable, or `None` if it is not mapped.
+    /// Returns the target of a variable, or `None` if the variable is not mapped.
     pub fn get(&self, from: Var) -> Option<Var>
         ensures { result ≡ target self.now from }
     {
@@ -55,7 +55,7 @@ impl VarMap {
         self.put_target(into, from)
     }
 
-    /// Maps `from` to `into`, with the contract from which `insert` proves its own.
+    /// Maps `from` to `into`. The contract of `insert` is proved from this contract.
     #[inline(always)]
     fn put_target(&mut self, into: Var, from: Var) -> Result<(), AllocError>
         ensures put { OnOk result (PutsTarget self.old self.new from (Some into)) }
@@ -75,7 +75,7 @@ impl VarMap {
         forget(&mut self.codes, from);
     }
 
-    /// Removes the target of a variable, and lowers the watermark.
+    /// Removes the target of a variable, and lowers the watermark to `watermark`.
     fn cut(&mut self, from: Var, watermark: usize)
         requires { watermark ≤ length self.old }
         ensures put { (v : ℕ) → v < watermark → target self.new v ≡ (if v == from then None else target self.old v) }
@@ -85,7 +85,7 @@ impl VarMap {
         self.remove(from);
     }
 
-    /// Returns one more than the largest index that was ever mapped, or 0.
+    /// Returns one more than the largest index that was ever mapped, or 0 if none was.
     pub fn watermark(&self) -> usize
         ensures { result ≡ length self.now }
     {
@@ -93,7 +93,7 @@ impl VarMap {
     }
 }
 
-/// Returns the target that the codes hold for a variable.
+/// Returns the target of a variable according to `codes`.
 fn target_at(codes: &[u32], from: Var) -> Option<Var>
     requires { AreCodes codes.now }
     ensures { result ≡ target (targets_of codes.now) from }
@@ -105,7 +105,7 @@ fn target_at(codes: &[u32], from: Var) -> Option<Var>
     Some(Var::from_index((code - 1) as usize))
 }
 
-/// Removes the target of a variable from the codes.
+/// Removes the target of a variable from `codes`.
 fn forget(codes: &mut [u32], from: Var)
     ensures put { PutsTarget (targets_of codes.old) (targets_of codes.new) from None }
     ensures codes { AreCodes codes.old → AreCodes codes.new }
@@ -116,7 +116,7 @@ fn forget(codes: &mut [u32], from: Var)
     }
 }
 
-/// Reserves capacity for the code of a variable.
+/// Reserves capacity in `codes` for the code of a variable.
 #[inline(always)]
 fn make_room(codes: &mut Vec<u32>, from: Var) -> Result<(), AllocError>
     ensures kept { codes.new.items ≡ codes.old.items }
@@ -129,7 +129,7 @@ fn make_room(codes: &mut Vec<u32>, from: Var) -> Result<(), AllocError>
     codes.reserve(index + 1 - codes.len())
 }
 
-/// Sets the target of a variable. Capacity for its code must have been reserved.
+/// Sets the target of a variable in `codes`. Capacity for its code must have been reserved.
 #[inline(always)]
 fn put(codes: &mut Vec<u32>, from: Var, into: Var)
     requires { from < vec_capacity codes.old }
@@ -144,7 +144,7 @@ fn put(codes: &mut Vec<u32>, from: Var, into: Var)
     codes[index] = into.index() as u32 + 1;
 }
 
-/// A map from variables to variables and its inverse.
+/// A map from variables to variables, with its inverse.
 #[derive(Debug, Drop)]
 pub struct VarBiMap {
     fwd: VarMap,
@@ -173,7 +173,7 @@ impl VarBiMap {
         }
     }
 
-    /// Returns the map.
+    /// Returns a reference to the map.
     pub fn fwd(&self) -> &VarMap
         ensures map { result.now ≡ self.now.fwd }
         ensures inverse { AreInverse self.now }
@@ -181,7 +181,7 @@ impl VarBiMap {
         &self.fwd
     }
 
-    /// Returns the inverse map.
+    /// Returns a reference to the inverse map.
     pub fn bwd(&self) -> &VarMap
         ensures map { result.now ≡ self.now.bwd }
         ensures inverse { AreInverse self.now }
@@ -189,7 +189,7 @@ impl VarBiMap {
         &self.bwd
     }
 
-    /// Lends the map for changes. The inverse changes along with it.
+    /// Returns a mutable view of the map. Changes to the map also change the inverse.
     pub fn fwd_mut(&mut self) -> VarBiMapMut<'_>
         ensures same { result.map.ghost_name ≡ self.entry.ghost_name }
         ensures map { result.map.now ≡ self.old }
@@ -201,7 +201,7 @@ impl VarBiMap {
         }
     }
 
-    /// Lends the inverse for changes. The map changes along with it.
+    /// Returns a mutable view of the inverse. Changes to the inverse also change the map.
     pub fn bwd_mut(&mut self) -> VarBiMapMut<'_>
         ensures same { result.map.ghost_name ≡ self.entry.ghost_name }
         ensures map { result.map.now ≡ self.old }
@@ -213,7 +213,7 @@ impl VarBiMap {
         }
     }
 
-    /// Maps `from` to `into` in the map, and back in its inverse.
+    /// Maps `from` to `into` in the map, and `into` to `from` in the inverse.
     fn link(&mut self, from: Var, into: Var) -> Result<(), AllocError>
         requires from_unmapped { target self.old.fwd from ≡ None }
         requires into_unmapped { target self.old.bwd into ≡ None }
@@ -229,7 +229,7 @@ impl VarBiMap {
         Ok(())
     }
 
-    /// Removes the target `into` of `from` from the map, and `from` from its inverse.
+    /// Removes the target `into` of `from` from the map, and the target `from` of `into` from the inverse.
     fn unlink(&mut self, from: Var, into: Var)
         requires { target self.old.fwd from ≡ Some into }
         ensures { Unlinks self.old self.new from into }
@@ -239,19 +239,20 @@ impl VarBiMap {
     }
 }
 
-/// One of the two maps of a `VarBiMap`, lent for changes. The other one changes along with it.
+/// A mutable view of one of the two maps of a `VarBiMap`. Changes to this map also change the other map.
 #[derive(Drop)]
 pub struct VarBiMapMut<'a> {
-    /// Both maps.
+    /// The pair of maps.
     pub map: &'a mut VarBiMap,
-    /// Whether this is the inverse.
+    /// Whether the view is of the inverse.
     pub is_turned: bool,
 }
 
 impl<'a> VarBiMapMut<'a> {
     ghost use Rattle.sat_store.specs.variables.Facing.{maps_of_view};
 
-    /// Maps `from` to `into`. Neither may be mapped on its side.
+    /// Maps `from` to `into` in this map, and `into` to `from` in the other map. `from` must not be mapped in this map,
+    /// nor `into` in the other.
     pub fn insert(&mut self, into: Var, from: Var) -> Result<(), AllocError>
         requires from_unmapped { target (maps_of_view self.old).fwd from ≡ None }
         requires into_unmapped { target (maps_of_view self.old).bwd into ≡ None }
@@ -264,7 +265,7 @@ impl<'a> VarBiMapMut<'a> {
         self.link(into, from)
     }
 
-    /// Maps `from` to `into`, with the contract from which `insert` proves its own.
+    /// Maps `from` to `into`. The contract of `insert` is proved from this contract.
     fn link(&mut self, into: Var, from: Var) -> Result<(), AllocError>
         requires from_unmapped { target (maps_of_view self.old).fwd from ≡ None }
         requires into_unmapped { target (maps_of_view self.old).bwd into ≡ None }
@@ -279,7 +280,7 @@ impl<'a> VarBiMapMut<'a> {
         self.map.link(from, into)
     }
 
-    /// Removes the target of a variable, and returns it.
+    /// Removes the target of a variable and returns it, or returns `None` if the variable is not mapped.
     pub fn remove(&mut self, from: Var) -> Option<Var>
         ensures same { self.new.map.ghost_name ≡ self.old.map.ghost_name }
         ensures side { self.new.is_turned ≡ self.old.is_turned }

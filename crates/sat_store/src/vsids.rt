@@ -1,7 +1,7 @@
-//! A queue of variables by activity: VSIDS.
+//! VSIDS: a queue of variables, ordered by activity.
 //!
-//! A decision picks the variable with the highest activity. Conflicts raise activities. Activities decay because later
-//! conflicts raise by more. If the numbers grow too large, all of them are rescaled.
+//! A decision picks the variable with the highest activity. Conflicts raise activities. Activities decay in that later
+//! conflicts raise activities by more. If the numbers grow too large, all of them are rescaled.
 ghost use Rattle.std.specs.Prelude.{◌≡◌, ◌<◌, ◌≤◌, ◌+◌, ◌*◌, ◌-◌, ◌/◌, ◌^◌, OnOk, OnErr, true, false, length, map, max};
 ghost use Rattle.std.specs.Prelude.{slice_set};
 ghost use Rattle.sat_base.specs.values.Literals.{var_limit};
@@ -16,27 +16,27 @@ use sat_base::Var;
 use std::alloc::{AllocError, Global};
 use std::marker::Model;
 
-/// Activities are less than this.
+/// All activities, and the bump, are below this limit.
 const LIMIT: u64 = 1 << 60;
 
-/// A priority queue of the variables that may be picked, by activity.
+/// A priority queue of the available variables, ordered by activity. Available variables are those that may be picked.
 ///
-/// Contracts see a `Queue`: which variables may be picked, every activity, what a bump adds, and the decay.
+/// Contracts see a `Queue`: which variables are available, all activities, how much a bump adds, and the decay factor.
 #[derive(Drop)]
 pub struct Vsids {
-    /// All variables with their activities. The available ones are first and form a heap.
+    /// All variables with their activities. The available variables come first and form a heap.
     heap: Vec<Entry>,
 
     /// The position of every variable in `heap`.
     positions: Vec<u32>,
 
-    /// How many variables may be picked.
+    /// The number of available variables.
     available: usize,
 
-    /// What the next bump adds.
+    /// How much the next bump adds.
     bump: u64,
 
-    /// The factor of a decay, in thousandths.
+    /// The decay factor, in thousandths.
     decay: u64,
 }
 
@@ -59,7 +59,7 @@ impl Model for Vsids {
 }
 
 impl Vsids {
-    /// Returns a queue without variables and with a decay of 950 thousandths. Never allocates.
+    /// Returns a queue without variables, with a decay factor of 950 thousandths. Never allocates.
     pub fn new(alloc: Global) -> Vsids
         ensures { result ≡ no_variables }
     {
@@ -72,7 +72,7 @@ impl Vsids {
         }
     }
 
-    /// Raises the number of variables to `count`, with room for all of them. A lower count changes nothing.
+    /// Raises the number of variables to `count`. A lower count changes nothing. New variables are not available.
     pub fn set_var_count(&mut self, count: usize) -> Result<(), AllocError>
         requires { count ≤ var_limit }
         ensures counted { OnOk result (self.new ≡ with_variables count self.old) }
@@ -82,7 +82,7 @@ impl Vsids {
         self.raise_count(count)
     }
 
-    /// Raises the number of variables, with the contract from which `set_var_count` proves its own.
+    /// Raises the number of variables. The contract of `set_var_count` is proved from this contract.
     fn raise_count(&mut self, count: usize) -> Result<(), AllocError>
         requires { count ≤ var_limit }
         ensures counted { OnOk result (self.new ≡ with_variables count self.old) }
@@ -98,7 +98,7 @@ impl Vsids {
         Ok(())
     }
 
-    /// Sets the factor of a decay, in thousandths.
+    /// Sets the decay factor, in thousandths.
     pub fn set_decay(&mut self, decay: u32)
         requires low { 500 ≤ decay }
         requires high { decay ≤ 999 }
@@ -107,7 +107,7 @@ impl Vsids {
         self.decay = u64::from(decay);
     }
 
-    /// Raises the activity of a variable. If it reaches 2^60, all activities and the bump are rescaled.
+    /// Raises the activity of a variable. If the activity reaches 2^60, all activities and the bump are rescaled.
     pub fn bump(&mut self, var: Var)
         requires { var < length self.old.available }
         ensures queue { self.new ≡ bumped var self.old }
@@ -126,7 +126,8 @@ impl Vsids {
         }
     }
 
-    /// Lets all activities decay: later bumps add more.
+    /// Lets all activities decay, by making later bumps add more. If the bump reaches 2^60, the bump and all activities
+    /// are rescaled.
     pub fn decay(&mut self)
         ensures queue { self.new ≡ decayed self.old }
         ensures available { self.new.available ≡ self.old.available }
@@ -151,7 +152,7 @@ impl Vsids {
         self.heap[at].key = 0;
     }
 
-    /// Makes a variable unavailable: it is not picked from now on.
+    /// Makes a variable unavailable, so that it is no longer picked.
     pub fn make_unavailable(&mut self, var: Var)
         requires { var < length self.old.available }
         ensures { self.new ≡ with_available var false self.old }
@@ -163,7 +164,7 @@ impl Vsids {
         }
     }
 
-    /// Makes a variable available: it may be picked from now on.
+    /// Makes a variable available, so that it may be picked.
     pub fn make_available(&mut self, var: Var)
         requires { var < length self.old.available }
         ensures { self.new ≡ with_available var true self.old }
@@ -187,9 +188,10 @@ impl Iterator for Vsids {
 
     ghost remaining = { λ q. at_most (count_by (λ b. b) q.available) };
 
-    /// Removes and returns the available variable with the highest activity, or `None` if no variable is available.
+    /// Makes the available variable with the highest activity unavailable and returns it, or returns `None` if no
+    /// variable is available.
     ///
-    /// Among equal activities the lowest index wins. The variable is unavailable from now on.
+    /// Among variables of equal activity, the one with the lowest index is returned.
     fn next(&mut self) -> Option<Var> {
         if self.available == 0 {
             return None;
@@ -201,7 +203,7 @@ impl Iterator for Vsids {
     }
 }
 
-/// Rescales all activities, and returns what a bump adds on the new scale.
+/// Rescales all activities. Returns how much a bump adds on the new scale.
 fn rescale(heap: &mut Vec<Entry>, bump: u64) -> u64
     ensures heap { heap.new.items ≡ map scaled heap.old.items }
     ensures bump { result ≡ max (bump / 2 ^ 40) 1 }

@@ -1,5 +1,5 @@
-//! Reads answers line by line, from the beginning of their bytes. Bytes that are not exactly in form are refused:
-//! single spaces, no leading zeros, every line ends with LF, names are from 1 to 2^28 and in order.
+//! Reads answers line by line, from the beginning of their bytes. Bytes that don't have exactly this form are refused:
+//! single spaces, no leading zeros, LF at the end of every line, and names from 1 to 2^28 in order.
 ghost use Rattle.std.specs.Prelude.{◌≡◌, ◌++◌, ◌∷◌, [], false, ◌*◌, ◌<◌, ◌≤◌, decimal, MatchOption, MatchResult, List};
 ghost use Rattle.std.specs.Prelude.{ℕ};
 ghost use Rattle.certify.specs.answers.AnswerForms.{IsName};
@@ -17,9 +17,9 @@ use thiserror::Error;
 /// What an answer says about its ask.
 #[derive(Clone, Copy, Debug, Drop, PartialEq, Eq)]
 pub enum AnswerKind {
-    /// Has a `v` line, with a model.
+    /// The answer has a `v` line, with a model.
     Sat,
-    /// Has an `f` line, with a core.
+    /// The answer has an `f` line, with a core.
     Unsat,
     Unknown,
 }
@@ -48,7 +48,7 @@ impl<T: Drop> From<AllocFailed<T>> for AnswerFault {
     }
 }
 
-/// Returns the bytes after a text, if they begin with it.
+/// Returns the bytes after `text`, if `bytes` begins with `text`.
 pub fn take_text<'a>(bytes: &'a [u8], text: &[u8]) -> Option<&'a [u8]>
     ensures { MatchOption result ((tail : List ℕ) → bytes.now ≡ text.now ++ tail → ⊥)
         (λ rest. bytes.now ≡ text.now ++ rest.now) }
@@ -56,7 +56,7 @@ pub fn take_text<'a>(bytes: &'a [u8], text: &[u8]) -> Option<&'a [u8]>
     bytes.strip_prefix(text)
 }
 
-/// Whether the text begins with these bytes.
+/// Whether `text` begins with `bytes`.
 pub fn is_front(bytes: &[u8], text: &[u8]) -> bool
     ensures { result ≡ false → (tail : List ℕ) → text.now ≡ bytes.now ++ tail → ⊥ }
 {
@@ -66,8 +66,8 @@ pub fn is_front(bytes: &[u8], text: &[u8]) -> bool
     }
 }
 
-/// Returns a name with one more digit; 0 has no digit yet. `None` for another byte, a leading zero, or a name past the
-/// limit.
+/// Returns the name that follows from `name` by appending the digit `byte`. A `name` of 0 has no digits yet. Returns
+/// `None` if `byte` is not a digit, for a leading zero, and if the result is past the limit.
 fn with_digit(name: usize, byte: u8) -> Option<usize>
     requires { name ≤ var_limit }
     ensures { MatchOption result (NoNameDigit name byte)
@@ -83,7 +83,7 @@ fn with_digit(name: usize, byte: u8) -> Option<usize>
     Some(more)
 }
 
-/// Returns the name before a space, and the bytes after the space.
+/// Returns the name at the start of `bytes`, which a space must follow, and the bytes after that space.
 fn read_name(bytes: &[u8]) -> Option<(usize, &[u8])>
     ensures { MatchOption result (NoName bytes.now) (λ x. IsName x.0 × (bytes.now ≡ decimal x.0 ++ (32 ∷ x.1.now))) }
 {
@@ -98,7 +98,7 @@ fn read_name(bytes: &[u8]) -> Option<(usize, &[u8])>
     None
 }
 
-/// Whether a name and a space can begin with these bytes.
+/// Whether `bytes`, or some continuation of `bytes`, begins with a name and a space.
 fn begins_name(bytes: &[u8]) -> bool
     ensures { result ≡ false → StartsNoName bytes.now }
 {
@@ -116,7 +116,7 @@ fn begins_name(bytes: &[u8]) -> bool
     true
 }
 
-/// Returns the literal before a space, and the bytes after the space.
+/// Returns the literal at the start of `bytes`, which a space must follow, and the bytes after that space.
 fn read_literal(bytes: &[u8]) -> Option<(Lit, &[u8])>
     ensures { MatchOption result (NoLiteral bytes.now) (λ x. BeginsWithLiteral bytes.now x.0 x.1.now) }
 {
@@ -132,7 +132,7 @@ fn read_literal(bytes: &[u8]) -> Option<(Lit, &[u8])>
     }
 }
 
-/// Whether a literal and a space can begin with these bytes.
+/// Whether `bytes`, or some continuation of `bytes`, begins with a literal and a space.
 fn begins_literal(bytes: &[u8]) -> bool
     ensures { result ≡ false → StartsNoLiteral bytes.now }
 {
@@ -142,7 +142,7 @@ fn begins_literal(bytes: &[u8]) -> bool
     }
 }
 
-/// Returns the place of a literal in the order of a line of this kind.
+/// Returns a number by which the literals are ordered in the second line of an answer of this kind.
 fn literal_place(kind: AnswerKind, lit: Lit) -> usize
     ensures value { result ≡ literal_place kind lit }
     ensures bound { result < 2 * var_limit }
@@ -153,8 +153,8 @@ fn literal_place(kind: AnswerKind, lit: Lit) -> usize
     }
 }
 
-/// Reads the literals of a line of this kind up to `0` and LF into `line`. Returns the bytes after them. A literal out
-/// of order is refused before memory is allocated for it.
+/// Reads the literals of the second line of an answer, up to `0` and LF, into `line`. Returns the bytes after the LF. A
+/// literal out of order is refused before memory is allocated for it.
 fn read_literals<'a>(
     kind: AnswerKind,
     bytes: &'a [u8],
@@ -180,7 +180,8 @@ fn read_literals<'a>(
     take_text(rest, b"0\n").ok_or(AnswerFault::Text)
 }
 
-/// Whether the literals of a line of this kind, with `0` and LF, can begin with these bytes.
+/// Whether `bytes`, or some continuation of `bytes`, begins with the literals of the second line of an answer of this
+/// kind, followed by `0` and LF.
 fn begins_literals(kind: AnswerKind, bytes: &[u8]) -> bool
     requires { HasLine kind }
     ensures { result ≡ false → StartsNoLiterals kind bytes.now }
@@ -202,7 +203,7 @@ fn begins_literals(kind: AnswerKind, bytes: &[u8]) -> bool
     begins_literal(rest)
 }
 
-/// Whether the first line of an answer can begin with these bytes.
+/// Whether `bytes`, or some continuation of `bytes`, begins with the first line of an answer.
 pub fn begins_kind(bytes: &[u8]) -> bool
     ensures { result ≡ false → StartsNoKind bytes.now }
 {
@@ -215,7 +216,7 @@ pub fn begins_kind(bytes: &[u8]) -> bool
     is_front(bytes, b"s UNKNOWN\n")
 }
 
-/// Reads the first line of an answer. Returns its kind and the bytes after the line.
+/// Reads the first line of an answer. Returns the kind of the answer, and the bytes after the line.
 pub fn read_kind(bytes: &[u8]) -> Result<(AnswerKind, &[u8]), AnswerFault>
     ensures { MatchResult result (λ x. bytes.now ≡ first_answer_line x.0 ++ x.1.now) (NoKind bytes.now) }
 {
@@ -234,7 +235,8 @@ pub fn read_kind(bytes: &[u8]) -> Result<(AnswerKind, &[u8]), AnswerFault>
     }
 }
 
-/// Reads the line with this head, for an answer of this kind.
+/// Reads the second line of an answer of this kind, which must begin with `head`, into `line`. Returns the bytes after
+/// that line.
 fn read_list<'a>(
     kind: AnswerKind,
     head: &[u8],
@@ -252,7 +254,8 @@ fn read_list<'a>(
     read_literals(kind, behind, line)
 }
 
-/// Whether the line with this head, for an answer of this kind, can begin with these bytes.
+/// Whether `bytes`, or some continuation of `bytes`, begins with the second line of an answer of this kind, which
+/// begins with `head`.
 fn begins_list(kind: AnswerKind, head: &[u8], bytes: &[u8]) -> bool
     requires { IsHead kind head.now }
     ensures { result ≡ false → StartsNoLine kind bytes.now }
@@ -266,7 +269,7 @@ fn begins_list(kind: AnswerKind, head: &[u8], bytes: &[u8]) -> bool
     }
 }
 
-/// Whether the second line of an answer of this kind can begin with these bytes.
+/// Whether `bytes`, or some continuation of `bytes`, begins with the second line of an answer of this kind.
 pub fn begins_line(kind: AnswerKind, bytes: &[u8]) -> bool
     ensures { result ≡ false → StartsNoLine kind bytes.now }
 {
@@ -277,8 +280,9 @@ pub fn begins_line(kind: AnswerKind, bytes: &[u8]) -> bool
     }
 }
 
-/// Reads the second line of an answer of this kind into `line`. Returns the bytes after it. An unknown answer has no
-/// second line: nothing is read, and `line` is empty. After a fault `line` can hold anything.
+/// Reads the second line of an answer of this kind into `line`. Returns the bytes after that line. An unknown
+/// answer has no second line: nothing is read, and `line` becomes empty. After a fault, the contents of `line`
+/// are unspecified.
 pub fn read_line<'a>(
     kind: AnswerKind,
     bytes: &'a [u8],
@@ -297,8 +301,9 @@ pub fn read_line<'a>(
     }
 }
 
-/// Reads an answer, with the literals of its `v` or `f` line into `line`. Returns its kind and the bytes after it. The
-/// memory of `line` is reused for every answer. After a fault it can hold anything.
+/// Reads an answer, and the literals of its `v` or `f` line into `line`. Returns the kind of the answer, and the
+/// bytes after the answer. The memory of `line` can be reused for every answer. After a fault, the contents of `line`
+/// are unspecified.
 pub fn read_outcome<'a>(
     bytes: &'a [u8],
     line: &mut Vec<Lit>,

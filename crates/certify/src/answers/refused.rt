@@ -1,4 +1,4 @@
-//! Writes the lines of refused commands.
+//! Writes the lines that report refused commands.
 ghost use Rattle.std.specs.Prelude.{◌≡◌, ◌+◌, ◌++◌, OnOk};
 ghost use Rattle.sat_base.specs.script.ScriptState.{WitnessName};
 ghost use Rattle.certify.specs.answers.Answers.{refused_line};
@@ -10,7 +10,7 @@ use crate::judge::Refusal;
 use sat_base::{Var, push_decimal};
 use std::alloc::AllocError;
 
-/// Appends the line that refuses the command with this number, for a name in use of mode witness.
+/// Appends the line that says that command number `command` is refused, since `name` is in use and its mode is witness.
 fn push_refused_witness(out: &mut Vec<u8>, command: u64, name: Var) -> Result<(), AllocError>
     ensures text { OnOk result (out.new.items ≡ out.old.items ++ refused_line command (WitnessName (name + 1))) }
     ensures line { OnOk result (IsOneLine (refused_line command (WitnessName (name + 1)))) }
@@ -24,7 +24,7 @@ fn push_refused_witness(out: &mut Vec<u8>, command: u64, name: Var) -> Result<()
     Ok(())
 }
 
-/// Appends the line that refuses the command with this number.
+/// Appends the line that says that command number `command` is refused, and why.
 pub(crate) fn push_refused(
     out: &mut Vec<u8>,
     command: u64,

@@ -1,5 +1,5 @@
-//! Writes answers line by line, after the bytes of a buffer. If memory runs out, a part of a line may be there. A name
-//! is written as its number, one more than the index of its variable.
+//! Appends the lines of answers to a buffer. If memory runs out, a part of a line may have been appended. A name is
+//! written as a number that is one more than the name's index.
 ghost use Rattle.std.specs.Prelude.{◌≡◌, ◌++◌, OnOk};
 ghost use Rattle.certify.specs.answers.Answers.{literals_text, malformed_line, outcome_text, refused_line, word_of};
 ghost use Rattle.sat_checker.specs.matching.Expected.{Sat, Unsat, Unknown};
@@ -9,7 +9,7 @@ ghost use Rattle.sat_base.specs.script.ScriptState.{PastLimit};
 use sat_base::{Lit, MOST_DIGITS, push_decimal, write_decimal};
 use std::alloc::AllocError;
 
-/// Appends a literal as DIMACS writes it.
+/// Appends a literal in the form of DIMACS.
 pub fn push_literal(out: &mut Vec<u8>, lit: Lit) -> Result<(), AllocError>
     ensures { OnOk result (out.new.items ≡ out.old.items ++ word_of (named_literal lit)) }
 {
@@ -21,7 +21,7 @@ pub fn push_literal(out: &mut Vec<u8>, lit: Lit) -> Result<(), AllocError>
     out.extend_from_slice(&bytes[1..end])
 }
 
-/// Appends every literal and a space, then `0` and LF.
+/// Appends every literal with a space after it, and then `0` and LF.
 fn push_literals(out: &mut Vec<u8>, lits: &[Lit]) -> Result<(), AllocError>
     ensures { OnOk result (out.new.items ≡ out.old.items ++ literals_text (named_literals lits.now)) }
 {
@@ -32,7 +32,7 @@ fn push_literals(out: &mut Vec<u8>, lits: &[Lit]) -> Result<(), AllocError>
     out.extend_from_slice(b"0\n")
 }
 
-/// Appends `s SATISFIABLE` and the line of a model.
+/// Appends the line `s SATISFIABLE` and the line of a model.
 pub fn push_sat(out: &mut Vec<u8>, line: &[Lit]) -> Result<(), AllocError>
     ensures { OnOk result (out.new.items ≡ out.old.items ++ outcome_text (Sat (named_literals line.now))) }
 {
@@ -40,7 +40,7 @@ pub fn push_sat(out: &mut Vec<u8>, line: &[Lit]) -> Result<(), AllocError>
     push_literals(out, line)
 }
 
-/// Appends `s UNSATISFIABLE` and the line of a core.
+/// Appends the line `s UNSATISFIABLE` and the line of a core.
 pub fn push_unsat(out: &mut Vec<u8>, core: &[Lit]) -> Result<(), AllocError>
     ensures { OnOk result (out.new.items ≡ out.old.items ++ outcome_text (Unsat (named_literals core.now))) }
 {
@@ -48,14 +48,14 @@ pub fn push_unsat(out: &mut Vec<u8>, core: &[Lit]) -> Result<(), AllocError>
     push_literals(out, core)
 }
 
-/// Appends `s UNKNOWN`.
+/// Appends the line `s UNKNOWN`.
 pub fn push_unknown(out: &mut Vec<u8>) -> Result<(), AllocError>
     ensures { OnOk result (out.new.items ≡ out.old.items ++ outcome_text Unknown) }
 {
     out.extend_from_slice(b"s UNKNOWN\n")
 }
 
-/// Appends the line that refuses the command with this number, for a name past the limit.
+/// Appends the line that says that command number `command` is refused for a name past the limit.
 pub fn push_refused_limit(out: &mut Vec<u8>, command: u64) -> Result<(), AllocError>
     ensures { OnOk result (out.new.items ≡ out.old.items ++ refused_line command PastLimit) }
 {
@@ -64,7 +64,7 @@ pub fn push_refused_limit(out: &mut Vec<u8>, command: u64) -> Result<(), AllocEr
     out.extend_from_slice(b" limit\n")
 }
 
-/// Appends the last line of the answers to a text that is malformed where the command with this number would be.
+/// Appends the last line of the answers to a script that is malformed at command number `command`.
 pub fn push_malformed(out: &mut Vec<u8>, command: u64) -> Result<(), AllocError>
     ensures { OnOk result (out.new.items ≡ out.old.items ++ malformed_line command) }
 {

@@ -1,4 +1,4 @@
-//! Reads the answers to a script as they are expected.
+//! Reads the answers to a script, and checks that every line is an expected one.
 ghost use Rattle.std.specs.Prelude.{◌≡◌, [], true, false};
 ghost use Rattle.std.specs.Bool.{MatchBool};
 ghost use Rattle.certify.specs.answers.Answers.{malformed_line, refused_line};
@@ -21,23 +21,23 @@ use crate::verdict::Why;
 use sat_base::{CountedRead, Lit};
 use std::alloc::Global;
 
-/// An answer, and the literals of its line. The index of a literal is that of its name.
+/// An answer, and the literals of its second line. The variable of a literal is a name.
 #[derive(Drop)]
 pub(crate) struct Reply {
     pub kind: AnswerKind,
     pub lits: Vec<Lit>,
 }
 
-/// The answers, of which the current line is held.
+/// The answers, of which only the current line is held in memory.
 #[derive(Drop)]
 pub(crate) struct Answers {
     lines: Lines,
     pub reply: Reply,
-    /// An expected line.
+    /// The line that is expected, if there is only one possibility.
     due: Vec<u8>,
 }
 
-/// Whether the line that was read is the expected one.
+/// Whether `line`, which was read, is the expected line `due`.
 fn is_same(line: &[u8], due: &[u8]) -> bool
     ensures { MatchBool result (line.now ≡ due.now) (line.now ≡ due.now → ⊥) }
 {
@@ -51,7 +51,7 @@ fn is_none(line: &[u8]) -> bool
     line.is_empty()
 }
 
-/// Checks whether an answer of this kind is allowed, if only one answer is.
+/// Whether `settled` rules out an answer of this kind: if `settled` is true, only the kind `Unsat` is allowed.
 fn is_other(settled: bool, kind: AnswerKind) -> bool
     ensures { MatchBool result ((settled ≡ true) × (kind ≡ AnswerKind.Unsat → ⊥))
         (settled ≡ true → kind ≡ AnswerKind.Unsat) }
@@ -66,7 +66,8 @@ fn is_other(settled: bool, kind: AnswerKind) -> bool
     }
 }
 
-/// Checks whether these literals are allowed, if only an answer without literals is.
+/// Whether `settled` rules out the literals of an answer: if `settled` is true, only an answer without literals
+/// is allowed.
 fn has_more(settled: bool, lits: &[Lit]) -> bool
     ensures { MatchBool result ((settled ≡ true) × (lits.now ≡ [] → ⊥)) (settled ≡ true → lits.now ≡ []) }
 {
@@ -76,7 +77,7 @@ fn has_more(settled: bool, lits: &[Lit]) -> bool
     !lits.is_empty()
 }
 
-/// Returns why no answer was read.
+/// Returns why a confirmation ends if no answer could be read.
 fn unanswered(fault: AnswerFault) -> Stop
     ensures { result ≡ stop_after fault }
 {
@@ -103,7 +104,7 @@ impl Answers {
         }
     }
 
-    /// Reads the next line of the answers, which is one of the allowed lines.
+    /// Reads the next line of the answers. Stops early once the bytes can't begin an allowed line.
     fn next_line<A: CountedRead>(&mut self, answers: &mut A, wanted: Wanted) -> Result<(), Stop>
         ensures line { NextLine (IsWantedLine wanted self.old.due.items) result
             (answers_source A.seen answers.old self.old) (answers_source A.seen answers.new self.new)
@@ -116,7 +117,7 @@ impl Answers {
         }
     }
 
-    /// Reads a line, which has to be the expected one.
+    /// Reads the next line, which must be the expected line.
     fn take_due<A: CountedRead>(&mut self, answers: &mut A) -> Result<(), Stop>
         requires open_yet { IsNotAtEnd (answers_source A.seen answers.old self.old) }
         requires line { IsOneLine self.old.due.items }
@@ -134,7 +135,7 @@ impl Answers {
         Err(Stop::No(Why::AnswerText))
     }
 
-    /// Expects the line that refuses the command with this number.
+    /// Expects the line that says that command number `number` is refused, and why.
     pub fn refuse<A: CountedRead>(
         &mut self,
         answers: &mut A,
@@ -151,7 +152,7 @@ impl Answers {
         self.take_due(answers)
     }
 
-    /// Expects the last line of the answers to a malformed text.
+    /// Expects the last line of the answers to a script that is malformed at command number `number`.
     pub fn refuse_rest<A: CountedRead>(&mut self, answers: &mut A, number: u64) -> Result<(), Stop>
         requires open_yet { IsNotAtEnd (answers_source A.seen answers.old self.old) }
         ensures { Replies true result (answers_source A.seen answers.old self.old)
@@ -163,7 +164,7 @@ impl Answers {
         self.take_due(answers)
     }
 
-    /// Reads the first line of an answer, which has its kind.
+    /// Reads the first line of an answer. Returns the kind of the answer.
     fn read_first<A: CountedRead>(&mut self, answers: &mut A) -> Result<AnswerKind, Stop>
         requires open_yet { IsNotAtEnd (answers_source A.seen answers.old self.old) }
         ensures { Replies true result (answers_source A.seen answers.old self.old)
@@ -176,7 +177,7 @@ impl Answers {
         }
     }
 
-    /// Reads the second line of an answer of this kind, if it has one.
+    /// Reads the second line of an answer of this kind, if such answers have one.
     fn read_second<A: CountedRead>(&mut self, answers: &mut A, kind: AnswerKind) -> Result<(), Stop>
         requires open_yet { IsNotAtEnd (answers_source A.seen answers.old self.old) }
         ensures { Replies true result (answers_source A.seen answers.old self.old)
@@ -193,7 +194,8 @@ impl Answers {
         }
     }
 
-    /// Reads an answer, with its line. Once `unsat` is recorded, only one answer is allowed.
+    /// Reads an answer. `settled` says whether `unsat` is recorded: if so, the answer must be `Unsat`,
+    /// without literals.
     pub fn read<A: CountedRead>(&mut self, answers: &mut A, settled: bool) -> Result<(), Stop>
         requires open_yet { IsNotAtEnd (answers_source A.seen answers.old self.old) }
         ensures { Replies true result (answers_source A.seen answers.old self.old)

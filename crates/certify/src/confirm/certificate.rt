@@ -17,7 +17,7 @@ use sat_base::{CountedRead, StepReader};
 use sat_checker::Checker;
 use std::alloc::Global;
 
-/// The checker that a certificate's steps are fed to, and the variables of the names.
+/// The checker that receives a certificate's steps, and the variables of the names.
 #[derive(Drop)]
 pub(crate) struct Certificate {
     pub checker: Checker,
@@ -25,7 +25,7 @@ pub(crate) struct Certificate {
     room: LitScratch,
 }
 
-/// Returns an error unless the expected step can be missing once `unsat` is recorded.
+/// Returns an error unless the expected step may be missing once `unsat` is recorded.
 fn excuse_unmet(expected: &Expected<'_>) -> Result<(), Stop>
     ensures { SaysUnmet (due_of expected.now) result }
 {
@@ -50,7 +50,8 @@ impl Certificate {
         }
     }
 
-    /// Expects that the next ordered step is this one, and feeds it.
+    /// Reads and feeds the steps up to the next ordered step, which must be the expected one. Once `unsat` is recorded,
+    /// reads no more steps, but checks that the expected step may be missing.
     pub fn expect<R: CountedRead>(
         &mut self,
         steps: &mut StepReader<'_, R>,

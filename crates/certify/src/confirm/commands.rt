@@ -26,7 +26,7 @@ use crate::script::{Command, CommandKind, ScriptEnd};
 use sat_base::{CountedRead, Lit, StepReader};
 use std::alloc::Global;
 
-/// The state after the certificate's steps and the script's names so far, and the current line of the answers.
+/// The state of a confirmation after some commands, with the current line of the answers.
 #[derive(Drop)]
 pub(crate) struct ConfirmState {
     pub matching: Matching,
@@ -37,7 +37,7 @@ pub(crate) struct ConfirmState {
     pub asks: u64,
 }
 
-/// Expects the step that shows the answer to an ask.
+/// Expects the step that shows that the answer to an ask is correct. An unknown answer needs no step.
 fn show<C: CountedRead>(
     matching: &mut Matching,
     steps: &mut StepReader<'_, C>,
@@ -66,7 +66,7 @@ fn show<C: CountedRead>(
     }
 }
 
-/// Expects the step that shows the answer to an ask, and the end of the ask.
+/// Expects the step that shows that the answer to an ask is correct, and then the end of the ask.
 fn close<C: CountedRead>(
     matching: &mut Matching,
     steps: &mut StepReader<'_, C>,
@@ -87,7 +87,8 @@ fn close<C: CountedRead>(
     matching.certificate.expect(steps, &Expected::Close)
 }
 
-/// Expects what a command adds or asks, after its names.
+/// Expects the step for the clause or the assumptions of a command, after the steps for its names. Other commands need
+/// no such step.
 fn expect_content<C: CountedRead>(
     certificate: &mut Certificate,
     steps: &mut StepReader<'_, C>,
@@ -132,7 +133,8 @@ impl ConfirmState {
         }
     }
 
-    /// Expects an answer after the assumptions of its ask, the step that shows it, and the end of the ask.
+    /// Reads the answer to an ask, after the step with the assumptions. Expects the step that shows the answer, and the
+    /// end of the ask.
     fn confirm_answer<A: CountedRead, C: CountedRead>(
         &mut self,
         answers: &mut A,
@@ -153,7 +155,7 @@ impl ConfirmState {
         Ok(())
     }
 
-    /// Confirms what a command adds or asks, after its names.
+    /// Confirms the clause or the ask of a command, after the names of the command.
     fn confirm_content<A: CountedRead, C: CountedRead>(
         &mut self,
         answers: &mut A,
@@ -196,7 +198,7 @@ impl ConfirmState {
         self.confirm_content(answers, steps, command)
     }
 
-    /// Confirms that only the end of the certificate is left.
+    /// Confirms that the certificate's next ordered step is its end, and that the answers have ended.
     fn confirm_over<A: CountedRead, C: CountedRead>(
         &mut self,
         answers: &mut A,
@@ -212,7 +214,7 @@ impl ConfirmState {
         self.answers.expect_over(answers)
     }
 
-    /// Confirms the ask under no literals after the last command, and the end.
+    /// Confirms the ask without literals that is due after the last command, and then the end.
     fn confirm_asked<A: CountedRead, C: CountedRead>(
         &mut self,
         answers: &mut A,
@@ -238,7 +240,7 @@ impl ConfirmState {
         self.confirm_over(answers, steps)
     }
 
-    /// Confirms that the answers' last line reports the malformed command, and the end.
+    /// Confirms that the last line of the answers reports the malformed command, and then confirms the end.
     fn confirm_malformed<A: CountedRead, C: CountedRead>(
         &mut self,
         answers: &mut A,
@@ -258,7 +260,7 @@ impl ConfirmState {
         self.confirm_over(answers, steps)
     }
 
-    /// Confirms what is left, if the text ends so.
+    /// Confirms what follows the last command, if the script ends with `end`.
     pub fn confirm_end<A: CountedRead, C: CountedRead>(
         &mut self,
         answers: &mut A,

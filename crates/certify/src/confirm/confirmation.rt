@@ -17,7 +17,7 @@ use crate::script::stream::{CommandStream, Next};
 use sat_base::{CountedRead, StepReader};
 use std::alloc::Global;
 
-/// A script that is read when its commands are needed, and what is confirmed of it.
+/// A script, which is read as its commands are needed, and the state of its confirmation.
 #[derive(Drop)]
 pub(crate) struct Confirmation {
     pub script: CommandStream,
@@ -25,7 +25,7 @@ pub(crate) struct Confirmation {
 }
 
 impl Confirmation {
-    /// Counts the last command, and confirms it.
+    /// Counts and confirms the command that was read last.
     fn confirm_next<A: CountedRead, C: CountedRead>(
         &mut self,
         answers: &mut A,
@@ -50,7 +50,7 @@ impl Confirmation {
             .confirm_command(answers, steps, self.script.command())
     }
 
-    /// Confirms the last command, and the end.
+    /// Confirms the command that was read last, which the end of the script follows, and then the end.
     fn confirm_last<A: CountedRead, C: CountedRead>(
         &mut self,
         answers: &mut A,
@@ -71,7 +71,7 @@ impl Confirmation {
         self.session.confirm_end(answers, steps, end)
     }
 
-    /// Confirms all commands, and the end.
+    /// Confirms all commands of the script, and then its end.
     pub fn confirm_all<S: CountedRead, A: CountedRead, C: CountedRead>(
         &mut self,
         script: &mut S,

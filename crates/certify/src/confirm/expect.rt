@@ -1,4 +1,4 @@
-//! What a script and its answers expect of the next ordered step of a certificate.
+//! Compares a certificate's next ordered step with the one that a script and its answers expect.
 ghost use Rattle.std.specs.Prelude.{◌≡◌, ◌+◌, Some, None, IfOk, if◌then◌else◌};
 ghost use Rattle.sat_base.specs.steps.StepViews.{step_of};
 ghost use Rattle.sat_checker.specs.matching.Expected.{NewName, NoName, Adds, Opens, Fails, Closes, Finish};
@@ -15,39 +15,41 @@ use sat_base::{Lit, ProofStep, Var};
 use sat_checker::Checker;
 use std::alloc::AllocError;
 
-/// The next ordered step, in names. The index of a literal is that of its name.
+/// The ordered step that is expected next, in terms of names. The variable of a literal is a name.
 #[derive(Clone, Copy)]
 pub(crate) enum Expected<'a> {
-    /// The name gets a variable that the checker does not know.
+    /// A step that gives the name a variable that the checker does not know.
     NewName(Var),
-    /// The name's variable loses its name.
+    /// A step that removes the name from its variable.
     NoName(Var),
-    /// A clause with these literals.
+    /// A step that adds a clause with these literals.
     Clause(&'a [Lit]),
-    /// The assumptions of an ask.
+    /// A step that assumes the literals of an ask.
     Ask(&'a [Lit]),
-    /// A model with the values of an answer's line, which lists the names in use.
+    /// A step with a model that has the values of `line`. The line must list the names in use and contain the literals
+    /// of `ask`.
     Model {
         names: &'a Names,
         ask: &'a [Lit],
         line: &'a [Lit],
     },
-    /// This core.
+    /// A step with this core.
     Core(&'a [Lit]),
-    /// The end of an ask: assumptions without literals.
+    /// A step that assumes no literals, which ends an ask.
     Close,
     /// The end of the certificate.
     End,
 }
 
-/// What a step is compared with: the checker that was fed the steps before it, and the variables of the names.
+/// The state in which a step is compared: the checker that has received the steps before it, and the variables of
+/// the names.
 #[derive(Clone, Copy)]
 pub(crate) struct Known<'a> {
     pub checker: &'a Checker,
     pub variables: &'a NamedVars,
 }
 
-/// Returns `Ok` if this is so, else `why`.
+/// Returns `None` if `holds` is true, and `why` otherwise.
 fn unless(holds: bool, why: Why) -> Option<Why>
     ensures { result ≡ (if holds then None else Some why) }
 {
@@ -57,7 +59,7 @@ fn unless(holds: bool, why: Why) -> Option<Why>
     Some(why)
 }
 
-/// Checks whether the step gives the name a variable that the checker does not know yet.
+/// Checks that the step gives `name` a variable that the checker does not know yet. Returns why not, or `None`.
 fn compare_new_name(known: Known<'_>, step: &ProofStep<'_>, name: Var) -> Option<Why>
     ensures { Compares (λ o ask. NewName (name + 1)) known.entry (step_of step.now) result }
 {
@@ -77,7 +79,7 @@ fn compare_new_name(known: Known<'_>, step: &ProofStep<'_>, name: Var) -> Option
     None
 }
 
-/// Checks whether the step removes the name of the name's variable.
+/// Checks that the step removes `name` from its variable. Returns why not, or `None`.
 fn compare_no_name(known: Known<'_>, step: &ProofStep<'_>, name: Var) -> Option<Why>
     ensures { Compares (λ o ask. NoName (name + 1)) known.entry (step_of step.now) result }
 {
@@ -96,7 +98,8 @@ fn compare_no_name(known: Known<'_>, step: &ProofStep<'_>, name: Var) -> Option<
     None
 }
 
-/// Checks whether the step adds a clause with the same literals as the script's, in any order and with any repeats.
+/// Checks that the step adds a clause with the literals of the script's clause, in any order and with any repeats.
+/// Returns why not, or `None`.
 fn compare_clause(
     known: Known<'_>,
     step: &ProofStep<'_>,
@@ -112,7 +115,7 @@ fn compare_clause(
     Ok(unless(same, Why::ClauseDiffers))
 }
 
-/// Checks whether the step assumes the literals of the ask, in any order and with any repeats.
+/// Checks that the step assumes the literals of the ask, in any order and with any repeats. Returns why not, or `None`.
 fn compare_ask(
     known: Known<'_>,
     step: &ProofStep<'_>,
@@ -128,7 +131,8 @@ fn compare_ask(
     Ok(unless(same, Why::AskDiffers))
 }
 
-/// Checks whether the step has the core of the answer. Its hashes are for the checker.
+/// Checks that the step has the core of the answer. Returns why not, or `None`. The checker will check the
+/// step's hashes.
 fn compare_core(
     known: Known<'_>,
     step: &ProofStep<'_>,
@@ -148,7 +152,7 @@ fn compare_core(
     Ok(unless(same, Why::AnswerDiffers))
 }
 
-/// Whether a line lists the names in use, in order, and has the ask's literals.
+/// Whether `line` lists the names in use, in order, and contains the literals of `ask`.
 fn is_line(
     names: &Names,
     ask: &[Lit],
@@ -163,7 +167,7 @@ fn is_line(
     Ok(false)
 }
 
-/// Checks whether the step is a model with the values of a line that lists the names in use and has the ask's literals.
+/// Checks that the step is a model with the values of `line`. Returns why not, or `None`.
 fn compare_line(
     known: Known<'_>,
     step: &ProofStep<'_>,
@@ -179,7 +183,7 @@ fn compare_line(
     Ok(unless(shown, Why::AnswerDiffers))
 }
 
-/// Checks whether the step assumes no literals, which ends an ask.
+/// Checks that the step assumes no literals, which ends an ask. Returns why not, or `None`.
 fn compare_close(known: Known<'_>, step: &ProofStep<'_>) -> Option<Why>
     ensures { Compares (λ o ask. Closes) known.entry (step_of step.now) result }
 {
@@ -192,7 +196,7 @@ fn compare_close(known: Known<'_>, step: &ProofStep<'_>) -> Option<Why>
     Some(Why::AskDiffers)
 }
 
-/// Checks whether the step is the end of the certificate, after which nothing matters.
+/// Checks that the step is the end of the certificate. Returns why not, or `None`. Bytes after that step don't matter.
 fn compare_end(known: Known<'_>, step: &ProofStep<'_>) -> Option<Why>
     ensures { Compares (λ o ask. Finish) known.entry (step_of step.now) result }
 {
@@ -202,7 +206,7 @@ fn compare_end(known: Known<'_>, step: &ProofStep<'_>) -> Option<Why>
     None
 }
 
-/// Compares a step with the expected one, by the variables of the names.
+/// Compares a step with the expected one. Returns why they differ, or `None`.
 pub(crate) fn fits(
     known: Known<'_>,
     step: &ProofStep<'_>,
@@ -231,7 +235,8 @@ pub(crate) fn fits(
     }
 }
 
-/// Whether this step can be missing once `unsat` is recorded: any but a model and a core that is not empty.
+/// Returns `None` if the expected step may be missing once `unsat` is recorded, and otherwise why the certificate is
+/// rejected. Only a model, or a core that is not empty, must not be missing.
 pub(crate) fn excuse(expected: &Expected<'_>) -> Option<Why>
     ensures { ExcusesDue (due_of expected.now) result }
 {

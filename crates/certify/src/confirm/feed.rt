@@ -14,14 +14,14 @@ use crate::confirm::stop::{Stop, refused, refused_step, unread};
 use sat_base::{CountedRead, ProofStep, StepReader};
 use sat_checker::{Checker, SelfChecker};
 
-/// The tags of ordered steps, which a script and its answers expect; the others are fed wherever they are.
+/// Whether `tag` is the tag of an ordered step. Steps with other tags can be anywhere in a certificate.
 pub(crate) fn is_ordered(tag: u8) -> bool
     ensures { result ≡ is_ordered_tag tag }
 {
     tag == 2 || tag == 5 || tag == 10 || tag == 11 || tag == 12 || tag == 13
 }
 
-/// Reads the next step, which is not fed yet.
+/// Reads the next step, without feeding it to the checker.
 pub(crate) fn read_next<R: CountedRead>(steps: &mut StepReader<'_, R>) -> Result<(), Stop>
     requires { StepsGoOn R.seen steps.old }
     ensures same { SameLoan steps.old steps.new }
@@ -39,7 +39,8 @@ pub(crate) fn read_next<R: CountedRead>(steps: &mut StepReader<'_, R>) -> Result
     }
 }
 
-/// Feeds a step. One that is not accepted is a rejection, whatever is expected.
+/// Feeds a step to the checker. If the checker doesn't accept the step, the certificate is rejected, whatever
+/// is expected.
 pub(crate) fn feed(checker: &mut Checker, step: &ProofStep<'_>) -> Result<(), Stop>
     ensures feeds { FeedsStep result (kernel_of checker.old) (step_of step.now) (kernel_of checker.new) }
     ensures looks { LooksAtMost (kernel_of checker.old) (step_of step.now) (kernel_of checker.new) }
@@ -50,11 +51,12 @@ pub(crate) fn feed(checker: &mut Checker, step: &ProofStep<'_>) -> Result<(), St
     }
 }
 
-/// Settles a unit conflict that is pending.
+/// Settles a pending unit conflict, if there is one.
 pub(crate) fn settle(checker: &mut Checker) -> Result<(), Stop>
     ensures { SettlesConflict result (kernel_of checker.old) (kernel_of checker.new) }
 {
-    // Mostly none is pending. Then no room is cleared for the call's result, which is large.
+    // Usually no conflict is pending. Then there is no need to clear memory for the result of the call below, which
+    // is large.
     if checker.is_settled() {
         return Ok(());
     }

@@ -1,4 +1,4 @@
-//! Updates the variables of names after an expected step.
+//! Updates the variables of names after an accepted step.
 ghost use Rattle.std.specs.Prelude.{◌+◌, OnOk};
 ghost use Rattle.sat_base.specs.steps.StepViews.{step_of};
 ghost use Rattle.sat_checker.specs.matching.Expected.{NewName, NoName};
@@ -10,7 +10,7 @@ use crate::confirm::variables::NamedVars;
 use sat_base::{ProofStep, Var};
 use std::alloc::AllocError;
 
-/// Gives the name the step's variable.
+/// Sets the variable of `name` to the one in the step.
 fn follow_new_name(
     variables: &mut NamedVars,
     name: Var,
@@ -28,14 +28,14 @@ fn follow_new_name(
     variables.put(name, global)
 }
 
-/// Removes the name's variable.
+/// Removes the variable of `name`.
 fn follow_no_name(variables: &mut NamedVars, name: Var, step: &ProofStep<'_>)
     ensures { NamesFollow (λ o ask. NoName (name + 1)) variables.old (step_of step.now) variables.new }
 {
     variables.remove(name);
 }
 
-/// Updates the variables of names after an expected step.
+/// Updates the variables of names after an accepted step.
 pub(crate) fn follow(
     variables: &mut NamedVars,
     expected: &Expected<'_>,

@@ -8,19 +8,19 @@ use crate::script::ahead::LastPiece;
 use sat_base::{CountedRead, ReadError};
 use std::alloc::{AllocError, Global};
 
-/// Up to this many bytes without LF are examined whenever more are read; longer ones whenever they have doubled.
+/// A line of fewer bytes than this is examined after every read; a longer one only once its length has doubled.
 const HELD: usize = 1024;
 
-/// Which lines are allowed as the next one.
+/// Which lines are allowed next.
 #[derive(Clone, Copy, Drop)]
 pub(crate) enum Wanted {
     /// The expected line.
     Due,
     /// The first line of an answer.
     First,
-    /// The second line of an answer of this kind.
+    /// The second line of an answer of the given kind.
     Second(AnswerKind),
-    /// None.
+    /// No line.
     Nothing,
 }
 
@@ -28,11 +28,12 @@ pub(crate) enum Wanted {
 #[derive(Drop)]
 pub(crate) struct Lines {
     ahead: LastPiece,
-    /// With its LF; at the end of the text there may be none.
+    /// The bytes of the line, with the LF. At the end of the text, the LF may be missing.
     pub line: Vec<u8>,
 }
 
-/// Returns the number of bytes up to and with the first LF, or of all bytes; and whether there is an LF.
+/// Returns the number of bytes up to and including the first LF, or of all bytes if there is no LF; and whether there
+/// is one.
 fn up_to_line(bytes: &[u8]) -> (usize, bool)
     ensures { GoesUpToLine result.1 bytes.now result.0 }
 {
@@ -45,7 +46,7 @@ fn up_to_line(bytes: &[u8]) -> (usize, bool)
     (bytes.len(), false)
 }
 
-/// Whether an allowed line begins with these bytes.
+/// Whether an allowed line can begin with `bytes`.
 fn may_begin(wanted: Wanted, due: &[u8], bytes: &[u8]) -> bool
     ensures { result ≡ false → StartsNone (IsWantedLine wanted due.now) bytes.now }
 {
@@ -57,7 +58,8 @@ fn may_begin(wanted: Wanted, due: &[u8], bytes: &[u8]) -> bool
     }
 }
 
-/// Returns how many bytes are held before they are looked at again, or `None` if no allowed line begins with them.
+/// Returns the length at which the line is to be examined again, or `None` if no allowed line begins with `bytes`. If
+/// there are fewer than `limit` bytes, they are not examined.
 fn look(wanted: Wanted, due: &[u8], bytes: &[u8], limit: usize) -> Option<usize>
     requires { 0 < limit }
     ensures { MatchOption result (IsWrong (IsWantedLine wanted due.now) bytes.now) (λ next. 0 < next) }
@@ -86,7 +88,7 @@ impl Lines {
         }
     }
 
-    /// Consumes bytes up to the end of the line. Returns whether it was reached.
+    /// Consumes the bytes that were read, up to the end of the line. Returns whether the end of the line was reached.
     fn take(&mut self) -> Result<bool, AllocError>
         ensures { MovesFront result self.old.ahead self.new.ahead self.old.line.items self.new.line.items }
     {
@@ -97,8 +99,8 @@ impl Lines {
         Ok(whole)
     }
 
-    /// Reads the next line, or the rest of the text if it has no LF. Bytes that begin no allowed line count as a line,
-    /// so at most twice the bytes of an allowed line are held.
+    /// Reads the next line, or the rest of the text if it has no LF. Bytes that are found to begin no allowed line
+    /// count as a line, so a malformed line is not held in memory as a whole.
     pub fn next<A: CountedRead>(
         &mut self,
         answers: &mut A,

@@ -1,4 +1,4 @@
-//! Compares lists of literals as sets; those of names by the names' variables.
+//! Compares lists of literals as sets. In literals over names, each name stands for its variable.
 ghost use Rattle.std.specs.Prelude.{IfOk, ◌≡◌, [], true};
 ghost use Rattle.sat_checker.specs.matching.Expected.{EachSpelt, SameSet, Spells};
 ghost use Rattle.certify.specs.answers.AnswerForms.{named_literal, named_literals};
@@ -10,14 +10,14 @@ use sat_base::Lit;
 use sat_checker::sorted_lits::{copy_canonical, is_subset};
 use std::alloc::{AllocError, Global};
 
-/// Buffers for comparisons, which are empty between them.
+/// Buffers for comparisons. Their contents don't matter between comparisons.
 #[derive(Drop)]
 pub(crate) struct LitScratch {
     spelt: Vec<Lit>,
     sets: Sets,
 }
 
-/// Two sorted sets.
+/// Two sorted sets of literals.
 #[derive(Drop)]
 pub(crate) struct Sets {
     first: Vec<Lit>,
@@ -41,7 +41,7 @@ impl LitScratch {
     }
 }
 
-/// Whether every one of the literals is among the others.
+/// Whether all of `literals` are among `others`.
 fn are_among(literals: &[Lit], others: &[Lit], sets: &mut Sets) -> Result<bool, AllocError>
     ensures { IfOk result (λ yes. AnswersWhether yes (AllAmong literals.now others.now)) }
 {
@@ -62,7 +62,7 @@ fn are_same(xs: &[Lit], ys: &[Lit], sets: &mut Sets) -> Result<bool, AllocError>
     Ok(is_subset(&sets.second, &sets.first, false))
 }
 
-/// Whether all of the literals are in the line.
+/// Whether `line` contains all of `literals`.
 pub(crate) fn has_all(
     line: &[Lit],
     literals: &[Lit],
@@ -73,7 +73,7 @@ pub(crate) fn has_all(
     are_among(literals, line, &mut room.sets)
 }
 
-/// Spells the literals by the names' variables. Returns whether every name has one.
+/// Writes `literals` to `spelt`, with every name replaced by its variable. Returns whether every name has a variable.
 fn spell(variables: &NamedVars, literals: &[Lit], spelt: &mut Vec<Lit>) -> Result<bool, AllocError>
     ensures { IfOk result
         (λ yes. SpellsAll yes (variable_in variables.now) (named_literals literals.now) spelt.new.items) }
@@ -88,7 +88,7 @@ fn spell(variables: &NamedVars, literals: &[Lit], spelt: &mut Vec<Lit>) -> Resul
     Ok(true)
 }
 
-/// Whether this is the code of the literal by its name's variable.
+/// Whether `code` is `literal` with its name replaced by the variable of that name.
 fn is_spelt(variables: &NamedVars, literal: Lit, code: Lit) -> bool
     ensures { result ≡ true → Spells (variable_in variables.now) (named_literal literal) code }
 {
@@ -98,7 +98,7 @@ fn is_spelt(variables: &NamedVars, literal: Lit, code: Lit) -> bool
     }
 }
 
-/// Whether the codes are those of the names' literals, one by one.
+/// Whether `codes` are, in order, the literals in `literals` with every name replaced by its variable.
 fn are_spelt(variables: &NamedVars, literals: &[Lit], codes: &[Lit]) -> bool
     ensures { result ≡ true → AreSpelt (variable_in variables.now) (named_literals literals.now) codes.now }
 {
@@ -113,7 +113,7 @@ fn are_spelt(variables: &NamedVars, literals: &[Lit], codes: &[Lit]) -> bool
     true
 }
 
-/// Whether all of the names' literals are among the codes.
+/// Whether all of `literals`, with every name replaced by its variable, are among `codes`.
 pub(crate) fn are_spelt_in(
     variables: &NamedVars,
     literals: &[Lit],
@@ -130,7 +130,7 @@ pub(crate) fn are_spelt_in(
     }
 }
 
-/// Whether the names' literals and the codes are the same sets.
+/// Whether `literals`, with every name replaced by its variable, and `codes` are equal as sets.
 pub(crate) fn are_spelt_by(
     variables: &NamedVars,
     literals: &[Lit],

@@ -1,4 +1,4 @@
-//! Confirms how a certificate introduces and hides the names of a script's commands.
+//! Confirms that a certificate introduces and hides the names of a script's commands.
 ghost use Rattle.std.specs.Prelude.{◌+◌, ◌≤◌, map, OnOk};
 ghost use Rattle.sat_base.specs.script.ScriptState.{names_from};
 ghost use Rattle.sat_base.specs.script.Script.{names_of};
@@ -18,14 +18,14 @@ use crate::judge::{Names, NewNames};
 use crate::script::CommandKind;
 use sat_base::{CountedRead, Lit, StepReader, Var};
 
-/// A certificate, and the names of the script that it is matched with.
+/// A certificate, and the names in use in the script with which it is matched.
 #[derive(Drop)]
 pub(crate) struct Matching {
     pub certificate: Certificate,
     pub names: Names,
 }
 
-/// Expects new names, in order.
+/// Expects the steps that introduce new names, in order.
 fn expect_new<R: CountedRead>(
     certificate: &mut Certificate,
     steps: &mut StepReader<'_, R>,
@@ -47,7 +47,7 @@ fn expect_new<R: CountedRead>(
     Ok(())
 }
 
-/// Expects that a name is hidden, if the command hides it.
+/// Expects the step that hides `name`, if the command is of the kind that hides its names.
 fn expect_hidden<R: CountedRead>(
     certificate: &mut Certificate,
     steps: &mut StepReader<'_, R>,
@@ -72,7 +72,7 @@ fn expect_hidden<R: CountedRead>(
 }
 
 impl Matching {
-    /// Expects the effect of an accepted command of this kind on one of its names.
+    /// Expects the steps for one name of an accepted command of this kind, and updates the names in use.
     pub fn take_name<R: CountedRead>(
         &mut self,
         steps: &mut StepReader<'_, R>,
@@ -95,7 +95,8 @@ impl Matching {
         Ok(())
     }
 
-    /// Expects the effect of an accepted command of this kind on all of its names, from left to right.
+    /// Expects the steps for all names of an accepted command of this kind, from left to right, and updates the names
+    /// in use.
     pub fn take_names<R: CountedRead>(
         &mut self,
         steps: &mut StepReader<'_, R>,

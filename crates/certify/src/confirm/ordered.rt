@@ -1,4 +1,4 @@
-//! Finds the next ordered step of a certificate, and feeds the steps before it.
+//! Finds the next ordered step of a certificate, and feeds the steps before it to the checker.
 ghost use Rattle.std.specs.Prelude.{◌<◌, IfNone, IfOk};
 ghost use Rattle.sat_base.specs.steps.StepReading.{reader_source};
 ghost use Rattle.sat_checker.specs.CheckerView.{kernel_of};
@@ -13,16 +13,17 @@ use crate::confirm::stop::Stop;
 use sat_base::{CountedRead, StepReader};
 use sat_checker::Checker;
 
-/// What was found instead of, or as, an ordered step.
+/// The result of looking for an ordered step.
 #[derive(Clone, Copy)]
 pub(crate) enum Awaited {
-    /// The step that was read, which is not fed yet.
+    /// The step that was read last is ordered. It is not fed to the checker yet.
     Step,
-    /// `unsat` is recorded, and nothing more is read.
+    /// The checker has recorded `unsat`, so nothing more is read.
     Cut,
 }
 
-/// Reads one more step, unless `unsat` is recorded. Returns `None` if it is not an ordered one, and then feeds it.
+/// Reads one more step, unless `unsat` is recorded. If the step is not ordered, feeds it to the checker and
+/// returns `None`.
 fn advance<R: CountedRead>(
     checker: &mut Checker,
     steps: &mut StepReader<'_, R>,
@@ -49,7 +50,7 @@ fn advance<R: CountedRead>(
     Ok(None)
 }
 
-/// Feeds the steps before the next ordered one.
+/// Feeds the steps before the next ordered step to the checker.
 fn find_ordered<R: CountedRead>(
     checker: &mut Checker,
     steps: &mut StepReader<'_, R>,
@@ -69,7 +70,7 @@ fn find_ordered<R: CountedRead>(
     }
 }
 
-/// Feeds the steps before the next ordered one, and settles a unit conflict that is then pending.
+/// Feeds the steps before the next ordered step to the checker, and then settles a pending unit conflict.
 pub(crate) fn await_ordered<R: CountedRead>(
     checker: &mut Checker,
     steps: &mut StepReader<'_, R>,

@@ -1,4 +1,4 @@
-//! Why a confirmation ends.
+//! Why a confirmation ends early.
 ghost use Rattle.std.specs.Prelude.{◌≡◌};
 ghost use Rattle.sat_checker.specs.KernelView.{step_error};
 ghost use Rattle.certify.specs.confirm.Feeding.{stop_by};
@@ -10,7 +10,7 @@ use sat_base::{ReadError, StepError};
 use sat_checker::{CheckerError, StepRefusal};
 use std::alloc::{AllocError, AllocFailed};
 
-/// Why a confirmation ends before the texts do.
+/// Why a confirmation ends before the end of the texts.
 #[derive(Clone, Copy, Drop)]
 pub(crate) enum Stop {
     /// The first mismatch.
@@ -70,7 +70,7 @@ pub(crate) fn unread_answers(error: ReadError) -> Stop
     }
 }
 
-/// Returns why no step was read. A reader of steps that has failed is not called again.
+/// Returns why no step was read. A step reader that has failed is never called again, so `HasFailed` does not occur.
 pub(crate) fn unread(error: StepError) -> Stop
     ensures { result ≡ stop_of error }
 {
@@ -96,8 +96,8 @@ pub(crate) fn refused_step(refusal: StepRefusal) -> Stop
     }
 }
 
-/// Returns why a pending conflict is not settled. A checker that has not failed returns one of the first three; this
-/// one has no listener, so never the last.
+/// Returns why a pending conflict is not settled. A checker that has not failed returns one of the first three errors.
+/// The checker of a confirmation has no listener, so the last error does not occur.
 pub(crate) fn refused(error: CheckerError) -> Stop
     ensures { result ≡ stop_by error }
 {

@@ -1,4 +1,4 @@
-//! The variables of names.
+//! The variables that names have in a certificate.
 ghost use Rattle.std.specs.Prelude.{ℕ, ◌≡◌, ◌+◌, ◌<◌, None, Some, OnOk};
 ghost use Rattle.sat_base.specs.values.Literals.{var_limit};
 ghost use Rattle.certify.specs.confirm.Variables.{PutsVariable, variable_in};
@@ -6,7 +6,7 @@ ghost use Rattle.certify.specs.confirm.Variables.{PutsVariable, variable_in};
 use sat_base::{Table, Var};
 use std::alloc::{AllocError, Global};
 
-/// The variable of every name that has one. The memory depends on how many names have one, not on the names.
+/// A map from names to variables. Its memory depends on how many names have a variable, not on how large the names are.
 #[derive(Drop)]
 pub(crate) struct NamedVars {
     variables: Table<Option<Var>>,
@@ -22,7 +22,7 @@ impl NamedVars {
         }
     }
 
-    /// Returns the variable of a name.
+    /// Returns the variable of `name`, or `None`.
     #[inline]
     pub fn get(&self, name: Var) -> Option<Var>
         ensures { result ≡ variable_in self.now (name + 1) }
@@ -30,7 +30,7 @@ impl NamedVars {
         self.variables.get(name.index(), None)
     }
 
-    /// Sets the variable of a name.
+    /// Sets the variable of `name` to `variable`.
     pub fn put(&mut self, name: Var, variable: Var) -> Result<(), AllocError>
         ensures put { OnOk result (PutsVariable self.old self.new (name + 1) (Some variable)) }
         ensures within { name < var_limit }
@@ -38,7 +38,7 @@ impl NamedVars {
         self.variables.set(name.index(), Some(variable), None)
     }
 
-    /// Removes the variable of a name.
+    /// Removes the variable of `name`.
     pub fn remove(&mut self, name: Var)
         ensures { PutsVariable self.old self.new (name + 1) None }
     {

@@ -15,23 +15,24 @@ use crate::script::{Command, CommandKind};
 use sat_base::{Lit, Table, Var};
 use std::alloc::{AllocError, Global};
 
-/// The names that were ever used, and their states. Names that no command hid or gave a mode need no memory.
+/// The names that have ever been used, and their states. Names that no command has hidden or given a mode need
+/// no memory.
 #[derive(Drop)]
 pub struct Names {
-    /// The largest name that was used.
+    /// The largest name that has ever been used, or 0.
     used: usize,
-    /// The states of names that a command hid or gave a mode, from name 1 on. Later names have mode sample.
+    /// The states of names, indexed from name 1. Names without an entry have the mode sample.
     states: Table<NameState>,
 }
 
-/// New names: the index of the first, and how many.
+/// Consecutive new names: the index of the first one, and their number.
 #[derive(Clone, Copy, Debug, Drop, PartialEq, Eq)]
 pub struct NewNames {
     pub first: usize,
     pub count: usize,
 }
 
-/// Returns the refusal of a command that has a name past the limit.
+/// Returns the refusal for a name past the limit, if `past_limit` is true.
 fn limit_refusal(past_limit: bool) -> Option<Refusal>
     ensures { result ≡ limit_refusal past_limit }
 {
@@ -42,7 +43,7 @@ fn limit_refusal(past_limit: bool) -> Option<Refusal>
     }
 }
 
-/// Whether the command is a clause or an ask, which only introduces names.
+/// Whether the command is a clause or an ask. These commands only introduce names.
 fn is_of_literals(kind: CommandKind) -> bool
     ensures { result ≡ is_of_literals (kind_of kind) }
 {
@@ -56,7 +57,7 @@ fn is_of_literals(kind: CommandKind) -> bool
 }
 
 impl Names {
-    /// Returns the names before the first command.
+    /// Returns the state before the first command, in which no name has been used.
     pub fn new(alloc: Global) -> Names
         ensures { NamesHaveState result start }
     {
@@ -66,7 +67,7 @@ impl Names {
         }
     }
 
-    /// Returns the state of a name. One that was never used counts as hidden.
+    /// Returns the state of a name. A name that was never used counts as hidden.
     fn state(&self, var: Var) -> NameState
         ensures { result ≡ state_in (states_of self.now) (var + 1) }
     {
@@ -77,7 +78,7 @@ impl Names {
         NameState::Hidden
     }
 
-    /// Whether the name is in use and has mode witness.
+    /// Whether the name is in use and its mode is witness.
     fn is_witness(&self, var: Var) -> bool
         ensures witness { result ≡ is_witnessed (state_in (states_of self.now) (var + 1)) }
         ensures bound { var < var_limit }
@@ -99,7 +100,7 @@ impl Names {
         true
     }
 
-    /// Whether the command is a clause or an ask over names in use: it introduces no name, and changes none.
+    /// Whether the command is a clause or an ask all of whose names are in use. Such a command changes no names.
     pub(crate) fn are_known(&self, kind: CommandKind, literals: &[Lit]) -> bool
         ensures { result ≡ true → BringsNothing (kind_of kind) (names_of (named_literals literals.now)) self.now }
     {
@@ -114,7 +115,7 @@ impl Names {
         true
     }
 
-    /// Returns why a clause or an ask is refused, or `None`.
+    /// Returns why a clause or an ask with these literals is refused, or `None`.
     fn literal_refusal(&self, literals: &[Lit], past_limit: bool) -> Option<Refusal>
         ensures judges { (j : ScriptState) (ls : List Literal) → NamesHaveState self.now j → IsFront literals.now past_limit ls
             → refusal_said result ≡ refused_literal j (names_of ls) }
@@ -143,8 +144,9 @@ impl Names {
         }
     }
 
-    /// Returns the names that become new variables when a name is introduced, in order: all from the first one that was
-    /// never used up to this name, or only the name itself if it is hidden.
+    /// Returns the names that get new variables when the name `var` is introduced, in order. If `var` was never used,
+    /// these are all names from the first one never used up to `var`. Otherwise it is only `var` if that is hidden, and
+    /// none if it is in use.
     pub fn new_names(&self, var: Var) -> NewNames
         ensures names { (j : ScriptState) → NamesHaveState self.now j
             → new_names (var + 1) j ≡ names_from result.count (result.first + 1) }
@@ -173,7 +175,7 @@ impl Names {
         }
     }
 
-    /// Whether the literals are those of the names in use, in increasing order.
+    /// Whether `line` has exactly one literal of each name in use, in increasing order of names.
     pub fn are_listed(&self, line: &[Lit]) -> bool
         ensures { MatchBool result (ListsUsed self.now line.now) (ListsUsed self.now line.now → ⊥) }
     {
@@ -193,7 +195,7 @@ impl Names {
         at == line.len()
     }
 
-    /// Makes all names from the first one that was never used up to this name new variables.
+    /// Introduces all names from the first one that was never used up to the one with this index.
     fn grow(&mut self, index: usize)
         requires fresh { self.old.used ≤ index }
         requires within { index < var_limit }
@@ -203,7 +205,7 @@ impl Names {
         self.used = index + 1;
     }
 
-    /// Introduces a name. If it was never used, so are all names below it that were never used.
+    /// Introduces a name. If the name was never used, also introduces all names below it that were never used.
     pub fn bring_in(&mut self, var: Var)
         ensures changes { Changes self.old self.new (bring_in (var + 1)) }
         ensures in_use { ComesInUse self.old self.new (var + 1) }
@@ -218,7 +220,7 @@ impl Names {
         }
     }
 
-    /// Sets the state of a name that was used.
+    /// Sets the state of a name. Does nothing if the name was never used.
     fn set_state(&mut self, var: Var, state: NameState) -> Result<(), AllocError>
         ensures { OnOk result (IsInUse self.old (var + 1) → Changes self.old self.new (changed_to state (var + 1))) }
     {
@@ -229,7 +231,7 @@ impl Names {
         self.states.set(index, state, NameState::Sampled)
     }
 
-    /// Applies an accepted command of this kind to a name in use.
+    /// Applies an accepted command of this kind to one of its names, which is in use.
     fn change(&mut self, kind: CommandKind, var: Var) -> Result<(), AllocError>
         ensures { OnOk result (IsInUse self.old (var + 1)
             → Changes self.old self.new (changed_state (kind_of kind) (var + 1))) }
@@ -243,7 +245,7 @@ impl Names {
         }
     }
 
-    /// Applies an accepted command of this kind to one of its names.
+    /// Introduces one name of an accepted command of this kind, and applies the command to the name.
     pub fn take(&mut self, kind: CommandKind, var: Var) -> Result<(), AllocError>
         ensures { OnOk result (Changes self.old self.new (taken (kind_of kind) (var + 1))) }
     {

@@ -1,7 +1,8 @@
-//! Laws of commands that are served one after another.
+//! Laws about commands that are served one after another.
 ghost use Rattle.certify.specs.run.ServingLaws.{AskServes, CoresAreSorted, PlainServes, RefusalServes, ServingComposes};
 
-/// Commands are served one after another. Every one is refused or adds its steps, and an ask its answer, too.
+/// States that commands can be served one after another. Each command is refused, or adds its steps; an ask also adds
+/// its answer.
 pub fn commands_are_served()
     ensures composes { ServingComposes }
     ensures refused { RefusalServes }
@@ -9,7 +10,7 @@ pub fn commands_are_served()
     ensures asked { AskServes }
 {}
 
-/// A core of a solver, in any order, is right in the order of answers.
+/// States that a solver's core, whatever the order of its literals, is a correct answer once they are sorted.
 pub fn cores_are_sorted()
     ensures { CoresAreSorted }
 {}

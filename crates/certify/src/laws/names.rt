@@ -1,13 +1,14 @@
-//! Laws of names in a certificate, only for proofs.
+//! Laws about names in a certificate, which only proofs use.
 ghost use Rattle.certify.specs.confirm.Following.{OthersPass};
 ghost use Rattle.certify.specs.confirm.Naming.{NamesAreExpected};
 
-/// Steps that are not ordered leave the variables of names as they are.
+/// States that steps that are not ordered don't change the variables of names.
 pub fn others_pass()
     ensures { OthersPass }
 {}
 
-/// The steps that a command expects for its names, one by one, are those before the step for what it adds or asks.
+/// States that the steps that a command expects for its names, taken one by one, are the steps before the one for its
+/// clause or ask.
 pub fn names_expected()
     ensures { NamesAreExpected }
 {}

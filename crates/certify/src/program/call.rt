@@ -3,7 +3,7 @@ ghost use Rattle.std.specs.Prelude.{ℕ, [], ◌∷◌, map, MatchOption};
 ghost use Rattle.std.specs.String.{string_bytes};
 ghost use Rattle.certify.specs.program.Calls.{AllowsRequest, IsCallOf, IsRoundCount, running};
 
-/// The files of a run: a script, its answers and their certificate.
+/// The paths of a script, its answers and their certificate.
 #[derive(Clone, Copy)]
 pub(super) struct RunFiles<'a> {
     pub(super) script: &'a str,
@@ -11,7 +11,7 @@ pub(super) struct RunFiles<'a> {
     pub(super) certificate: &'a str,
 }
 
-/// A call over files.
+/// A call that names files.
 #[derive(Clone, Copy)]
 pub(super) enum Call<'a> {
     /// `run S A C [STEPS]`
@@ -34,7 +34,7 @@ pub(super) enum Call<'a> {
     },
 }
 
-/// Returns the number that a word of digits spells, if it is below 2^64.
+/// Returns the number that `word` spells, if it consists of decimal digits and the number is below 2^64.
 fn rounds_of(word: &str) -> Option<u64>
     ensures { MatchOption result ((n : ℕ) → IsRoundCount word.now n → ⊥) (IsRoundCount word.now) }
 {
@@ -46,7 +46,7 @@ fn rounds_of(word: &str) -> Option<u64>
     word.parse::<u64>().ok()
 }
 
-/// Returns a run, unless it writes over its script.
+/// Returns a run, or `None` if it would write over its script.
 fn run_of(files: RunFiles<'_>, budget: u64) -> Option<Call<'_>>
     ensures { AllowsRequest result (running files.entry budget) }
 {
@@ -66,7 +66,7 @@ fn check_of<'a>(name: &str, hints: &'a str) -> Option<Call<'a>>
     Some(Call::Check { hints })
 }
 
-/// Reads `hints C H`, unless it writes over the certificate.
+/// Reads `hints C H`. Returns `None` if this would write over the certificate.
 fn hints_of<'a>(name: &str, certificate: &'a str, hints: &'a str) -> Option<Call<'a>>
     ensures { IsCallOf (name.now ∷ certificate.now ∷ hints.now ∷ []) result }
 {
@@ -102,8 +102,8 @@ fn limited_run<'a>(name: &str, files: RunFiles<'a>, steps: &str) -> Option<Call<
     }
 }
 
-/// Returns the call over files that these words are, if they are one. An output with the same word as the input is no
-/// call.
+/// Returns the call that the arguments `words` spell, or `None`. If an output is the same word as the input, they don't
+/// spell a call.
 pub(super) fn call_of(words: &[String]) -> Option<Call<'_>>
     ensures { IsCallOf (map string_bytes words.now) result }
 {

@@ -1,4 +1,4 @@
-//! Why the program could not do what it was asked.
+//! Why the program failed.
 ghost use Rattle.std.specs.Prelude.{◌≡◌};
 ghost use Rattle.certify.specs.program.Printing.{confirm_fault_text, fault_text, hints_fault_text, run_fault_text};
 
@@ -8,7 +8,7 @@ use sat_base::ReadError;
 use sat_hints::HintFault;
 use std::alloc::AllocError;
 
-/// Why the program could not do what it was asked.
+/// Why the program failed.
 #[derive(Clone, Copy, Drop)]
 pub(super) enum Fault {
     Run(RunFault),
@@ -27,7 +27,7 @@ pub(super) enum HintsFault {
 }
 
 impl Fault {
-    /// Returns its name on standard error.
+    /// Returns the name of the fault, as it is written to standard error.
     pub(super) fn name(&self) -> &'static str
         ensures { result.now ≡ fault_text self.now }
     {
@@ -39,7 +39,7 @@ impl Fault {
     }
 }
 
-/// Returns the variant's name.
+/// Returns the name of the variant.
 fn run_fault_name(fault: RunFault) -> &'static str
     ensures { result.now ≡ run_fault_text fault }
 {
@@ -53,7 +53,7 @@ fn run_fault_name(fault: RunFault) -> &'static str
     }
 }
 
-/// Returns the variant's name.
+/// Returns the name of the variant.
 fn confirm_fault_name(fault: ConfirmFault) -> &'static str
     ensures { result.now ≡ confirm_fault_text fault }
 {
@@ -66,7 +66,7 @@ fn confirm_fault_name(fault: ConfirmFault) -> &'static str
     }
 }
 
-/// Returns the variant's name.
+/// Returns the name of the variant.
 fn hints_fault_name(fault: HintsFault) -> &'static str
     ensures { result.now ≡ hints_fault_text fault }
 {

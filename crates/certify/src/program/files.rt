@@ -1,4 +1,4 @@
-//! Does calls over files, which are opened in the order of the arguments.
+//! Does calls that name files. The files are opened in the order of the arguments.
 ghost use Rattle.std.specs.Prelude.{◌≡◌, ◌⊎◌, IfOk, IfSome};
 ghost use Rattle.certify.specs.Devices.{took};
 ghost use Rattle.certify.specs.program.FileCalls.{ChecksFile, ConfirmsFiles, HintsFiles, IsMade, IsOpened, RunsFiles};
@@ -14,7 +14,7 @@ use crate::verdict::ConfirmFault;
 use sat_base::{Counted, CountedWrite};
 use std::fs::{File, Files};
 
-/// Opens a file to be read, or returns `fault`.
+/// Opens a file for reading. Returns `fault` if that fails.
 fn open<R: Files>(rt: &R, path: &str, fault: Fault) -> Result<Counted<R::File>, Fault>
     ensures { IfOk result (IsOpened R.File.remaining) }
 {
@@ -24,7 +24,7 @@ fn open<R: Files>(rt: &R, path: &str, fault: Fault) -> Result<Counted<R::File>, 
     }
 }
 
-/// Makes an empty file to be written, or returns `fault`.
+/// Creates an empty file for writing. Returns `fault` if that fails.
 fn make<R: Files>(rt: &R, path: &str, fault: Fault) -> Result<Counted<R::File>, Fault>
     ensures { IfOk result (IsMade R.File.contents) }
 {
@@ -34,10 +34,11 @@ fn make<R: Files>(rt: &R, path: &str, fault: Fault) -> Result<Counted<R::File>, 
     }
 }
 
-/// The outputs of a run.
+/// The outputs of a run: answers and certificate.
 type Outputs<F> = (Counted<F>, Counted<F>);
 
-/// Makes the outputs of a run. Returns `None` if both are one file, which may show only once the first is made.
+/// Creates the outputs of a run. Returns `None` if both are the same file, which may be known only once the
+/// first exists.
 fn make_outputs<R: Files>(rt: &R, files: RunFiles<'_>) -> Result<Option<Outputs<R::File>>, Fault>
     ensures { IfOk result (λ made. IfSome made (λ outputs. IsMade R.File.contents outputs.0
         × IsMade R.File.contents outputs.1)) }
@@ -56,7 +57,7 @@ fn make_outputs<R: Files>(rt: &R, files: RunFiles<'_>) -> Result<Option<Outputs<
     }
 }
 
-/// Answers a script.
+/// Answers the script in a file, and writes the answers and the certificate to files. Returns the status.
 pub(super) fn run_files<R: AllocGlobal + Files, E: CountedWrite>(
     rt: &R,
     files: RunFiles<'_>,
@@ -83,7 +84,7 @@ pub(super) fn run_files<R: AllocGlobal + Files, E: CountedWrite>(
     Ok(status)
 }
 
-/// Confirms answers to a script.
+/// Confirms the answers in a file, and writes the verdict to `output`. Returns the status.
 pub(super) fn confirm_files<R: AllocGlobal + Files, O: CountedWrite>(
     rt: &R,
     files: RunFiles<'_>,
@@ -107,7 +108,7 @@ pub(super) fn confirm_files<R: AllocGlobal + Files, O: CountedWrite>(
     )
 }
 
-/// Writes the hint text of a certificate.
+/// Writes the hint text of the certificate in a file to the file `hints`. Returns the status.
 pub(super) fn hint_files<R: AllocGlobal + Files, E: CountedWrite>(
     rt: &R,
     certificate: &str,
@@ -124,7 +125,7 @@ pub(super) fn hint_files<R: AllocGlobal + Files, E: CountedWrite>(
     write_hints(rt.alloc(), &mut certificate, &mut hints, errors)
 }
 
-/// Checks a hint text.
+/// Checks the hint text in the file `hints`, and writes the verdict to `output`. Returns the status.
 pub(super) fn check_file<R: AllocGlobal + Files, O: CountedWrite>(
     rt: &R,
     hints: &str,

@@ -1,4 +1,4 @@
-//! The line of a hint text's verdict, and its status.
+//! The line that reports the verdict on a hint text, and the status for that verdict.
 ghost use Rattle.std.specs.Prelude.{◌≡◌, ◌≤◌, ◌↔◌, ◌++◌, OnOk, true};
 ghost use Rattle.certify.specs.program.HintPrinting.{bad_text, digit_of, hint_verdict_text, hint_why_text, is_proved};
 ghost use Rattle.certify.specs.program.HintPrinting.{proved_text};
@@ -8,7 +8,7 @@ use sat_base::push_decimal;
 use sat_hints::{HintVerdict, HintWhy};
 use std::alloc::AllocError;
 
-/// Returns the variant's name.
+/// Returns the name of the variant.
 fn word(why: HintWhy) -> &'static str
     ensures { result.now ≡ hint_why_text why }
 {
@@ -22,7 +22,7 @@ fn word(why: HintWhy) -> &'static str
     }
 }
 
-/// Returns `1` or `0`.
+/// Returns the text `1` if `empty` is true, and `0` otherwise.
 fn digit(empty: bool) -> &'static [u8]
     ensures { result.now ≡ digit_of empty }
 {
@@ -32,7 +32,7 @@ fn digit(empty: bool) -> &'static [u8]
     b"0"
 }
 
-/// Appends `proved empty=E cores=K lines=L`.
+/// Appends the line `proved empty=E cores=K lines=L`.
 fn push_proved(out: &mut Vec<u8>, empty: bool, cores: u64, lines: u64) -> Result<(), AllocError>
     ensures { OnOk result (out.new.items ≡ out.old.items ++ proved_text empty cores lines) }
 {
@@ -45,7 +45,7 @@ fn push_proved(out: &mut Vec<u8>, empty: bool, cores: u64, lines: u64) -> Result
     out.extend_from_slice(b"\n")
 }
 
-/// Appends `bad LINE WHY`.
+/// Appends the line `bad LINE WHY`.
 fn push_bad(out: &mut Vec<u8>, line: u64, why: HintWhy) -> Result<(), AllocError>
     ensures { OnOk result (out.new.items ≡ out.old.items ++ bad_text line why) }
 {
@@ -56,7 +56,7 @@ fn push_bad(out: &mut Vec<u8>, line: u64, why: HintWhy) -> Result<(), AllocError
     out.extend_from_slice(b"\n")
 }
 
-/// Appends the line of a verdict.
+/// Appends the line that reports a verdict.
 pub(super) fn push_hint_verdict(out: &mut Vec<u8>, verdict: HintVerdict) -> Result<(), AllocError>
     ensures { OnOk result (out.new.items ≡ out.old.items ++ hint_verdict_text verdict) }
 {
@@ -70,7 +70,7 @@ pub(super) fn push_hint_verdict(out: &mut Vec<u8>, verdict: HintVerdict) -> Resu
     }
 }
 
-/// Returns the status of a verdict.
+/// Returns the status for a verdict.
 pub(super) fn hint_status(verdict: HintVerdict) -> u8
     ensures small { result ≤ 1 }
     ensures done { (result ≡ 0) ↔ (is_proved verdict ≡ true) }

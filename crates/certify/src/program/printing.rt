@@ -1,4 +1,4 @@
-//! Writing to the standard streams, and the statuses.
+//! Writes to the standard streams, and defines the statuses.
 ghost use Rattle.std.specs.Prelude.{◌≡◌, [], OnErr, OnOk, true};
 ghost use Rattle.sat_base.specs.device.Device.{WriterBreaks, WriterTakes};
 ghost use Rattle.certify.specs.run.Unfinished.{TookBytes};
@@ -7,19 +7,19 @@ use crate::fault::RunFault;
 use crate::program::fault::Fault;
 use sat_base::CountedWrite;
 
-/// Everything is done, and every answer is confirmed.
+/// The call has done everything, and what it checked is confirmed or proved.
 pub(super) const DONE: u8 = 0;
-/// The script is malformed, the answers are not confirmed, or there is no right hint text.
+/// The script is malformed, the answers are not confirmed, the hint text is bad, or the certificate has none.
 pub(super) const REFUSED: u8 = 1;
 /// The arguments are not those of the usage, or an output is the input or the other output.
 const MISUSED: u8 = 2;
-/// A fault, which standard error names.
+/// A fault occurred. Its name is written to standard error.
 const FAILED: u8 = 3;
 
-/// The line for arguments that are no call.
+/// The line that is written if the arguments are not a valid call.
 const USAGE: &str = "usage: certify [run S A C [STEPS] | confirm S A C | hints C H | check H]\n";
 
-/// Writes a line with this name to standard error. A fault there is ignored.
+/// Writes a line with the name of a fault or rejection to standard error. If that fails, the error is ignored.
 pub(super) fn report<E: CountedWrite>(errors: &mut E, name: &str) {
     let _ = errors.write_all_counted(b"certify: ");
     let _ = errors.write_all_counted(name.as_bytes());
@@ -27,7 +27,7 @@ pub(super) fn report<E: CountedWrite>(errors: &mut E, name: &str) {
     let _ = errors.flush_counted();
 }
 
-/// Writes the usage to standard error. A fault there is ignored. Returns the status.
+/// Writes the usage to standard error. If that fails, the error is ignored. Returns the status.
 pub(super) fn misused<E: CountedWrite>(errors: &mut E) -> u8
     ensures { result ≡ 2 }
 {
@@ -36,7 +36,7 @@ pub(super) fn misused<E: CountedWrite>(errors: &mut E) -> u8
     MISUSED
 }
 
-/// Writes a fault's name to standard error. Returns the status, which is the same for all faults.
+/// Writes the name of a fault to standard error. Returns the status, which is the same for all faults.
 pub(super) fn failed<E: CountedWrite>(errors: &mut E, fault: Fault) -> u8
     ensures { result ≡ 3 }
 {
@@ -44,7 +44,7 @@ pub(super) fn failed<E: CountedWrite>(errors: &mut E, fault: Fault) -> u8
     FAILED
 }
 
-/// Writes to standard output. A fault there is reported as one of writing answers, whatever is written.
+/// Writes to standard output. If that fails, the fault is `AnswersWrite`, whatever is written.
 pub(super) fn write_out<O: CountedWrite>(output: &mut O, bytes: &[u8]) -> Result<(), Fault>
     ensures takes { OnOk result (WriterTakes (O.seen output.old) (O.seen output.new) bytes.now) }
     ensures breaks { OnErr result (WriterBreaks (O.seen output.old) (O.seen output.new) bytes.now) }
@@ -55,7 +55,7 @@ pub(super) fn write_out<O: CountedWrite>(output: &mut O, bytes: &[u8]) -> Result
     }
 }
 
-/// Flushes standard output, so that no fault there is missed.
+/// Flushes standard output, so that no error in writing is missed.
 pub(super) fn flush_out<O: CountedWrite>(output: &mut O) -> Result<(), Fault>
     ensures took { OnOk result (WriterTakes (O.seen output.old) (O.seen output.new) []) }
     ensures flushed { OnOk result ((O.seen output.new).flushed ≡ true) }
@@ -67,7 +67,7 @@ pub(super) fn flush_out<O: CountedWrite>(output: &mut O) -> Result<(), Fault>
     }
 }
 
-/// Writes a last line.
+/// Writes the last line to standard output, and flushes it.
 pub(super) fn print_line<O: CountedWrite>(output: &mut O, line: &[u8]) -> Result<(), Fault>
     ensures took { OnOk result (WriterTakes (O.seen output.old) (O.seen output.new) line.now) }
     ensures flushed { OnOk result ((O.seen output.new).flushed ≡ true) }

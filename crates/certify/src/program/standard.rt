@@ -1,4 +1,4 @@
-//! The call without arguments: a script from standard input, its certificate kept in memory.
+//! Does the call without arguments: answers a script from standard input, with the certificate kept in memory.
 ghost use Rattle.std.specs.Prelude.{IfOk};
 ghost use Rattle.certify.specs.Devices.{gave, took};
 ghost use Rattle.certify.specs.program.Calls.{HasStatus};
@@ -13,7 +13,8 @@ use crate::program::verdict_line::{confirm_texts, status};
 use sat_base::{CountedRead, CountedWrite, read_whole};
 use std::alloc::Global;
 
-/// Prints the answers to a script, and then the verdict on them, which is yes. Returns the status.
+/// Writes the answers to a script to `output`, and then the line of the verdict on them, which is `Yes`. Returns
+/// the status.
 fn print_confirmed<O: CountedWrite>(
     alloc: Global,
     script: &[u8],
@@ -39,7 +40,7 @@ fn print_confirmed<O: CountedWrite>(
     Ok(status(verdict, written.summary.malformed.is_some()))
 }
 
-/// Answers a script, and confirms the answers. Returns the status.
+/// Answers the script on `input`, writes the answers to `output`, and confirms them. Returns the status.
 pub(super) fn answer<I: CountedRead, O: CountedWrite, E: CountedWrite>(
     alloc: Global,
     input: &mut I,
@@ -57,7 +58,7 @@ pub(super) fn answer<I: CountedRead, O: CountedWrite, E: CountedWrite>(
     print_confirmed(alloc, &script, &written, output)
 }
 
-/// Runs a script with all rounds allowed. A failed write into memory means that memory ran out.
+/// Runs a script, with at most 2^64-1 rounds for each ask. If a write to memory fails, the fault is `OutOfMemory`.
 fn run_in_memory(alloc: Global, script: &[u8]) -> Result<Written, Fault>
     ensures { IfOk result (IsWritten script.now) }
 {

@@ -1,4 +1,4 @@
-//! What the calls over files do, over any readers and writers. They return the status.
+//! Does the calls that name files, with any readers and writers instead of the files. All calls return the status.
 ghost use Rattle.std.specs.Prelude.{◌≡◌, ◌≤◌, ◌↔◌, None, [], IfOk, OnOk, true};
 ghost use Rattle.sat_base.specs.device.Device.{WriterTakes};
 ghost use Rattle.certify.specs.Devices.{gave, took};
@@ -21,7 +21,7 @@ use sat_hints::{HintError, HintFault, HintVerdict, check, convert};
 use sat_solver::Progress;
 use std::alloc::Global;
 
-/// Returns the status of a finished run.
+/// Returns the status after a finished run.
 fn run_status(summary: &Summary) -> u8
     ensures small { result ≤ 1 }
     ensures done { (result ≡ 0) ↔ (summary.now.malformed ≡ None) }
@@ -48,7 +48,7 @@ pub(super) fn run_text<S: CountedRead, A: CountedWrite, C: CountedWrite>(
     Ok((run_status(&summary), summary.progress))
 }
 
-/// Prints the line of a verdict.
+/// Writes the line of a verdict to `output`. Returns the status.
 fn print_yes_or_no<O: CountedWrite>(
     alloc: Global,
     verdict: Verdict,
@@ -66,7 +66,7 @@ fn print_yes_or_no<O: CountedWrite>(
     Ok(status(verdict, false))
 }
 
-/// Confirms answers to a script, and prints `yes` or `no ASK WHY`.
+/// Confirms answers to a script, and writes `yes` or `no ASK WHY` to `output`. Returns the status.
 pub(super) fn confirm_given<S: CountedRead, A: CountedRead, C: CountedRead, O: CountedWrite>(
     alloc: Global,
     script: &mut S,
@@ -84,7 +84,8 @@ pub(super) fn confirm_given<S: CountedRead, A: CountedRead, C: CountedRead, O: C
     print_yes_or_no(alloc, verdict, output)
 }
 
-/// Writes the hint text of a certificate. If it has none, writes the name of the cause to `errors`.
+/// Writes the hint text of a certificate to `hints`. If the certificate has none, writes why to `errors`. Returns
+/// the status.
 pub(super) fn write_hints<C: CountedRead, H: CountedWrite, E: CountedWrite>(
     alloc: Global,
     certificate: &mut C,
@@ -111,7 +112,7 @@ pub(super) fn write_hints<C: CountedRead, H: CountedWrite, E: CountedWrite>(
     }
 }
 
-/// Flushes a hint text.
+/// Flushes the writer of a hint text. Returns the status.
 fn finish_hints<H: CountedWrite>(hints: &mut H) -> Result<u8, Fault>
     ensures done { IfOk result (λ status. status ≡ 0) }
     ensures took { OnOk result (WriterTakes (H.seen hints.old) (H.seen hints.new) []) }
@@ -123,7 +124,7 @@ fn finish_hints<H: CountedWrite>(hints: &mut H) -> Result<u8, Fault>
     }
 }
 
-/// Prints the line of a hint text's verdict.
+/// Writes the line of the verdict on a hint text to `output`. Returns the status.
 fn print_hint_verdict<O: CountedWrite>(
     alloc: Global,
     verdict: HintVerdict,
@@ -141,7 +142,7 @@ fn print_hint_verdict<O: CountedWrite>(
     Ok(hint_status(verdict))
 }
 
-/// Checks a hint text, and prints the verdict.
+/// Checks a hint text, and writes the verdict to `output`. Returns the status.
 pub(super) fn check_text<H: CountedRead, O: CountedWrite>(
     alloc: Global,
     text: &mut H,

@@ -1,4 +1,4 @@
-//! The verdict on three texts, its line, and its status.
+//! The verdict on three texts, the line that reports it, and the status for it.
 ghost use Rattle.std.specs.Prelude.{◌≡◌, ◌≤◌, ◌↔◌, ◌++◌, IfOk, OnOk, false};
 ghost use Rattle.certify.specs.declared.verdict.Verdict.TheVariants.{Yes};
 ghost use Rattle.certify.specs.laws.EndToEnd.{VerdictSays};
@@ -11,7 +11,7 @@ use sat_base::push_decimal;
 use sat_checker::Looks;
 use std::alloc::{AllocError, Global};
 
-/// Appends the ask and the cause of a `No`, with LF.
+/// Appends the ask and the reason of a `No`, followed by LF.
 fn push_no(out: &mut Vec<u8>, ask: u64, why: Why) -> Result<(), AllocError>
     ensures { OnOk result (out.new.items ≡ out.old.items ++ no_text ask why) }
 {
@@ -21,7 +21,7 @@ fn push_no(out: &mut Vec<u8>, ask: u64, why: Why) -> Result<(), AllocError>
     out.extend_from_slice(b"\n")
 }
 
-/// Appends `c confirmed` or `c not confirmed ASK WHY`.
+/// Appends the line `c confirmed` or `c not confirmed ASK WHY`.
 fn push_verdict(out: &mut Vec<u8>, verdict: Verdict) -> Result<(), AllocError>
     ensures { OnOk result (out.new.items ≡ out.old.items ++ verdict_text verdict) }
 {
@@ -34,7 +34,7 @@ fn push_verdict(out: &mut Vec<u8>, verdict: Verdict) -> Result<(), AllocError>
     }
 }
 
-/// Appends `yes` or `no ASK WHY`.
+/// Appends the line `yes` or `no ASK WHY`.
 pub(super) fn push_yes_or_no(out: &mut Vec<u8>, verdict: Verdict) -> Result<(), AllocError>
     ensures { OnOk result (out.new.items ≡ out.old.items ++ yes_or_no_text verdict) }
 {
@@ -47,7 +47,7 @@ pub(super) fn push_yes_or_no(out: &mut Vec<u8>, verdict: Verdict) -> Result<(), 
     }
 }
 
-/// Returns the status of a verdict.
+/// Returns the status for a verdict. `malformed` says whether the script is malformed.
 pub(super) fn status(verdict: Verdict, malformed: bool) -> u8
     ensures small { result ≤ 1 }
     ensures done { (result ≡ 0) ↔ ((verdict ≡ Yes) × (malformed ≡ false)) }
@@ -58,7 +58,7 @@ pub(super) fn status(verdict: Verdict, malformed: bool) -> u8
     }
 }
 
-/// Confirms three texts, and appends the last line of the output to `line`.
+/// Returns the verdict on three texts, and appends the line that reports the verdict to `line`.
 pub(super) fn confirm_texts(
     alloc: Global,
     script: &[u8],

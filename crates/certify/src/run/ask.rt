@@ -17,7 +17,7 @@ use crate::summary::AskReport;
 use sat_base::{CountedWrite, Lit};
 use sat_solver::Solver;
 
-/// Searches for the answer of an ask, and puts its text on the page.
+/// Searches for the answer to an ask, and writes the text of the answer to `page`.
 fn ask<C: CountedWrite + Drop>(
     solver: &mut Solver<C>,
     literals: &[Lit],
@@ -29,7 +29,7 @@ fn ask<C: CountedWrite + Drop>(
     ensures sought { IfOk result (λ report. AskEffect C.seen budget report literals.now page.new.text.items solver.old
         solver.new) }
     ensures ready { OnOk result (IsReadySolver solver.new) }
-    // Without names, none is refused.
+    // Without literals, no name is refused.
     ensures allowed { OnOk result (IsAllowed solver.new []) }
     ensures fails { FailsIf result C.seen solver.old solver.new }
     ensures cause { IfErr result (λ e. IsCaused e (HasFullStore solver.new)
@@ -41,7 +41,7 @@ fn ask<C: CountedWrite + Drop>(
     Ok(report)
 }
 
-/// Answers the last command, an ask under these literals, none of whose names is refused.
+/// Answers the last command, which must be an ask with these literals. None of their names may be refused.
 pub fn answer_ask<A: CountedWrite, C: CountedWrite + Drop>(
     session: &mut RunState<C>,
     answers: &mut A,

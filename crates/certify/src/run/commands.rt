@@ -18,7 +18,7 @@ use crate::judge::NameState;
 use crate::script::{Command, CommandKind};
 use sat_base::CountedWrite;
 
-/// Has the solver carry out the last command, which is not refused, and answers an ask.
+/// Makes the solver carry out the last command, which must not be refused. If the command is an ask, writes the answer.
 fn carry_out<A: CountedWrite, C: CountedWrite + Drop>(
     session: &mut RunState<C>,
     answers: &mut A,
@@ -46,7 +46,7 @@ fn carry_out<A: CountedWrite, C: CountedWrite + Drop>(
     }
 }
 
-/// Serves the last command, which is not refused.
+/// Serves the last command, which must not be refused.
 fn take_allowed<A: CountedWrite, C: CountedWrite + Drop>(
     session: &mut RunState<C>,
     answers: &mut A,
@@ -70,7 +70,7 @@ fn take_allowed<A: CountedWrite, C: CountedWrite + Drop>(
     Ok(())
 }
 
-/// Serves a command: refuses it, or has it carried out, and answers an ask.
+/// Serves a command: refuses it, or carries it out. If it is an ask that is not refused, writes the answer.
 pub fn take_command<A: CountedWrite, C: CountedWrite + Drop>(
     session: &mut RunState<C>,
     answers: &mut A,

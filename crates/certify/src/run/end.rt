@@ -15,7 +15,7 @@ use crate::summary::Summary;
 use sat_base::CountedWrite;
 use sat_solver::Solver;
 
-/// Returns the certificate's writer after a fault. Steps that are not written yet are lost.
+/// Returns the certificate's writer after a fault. Steps that have not been written yet are lost.
 fn give_back<C: CountedWrite + Drop>(solver: Solver<C>) -> C
     requires { HasTarget C.seen solver }
     ensures gives { GivesWriter (target_of C.seen (proof_in solver)) (Some (C.seen result)) }
@@ -27,7 +27,8 @@ fn give_back<C: CountedWrite + Drop>(solver: Solver<C>) -> C
     }
 }
 
-/// Writes the certificate's last step, with all steps that are not written yet, and flushes its writer.
+/// Writes all steps that have not been written yet and the certificate's last step, and flushes the writer. Returns
+/// the writer.
 fn close_certificate<C: CountedWrite + Drop>(solver: Solver<C>) -> (C, Result<(), RunFault>)
     requires ready { IsReadySolver solver }
     requires target { HasOpenTarget C.seen solver }
@@ -45,7 +46,7 @@ fn close_certificate<C: CountedWrite + Drop>(solver: Solver<C>) -> (C, Result<()
     }
 }
 
-/// Flushes the answers, so that no fault of their writer is missed.
+/// Flushes the writer of the answers, so that no fault of that writer is missed.
 fn flush_answers<A: CountedWrite>(answers: &mut A) -> Result<(), RunFault>
     ensures took { OnOk result (WriterTakes (A.seen answers.old) (A.seen answers.new) []) }
     ensures flushed { OnOk result ((A.seen answers.new).flushed ≡ true) }
@@ -59,7 +60,7 @@ fn flush_answers<A: CountedWrite>(answers: &mut A) -> Result<(), RunFault>
     }
 }
 
-/// Ends the certificate, and then flushes the answers.
+/// Ends the certificate, and then flushes the writer of the answers.
 fn finish<A: CountedWrite, C: CountedWrite + Drop>(
     solver: Solver<C>,
     answers: &mut A,
@@ -76,7 +77,8 @@ fn finish<A: CountedWrite, C: CountedWrite + Drop>(
     }
 }
 
-/// Ends a run whose script was served so. Returns the certificate's writer and a summary.
+/// Ends a run after its script was served with the result `served`. Returns the certificate's writer, and a summary or
+/// a fault.
 pub(crate) fn end_run<A: CountedWrite, C: CountedWrite + Drop>(
     session: RunState<C>,
     answers: &mut A,

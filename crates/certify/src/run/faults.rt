@@ -1,11 +1,11 @@
-//! Faults of a run for its solver's errors.
+//! Translates errors of a run's solver.
 ghost use Rattle.std.specs.Prelude.{◌≡◌};
 ghost use Rattle.certify.specs.run.SolverCalls.{IsSolverFault, fault_for, is_interrupted};
 
 use crate::fault::RunFault;
 use sat_solver::SolverError;
 
-/// Returns the fault of a run for an error of its solver.
+/// Returns the fault of a run whose solver returned `error`.
 pub fn fault_of(error: SolverError) -> RunFault
     requires { IsSolverFault error }
     ensures { result ≡ fault_for error }
@@ -14,12 +14,12 @@ pub fn fault_of(error: SolverError) -> RunFault
         SolverError::ProofIoError { .. } => RunFault::CertificateWrite,
         SolverError::OutOfMemory => RunFault::OutOfMemory,
         SolverError::StoreFull => RunFault::StoreFull,
-        // No index of a variable is left.
+        // All indices of variables are in use.
         _ => RunFault::CounterEnd,
     }
 }
 
-/// Whether the rounds were exhausted.
+/// Whether the error says that the rounds were exhausted.
 pub fn is_interrupted(error: &SolverError) -> bool
     ensures { result ≡ is_interrupted error.now }
 {

@@ -11,7 +11,7 @@ use crate::judge::NameState;
 use sat_base::{CountedWrite, Lit, Var};
 use sat_solver::{Solver, SolverError};
 
-/// Introduces a name, and gives it this state.
+/// Introduces the name `user`, and sets its state.
 fn change_name<C: CountedWrite + Drop>(
     solver: &mut Solver<C>,
     user: Var,
@@ -27,7 +27,7 @@ fn change_name<C: CountedWrite + Drop>(
     }
 }
 
-/// Introduces a name, and gives it this state, while nothing is assumed.
+/// Introduces the name `user`, and sets its state. The solver must have no assumptions.
 fn set_name<C: CountedWrite + Drop>(
     solver: &mut Solver<C>,
     user: Var,
@@ -37,7 +37,7 @@ fn set_name<C: CountedWrite + Drop>(
     requires free { solver.old.assumed.items ≡ [] }
     ensures obeyed { OnOk result (Obeyed C.seen (command_to state ((user + 1) ∷ [])) solver.old solver.new) }
     ensures fails { FailsIf result C.seen solver.old solver.new }
-    // No clause is stored.
+    // Setting states stores no clause.
     ensures cause { IfErr result (λ e. IsCaused e ⊥ (RefusedForRoom solver.old solver.new (user ∷ []))) }
 {
     match change_name(solver, user, state) {
@@ -46,7 +46,7 @@ fn set_name<C: CountedWrite + Drop>(
     }
 }
 
-/// Introduces the names of literals, and gives them this state, while nothing is assumed.
+/// Introduces the names of literals, and sets their state. The solver must have no assumptions.
 pub(crate) fn set_names<C: CountedWrite + Drop>(
     solver: &mut Solver<C>,
     literals: &[Lit],
@@ -56,7 +56,7 @@ pub(crate) fn set_names<C: CountedWrite + Drop>(
     requires free { solver.old.assumed.items ≡ [] }
     ensures obeyed { OnOk result (Obeyed C.seen (command_to state (names_in literals.now)) solver.old solver.new) }
     ensures fails { FailsIf result C.seen solver.old solver.new }
-    // No clause is stored.
+    // Setting states stores no clause.
     ensures cause { IfErr result (λ e. IsCaused e ⊥ (LacksFor solver.old solver.new
         (command_to state (names_in literals.now)))) }
 {

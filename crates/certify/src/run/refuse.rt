@@ -15,7 +15,7 @@ use crate::fault::RunFault;
 use crate::judge::Refusal;
 use sat_base::CountedWrite;
 
-/// Counts a refusal of the last command, and writes its line. The solver is not called.
+/// Counts a refusal of the last command, and writes the line that reports it. Doesn't call the solver.
 pub fn refuse<A: CountedWrite, C: CountedWrite + Drop>(
     session: &mut RunState<C>,
     answers: &mut A,
@@ -27,7 +27,7 @@ pub fn refuse<A: CountedWrite, C: CountedWrite + Drop>(
     ensures stops { (j : ScriptState) (c : Spelled) (left : Reading) → refusal_of j c ≡ Some (refusal_in refusal)
         → OnErr result (TookAnswersFront session.old.budget session.old.solver.clock.rounds session.old.commands j
         (onto_commands (c ∷ []) left) (A.seen answers.old) (A.seen answers.new)) }
-    // No clause is stored, and no name is introduced.
+    // A refusal stores no clause, and introduces no name.
     ensures cause { IfErr result (λ e. IsCaused e ⊥ ⊥) }
     ensures written { WritesBoth result C.seen (A.seen answers.old) (A.seen answers.new) session.old.solver
         session.new.solver }

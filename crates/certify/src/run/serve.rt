@@ -32,7 +32,7 @@ fn unread_script(error: ReadError) -> RunFault
     }
 }
 
-/// Serves the last command, if it can be counted.
+/// Serves the last command, unless the number of commands would exceed 64 bits.
 fn serve_next<A: CountedWrite, C: CountedWrite + Drop>(
     session: &mut RunState<C>,
     answers: &mut A,
@@ -55,7 +55,7 @@ fn serve_next<A: CountedWrite, C: CountedWrite + Drop>(
     take_command(session, answers, command)
 }
 
-/// Writes that the text is malformed at the command that would have this number.
+/// Writes the line that says that the text is malformed at command number `number`.
 fn report_malformed<A: CountedWrite, C: CountedWrite + Drop>(
     session: &mut RunState<C>,
     answers: &mut A,
@@ -107,7 +107,8 @@ fn serve_end<A: CountedWrite, C: CountedWrite + Drop>(
     }
 }
 
-/// Serves the last command, and the end.
+/// Serves the last command, and then the end of the script. Returns the number of the command at which the script is
+/// malformed, or `None`.
 fn serve_last<A: CountedWrite, C: CountedWrite + Drop>(
     session: &mut RunState<C>,
     answers: &mut A,
@@ -132,7 +133,8 @@ fn serve_last<A: CountedWrite, C: CountedWrite + Drop>(
     serve_end(session, answers, end)
 }
 
-/// Serves all commands, and the end. Returns the number of the command at which the script is malformed, or `None`.
+/// Serves all commands, and then the end of the script. Returns the number of the command at which the script is
+/// malformed, or `None`.
 pub(crate) fn serve_all<S: CountedRead, A: CountedWrite, C: CountedWrite + Drop>(
     session: &mut RunState<C>,
     stream: &mut CommandStream,

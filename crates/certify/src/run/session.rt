@@ -17,10 +17,10 @@ use sat_base::CountedWrite;
 use sat_solver::{ProofFormat, Solver, SolverConfigUpdate};
 use std::alloc::Global;
 
-/// Rounds between reductions of the learned clauses of tier Local. A solver's default is 15,000, and 10,000 for tier
-/// Mid: with fewer rounds, fewer clauses are watched.
+/// The number of rounds between reductions of the learned clauses in tier Local. The solver's default is 15,000, and
+/// 10,000 for tier Mid. With more frequent reductions, fewer clauses are watched.
 const REDUCE_LOCALS_INTERVAL: u64 = 1_000;
-/// The same for tier Mid.
+/// The number of rounds between reductions of the learned clauses in tier Mid.
 const REDUCE_MIDS_INTERVAL: u64 = 1_000;
 
 /// The state of a run between commands.
@@ -28,16 +28,16 @@ const REDUCE_MIDS_INTERVAL: u64 = 1_000;
 pub struct RunState<C: CountedWrite + Drop> {
     pub(crate) names: Names,
     pub(crate) solver: Solver<C>,
-    /// The largest number of rounds for an ask.
+    /// The largest number of rounds for each ask.
     pub(crate) budget: u64,
     pub(crate) page: Page,
-    /// The number of commands so far, with the refused ones.
+    /// The number of commands so far, including the refused ones.
     pub(crate) commands: u64,
     pub(crate) refused: u64,
     pub(crate) asks: Vec<AskReport>,
 }
 
-/// Returns a solver that writes its steps to this writer.
+/// Returns a solver that writes its proof steps to `certificate`.
 fn solver_into<C: CountedWrite + Drop>(alloc: Global, certificate: C) -> Solver<C>
     ensures ready { IsReadySolver result }
     ensures agree { NamesAgree result.names [] start [] }
@@ -59,7 +59,7 @@ fn solver_into<C: CountedWrite + Drop>(alloc: Global, certificate: C) -> Solver<
 }
 
 impl<C: CountedWrite + Drop> RunState<C> {
-    /// Returns the state before the first command, with a certificate that is written to this writer.
+    /// Returns the state before the first command. The run writes its certificate to `certificate`.
     pub fn new(alloc: Global, certificate: C, budget: u64) -> RunState<C>
         ensures goes_on { RunGoesOn result }
         ensures at { HasStateBetweenCommands result start }

@@ -1,4 +1,4 @@
-//! Calls the solver of a run.
+//! Calls to the solver of a run.
 ghost use Rattle.std.specs.Prelude.{IfOk, IfErr, OnOk};
 ghost use Rattle.sat_solver.specs.variables.VariableRoom.{users_in};
 ghost use Rattle.sat_solver.specs.solver.Adding.{Added, ReplacesAssumptions};
@@ -12,7 +12,7 @@ use crate::summary::{Answer, AskReport};
 use sat_base::{CountedWrite, Lit};
 use sat_solver::{Solver, SolverConfigUpdate};
 
-/// Adds a clause, none of whose names is refused.
+/// Adds a clause to the solver. None of the clause's names may be refused.
 pub fn add_clause<C: CountedWrite + Drop>(
     solver: &mut Solver<C>,
     literals: &[Lit],
@@ -30,7 +30,7 @@ pub fn add_clause<C: CountedWrite + Drop>(
     }
 }
 
-/// Assumes literals instead of the earlier ones; none of their names is refused.
+/// Replaces the solver's assumptions by `literals`, none of whose names may be refused.
 pub fn assume<C: CountedWrite + Drop>(
     solver: &mut Solver<C>,
     literals: &[Lit],
@@ -39,7 +39,7 @@ pub fn assume<C: CountedWrite + Drop>(
     requires allowed { IsAllowed solver.old literals.now }
     ensures assumed { OnOk result (ReplacesAssumptions C.seen solver.old solver.new literals.now) }
     ensures fails { FailsIf result C.seen solver.old solver.new }
-    // No clause is stored.
+    // Assuming literals stores no clause.
     ensures cause { IfErr result (λ e. IsCaused e ⊥ (RefusedForRoom solver.old solver.new (users_in literals.now))) }
 {
     match solver.assume(literals) {
@@ -58,7 +58,7 @@ fn limit_rounds<C: CountedWrite + Drop>(solver: &mut Solver<C>, budget: u64)
     solver.config(&update).unwrap();
 }
 
-/// Searches for an answer, which is unknown if the rounds are exhausted.
+/// Searches for an answer. The answer is unknown if the rounds are exhausted.
 fn solve<C: CountedWrite + Drop>(solver: &mut Solver<C>) -> Result<Answer, RunFault>
     requires { IsReadySolver solver.old }
     ensures solved { IfOk result (λ answer. Solved C.seen answer solver.old solver.new) }
@@ -77,7 +77,7 @@ fn solve<C: CountedWrite + Drop>(solver: &mut Solver<C>) -> Result<Answer, RunFa
     }
 }
 
-/// Searches for an answer, with at most `budget` rounds.
+/// Searches for an answer, with at most `budget` rounds. Returns the answer, and the number of rounds.
 pub fn search<C: CountedWrite + Drop>(
     solver: &mut Solver<C>,
     budget: u64,

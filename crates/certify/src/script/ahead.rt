@@ -1,4 +1,4 @@
-//! Bytes of a reader that are read before they are needed.
+//! Bytes that are read from a reader before they are needed.
 ghost use Rattle.std.specs.Prelude.{◌≤◌};
 ghost use Rattle.sat_base.specs.device.Device.{most_reads};
 
@@ -7,7 +7,7 @@ mod bytes;
 /// The largest number of bytes that a reader is asked for.
 const PIECE: usize = 4096;
 
-/// The last chunk that a reader gave, of which the bytes from `at` to `end` are not consumed yet.
+/// The last chunk that a reader gave. The bytes from `at` to `end` have not been consumed yet.
 #[derive(Drop)]
 pub(crate) struct LastPiece {
     piece: [u8; PIECE],

@@ -1,4 +1,4 @@
-//! What a reader of scripts holds between two words, and the effect of a word.
+//! The state of a script reader between tokens, and the effect of each token.
 ghost use Rattle.std.specs.Prelude.{◌≡◌, ◌<◌, ◌&&◌, ◌||◌, ℕ, [], ◌∷◌, Bool, false, not, IfOk};
 ghost use Rattle.sat_base.specs.text.Text.{Token as Spelled, Letter, Number};
 ghost use Rattle.sat_base.specs.text.Tokenizing.{held, held_token};
@@ -11,17 +11,17 @@ use super::{CommandKind, Reached, ScriptEnd};
 use sat_base::Token;
 use std::alloc::{AllocError, Global};
 
-/// The command that is being read, and what was read before it.
+/// The command that is being read, and what has been read before it.
 #[derive(Drop)]
 pub(crate) struct Commands {
     pub draft: Draft,
-    /// Whether a header was read.
+    /// Whether a header has been read.
     headed: bool,
-    /// Whether an ask was read.
+    /// Whether a complete ask has been read.
     asked: bool,
 }
 
-/// Returns the kind of command that a letter begins.
+/// Returns the kind of command that `letter` begins, or `None`.
 fn kind_of_letter(letter: u8) -> Option<CommandKind>
     ensures { BeginsKind result letter }
 {
@@ -34,7 +34,7 @@ fn kind_of_letter(letter: u8) -> Option<CommandKind>
     }
 }
 
-/// Whether a command of this kind can have a literal of this sign: a name has no minus sign.
+/// Whether a command of this kind can have a literal with this sign. Commands that list names have only positive ones.
 #[inline(always)]
 fn may_stand(kind: CommandKind, positive: bool) -> bool
     ensures { result ≡ may_stand (kind_of kind) positive }
@@ -48,7 +48,7 @@ fn may_stand(kind: CommandKind, positive: bool) -> bool
     }
 }
 
-/// Whether commands of this kind are answered.
+/// Whether commands of this kind are asks.
 fn is_ask(kind: CommandKind) -> bool
     ensures { result ≡ is_ask_kind (kind_of kind) }
 {
@@ -69,14 +69,14 @@ impl Commands {
         }
     }
 
-    /// Whether an ask was read, or is being read.
+    /// Whether an ask has been read, or the current command is one.
     fn has_asked(&self) -> bool
         ensures { result ≡ (self.now.asked || is_ask_kind (kind_of self.now.draft.kind)) }
     {
         self.asked || is_ask(self.draft.kind)
     }
 
-    /// Completes the command, at a zero.
+    /// Completes the command, after the `0` that ends it.
     #[inline(always)]
     fn end_command(&mut self)
         ensures { (negative : Bool) → TakesToken Reached.Command self.old (Number negative 0) self.new }
@@ -85,7 +85,7 @@ impl Commands {
         self.asked = self.has_asked();
     }
 
-    /// Adds a literal, whose name is not 0.
+    /// Adds a literal. `name` must not be 0.
     #[inline(always)]
     fn add_literal(&mut self, name: u64, negative: bool) -> Result<Reached, AllocError>
         requires { 0 < name }
@@ -100,7 +100,8 @@ impl Commands {
         Ok(Reached::More)
     }
 
-    /// Begins a command at a letter, if none is being read.
+    /// Begins the command that `letter` stands for. The text is malformed if there is none, or if a command is
+    /// being read.
     fn begin(&mut self, letter: u8) -> Reached
         ensures { TakesToken result self.old (Letter letter) self.new }
     {
@@ -137,14 +138,14 @@ impl Commands {
         }
     }
 
-    /// Whether a header was read, and no ask.
+    /// Whether a header has been read, but no ask.
     fn is_unasked(&self) -> bool
         ensures { result ≡ (self.now.headed && not self.now.asked) }
     {
         self.headed && !self.asked
     }
 
-    /// Returns how a script ends here, after a complete command or within one.
+    /// Returns how the script ends if its text ends here, after a complete command or within one.
     pub fn ending(&self) -> ScriptEnd
         ensures { (asks : Bool) (hand : CommandHand) → HoldsHand self.now.draft hand
             → end_if asks result ≡ meaning asks self.now hand [] }
@@ -158,7 +159,8 @@ impl Commands {
         ScriptEnd::Clean
     }
 
-    /// Consumes the last token, which the end of the text ended. A zero completes a command.
+    /// Consumes the last token, which ends with the text. Returns whether the token completes a command, as a `0` does,
+    /// and how the script ends.
     pub fn finish_with(&mut self, token: Token) -> (bool, ScriptEnd)
         ensures { (t : Spelled) → token ≡ held_token t → (asks : Bool) (hand : CommandHand)
             → HoldsHand self.old.draft hand

@@ -8,11 +8,11 @@ use super::CommandKind;
 use sat_base::{Lit, Var};
 use std::alloc::{AllocError, Global};
 
-/// The literals of a command so far, or of the last one that was completed.
+/// The command that is being read, with its literals so far, or the last command that was completed.
 #[derive(Drop)]
 pub(crate) struct Draft {
     pub kind: CommandKind,
-    /// Those before the first one past the limit.
+    /// The literals before the first one whose name is past the limit.
     pub literals: Vec<Lit>,
     pub past_limit: bool,
     /// Whether the command is not complete yet.
@@ -43,7 +43,7 @@ impl Draft {
         self.is_open = true;
     }
 
-    /// Adds a literal, whose name is not 0, to a command that is not complete.
+    /// Adds a literal to the command that is being read. `name` must not be 0.
     #[inline(always)]
     pub fn add(&mut self, name: u64, positive: bool) -> Result<(), AllocError>
         requires { 0 < name }
@@ -62,7 +62,7 @@ impl Draft {
         Ok(())
     }
 
-    /// Begins a clause, if no command is being read.
+    /// Begins a clause if no command is being read.
     #[inline(always)]
     pub fn open(&mut self)
         ensures { (hand : CommandHand) → HoldsHand self.old hand → HoldsHand self.new (opened hand) }
@@ -72,7 +72,8 @@ impl Draft {
         }
     }
 
-    /// Completes the command, at a zero. If none is being read, it is the clause without literals.
+    /// Completes the command that is being read, after the `0` that ends it. If no command is being read, the completed
+    /// command is the clause without literals.
     #[inline(always)]
     pub fn end(&mut self)
         ensures none { HoldsHand self.new Nothing }

@@ -13,16 +13,17 @@ use super::{Command, Reached, ScriptEnd};
 use sat_base::{Token, Tokenizer};
 use std::alloc::{AllocError, Global};
 
-/// Receives the bytes of a script in any chunking, and lends every command as soon as it is complete. It holds no
-/// bytes, and only the command that is being read. It must not be called again after malformed text.
+/// A reader of scripts. It receives the bytes of a script in any chunking, and returns a reference to every command as
+/// soon as the command is complete. It stores no bytes, and only one command. After malformed text it must not be
+/// called again.
 #[derive(Drop)]
 pub struct ScriptReader {
     tokenizer: Tokenizer,
     commands: Commands,
 }
 
-/// Consumes one byte or more, of which only the last one can end a token. Returns how many, and the token. A number and
-/// the space or LF after it are mostly consumed at once.
+/// Consumes one or more bytes, of which only the last can end a token. Returns how many bytes were consumed, and the
+/// token, if one ended. A number and the space or LF after it are usually consumed in one call.
 #[inline(always)]
 fn take_token(tokenizer: &mut Tokenizer, bytes: &[u8]) -> (usize, Option<Token>)
     requires { 0 < length bytes.now }
@@ -39,7 +40,7 @@ fn take_token(tokenizer: &mut Tokenizer, bytes: &[u8]) -> (usize, Option<Token>)
 }
 
 impl ScriptReader {
-    /// Returns a reader before the first byte of a script.
+    /// Returns a reader for a new script.
     pub fn new(alloc: Global) -> ScriptReader
         ensures means { ReaderMeans result reading }
         ensures counts { MeansIf false result written }
@@ -61,14 +62,14 @@ impl ScriptReader {
         }
     }
 
-    /// Consumes bytes up to the one that completes a command or makes the text malformed, or all bytes. Returns how
-    /// many, and which of these it was.
+    /// Consumes bytes up to the one that completes a command or makes the text malformed, or all bytes if there is no
+    /// such byte. Returns how many bytes were consumed, and which of the three cases it was.
     pub fn push(&mut self, bytes: &[u8]) -> Result<(usize, Reached), AllocError>
         ensures within { IfOk result (λ r. r.0 ≤ length bytes.now) }
         ensures some { IfOk result (λ r. 0 < length bytes.now → 0 < r.0) }
-        // If it was neither, all bytes were consumed.
+        // In the case `More`, all bytes were consumed.
         ensures all { IfOk result (λ r. r.1 ≡ Reached.More → r.0 ≡ length bytes.now) }
-        // A wrong word is reported at the first byte after which no right one continues.
+        // A malformed word is reported at the first byte after which it can no longer become a valid one.
         ensures right { IfOk result (λ r. 0 < length bytes.now → r.1 ≡ Reached.More → MayGoOn self.new) }
         ensures takes { IfOk result (λ r. TakesBytes r.1 self.old (take r.0 bytes.now) self.new) }
     {
@@ -91,7 +92,8 @@ impl ScriptReader {
         Ok((at, Reached::More))
     }
 
-    /// Returns how the script ends, if a line has begun with `%`, so that nothing that follows is looked at.
+    /// If a line has begun with `%`, returns how the script ends: whatever follows is ignored. Otherwise
+    /// returns `None`.
     pub fn end_if_over(&self) -> Option<ScriptEnd>
         ensures { MatchOption result (LooksOn self.now) (EndsWhateverFollows self.now) }
     {
@@ -101,7 +103,7 @@ impl ScriptReader {
         None
     }
 
-    /// Ends the text. Returns whether that completes a command, and how the script ends.
+    /// Ends the text. Returns whether the end completes a command, and how the script ends.
     pub fn finish(&mut self) -> (bool, ScriptEnd)
         ensures { (asks : Bool) (before : List ℕ → Reading) → MeansIf asks self.old before
             → EndsLast asks result.0 result.1 self.new (before []) }

@@ -17,13 +17,13 @@ use std::alloc::{AllocError, Global};
 pub(crate) enum Next {
     /// A command.
     Command,
-    /// The last command, and how the text ends after it.
+    /// The last command. The payload says how the text ends after it.
     Last(ScriptEnd),
-    /// No command, and how the text ends.
+    /// The end of the text, without another command. The payload says how the text ends.
     End(ScriptEnd),
 }
 
-/// A script that is read when its commands are needed, in chunks of at most 4,096 bytes.
+/// A script that is read as its commands are needed, in chunks of at most 4,096 bytes.
 #[derive(Drop)]
 pub(crate) struct CommandStream {
     reader: ScriptReader,
@@ -31,7 +31,7 @@ pub(crate) struct CommandStream {
 }
 
 impl CommandStream {
-    /// Returns a stream before the first byte.
+    /// Returns a stream of the commands of a new script.
     pub fn new(alloc: Global) -> CommandStream
         ensures means { ReaderMeans result.reader reading }
         ensures counts { MeansIf false result.reader written }
@@ -44,14 +44,14 @@ impl CommandStream {
         }
     }
 
-    /// Returns the last command.
+    /// Returns the command that was completed last.
     pub fn command(&self) -> Command<'_>
         ensures { (c : SpelledCommand) → HasWhole self.now.reader c → IsLent result c }
     {
         self.reader.command()
     }
 
-    /// Consumes bytes that were read before.
+    /// Consumes bytes that have already been read, up to the end of a command. Returns how far that came.
     fn take(&mut self) -> Result<Reached, AllocError>
         ensures { TakesWaiting result self.old self.new }
     {
@@ -60,7 +60,7 @@ impl CommandStream {
         Ok(reached)
     }
 
-    /// Ends the text.
+    /// Ends the text. Returns the end, with the command that the end completes, if there is one.
     fn finish(&mut self) -> Next
         ensures finishes { FinishesText result self.old.reader self.new.reader }
         ensures ahead { self.new.ahead ≡ self.old.ahead }
@@ -72,7 +72,8 @@ impl CommandStream {
         Next::End(end)
     }
 
-    /// Reads more bytes, if all are consumed and what follows is looked at. Returns `None` if there are some.
+    /// Reads more bytes. Returns `None` if there are any, and ends the text otherwise. All bytes read so far must have
+    /// been consumed, and no line may have begun with `%`.
     fn refill<S: CountedRead>(&mut self, script: &mut S) -> Result<Option<Next>, ReadError>
         requires waiting { waiting_bytes self.old.ahead ≡ [] }
         requires looks_on { LooksOn self.old.reader }
@@ -86,7 +87,8 @@ impl CommandStream {
         Ok(None)
     }
 
-    /// Reads more bytes, if all are consumed, unless the text has ended. Returns `None` if there are some.
+    /// Reads more bytes, unless the text has ended at a line that begins with `%`. Returns `None` if there are any. All
+    /// bytes read so far must have been consumed.
     fn read_on<S: CountedRead>(&mut self, script: &mut S) -> Result<Option<Next>, ReadError>
         requires open_yet { IsNotAtEnd (source_in S.seen script.old self.old.ahead) }
         requires waiting { waiting_bytes self.old.ahead ≡ [] }
@@ -100,8 +102,8 @@ impl CommandStream {
         }
     }
 
-    /// Consumes bytes, or reads more if all are consumed. Returns `None` if no command is complete yet and the text
-    /// goes on.
+    /// Consumes bytes, or reads more if all have been consumed. Returns `None` if this neither completes a command nor
+    /// ends the text.
     fn advance<S: CountedRead>(&mut self, script: &mut S) -> Result<Option<Next>, ReadError>
         requires { IsNotAtEnd (source_in S.seen script.old self.old.ahead) }
         ensures brings { Brings result (source_in S.seen script.old self.old.ahead)
@@ -118,7 +120,7 @@ impl CommandStream {
         }
     }
 
-    /// Reads up to the next command, or to the end.
+    /// Reads up to the end of the next command, or to the end of the text.
     pub fn next<S: CountedRead>(&mut self, script: &mut S) -> Result<Next, ReadError>
         requires { IsNotAtEnd (source_in S.seen script.old self.old.ahead) }
         ensures { NextComes result (source_in S.seen script.old self.old.ahead)

@@ -1,11 +1,11 @@
-//! Bytes that are read before they are needed.
+//! A buffer of bytes that are read before they are needed.
 ghost use Rattle.std.specs.Prelude.{◌≤◌};
 ghost use Rattle.sat_base.specs.device.Device.{most_reads};
 
-/// The largest number of bytes that a reader is asked for, and that are pending for a writer.
+/// The size of buffers: the largest number of bytes in one read, and the largest number of pending bytes.
 pub(crate) const PIECE: usize = 4096;
 
-/// The last chunk read. Its bytes from `at` to `end` were not consumed yet.
+/// The last chunk that was read. The bytes from `at` to `end` have not been consumed yet.
 #[derive(Drop)]
 pub(crate) struct Ahead {
     pub(crate) piece: [u8; PIECE],

@@ -1,4 +1,4 @@
-//! Devices that count their calls.
+//! Readers and writers whose calls are counted.
 ghost use Rattle.std.specs.Prelude.{◌≡◌, ℕ, List, Option, refl};
 ghost use Rattle.std.specs.Io.{ReadsAtMost, WritesAtMost};
 ghost use Rattle.std.specs.Io.KnownBytes.{ReadConsumes, WriteAppends, Keeps};
@@ -10,8 +10,8 @@ use crate::device::{CountedRead, CountedWrite};
 use std::io;
 use std::io::{Read, Write};
 
-/// Any reader or writer, with a count of its calls and of those that failed, and with the bytes read and written, which
-/// only contracts see.
+/// A wrapper around any reader or writer. It counts the calls and the failed calls, and records the bytes read and
+/// written; only contracts see these.
 #[derive(Drop)]
 pub struct Counted<D> {
     device: D,
@@ -19,7 +19,7 @@ pub struct Counted<D> {
 }
 
 impl<D> Counted<D> {
-    /// Returns a device that has not been called yet.
+    /// Wraps a device. No calls have been counted yet.
     pub fn new(device: D) -> Counted<D>
         ensures device { device_of result ≡ device }
         ensures reader { (remaining : D → Option (List ℕ))

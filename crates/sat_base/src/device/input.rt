@@ -1,18 +1,18 @@
-//! Bytes from a reader, which are read before they are needed.
+//! A buffered reader.
 ghost use Rattle.std.specs.Prelude.{◌≡◌, ◌≤◌};
 ghost use Rattle.sat_base.specs.device.Reading.{source_of, NextByte, ByteWithin};
 
 use crate::device::ahead::Ahead;
 use crate::{CountedRead, StepError};
 
-/// A reader, which is asked for at most 4,096 bytes at a time, and the last chunk that it gave. Both are borrowed.
+/// A reader, from which at most 4,096 bytes are read at a time, and the last chunk that it gave. Both are borrowed.
 pub(crate) struct Input<'r, R> {
     pub(crate) reader: &'r mut R,
     pub(crate) ahead: &'r mut Ahead,
 }
 
 impl<R> Drop for Input<'_, R> {
-    /// Leaves both as the last read left them.
+    /// Changes neither the reader nor the bytes that were read ahead.
     fn drop(self)
         ensures reader { self.exit.0.now ≡ self.entry.reader.now }
         ensures ahead { self.exit.1.0.now ≡ self.entry.ahead.now }
@@ -24,10 +24,10 @@ impl<R> Drop for Input<'_, R> {
     }
 }
 
-// Every byte goes through `next_byte` and `byte_within`, and no call that returns a `Result` is inlined without
+// Many bytes are read by `next_byte` or `byte_within`, and functions that return a `Result` are inlined only with
 // the attribute.
 impl<'r, R: CountedRead> Input<'r, R> {
-    /// Borrows a reader, and the bytes that were read ahead from it.
+    /// Returns an input that borrows a reader, and the bytes that were read ahead from the reader.
     pub(crate) fn new(reader: &'r mut R, ahead: &'r mut Ahead) -> Input<'r, R>
         ensures reader { result.reader.ghost_name ≡ reader.entry.ghost_name }
         ensures ahead { result.ahead.ghost_name ≡ ahead.entry.ghost_name }
@@ -37,7 +37,7 @@ impl<'r, R: CountedRead> Input<'r, R> {
         Input { reader, ahead }
     }
 
-    /// Consumes the next byte. Returns `None` at the end of the text.
+    /// Consumes the next byte and returns it, or returns `None` at the end of the text.
     #[inline(always)]
     pub(crate) fn next_byte(&mut self) -> Result<Option<u8>, StepError>
         ensures { NextByte result (source_of R.seen self.old) (source_of R.seen self.new) }
@@ -48,7 +48,7 @@ impl<'r, R: CountedRead> Input<'r, R> {
         self.first_byte()
     }
 
-    /// Consumes the first byte of the next chunk.
+    /// Reads the next chunk. Consumes its first byte and returns it, or returns `None` at the end of the text.
     fn first_byte(&mut self) -> Result<Option<u8>, StepError>
         requires { self.old.ahead.now.end ≤ self.old.ahead.now.at }
         ensures { NextByte result (source_of R.seen self.old) (source_of R.seen self.new) }
@@ -60,7 +60,7 @@ impl<'r, R: CountedRead> Input<'r, R> {
         Ok(Some(self.ahead.take()))
     }
 
-    /// Consumes the next byte of a text that is not complete.
+    /// Consumes the next byte and returns it. The end of the text is an error.
     #[inline(always)]
     pub(crate) fn byte_within(&mut self) -> Result<u8, StepError>
         ensures { ByteWithin result (source_of R.seen self.old) (source_of R.seen self.new) }

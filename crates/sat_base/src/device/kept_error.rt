@@ -1,14 +1,14 @@
-//! A writer's error, which is stored until it is returned.
+//! Stores a writer's error until it is returned.
 ghost use Rattle.std.specs.Prelude.{◌≡◌, is_ok};
 
 use std::io;
 
-/// A call of the writer failed, and its error is kept. An `io::Error` takes 80 bytes, and every function that passes
-/// one on would clear them.
+/// A marker that says that a call to the writer failed, and that the error is stored. An `io::Error` takes 80 bytes,
+/// which every function that returns one would have to clear.
 #[derive(Clone, Copy)]
 pub(crate) struct WriteFailed;
 
-/// Keeps a call's error.
+/// Stores the error of a call in `kept`, and replaces the error by `WriteFailed`.
 pub(crate) fn keep_error(
     kept: &mut Option<io::Error>,
     answer: io::Result<()>,

@@ -1,4 +1,4 @@
-//! Bytes on their way to a writer, through a buffer.
+//! A buffered writer.
 ghost use Rattle.std.specs.Prelude.{◌≡◌, ◌<◌, ◌∷◌, [], is_ok};
 ghost use Rattle.sat_base.specs.device.Sink.{SendsText, Flushes, sink_of, empty_sink};
 
@@ -7,7 +7,8 @@ use crate::device::kept_error::{WriteFailed, keep_error};
 use crate::device::room::Room;
 use std::io;
 
-/// A writer, and bytes that are pending until there is no room for more, or no more bytes come.
+/// A writer with a buffer. Bytes in the buffer are pending: they are written out when the buffer has no room for more,
+/// or on request.
 #[derive(Drop)]
 pub(crate) struct Output<W, P> {
     pub(crate) writer: W,
@@ -16,7 +17,7 @@ pub(crate) struct Output<W, P> {
     pub(crate) error: Option<io::Error>,
 }
 
-// Every byte goes through `put`, and no call that returns a `Result` is inlined without the attribute.
+// Every byte is passed to `put`, and functions that return a `Result` are inlined only with the attribute.
 impl<W: CountedWrite, P: Room> Output<W, P> {
     /// Returns an output without pending bytes.
     pub(crate) fn new(writer: W, pending: P) -> Output<W, P>
@@ -41,7 +42,7 @@ impl<W: CountedWrite, P: Room> Output<W, P> {
         keep_error(&mut self.error, result)
     }
 
-    /// Puts a byte. If there is no room, the pending bytes are written out first.
+    /// Writes a byte to the buffer. If the buffer is full, writes out the pending bytes first.
     #[inline(always)]
     pub(crate) fn put(&mut self, byte: u8) -> Result<(), WriteFailed>
         ensures { SendsText (byte ∷ []) result (sink_of W.seen P.waiting self.old) (sink_of W.seen P.waiting self.new) }
@@ -53,7 +54,7 @@ impl<W: CountedWrite, P: Room> Output<W, P> {
         Ok(())
     }
 
-    /// Writes out the pending bytes, and puts a byte.
+    /// Writes out the pending bytes, and then writes a byte to the buffer.
     fn put_behind(&mut self, byte: u8) -> Result<(), WriteFailed>
         requires { 0 < P.size self.old.pending }
         ensures { SendsText (byte ∷ []) result (sink_of W.seen P.waiting self.old) (sink_of W.seen P.waiting self.new) }
@@ -63,7 +64,8 @@ impl<W: CountedWrite, P: Room> Output<W, P> {
         Ok(())
     }
 
-    /// Puts bytes, or writes them at once if there is no room for them.
+    /// Writes bytes to the buffer. If the buffer has no room for them, writes out the pending bytes first. Bytes that
+    /// don't fit into the empty buffer are written directly to the writer.
     pub(crate) fn put_all(&mut self, bytes: &[u8]) -> Result<(), WriteFailed>
         ensures { SendsText bytes.now result (sink_of W.seen P.waiting self.old) (sink_of W.seen P.waiting self.new) }
     {
@@ -75,7 +77,7 @@ impl<W: CountedWrite, P: Room> Output<W, P> {
         self.put_first(bytes)
     }
 
-    /// Puts bytes if none are pending, or writes them at once.
+    /// Writes bytes to the buffer, which must be empty, or directly to the writer if they don't fit into the buffer.
     fn put_first(&mut self, bytes: &[u8]) -> Result<(), WriteFailed>
         requires { P.waiting self.old.pending ≡ [] }
         ensures { SendsText bytes.now result (sink_of W.seen P.waiting self.old) (sink_of W.seen P.waiting self.new) }
@@ -109,8 +111,8 @@ impl<W: CountedWrite, P: Room> Output<W, P> {
         keep_error(&mut self.error, result)
     }
 
-    /// Returns the result with the kept error. No contract says that one was kept: without one, the error is
-    /// `ErrorKind::Other`.
+    /// Replaces the marker `WriteFailed` in a result by the stored error. If no error was stored, which the contracts
+    /// don't rule out, the error is `ErrorKind::Other`.
     #[inline(never)] // callers reserve no space for the error on the path without one
     pub(crate) fn give_error(&mut self, answer: Result<(), WriteFailed>) -> io::Result<()>
         ensures alike { is_ok result ≡ is_ok answer }

@@ -1,7 +1,7 @@
-//! Bytes that are pending until they are written out together.
+//! A buffer of bytes that are written out together.
 ghost use Rattle.std.specs.Prelude.{◌≡◌, ◌≤◌, ◌<◌};
 
-/// Pending bytes: the first `len` of `N`.
+/// A buffer of `N` bytes, of which the first `len` are pending.
 #[derive(Drop)]
 pub(crate) struct Pending<const N: usize> {
     pub(crate) bytes: [u8; N],
@@ -11,7 +11,7 @@ pub(crate) struct Pending<const N: usize> {
 }
 
 impl<const N: usize> Pending<N> {
-    /// Returns an empty buffer of pending bytes.
+    /// Returns a buffer without pending bytes.
     pub(crate) fn new() -> Pending<N>
         requires { 0 < N }
         ensures { result.len ≡ 0 }

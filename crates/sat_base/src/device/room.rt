@@ -1,26 +1,27 @@
-//! Room for pending bytes.
+//! Buffers for pending bytes.
 ghost use Rattle.std.specs.Prelude.{◌≡◌, ◌+◌, ◌++◌, ◌∷◌, [], ◌≤◌, ◌<◌, ℕ, List, length, take};
 
 use crate::device::pending::Pending;
 
-/// Room for some bytes, of which the first are pending. Its size depends on how long it is used.
+/// A buffer of a fixed size, of which the first bytes are pending. A buffer for a single step is smaller than one for a
+/// whole proof.
 pub(crate) trait Room: Drop {
     ghost waiting: { Self → List ℕ };
 
     ghost size: { Self → ℕ };
 
-    /// Returns the number of further bytes for which there is room.
+    /// Returns the number of bytes that can still be added.
     fn free(&self) -> usize
         ensures room { result + length (waiting self.now) ≡ size self.now }
         ensures some { 0 < size self.now };
 
-    /// Adds a byte, for which there is room.
+    /// Adds a byte, for which there must be room.
     fn push(&mut self, byte: u8)
         requires { length (waiting self.old) < size self.old }
         ensures waiting { waiting self.new ≡ waiting self.old ++ (byte ∷ []) }
         ensures size { size self.new ≡ size self.old };
 
-    /// Adds bytes, for which there is room.
+    /// Adds bytes, for which there must be room.
     fn push_all(&mut self, piece: &[u8])
         requires { length (waiting self.old) + length piece.now ≤ size self.old }
         ensures waiting { waiting self.new ≡ waiting self.old ++ piece.now }
@@ -31,12 +32,12 @@ pub(crate) trait Room: Drop {
         ensures waiting { waiting self.new ≡ [] }
         ensures size { size self.new ≡ size self.old };
 
-    /// Returns the pending bytes, the oldest first.
+    /// Returns the pending bytes, with the oldest first, as a slice.
     fn as_slice(&self) -> &[u8]
         ensures { result.now ≡ waiting self.now };
 }
 
-// Every byte goes through `free` and `push`.
+// `free` and `push` are called for every byte.
 impl<const N: usize> Room for Pending<N> {
     ghost waiting = { λ p. take p.len p.bytes };
 

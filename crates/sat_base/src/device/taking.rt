@@ -1,4 +1,4 @@
-//! Reading bytes ahead, and consuming them. `Ahead` is in another module, since these contracts are about readers.
+//! Reads bytes ahead, and consumes them. This is not in the module of `Ahead`, since the contracts are about readers.
 ghost use Rattle.std.specs.Prelude.{◌≡◌, ◌+◌, ◌<◌, ◌≤◌, ◌∷◌, take, drop, OnOk};
 ghost use Rattle.sat_base.specs.device.Reading.{RefillsAlone};
 ghost use Rattle.sat_base.specs.device.Waiting.{waiting};
@@ -8,7 +8,7 @@ use crate::device::whole::MAX_READS;
 use crate::{CountedRead, StepError};
 
 impl Ahead {
-    /// Returns the empty buffer before the first read.
+    /// Returns an empty buffer, before the first read.
     pub(crate) fn new() -> Ahead
         ensures end { result.end ≡ 0 }
         ensures reads { result.reads ≡ 0 }
@@ -21,7 +21,7 @@ impl Ahead {
         }
     }
 
-    /// Consumes a byte that was read.
+    /// Consumes the next byte that was read and returns it. There must be one.
     #[inline(always)]
     pub(crate) fn take(&mut self) -> u8
         requires { self.old.at < self.old.end }
@@ -33,7 +33,7 @@ impl Ahead {
         byte
     }
 
-    /// Returns the byte at a position, without consuming it.
+    /// Returns the byte at position `at` of the buffer, without consuming it.
     #[inline(always)]
     pub(crate) fn byte_at(&self, at: usize) -> u8
         requires { at < self.now.end }
@@ -43,7 +43,7 @@ impl Ahead {
         self.piece[at]
     }
 
-    /// Reads the next chunk, after all of the last one was consumed.
+    /// Reads the next chunk. The last chunk must have been consumed completely.
     pub(crate) fn refill<R: CountedRead>(&mut self, reader: &mut R) -> Result<(), StepError>
         requires { self.old.end ≤ self.old.at }
         ensures bytes { RefillsAlone R.seen result reader.old self.old reader.new self.new }

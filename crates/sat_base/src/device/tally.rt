@@ -1,10 +1,11 @@
-//! What only contracts see of a device's calls. It has no bytes, and its functions do nothing at run time.
+//! The history of calls to a device, which only contracts see. It is zero-sized, and its functions do nothing at
+//! run time.
 ghost use Rattle.std.specs.Prelude.{ℕ, Bool, List};
 ghost use Rattle.std.specs.Borrow.{ftrue};
 
 use std::marker::Model;
 
-/// The numbers of calls and of failures, the bytes given and received, and what the last call was.
+/// The numbers of calls and of failed calls, the bytes read and written, and the kind of the last call.
 ///
 /// The counts are unbounded.
 #[derive(Drop)]
@@ -13,12 +14,12 @@ pub(crate) struct Tally {
     pub ghost failures: { ℕ },
     pub ghost given: { List ℕ },
     pub ghost taken: { List ℕ },
-    /// A read that gave nothing though there was room.
+    /// Whether the last call was a read that gave nothing although the buffer was not empty.
     pub ghost ended: { Bool },
-    /// A flush that didn't fail.
+    /// Whether the last call was a flush that did not fail.
     pub ghost flushed: { Bool },
     pub ghost failed: { Bool },
-    /// The number of flushes that didn't fail.
+    /// The number of flushes that did not fail.
     pub ghost flushes: { ℕ },
 }
 
@@ -31,42 +32,42 @@ impl Tally {
     ghost use Rattle.sat_base.specs.device.Counting.{no_calls, after_read, after_end, after_write, after_flush};
     ghost use Rattle.sat_base.specs.device.Counting.{after_failure};
 
-    /// Returns a tally before the first call.
+    /// Returns the tally before the first call.
     pub(crate) fn new() -> Tally
         ensures { result ≡ no_calls }
     {
         Tally {}
     }
 
-    /// Returns the tally after a read that gave these bytes.
+    /// Returns the tally after another read, which gave `bytes`.
     pub(crate) fn and_read(&self, bytes: &[u8]) -> Tally
         ensures { result ≡ after_read bytes.now self.now }
     {
         Tally {}
     }
 
-    /// Returns the tally after a read that found the end.
+    /// Returns the tally after another read, which found the end.
     pub(crate) fn and_end(&self) -> Tally
         ensures { result ≡ after_end self.now }
     {
         Tally {}
     }
 
-    /// Returns the tally after a write that received these bytes.
+    /// Returns the tally after another write, which accepted `bytes`.
     pub(crate) fn and_write(&self, bytes: &[u8]) -> Tally
         ensures { result ≡ after_write bytes.now self.now }
     {
         Tally {}
     }
 
-    /// Returns the tally after a flush that did not fail.
+    /// Returns the tally after another flush, which did not fail.
     pub(crate) fn and_flush(&self) -> Tally
         ensures { result ≡ after_flush self.now }
     {
         Tally {}
     }
 
-    /// Returns the tally after a failed call.
+    /// Returns the tally after another call, which failed.
     pub(crate) fn and_failure(&self) -> Tally
         ensures { result ≡ after_failure self.now }
     {

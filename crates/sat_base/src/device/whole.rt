@@ -1,4 +1,4 @@
-//! Reading to the end of a reader.
+//! Reads everything that a reader gives.
 ghost use Rattle.std.specs.Prelude.{◌≡◌, ◌+◌, ◌<◌, ◌≤◌, ◌++◌, ℕ, List, [], length, IfOk, IfErr, OnOk, IsErrOf};
 ghost use Rattle.std.specs.Io.{ReadsAtMost};
 ghost use Rattle.sat_base.specs.device.Device.{most_reads, ReadFails, ReadsOnce, GaveAll, GaveMore};
@@ -8,13 +8,13 @@ use crate::device::ahead::PIECE;
 use std::alloc::{AllocError, Global};
 use thiserror::Error;
 
-/// The largest number of reads of one reader.
+/// The largest number of reads from one reader.
 pub(crate) const MAX_READS: u64 = 1 << 48;
 
 /// Why a reader was not read to its end.
 #[derive(Clone, Copy, Debug, Drop, PartialEq, Eq, Error)]
 pub enum ReadError {
-    /// A read failed, or 2^48 reads were made.
+    /// A read failed, or 2^48 reads did not reach the end.
     #[error("a read failed")]
     Failed,
     #[error("out of memory")]
@@ -46,7 +46,7 @@ fn read_piece<R: CountedRead>(reader: &mut R, room: &mut [u8]) -> Result<usize, 
 
 /// A receiver of the bytes of a text, in chunks.
 pub trait Feed {
-    /// It was fed this text, and nothing more.
+    /// Whether a receiver was fed exactly this text.
     ghost was_fed: { Self → List ℕ → Type 0 };
 
     /// Receives the next bytes.
@@ -55,7 +55,7 @@ pub trait Feed {
         ensures { (text : List ℕ) → was_fed self.old text → OnOk result (was_fed self.new (text ++ piece.now)) };
 }
 
-/// Holds all bytes.
+/// Stores all bytes.
 impl Feed for Vec<u8> {
     ghost was_fed = { λ v text. v.items ≡ text };
 
@@ -64,8 +64,8 @@ impl Feed for Vec<u8> {
     }
 }
 
-/// Reads to the end, in chunks of at most 4,096 bytes, and feeds every chunk as it comes. Stops at the first read that
-/// fails, and at the first chunk for which memory runs out.
+/// Reads to the end of `reader`, in chunks of at most 4,096 bytes, and feeds every chunk to `taker`. Stops at the first
+/// read that fails, or at the first chunk for which memory runs out.
 pub fn read_into<R: CountedRead, F: Feed>(reader: &mut R, taker: &mut F) -> Result<(), ReadError>
     requires { F.was_fed taker.old [] }
     ensures gave { OnOk result ((text : List ℕ) × GaveAll (R.seen reader.old) (R.seen reader.new) text
@@ -92,8 +92,8 @@ pub fn read_into<R: CountedRead, F: Feed>(reader: &mut R, taker: &mut F) -> Resu
     Err(ReadError::Failed)
 }
 
-/// Reads to the end, in chunks of at most 4,096 bytes, and returns all bytes. Stops at the first read that fails. After
-/// an error, what was read is lost.
+/// Reads to the end of `reader`, in chunks of at most 4,096 bytes, and returns all bytes. Stops at the first read that
+/// fails. After an error, the bytes that were read are lost.
 pub fn read_whole<R: CountedRead>(alloc: Global, reader: &mut R) -> Result<Vec<u8>, ReadError>
     ensures gave { IfOk result (λ v. GaveAll (R.seen reader.old) (R.seen reader.new) v.items) }
     ensures front { GaveMore (R.seen reader.old) (R.seen reader.new) }

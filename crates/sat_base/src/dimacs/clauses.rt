@@ -1,4 +1,4 @@
-//! Clauses from tokens.
+//! Builds clauses from tokens.
 ghost use Rattle.std.specs.Prelude.{◌≡◌, None, MatchResult};
 ghost use Rattle.sat_base.specs.values.Formulas.{no_formula, with_at_least_vars};
 ghost use Rattle.sat_base.specs.dimacs.Dimacs.{Ends, literals_in};
@@ -11,7 +11,7 @@ use crate::{CnfFormula, ExtendFormula, FormulaError, Lit, Token};
 use std::alloc::{AllocFailed, Global};
 use std::mem;
 
-/// The largest number of a variable.
+/// The largest variable number in DIMACS.
 pub(crate) const LARGEST: u64 = MAX_COUNT as u64;
 
 /// Why a token was refused.
@@ -47,16 +47,17 @@ impl<T: Drop> From<AllocFailed<T>> for Refusal {
 /// The header and the clauses that were read, and the literals of the unfinished clause.
 #[derive(Drop)]
 pub(crate) struct Clauses {
-    /// The clauses that were not taken yet, with the number of variables of all that were read.
+    /// The clauses that have not been taken yet. The number of variables of this formula covers all clauses that
+    /// were read.
     pub(crate) formula: CnfFormula,
     pub(crate) hand: Vec<Lit>,
     /// The number of clauses read, capped at 2^64-1.
     pub(crate) count: u64,
-    /// The header's numbers, capped at 2^64-1.
+    /// The numbers of variables and clauses in the header, capped at 2^64-1.
     pub(crate) header: Option<(u64, u64)>,
 }
 
-/// Whether a token is a literal.
+/// Whether a token is a literal: a number from 1 to 2^28, with any sign.
 pub(crate) fn is_literal(token: Token) -> bool
     ensures { result ≡ is_literal (token_of token) }
 {
@@ -82,7 +83,7 @@ impl Clauses {
         }
     }
 
-    /// Ends the unfinished clause, at a zero.
+    /// Ends the unfinished clause, after the `0` that ends it.
     fn end_clause(&mut self) -> Result<(), Refusal>
         ensures { MatchResult result (λ _. TakesTokenTurn (Ends (literals_in (hand_in self.old))) self.old self.new
             × (self.new.header ≡ self.old.header)) (λ e. (e ≡ OutOfMemory) × SameClausesAndHeader self.old self.new) }
@@ -93,8 +94,8 @@ impl Clauses {
         Ok(())
     }
 
-    // Every word goes through this, and no call that returns a `Result` is inlined without the attribute.
-    /// Adds the next token.
+    // Every token is passed to this function, and functions that return a `Result` are inlined only with the attribute.
+    /// Receives the next token.
     #[inline(always)]
     pub(crate) fn take(&mut self, token: Token) -> Result<(), Refusal>
         ensures { CollectsToken result self.old (token_of token) self.new }
@@ -127,7 +128,8 @@ impl Clauses {
         !self.hand.is_empty()
     }
 
-    /// Takes the clauses. The next ones are collected in a formula that already has as many variables.
+    /// Returns the clauses that have been read, and removes them. Later clauses are collected in a formula that starts
+    /// with the same number of variables.
     pub(crate) fn take_formula(&mut self, alloc: Global) -> CnfFormula
         ensures formula { result ≡ self.old.formula }
         ensures rest { self.new ≡ record self.old { formula = with_at_least_vars self.old.formula.var_count no_formula } }

@@ -1,13 +1,13 @@
-//! Errors of formulas' texts.
+//! Errors in reading formulas.
 
 use std::alloc::AllocError;
 use std::fmt::Display;
 use thiserror::Error;
 
-/// Why no formula was read. Lines are counted from 1, and capped at 2^64-1.
+/// Why no formula was read. Lines are counted from 1, and their numbers are capped at 2^64-1.
 #[derive(Clone, Copy, Debug, Drop, PartialEq, Eq, Error)]
 pub enum DimacsError {
-    /// A word on this line is wrong, or the text ends inside a clause, and this is its last line.
+    /// A word on this line is malformed, or the text ends inside a clause and this is its last line.
     #[error("line {line} is malformed")]
     Malformed { line: u64 },
     /// A number on this line is above 2^28.
@@ -18,7 +18,7 @@ pub enum DimacsError {
     Read,
     #[error("out of memory")]
     OutOfMemory,
-    /// The parser has failed or finished before.
+    /// The parser has already failed or finished.
     #[error("the parser has failed or finished before")]
     HasFailed,
 }
@@ -40,7 +40,7 @@ impl From<AllocError> for DimacsError {
 pub enum IncrementalError<E> {
     #[error("{0}")]
     Dimacs(DimacsError),
-    /// The caller's closure refused.
+    /// The caller's closure returned this error.
     #[error("{0}")]
     Caller(E),
 }

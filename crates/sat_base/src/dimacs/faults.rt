@@ -1,4 +1,4 @@
-//! Faults of a formula's text, found without allocating.
+//! Finds faults in the text of a formula without allocating.
 ghost use Rattle.std.specs.Prelude.{◌≡◌, ◌++◌, ◌∷◌, [], ℕ, List};
 ghost use Rattle.sat_base.specs.dimacs.Collecting.{token_of};
 ghost use Rattle.sat_base.specs.dimacs.Faults.{FindsFault, HasTakenSoundly, JudgesToken, OutOfMemoryOrFault};
@@ -7,7 +7,7 @@ use super::clauses::LARGEST;
 use super::error::DimacsError;
 use crate::{Token, Tokenizer};
 
-/// Checks whether a token on this line is a fault, whatever clause is unfinished.
+/// Returns an error if the token is a fault in any clause. `line` is the line of the token.
 fn judge_token(token: Token, line: u64) -> Result<(), DimacsError>
     ensures { JudgesToken result line (token_of token) }
 {
@@ -24,7 +24,8 @@ fn judge_token(token: Token, line: u64) -> Result<(), DimacsError>
     }
 }
 
-/// Receives the next byte of a text, and reports the fault of the word that it ends or makes wrong.
+/// Passes the next byte of a text to the tokenizer. Returns an error if the byte ends a faulty word, or makes a
+/// word malformed.
 fn take_byte(tokenizer: &mut Tokenizer, byte: u8) -> Result<(), DimacsError>
     ensures { (text : List ℕ) → HasTakenSoundly text tokenizer.old
         → FindsFault result (text ++ byte ∷ []) tokenizer.new }
@@ -40,7 +41,7 @@ fn take_byte(tokenizer: &mut Tokenizer, byte: u8) -> Result<(), DimacsError>
     judge_token(token, tokenizer.line())
 }
 
-/// Receives the next bytes of a text, and reports their first fault.
+/// Passes the next bytes of a text to the tokenizer. Returns the first fault as an error.
 fn take_bytes(tokenizer: &mut Tokenizer, bytes: &[u8]) -> Result<(), DimacsError>
     ensures { (text : List ℕ) → HasTakenSoundly text tokenizer.old
         → FindsFault result (text ++ bytes.now) tokenizer.new }
@@ -51,8 +52,8 @@ fn take_bytes(tokenizer: &mut Tokenizer, bytes: &[u8]) -> Result<(), DimacsError
     Ok(())
 }
 
-/// Returns the error to report if a parser has stopped within these bytes with this error. If memory ran out, that is
-/// their first fault instead, if they have one.
+/// Returns the error to report for a parser that has stopped with `error` within `bytes`. If `error` is `OutOfMemory`
+/// and `bytes` has a fault, that is the first fault; otherwise it is `error`.
 pub(crate) fn error_within(tokenizer: Tokenizer, bytes: &[u8], error: DimacsError) -> DimacsError
     ensures same { (error ≡ DimacsError.OutOfMemory → ⊥) → result ≡ error }
     ensures found { error ≡ DimacsError.OutOfMemory → (text : List ℕ) → HasTakenSoundly text tokenizer

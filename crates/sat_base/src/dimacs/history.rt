@@ -1,11 +1,11 @@
-//! What only contracts see of a parser's calls. It has no bytes, and its functions do nothing at run time.
+//! The history of a parser, which only contracts see. It is zero-sized, and its functions do nothing at run time.
 ghost use Rattle.std.specs.Prelude.{◌≡◌, ◌++◌, ◌∷◌, [], ℕ, List};
 ghost use Rattle.std.specs.Borrow.{ftrue};
 
 use crate::CnfFormula;
 use std::marker::Model;
 
-/// The bytes that were fed, and the clauses that were taken.
+/// The bytes that were fed to a parser, and the clauses that were taken from it.
 #[derive(Drop)]
 pub(crate) struct History {
     pub ghost fed: { List ℕ },
@@ -17,7 +17,7 @@ impl Model for History {
 }
 
 impl History {
-    /// Returns a history before the first byte.
+    /// Returns the history of a new parser.
     pub(crate) fn new() -> History
         ensures { (result.fed ≡ []) × (result.taken ≡ []) }
     {

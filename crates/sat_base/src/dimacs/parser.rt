@@ -1,4 +1,4 @@
-//! The parser of formulas inside `DimacsParser`.
+//! The implementation of `DimacsParser`.
 ghost use Rattle.std.specs.Prelude.{◌≡◌, ◌++◌, ◌∷◌, [], ℕ, List, true, false, Ok, OnOk, IfErr};
 ghost use Rattle.sat_base.specs.text.Text.{Scan};
 ghost use Rattle.sat_base.specs.text.Tokenizing.{held, StandsBefore};
@@ -14,7 +14,7 @@ use super::history::History;
 use crate::{CnfFormula, Tokenizer};
 use std::alloc::Global;
 
-/// A parser: it receives the bytes of a text, and holds the clauses read so far.
+/// A parser, which receives the bytes of a text and stores the clauses read so far.
 #[derive(Drop)]
 pub(crate) struct Parser {
     pub(crate) alloc: Global,
@@ -23,12 +23,12 @@ pub(crate) struct Parser {
     pub(crate) history: History,
     /// Whether no more bytes are accepted.
     pub(crate) stopped: bool,
-    /// Whether the text has ended, or has a fault.
+    /// Whether the text has ended or has a fault.
     pub(crate) ended: bool,
 }
 
 impl Parser {
-    /// Returns a parser before the first byte of a text. Does not allocate.
+    /// Returns a parser for a new text. Does not allocate.
     pub(crate) fn new(alloc: Global) -> Parser
         ensures parser { IsParser result }
         ensures progress { progress_of result ≡ no_progress }
@@ -50,7 +50,7 @@ impl Parser {
         self.tokenizer.line()
     }
 
-    /// Feeds the next byte.
+    /// Receives the next byte.
     fn push(&mut self, byte: u8) -> Result<(), DimacsError>
         requires parser { IsParser self.old }
         requires open { self.old.stopped ≡ false }
@@ -90,7 +90,7 @@ impl Parser {
         }
     }
 
-    /// Feeds the next bytes.
+    /// Receives the next bytes.
     pub(crate) fn feed(&mut self, piece: &[u8]) -> Result<(), DimacsError>
         requires { IsParser self.old }
         ensures parser { IsParser self.new }
@@ -106,8 +106,8 @@ impl Parser {
         Ok(())
     }
 
-    /// Feeds the next bytes of a text that is parsed completely or not at all. So if memory runs out within them, their
-    /// later faults are reported instead.
+    /// Receives the next bytes. If memory runs out, returns the first fault of these bytes instead, if there is one,
+    /// even if it is later in the text.
     pub(crate) fn feed_or_find_fault(&mut self, piece: &[u8]) -> Result<(), DimacsError>
         requires { IsParser self.old }
         ensures parser { IsParser self.new }
@@ -122,7 +122,7 @@ impl Parser {
         }
     }
 
-    /// Whether a line that begins with `%` has ended the text, so that only `finish` is due.
+    /// Whether a line that begins with `%` has ended the text, so that only `finish` needs to be called.
     pub(crate) fn has_ended(&self) -> bool
         requires { IsParser self.now }
         ensures { SaysEnded result (progress_of self.now) }
@@ -183,7 +183,7 @@ impl Parser {
         }
     }
 
-    /// Takes the clauses that were read.
+    /// Returns the clauses that have been read since the last call.
     pub(crate) fn take_formula(&mut self) -> CnfFormula
         requires { IsParser self.old }
         ensures parser { IsParser self.new }

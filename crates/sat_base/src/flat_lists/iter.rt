@@ -1,4 +1,4 @@
-//! An iterator over lists in one buffer.
+//! An iterator over lists that are stored in a common buffer.
 #![tactic(auto, using(crate::proofs::lemmas::values::FlatLemmas::flat))]
 
 ghost use Rattle.std.specs.Prelude.{◌≡◌, length};
@@ -9,7 +9,7 @@ ghost use Rattle.sat_base.specs.values.Flat.{pieces, AreEnds};
 use std::iter::FusedIterator;
 use std::marker::Model;
 
-/// An iterator that lends every list, in order. Contracts see the lists that are still to come.
+/// An iterator over references to the lists, in order. Contracts see the lists that are still to come.
 #[derive(Debug, Drop)]
 pub struct FlatListsIter<'a, T> {
     start: usize,
@@ -29,7 +29,7 @@ impl<'a, T> Model for FlatListsIter<'a, T> {
 }
 
 impl<'a, T> FlatListsIter<'a, T> {
-    /// Returns an iterator over lists with these items and ends.
+    /// Returns an iterator over the lists that `items` and `ends` describe.
     pub(crate) fn new(items: &'a [T], ends: &'a [usize]) -> FlatListsIter<'a, T>
         requires { AreEnds 0 ends.now items.now }
         ensures { result ≡ pieces 0 ends.now items.now }

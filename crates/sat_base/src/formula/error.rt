@@ -1,4 +1,4 @@
-//! Errors of growing formulas.
+//! Errors in adding clauses and variables to formulas.
 
 use std::alloc::AllocError;
 use thiserror::Error;

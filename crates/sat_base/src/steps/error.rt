@@ -1,4 +1,4 @@
-//! Errors of proofs' bytes.
+//! Errors in reading proof steps.
 
 use std::alloc::{AllocError, AllocFailed};
 use thiserror::Error;
@@ -6,13 +6,13 @@ use thiserror::Error;
 /// Why no step was read.
 #[derive(Clone, Copy, Debug, Drop, PartialEq, Eq, Error)]
 pub enum StepError {
-    /// The text has ended, between steps.
+    /// The text has ended between steps.
     #[error("the proof's text is over")]
     Ends,
     /// The text has ended within a step.
     #[error("the proof's text is over inside a step")]
     Cut,
-    /// No step can follow this byte.
+    /// A byte is invalid: no step continues with it.
     #[error("no proof step can follow a byte")]
     BadByte,
     /// The reader failed, or was read 2^48 times.
@@ -20,7 +20,7 @@ pub enum StepError {
     Read,
     #[error("out of memory")]
     OutOfMemory,
-    /// The reader of steps has failed before.
+    /// The step reader has already failed.
     #[error("reading the proof has failed before")]
     HasFailed,
 }

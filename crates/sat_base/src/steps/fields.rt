@@ -1,4 +1,4 @@
-//! A step's tag, and the fields after it.
+//! Reads and writes steps: a tag, and then the fields of the step.
 #![tactic(auto, using(crate::proofs::lemmas::device::Sending::sending))]
 
 ghost use Rattle.std.specs.Prelude.{◌≡◌, OnOk, [], ℕ, List, IsTrue, false};
@@ -38,7 +38,7 @@ pub(super) fn tag(step: &ProofStep<'_>) -> u8
     }
 }
 
-/// Whether a step has this tag.
+/// Whether some kind of step has this tag.
 fn is_tag(tag: u8) -> bool
     ensures { result ≡ is_tag tag }
 {
@@ -53,7 +53,7 @@ fn has_lists(tag: u8) -> bool
 }
 
 impl<R: CountedRead> Input<'_, R> {
-    /// Reads the fields of a step without lists.
+    /// Reads the fields of a step with this tag, which must be one without lists.
     fn plain_fields(&mut self, tag: u8) -> Result<Kind, StepError>
         requires known { IsTrue (is_tag tag) }
         requires plain { has_lists tag ≡ false }
@@ -90,7 +90,7 @@ impl<R: CountedRead> Input<'_, R> {
         }
     }
 
-    /// Reads the fields of a step with lists.
+    /// Reads the fields of a step with this tag, which must be one with lists, into `lists`.
     fn list_fields(&mut self, lists: &mut Lists, tag: u8) -> Result<Kind, StepError>
         requires { IsTrue (has_lists tag) }
         ensures { ReadsFromInput (Behind tag) (valued (step_held lists.new) result) R.seen self.old self.new }
@@ -119,7 +119,7 @@ impl<R: CountedRead> Input<'_, R> {
         }
     }
 
-    /// Reads the fields of a step with this tag.
+    /// Reads the fields of a step with this tag, with the lists into `lists`.
     fn fields(&mut self, lists: &mut Lists, tag: u8) -> Result<Kind, StepError>
         requires { IsTrue (is_tag tag) }
         ensures { ReadsFromInput (Behind tag) (valued (step_held lists.new) result) R.seen self.old self.new }
@@ -131,7 +131,7 @@ impl<R: CountedRead> Input<'_, R> {
         }
     }
 
-    /// Reads the next step, with its lists into `lists`.
+    /// Reads the next step, with the lists into `lists`.
     pub(super) fn read_step(&mut self, lists: &mut Lists) -> Result<Kind, StepError>
         ensures { AnswersStepRead (valued (step_held lists.new) result) (source_of R.seen self.old)
             (source_of R.seen self.new) }
@@ -149,7 +149,7 @@ impl<R: CountedRead> Input<'_, R> {
 }
 
 impl<W: CountedWrite, P: Room> Output<W, P> {
-    /// Puts the fields of a step.
+    /// Writes the fields of a step to the buffer.
     fn put_fields(&mut self, step: &ProofStep<'_>) -> Result<(), WriteFailed>
         ensures { SendsSpelling fields (step_of step.now) result W.seen P.waiting self.old self.new }
     {
@@ -177,7 +177,7 @@ impl<W: CountedWrite, P: Room> Output<W, P> {
         }
     }
 
-    /// Puts the bytes of a step.
+    /// Writes the tag and the fields of a step to the buffer.
     pub(super) fn put_step(&mut self, step: &ProofStep<'_>) -> Result<(), WriteFailed>
         ensures { SendsSpelling a_step (step_of step.now) result W.seen P.waiting self.old self.new }
     {
@@ -185,7 +185,7 @@ impl<W: CountedWrite, P: Room> Output<W, P> {
         self.put_fields(step)
     }
 
-    /// Writes out the bytes of a step, after those that are pending.
+    /// Writes out the pending bytes, and then the bytes of a step.
     pub(super) fn write_step(&mut self, step: &ProofStep<'_>) -> Result<(), WriteFailed>
         ensures writes { SendsSpelling a_step (step_of step.now) result W.seen P.waiting self.old self.new }
         ensures none { OnOk result (P.waiting self.new.pending ≡ []) }

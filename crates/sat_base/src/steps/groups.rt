@@ -1,4 +1,4 @@
-//! The fields of steps that have several.
+//! Reads and writes the fields of those steps that have more than one.
 #![tactic(auto, using(crate::proofs::lemmas::device::Sending::sending))]
 
 ghost use Rattle.sat_base.specs.device.Reading.{ReadsFromInput, valued};
@@ -16,7 +16,7 @@ use crate::steps::step_lists::Lists;
 use crate::{ClauseHash, CountedRead, CountedWrite, DeleteClauseProof, Lit, StepError, Var};
 
 impl<R: CountedRead> Input<'_, R> {
-    /// Reads a flag, and both lists.
+    /// Reads a flag, and then a list of literals and a list of hashes.
     pub(super) fn flag_and_lists(&mut self, lists: &mut Lists) -> Result<bool, StepError>
         ensures { ReadsFromInput (Both IsFlag (Both AreLiterals AreHashes))
             (valued (λ f. (f, both_held lists.new)) result) R.seen self.old self.new }
@@ -26,7 +26,7 @@ impl<R: CountedRead> Input<'_, R> {
         Ok(flag)
     }
 
-    /// Reads a clause, and why it is deleted.
+    /// Reads a clause, and then the reason for its deletion.
     pub(super) fn clause_and_deletion(
         &mut self,
         lists: &mut Lists,
@@ -40,7 +40,7 @@ impl<R: CountedRead> Input<'_, R> {
 }
 
 impl<W: CountedWrite, P: Room> Output<W, P> {
-    /// Puts a variable, and another or none.
+    /// Writes a variable and an optional variable to the buffer.
     pub(super) fn put_variables(
         &mut self,
         first: Var,
@@ -52,7 +52,7 @@ impl<W: CountedWrite, P: Room> Output<W, P> {
         self.put_optional(second)
     }
 
-    /// Puts a variable, and whether it is sampled.
+    /// Writes a variable and its mode to the buffer.
     pub(super) fn put_mode(&mut self, var: Var, sample: bool) -> Result<(), WriteFailed>
         ensures { spelling.SendsSpelling spelling.a_mode (var, sample) result W.seen P.waiting self.old self.new }
     {
@@ -60,7 +60,7 @@ impl<W: CountedWrite, P: Room> Output<W, P> {
         self.put_flag(sample)
     }
 
-    /// Puts a derived clause.
+    /// Writes the fields of a derived clause to the buffer.
     pub(super) fn put_derived(
         &mut self,
         redundant: bool,
@@ -74,7 +74,7 @@ impl<W: CountedWrite, P: Room> Output<W, P> {
         self.put_both_lists(clause, hashes)
     }
 
-    /// Puts a clause, and why it is deleted.
+    /// Writes a clause, and then the reason for its deletion, to the buffer.
     pub(super) fn put_deleted(
         &mut self,
         clause: &[Lit],

@@ -2,7 +2,7 @@
 
 use crate::{DeleteClauseProof, HashBits, Var};
 
-/// Which step it is, and its fields other than lists.
+/// The kind of a step, and all of its fields except for the lists.
 #[derive(Clone, Copy)]
 pub(crate) enum Kind {
     SolverVarName { global: Var, solver: Option<Var> },

@@ -1,4 +1,4 @@
-//! Lists of literals, of hashes and of units.
+//! Reads and writes lists of literals, of hashes and of units.
 #![tactic(auto, using(crate::proofs::lemmas::device::Sending::sending))]
 
 ghost use Rattle.std.specs.Prelude.{[], ◌≡◌};
@@ -22,7 +22,8 @@ use crate::{ClauseHash, CountedRead, CountedWrite, Lit, StepError};
 const LARGEST_CODE: u64 = 2 * MAX_COUNT as u64 - 1;
 
 impl Ahead {
-    /// Consumes at most `most` literals that are complete among the buffered bytes, and returns how many.
+    /// Appends at most `most` literals that are complete in the buffered bytes to `lits`. Returns how many
+    /// were appended.
     fn take_literals(&mut self, most: u64, lits: &mut Vec<Lit>) -> Result<u64, StepError>
         ensures { TakesItems IsLiteral most result lits.old.items lits.new.items self.old self.new }
     {
@@ -44,7 +45,8 @@ impl Ahead {
         Ok(taken)
     }
 
-    /// Consumes at most `most` hashes that are complete among the buffered bytes, and returns how many.
+    /// Appends at most `most` hashes that are complete in the buffered bytes to `hashes`. Returns how many
+    /// were appended.
     fn take_hashes(&mut self, most: u64, hashes: &mut Vec<ClauseHash>) -> Result<u64, StepError>
         ensures { TakesItems IsHash most result hashes.old.items hashes.new.items self.old self.new }
     {
@@ -77,7 +79,7 @@ impl<R: CountedRead> Input<'_, R> {
         Ok(Lit::from_code(code as usize))
     }
 
-    /// Reads `count` literals.
+    /// Reads `count` literals into `lits`, which must be empty.
     fn literal_items(&mut self, count: u64, lits: &mut Vec<Lit>) -> Result<(), StepError>
         requires { lits.old.items ≡ [] }
         ensures { ReadsFromInput (Times IsLiteral count) (giving lits.new.items result) R.seen self.old self.new }
@@ -96,7 +98,7 @@ impl<R: CountedRead> Input<'_, R> {
         Ok(())
     }
 
-    /// Reads `count` hashes.
+    /// Reads `count` hashes into `hashes`, which must be empty.
     fn hash_items(&mut self, count: u64, hashes: &mut Vec<ClauseHash>) -> Result<(), StepError>
         requires { hashes.old.items ≡ [] }
         ensures { ReadsFromInput (Times IsHash count) (giving hashes.new.items result) R.seen self.old self.new }
@@ -124,7 +126,7 @@ impl<R: CountedRead> Input<'_, R> {
         Ok((lit, hash))
     }
 
-    /// Reads `count` units.
+    /// Reads `count` units into `units`, which must be empty.
     fn unit_items(
         &mut self,
         count: u64,
@@ -141,7 +143,7 @@ impl<R: CountedRead> Input<'_, R> {
         Ok(())
     }
 
-    /// Reads a list of literals, instead of those in `lits`.
+    /// Reads a list of literals, and replaces the contents of `lits` by it.
     pub(super) fn literals(&mut self, lits: &mut Vec<Lit>) -> Result<(), StepError>
         ensures { ReadsFromInput AreLiterals (giving lits.new.items result) R.seen self.old self.new }
     {
@@ -150,7 +152,7 @@ impl<R: CountedRead> Input<'_, R> {
         self.literal_items(count, lits)
     }
 
-    /// Reads a list of hashes, instead of those in `hashes`.
+    /// Reads a list of hashes, and replaces the contents of `hashes` by it.
     pub(super) fn hashes(&mut self, hashes: &mut Vec<ClauseHash>) -> Result<(), StepError>
         ensures { ReadsFromInput AreHashes (giving hashes.new.items result) R.seen self.old self.new }
     {
@@ -159,7 +161,7 @@ impl<R: CountedRead> Input<'_, R> {
         self.hash_items(count, hashes)
     }
 
-    /// Reads a list of units, instead of those in `units`.
+    /// Reads a list of units, and replaces the contents of `units` by it.
     pub(super) fn units(&mut self, units: &mut Vec<(Lit, ClauseHash)>) -> Result<(), StepError>
         ensures { ReadsFromInput AreHashedLiterals (giving units.new.items result) R.seen self.old self.new }
     {
@@ -168,7 +170,7 @@ impl<R: CountedRead> Input<'_, R> {
         self.unit_items(count, units)
     }
 
-    /// Reads a list of literals, and then one of hashes.
+    /// Reads a list of literals, and then a list of hashes.
     pub(super) fn both_lists(&mut self, lists: &mut Lists) -> Result<(), StepError>
         ensures { ReadsFromInput (Both AreLiterals AreHashes) (giving (both_held lists.new) result) R.seen self.old
             self.new }
@@ -179,7 +181,7 @@ impl<R: CountedRead> Input<'_, R> {
 }
 
 impl<W: CountedWrite, P: Room> Output<W, P> {
-    /// Puts a list of literals.
+    /// Writes a list of literals to the buffer.
     pub(super) fn put_literals(&mut self, lits: &[Lit]) -> Result<(), WriteFailed>
         ensures { spelling.SendsSpelling spelling.literals lits.now result W.seen P.waiting self.old self.new }
     {
@@ -190,7 +192,7 @@ impl<W: CountedWrite, P: Room> Output<W, P> {
         Ok(())
     }
 
-    /// Puts a list of hashes.
+    /// Writes a list of hashes to the buffer.
     pub(super) fn put_hashes(&mut self, hashes: &[ClauseHash]) -> Result<(), WriteFailed>
         ensures { spelling.SendsSpelling spelling.hashes hashes.now result W.seen P.waiting self.old self.new }
     {
@@ -201,7 +203,7 @@ impl<W: CountedWrite, P: Room> Output<W, P> {
         Ok(())
     }
 
-    /// Puts a literal and its hash.
+    /// Writes a literal and its hash to the buffer.
     fn put_unit(&mut self, unit: (Lit, ClauseHash)) -> Result<(), WriteFailed>
         ensures { spelling.SendsSpelling (spelling.both spelling.a_literal spelling.a_hash) unit result W.seen P.waiting
             self.old self.new }
@@ -211,7 +213,7 @@ impl<W: CountedWrite, P: Room> Output<W, P> {
         self.put_number(hash)
     }
 
-    /// Puts a list of units.
+    /// Writes a list of units to the buffer.
     pub(super) fn put_units(&mut self, units: &[(Lit, ClauseHash)]) -> Result<(), WriteFailed>
         ensures { spelling.SendsSpelling spelling.units units.now result W.seen P.waiting self.old self.new }
     {
@@ -222,7 +224,7 @@ impl<W: CountedWrite, P: Room> Output<W, P> {
         Ok(())
     }
 
-    /// Puts a list of literals, and then one of hashes.
+    /// Writes a list of literals, and then a list of hashes, to the buffer.
     pub(super) fn put_both_lists(
         &mut self,
         lits: &[Lit],

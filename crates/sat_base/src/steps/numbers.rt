@@ -1,4 +1,4 @@
-//! Numbers in LEB128.
+//! Reads and writes numbers in LEB128.
 ghost use Rattle.std.specs.Prelude.{◌≡◌, ◌+◌, ◌++◌, ◌-◌, ◌*◌, ◌^◌, ◌<◌, ◌≤◌, ℕ, Some, None, OnOk, length};
 ghost use Rattle.sat_base.specs.device.Reading.{ReadsFromInput};
 ghost use Rattle.sat_base.specs.device.TakenAhead.{TakesNumber, StandsBetween};
@@ -14,13 +14,14 @@ use crate::device::room::Room;
 use crate::{CountedRead, CountedWrite, StepError};
 use std::alloc::AllocError;
 
-/// The largest number of bytes of a number.
+/// The largest number of bytes in the encoding of a number.
 pub(super) const LONGEST: usize = 10;
 
-/// The value of one in the ninth group of a number.
+/// The place value of the ninth group of a number.
 const LARGEST_PLACE: u64 = 1 << 56;
 
-/// Returns the number that `first` encodes, or `first` and `second` if the number continues.
+/// Returns the number that the byte `first` encodes, or that `first` and `second` encode if `first` says that the
+/// number continues.
 #[inline(always)]
 fn one_or_two(first: u64, second: u64) -> u64
     requires first { first < 256 }
@@ -33,7 +34,8 @@ fn one_or_two(first: u64, second: u64) -> u64
 }
 
 impl Ahead {
-    /// Returns the number of at most four bytes at `from` and the position after it, or `from` itself if there is none.
+    /// Returns the number that is encoded at `from` in at most four bytes, and the position after the number. The
+    /// position is `from` if there is no such number.
     #[inline(always)] // each literal and each hash goes through it
     fn short_number_at(&self, from: usize) -> (u64, usize)
         requires { from + 4 ≤ self.now.end }
@@ -67,7 +69,8 @@ impl Ahead {
         (0, from)
     }
 
-    /// Returns the number of at most eight bytes at `from`, if it is complete.
+    /// Returns the number that is encoded at `from` in at most eight bytes, and the position after the number, if the
+    /// number is complete in the buffered bytes and at most `largest`.
     #[inline(never)] // keeps the path of short numbers small
     fn long_number_at(&self, from: usize, largest: u64) -> Option<(u64, usize)>
         ensures { (number behind : ℕ) → result ≡ Some (number, behind)
@@ -92,8 +95,8 @@ impl Ahead {
         None
     }
 
-    /// Returns the number at `from` and the position after it, if the number is complete among the buffered bytes, has
-    /// at most eight bytes and is at most `largest`.
+    /// Returns the number at `from` and the position after it, if the number is complete in the buffered bytes, has at
+    /// most eight bytes and is at most `largest`.
     #[inline(always)] // each literal and each hash goes through it
     pub(super) fn number_at(&self, from: usize, largest: u64) -> Option<(u64, usize)>
         ensures { (number behind : ℕ) → result ≡ Some (number, behind)
@@ -108,8 +111,8 @@ impl Ahead {
         self.long_number_at(from, largest)
     }
 
-    /// Does what `number_at` does. Numbers of one and two bytes take the same branch, since their order is
-    /// unpredictable.
+    /// Does what `number_at` does. Numbers of one byte and of two bytes share a branch, since their order
+    /// is unpredictable.
     #[inline(always)] // each literal goes through it
     pub(super) fn code_at(&self, from: usize, largest: u64) -> Option<(u64, usize)>
         ensures { (number behind : ℕ) → result ≡ Some (number, behind)
@@ -130,7 +133,8 @@ impl Ahead {
         self.number_at(from, largest)
     }
 
-    /// Consumes a number, if it is complete among the buffered bytes, has at most eight bytes and is at most `largest`.
+    /// Consumes the next number and returns it, if it is complete in the buffered bytes, has at most eight bytes and is
+    /// at most `largest`.
     #[inline(always)] // each number outside a list goes through it
     pub(crate) fn take_number(&mut self, largest: u64) -> Option<u64>
         ensures some { (number : ℕ) → result ≡ Some number → TakesNumber (largest + 1) number self.old self.new }
@@ -147,7 +151,7 @@ impl Ahead {
 }
 
 impl<R: CountedRead> Input<'_, R> {
-    /// Reads a number that is at most the largest.
+    /// Reads a number. A number above `largest` is an error.
     #[inline(always)] // each literal and each hash goes through it
     pub(super) fn number(&mut self, largest: u64) -> Result<u64, StepError>
         requires { 0 < largest }
@@ -159,7 +163,7 @@ impl<R: CountedRead> Input<'_, R> {
         self.number_by_bytes(largest)
     }
 
-    /// Reads a number byte by byte. The end of a chunk or of the text may cut it, and it may be invalid.
+    /// Reads a number byte by byte. The number may be cut by the end of a chunk or of the text, or be invalid.
     #[inline(never)] // so that numbers that are buffered completely pay nothing for it
     fn number_by_bytes(&mut self, largest: u64) -> Result<u64, StepError>
         requires { 0 < largest }
@@ -167,7 +171,7 @@ impl<R: CountedRead> Input<'_, R> {
     {
         let mut value = 0;
         let mut place = 1;
-        // The largest group that may come next, if the number is to stay within its range.
+        // The largest group that may come next if the number is not to exceed `largest`.
         let mut room = largest;
         loop {
             let byte = self.byte_within()?;
@@ -192,7 +196,7 @@ impl<R: CountedRead> Input<'_, R> {
     }
 }
 
-/// Puts the bytes of a number, for which there is room.
+/// Appends the bytes of a number to `pending`, which must have room for ten bytes.
 #[inline(always)] // each literal and each hash goes through it
 pub(super) fn push_number<P: Room>(pending: &mut P, number: u64)
     requires room { length (P.waiting pending.old) + 10 ≤ P.size pending.old }
@@ -208,8 +212,8 @@ pub(super) fn push_number<P: Room>(pending: &mut P, number: u64)
     pending.push(rest as u8);
 }
 
-/// Appends a number in unsigned LEB128: in groups of seven bits, the low one first, all but the last with the top bit
-/// set.
+/// Appends a number in unsigned LEB128: in groups of seven bits, the lowest group first, each in a byte whose top bit
+/// is set except in the last.
 pub fn push_leb128(out: &mut Vec<u8>, number: u64) -> Result<(), AllocError>
     ensures { OnOk result (out.new.items ≡ out.old.items ++ number_bytes number) }
 {
@@ -223,7 +227,8 @@ pub fn push_leb128(out: &mut Vec<u8>, number: u64) -> Result<(), AllocError>
 }
 
 impl<W: CountedWrite, P: Room> Output<W, P> {
-    /// Puts the bytes of a number. If there is room for the longest number, it is not tested for every byte.
+    /// Writes the bytes of a number to the buffer. If there is room for the longest number, room isn't checked for
+    /// every byte.
     #[inline(always)] // each literal and each hash goes through it
     pub(super) fn put_number(&mut self, number: u64) -> Result<(), WriteFailed>
         ensures { SendsText (number_bytes number) result (sink_of W.seen P.waiting self.old)
@@ -236,7 +241,7 @@ impl<W: CountedWrite, P: Room> Output<W, P> {
         Ok(())
     }
 
-    /// Puts a number byte by byte: pending bytes may have to be written out before one of them.
+    /// Writes a number to the buffer byte by byte. Before any byte, the pending bytes may have to be written out.
     #[inline(never)] // so that numbers for which there is room pay nothing for it
     fn put_by_bytes(&mut self, number: u64) -> Result<(), WriteFailed>
         ensures { SendsText (number_bytes number) result (sink_of W.seen P.waiting self.old)

@@ -1,4 +1,4 @@
-//! Steps for whose bytes there is room among the pending ones: they call no writer, and have no error.
+//! Writes steps whose bytes fit into the buffer. This calls no writer, and can't fail.
 ghost use Rattle.std.specs.Prelude.{◌≡◌, ◌+◌, ◌*◌, ◌≤◌, length, true, false};
 ghost use Rattle.sat_base.specs.device.Sink.{AddsToSink, sink_of};
 ghost use Rattle.sat_base.specs.device.Waiting.{HasByteRoom, UsesRoom};
@@ -12,7 +12,7 @@ use crate::steps::fields::tag;
 use crate::steps::numbers::{LONGEST, push_number};
 use crate::{ClauseHash, CountedWrite, DeleteClauseProof, HashBits, Lit, ProofStep, Var};
 
-/// Returns the lengths of a step's two lists. A list of units counts as both.
+/// Returns the lengths of a step's list of literals and of its list of hashes. A list of units counts as both.
 #[inline(always)] // most steps have one arm, which their caller knows
 fn list_lengths(step: &ProofStep<'_>) -> (usize, usize)
     ensures { result.0 + result.1 ≡ items_in (step_of step.now) }
@@ -37,7 +37,7 @@ fn list_lengths(step: &ProofStep<'_>) -> (usize, usize)
 }
 
 impl<W: CountedWrite, P: Room> Output<W, P> {
-    /// Pushes a number.
+    /// Appends a number to the pending bytes.
     #[inline(always)]
     fn push_one(&mut self, number: u64)
         requires { HasByteRoom 10 P.waiting P.size self.old.pending }
@@ -48,7 +48,7 @@ impl<W: CountedWrite, P: Room> Output<W, P> {
         push_number(&mut self.pending, number);
     }
 
-    /// Pushes a variable.
+    /// Appends a variable to the pending bytes.
     #[inline(always)]
     fn push_variable(&mut self, var: Var)
         requires { HasByteRoom 10 P.waiting P.size self.old.pending }
@@ -58,7 +58,7 @@ impl<W: CountedWrite, P: Room> Output<W, P> {
         self.push_one(var.index() as u64);
     }
 
-    /// Pushes a variable or none.
+    /// Appends an optional variable to the pending bytes.
     #[inline(always)]
     fn push_optional(&mut self, var: Option<Var>)
         requires { HasByteRoom 10 P.waiting P.size self.old.pending }
@@ -71,7 +71,7 @@ impl<W: CountedWrite, P: Room> Output<W, P> {
         }
     }
 
-    /// Pushes a flag.
+    /// Appends a flag to the pending bytes.
     #[inline(always)]
     fn push_flag(&mut self, flag: bool)
         requires { HasByteRoom 10 P.waiting P.size self.old.pending }
@@ -85,7 +85,7 @@ impl<W: CountedWrite, P: Room> Output<W, P> {
         }
     }
 
-    /// Pushes a number of bits.
+    /// Appends a width, which is a number of hash bits, to the pending bytes.
     #[inline(always)]
     fn push_width(&mut self, bits: HashBits)
         requires { HasByteRoom 10 P.waiting P.size self.old.pending }
@@ -95,7 +95,7 @@ impl<W: CountedWrite, P: Room> Output<W, P> {
         self.push_one(bits.get() as u64);
     }
 
-    /// Pushes why a clause is deleted.
+    /// Appends the reason for the deletion of a clause to the pending bytes.
     #[inline(always)]
     fn push_deletion(&mut self, proof: DeleteClauseProof)
         requires { HasByteRoom 10 P.waiting P.size self.old.pending }
@@ -109,7 +109,7 @@ impl<W: CountedWrite, P: Room> Output<W, P> {
         }
     }
 
-    /// Pushes a list of literals.
+    /// Appends a list of literals to the pending bytes.
     #[inline(always)]
     fn push_literals(&mut self, lits: &[Lit])
         requires { HasByteRoom (10 * (length lits.now + 1)) P.waiting P.size self.old.pending }
@@ -122,7 +122,7 @@ impl<W: CountedWrite, P: Room> Output<W, P> {
         }
     }
 
-    /// Pushes a list of hashes.
+    /// Appends a list of hashes to the pending bytes.
     #[inline(always)]
     fn push_hashes(&mut self, hashes: &[ClauseHash])
         requires { HasByteRoom (10 * (length hashes.now + 1)) P.waiting P.size self.old.pending }
@@ -135,7 +135,7 @@ impl<W: CountedWrite, P: Room> Output<W, P> {
         }
     }
 
-    /// Pushes a literal and its hash.
+    /// Appends a literal and its hash to the pending bytes.
     #[inline(always)]
     fn push_unit(&mut self, unit: (Lit, ClauseHash))
         requires { HasByteRoom 20 P.waiting P.size self.old.pending }
@@ -148,7 +148,7 @@ impl<W: CountedWrite, P: Room> Output<W, P> {
         self.push_one(hash);
     }
 
-    /// Pushes a list of units.
+    /// Appends a list of units to the pending bytes.
     fn push_units(&mut self, units: &[(Lit, ClauseHash)])
         requires { HasByteRoom (20 * length units.now + 10) P.waiting P.size self.old.pending }
         ensures sends { spelling.Pushes spelling.units units.now W.seen P.waiting self.old self.new }
@@ -160,7 +160,7 @@ impl<W: CountedWrite, P: Room> Output<W, P> {
         }
     }
 
-    /// Pushes a variable, and another or none.
+    /// Appends a variable and an optional variable to the pending bytes.
     #[inline(always)]
     fn push_variables(&mut self, first: Var, second: Option<Var>)
         requires { HasByteRoom 20 P.waiting P.size self.old.pending }
@@ -170,7 +170,7 @@ impl<W: CountedWrite, P: Room> Output<W, P> {
         self.push_optional(second);
     }
 
-    /// Pushes a variable, and whether it is sampled.
+    /// Appends a variable and its mode to the pending bytes.
     #[inline(always)]
     fn push_mode(&mut self, var: Var, sample: bool)
         requires { HasByteRoom 20 P.waiting P.size self.old.pending }
@@ -180,7 +180,7 @@ impl<W: CountedWrite, P: Room> Output<W, P> {
         self.push_flag(sample);
     }
 
-    /// Pushes a list of literals, and then one of hashes.
+    /// Appends a list of literals, and then a list of hashes, to the pending bytes.
     #[inline(always)]
     fn push_both_lists(&mut self, lits: &[Lit], hashes: &[ClauseHash])
         requires { HasByteRoom (10 * (length lits.now + length hashes.now + 2)) P.waiting P.size self.old.pending }
@@ -190,7 +190,7 @@ impl<W: CountedWrite, P: Room> Output<W, P> {
         self.push_hashes(hashes);
     }
 
-    /// Pushes a derived clause.
+    /// Appends the fields of a derived clause to the pending bytes.
     #[inline(always)]
     fn push_derived(&mut self, redundant: bool, clause: &[Lit], hashes: &[ClauseHash])
         requires { HasByteRoom (10 * (length clause.now + length hashes.now + 3)) P.waiting P.size self.old.pending }
@@ -201,7 +201,7 @@ impl<W: CountedWrite, P: Room> Output<W, P> {
         self.push_both_lists(clause, hashes);
     }
 
-    /// Pushes a clause, and why it is deleted.
+    /// Appends a clause, and then the reason for its deletion, to the pending bytes.
     #[inline(always)]
     fn push_deleted(&mut self, clause: &[Lit], proof: DeleteClauseProof)
         requires { HasByteRoom (10 * (length clause.now + 2)) P.waiting P.size self.old.pending }
@@ -212,7 +212,7 @@ impl<W: CountedWrite, P: Room> Output<W, P> {
         self.push_deletion(proof);
     }
 
-    /// Pushes the fields of a step.
+    /// Appends the fields of a step to the pending bytes.
     #[inline(always)]
     fn push_fields(&mut self, step: &ProofStep<'_>)
         requires { HasByteRoom (10 * (items_in (step_of step.now) + 3)) P.waiting P.size self.old.pending }
@@ -242,8 +242,8 @@ impl<W: CountedWrite, P: Room> Output<W, P> {
         }
     }
 
-    /// Whether there is room for a step's bytes. A number takes at most ten bytes, and besides its lists a step has at
-    /// most three numbers and its tag.
+    /// Whether the bytes of a step certainly fit into the buffer. A number takes at most ten bytes, and besides the
+    /// items of its lists a step has at most three numbers and its tag.
     #[inline(always)]
     fn has_room(&self, step: &ProofStep<'_>) -> bool
         ensures { result ≡ true → HasByteRoom (10 * (items_in (step_of step.now) + 4)) P.waiting P.size
@@ -254,7 +254,7 @@ impl<W: CountedWrite, P: Room> Output<W, P> {
         4 <= spare && first <= spare - 4 && second <= spare - 4 - first
     }
 
-    /// Pushes the bytes of a step, for which there is room.
+    /// Appends the bytes of a step, for which there must be room, to the pending bytes.
     #[inline(always)]
     fn push_step(&mut self, step: &ProofStep<'_>)
         requires { HasByteRoom (10 * (items_in (step_of step.now) + 4)) P.waiting P.size self.old.pending }
@@ -264,7 +264,7 @@ impl<W: CountedWrite, P: Room> Output<W, P> {
         self.push_fields(step);
     }
 
-    /// Pushes the bytes of a step if there is room for all of them, and returns whether there is.
+    /// Appends the bytes of a step to the pending bytes if they certainly fit. Returns whether they do.
     #[inline(always)]
     pub(super) fn try_step(&mut self, step: &ProofStep<'_>) -> bool
         ensures sends { result ≡ true → spelling.Pushes spelling.a_step (step_of step.now) W.seen P.waiting self.old

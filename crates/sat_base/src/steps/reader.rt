@@ -14,24 +14,24 @@ use crate::steps::step_lists::Lists;
 use crate::{CountedRead, ProofStep, StepError};
 use std::alloc::Global;
 
-/// The buffers of a reader of steps: the bytes read ahead, and the lists of the current step.
+/// The buffers of a step reader: the bytes that were read ahead, and the current step.
 #[derive(Drop)]
 pub struct Buffers {
     ahead: Ahead,
     lists: Lists,
-    /// Which step the lists belong to.
+    /// The current step, except for its lists.
     kind: Kind,
     failed: bool,
 }
 
-/// A reader of proof steps. It asks its reader for at most 4,096 bytes at a time.
+/// A reader of proof steps. It reads at most 4,096 bytes at a time.
 pub struct StepReader<'r, R, B: Drop = Buffers> {
     reader: &'r mut R,
     buffers: B,
 }
 
 impl<R, B: Drop> Drop for StepReader<'_, R, B> {
-    /// Leaves the reader as the last step left it.
+    /// Doesn't change the underlying reader.
     fn drop(self)
         ensures { self.exit.0.now ≡ self.entry.reader.now }
     {
@@ -42,7 +42,7 @@ impl<R, B: Drop> Drop for StepReader<'_, R, B> {
     }
 }
 
-/// Whether no step is read after this error.
+/// Whether no more steps can be read after this error.
 fn stops(error: StepError) -> bool
     ensures { result ≡ is_stop error }
 {
@@ -79,7 +79,7 @@ fn tag(kind: Kind) -> u8
     }
 }
 
-/// Reads the next step of a reader, whose next bytes were read ahead.
+/// Reads the next step, from the bytes in `ahead` and then from `reader`.
 fn read_from<R: CountedRead>(
     reader: &mut R,
     ahead: &mut Ahead,
@@ -93,7 +93,7 @@ fn read_from<R: CountedRead>(
 }
 
 impl<'r, R: CountedRead> StepReader<'r, R, Buffers> {
-    /// Returns a reader of steps over a reader of bytes. Reads nothing yet, and does not allocate.
+    /// Returns a step reader that reads its bytes from `reader`. Reads nothing yet, and does not allocate.
     pub fn new(alloc: Global, reader: &'r mut R) -> StepReader<'r, R, Buffers>
         ensures same { reader_name result ≡ reader.entry.ghost_name }
         ensures source { reader_source R.seen result ≡ unread (R.seen reader.old) }
@@ -108,7 +108,8 @@ impl<'r, R: CountedRead> StepReader<'r, R, Buffers> {
         StepReader { reader, buffers }
     }
 
-    /// Reads the next step, which `step` lends. After any error but `Ends`, it returns `HasFailed` from then on.
+    /// Reads the next step, which `step` then returns. After any error other than `Ends`, all later calls
+    /// return `HasFailed`.
     pub fn advance(&mut self) -> Result<(), StepError>
         ensures { Next R.seen self.old self.new (giving (step_in self.new) result) }
     {
@@ -131,14 +132,14 @@ impl<'r, R: CountedRead> StepReader<'r, R, Buffers> {
         }
     }
 
-    /// Returns the tag of the step that `advance` has read, from 1 to 13, after an `Ok`.
+    /// Returns the tag, from 1 to 13, of the step that `advance` has read. After an error, the tag is unspecified.
     pub fn tag(&self) -> u8
         ensures { result ≡ tag_of (step_in self.now) }
     {
         tag(self.buffers.kind)
     }
 
-    /// Returns the step that `advance` has read, after an `Ok`. After an error it is unspecified.
+    /// Returns the step that `advance` has read. After an error, the step is unspecified.
     pub fn step(&self) -> ProofStep<'_>
         ensures { step_of result ≡ step_in self.now }
     {

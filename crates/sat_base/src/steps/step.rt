@@ -7,15 +7,15 @@ use std::marker::Model;
 /// Why a clause may be deleted.
 #[derive(Clone, Copy, Debug, Drop, PartialEq, Eq)]
 pub enum DeleteClauseProof {
-    /// A redundant clause is no longer needed.
+    /// The clause is redundant.
     Redundant,
-    /// A stronger clause replaces it.
+    /// A stronger clause replaces the clause.
     Simplified,
-    /// A unit satisfies it.
+    /// A unit satisfies the clause.
     Satisfied,
 }
 
-/// The number of bits of a hash that count, from 0 to 64. Contracts see the number.
+/// A width: the number of hash bits that are significant, from 0 to 64. Contracts see the number.
 #[derive(Clone, Copy, Debug, PartialEq, Eq)]
 pub struct HashBits {
     bits: u32,
@@ -34,7 +34,7 @@ impl Model for HashBits {
 }
 
 impl HashBits {
-    /// Returns a width of `bits` bits, or `None` if it is above 64.
+    /// Returns a width of `bits` bits, or `None` if `bits` is above 64.
     pub fn new(bits: u32) -> Option<HashBits>
         ensures { MatchOption result (64 < bits) (λ h. h ≡ bits) }
     {
@@ -52,7 +52,7 @@ impl HashBits {
         HashBits { bits }
     }
 
-    /// Returns the number.
+    /// Returns the number of bits.
     pub fn get(self) -> u32
         ensures value { result ≡ self }
         ensures bound { result ≤ 64 }
@@ -61,64 +61,64 @@ impl HashBits {
     }
 }
 
-/// A step of a proof. Its lists are lent.
+/// A step of a proof, with borrowed lists.
 #[derive(Clone, Copy, Debug)]
 pub enum ProofStep<'a> {
-    /// A variable gets an index of the solver, or loses its index.
+    /// Sets the solver name of a variable, which is an index of the search, or removes it if `solver` is `None`.
     SolverVarName {
         global: Var,
         solver: Option<Var>,
     },
-    /// A variable gets a name of the user, or loses its name.
+    /// Sets the user's name of a variable, or removes the name if `user` is `None`.
     UserVarName {
         global: Var,
         user: Option<Var>,
     },
-    /// A hidden variable that is in no clause is forgotten.
+    /// Deletes a variable, which must be hidden and in no clause of two or more literals.
     DeleteVar {
         var: Var,
     },
-    /// A variable is sampled from now on, or a witness if `sample` is false.
+    /// Sets the mode of a variable to sample, or to witness if `sample` is false.
     ChangeSamplingMode {
         var: Var,
         sample: bool,
     },
-    /// A clause of the formula.
+    /// Adds a clause of the formula.
     AddClause {
         clause: &'a [Lit],
     },
-    /// A clause that follows by propagation from those with these hashes.
+    /// Adds a clause that follows by propagation from the clauses with these hashes.
     AtClause {
         redundant: bool,
         clause: &'a [Lit],
         propagation_hashes: &'a [ClauseHash],
     },
-    /// Unit clauses in the order in which they were found, each with the hash of the clause that became unit.
+    /// Adds unit clauses, in the order in which they were found, each with the hash of the clause that became unit.
     UnitClauses {
         units: &'a [(Lit, ClauseHash)],
     },
-    /// A clause is deleted.
+    /// Deletes a clause.
     DeleteClause {
         clause: &'a [Lit],
         proof: DeleteClauseProof,
     },
-    /// This number of bits of a hash count from now on.
+    /// Sets the number of hash bits that are significant.
     ChangeHashBits {
         bits: HashBits,
     },
-    /// A valuation that satisfies the formula.
+    /// States a valuation that satisfies the formula.
     Model {
         assignment: &'a [Lit],
     },
-    /// The assumptions from now on.
+    /// Replaces the assumptions.
     Assumptions {
         assumptions: &'a [Lit],
     },
-    /// Assumptions that cannot hold together, by propagation from the clauses with these hashes.
+    /// States assumptions that cannot all be true, by propagation from the clauses with these hashes.
     FailedAssumptions {
         failed_core: &'a [Lit],
         propagation_hashes: &'a [ClauseHash],
     },
-    /// The end of the proof.
+    /// Ends the proof.
     End,
 }

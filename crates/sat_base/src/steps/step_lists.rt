@@ -1,4 +1,4 @@
-//! The lists of the current step, whose memory is reused.
+//! The lists of the current step. Their memory is reused.
 ghost use Rattle.std.specs.Prelude.{◌≡◌, []};
 ghost use Rattle.sat_base.specs.steps.StepViews.{step_of};
 ghost use Rattle.sat_base.specs.steps.Kinds.{step_with};
@@ -7,7 +7,7 @@ use crate::steps::kind::Kind;
 use crate::{ClauseHash, Lit, ProofStep};
 use std::alloc::Global;
 
-/// The lists of a step.
+/// Buffers for the lists of a step.
 #[derive(Drop)]
 pub(crate) struct Lists {
     pub(crate) literals: Vec<Lit>,
@@ -29,7 +29,7 @@ impl Lists {
         }
     }
 
-    /// Returns the step of this kind that has these lists.
+    /// Returns the step that has this kind and these lists.
     pub(crate) fn step(&self, kind: Kind) -> ProofStep<'_>
         ensures { step_of result ≡ step_with kind self.now.literals.items self.now.hashes.items self.now.units.items }
     {

@@ -1,4 +1,4 @@
-//! The fields of steps that are one number.
+//! Reads and writes fields of steps that consist of a single number.
 ghost use Rattle.sat_base.specs.device.Reading.{ReadsFromInput, valued};
 ghost use Rattle.sat_base.specs.steps.Spellings.{SendsSpelling, a_variable, an_optional_variable, a_flag, a_width};
 ghost use Rattle.sat_base.specs.steps.Spellings.{a_deletion};
@@ -24,7 +24,7 @@ impl<R: CountedRead> Input<'_, R> {
         Ok(Var::from_index(index as usize))
     }
 
-    /// Reads a variable or none.
+    /// Reads an optional variable.
     pub(super) fn optional(&mut self) -> Result<Option<Var>, StepError>
         ensures { ReadsFromInput IsOptionalVariable result R.seen self.old self.new }
     {
@@ -46,7 +46,7 @@ impl<R: CountedRead> Input<'_, R> {
         Ok(true)
     }
 
-    /// Reads a number of bits.
+    /// Reads a width, which is a number of hash bits.
     pub(super) fn width(&mut self) -> Result<HashBits, StepError>
         ensures { ReadsFromInput IsWidth result R.seen self.old self.new }
     {
@@ -54,7 +54,7 @@ impl<R: CountedRead> Input<'_, R> {
         Ok(HashBits::of_width(bits as u32))
     }
 
-    /// Reads why a clause is deleted.
+    /// Reads the reason for the deletion of a clause.
     pub(super) fn deletion(&mut self) -> Result<DeleteClauseProof, StepError>
         ensures { ReadsFromInput IsDeletion (valued deletion_of result) R.seen self.old self.new }
     {
@@ -70,14 +70,14 @@ impl<R: CountedRead> Input<'_, R> {
 }
 
 impl<W: CountedWrite, P: Room> Output<W, P> {
-    /// Puts a variable.
+    /// Writes a variable to the buffer.
     pub(super) fn put_variable(&mut self, var: Var) -> Result<(), WriteFailed>
         ensures { SendsSpelling a_variable var result W.seen P.waiting self.old self.new }
     {
         self.put_number(var.index() as u64)
     }
 
-    /// Puts a variable or none.
+    /// Writes an optional variable to the buffer.
     pub(super) fn put_optional(&mut self, var: Option<Var>) -> Result<(), WriteFailed>
         ensures { SendsSpelling an_optional_variable var result W.seen P.waiting self.old self.new }
     {
@@ -87,7 +87,7 @@ impl<W: CountedWrite, P: Room> Output<W, P> {
         }
     }
 
-    /// Puts a flag.
+    /// Writes a flag to the buffer.
     pub(super) fn put_flag(&mut self, flag: bool) -> Result<(), WriteFailed>
         ensures { SendsSpelling a_flag flag result W.seen P.waiting self.old self.new }
     {
@@ -98,14 +98,14 @@ impl<W: CountedWrite, P: Room> Output<W, P> {
         }
     }
 
-    /// Puts a number of bits.
+    /// Writes a width, which is a number of hash bits, to the buffer.
     pub(super) fn put_width(&mut self, bits: HashBits) -> Result<(), WriteFailed>
         ensures { SendsSpelling a_width bits result W.seen P.waiting self.old self.new }
     {
         self.put_number(bits.get() as u64)
     }
 
-    /// Puts why a clause is deleted.
+    /// Writes the reason for the deletion of a clause to the buffer.
     pub(super) fn put_deletion(&mut self, proof: DeleteClauseProof) -> Result<(), WriteFailed>
         ensures { SendsSpelling a_deletion (deletion_of proof) result W.seen P.waiting self.old self.new }
     {

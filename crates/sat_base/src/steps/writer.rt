@@ -1,4 +1,4 @@
-//! Writing proof steps.
+//! Writes proof steps.
 ghost use Rattle.std.specs.Prelude.{◌≡◌, [], OnOk, true, false};
 ghost use Rattle.sat_base.specs.device.Device.{WritesText};
 ghost use Rattle.sat_base.specs.device.Sink.{SendsText, AddsToSink, Flushes, empty_sink};
@@ -13,18 +13,18 @@ use crate::device::pending::Pending;
 use crate::{CountedWrite, ProofStep};
 use std::io;
 
-/// The largest number of pending bytes of a single step.
+/// The buffer size for writing a single step.
 const SHORT_PIECE: usize = 64;
 
-/// A writer of proof steps. It holds at most 4,096 pending bytes from step to step, so a proof of N bytes takes about
-/// N/4,096 writes. Pending bytes are written out if there is no room for more, at a flush, and by `into_inner`.
+/// A writer of proof steps. It buffers at most 4,096 pending bytes, so a proof of N bytes takes about N/4,096 writes.
+/// The pending bytes are written out when the buffer has no room for more, by `flush`, and by `into_inner`.
 #[derive(Drop)]
 pub struct StepWriter<W> {
     output: Output<W, Pending<PIECE>>,
 }
 
 impl<W: CountedWrite> StepWriter<W> {
-    /// Returns a writer of steps. Writes nothing yet, and does not allocate.
+    /// Returns a step writer that writes its bytes to `writer`. Writes nothing yet, and does not allocate.
     pub fn new(writer: W) -> StepWriter<W>
         ensures { steps_sink W.seen result ≡ empty_sink (W.seen writer) }
     {
@@ -33,8 +33,8 @@ impl<W: CountedWrite> StepWriter<W> {
         }
     }
 
-    /// Writes a step. After an error, a prefix of the pending bytes and of those of the step may have been written, and
-    /// no bytes are pending.
+    /// Writes a step. After an error, a prefix of the pending bytes followed by the bytes of the step may have been
+    /// written, and no bytes are pending.
     pub fn write(&mut self, step: &ProofStep<'_>) -> io::Result<()>
         ensures sends { SendsText (step_bytes (step_of step.now)) result (steps_sink W.seen self.old)
             (steps_sink W.seen self.new) }
@@ -47,8 +47,8 @@ impl<W: CountedWrite> StepWriter<W> {
         self.output.give_error(put)
     }
 
-    /// Writes a step if there is certainly room for all of its bytes, and returns whether it did. Does not call
-    /// the writer.
+    /// Writes a step if its bytes certainly fit into the buffer. Returns whether the step was written. Does not call
+    /// the underlying writer.
     #[inline(always)] // so that a caller's step needs no space in memory
     pub fn try_write(&mut self, step: &ProofStep<'_>) -> bool
         ensures sends { result ≡ true → AddsToSink (steps_sink W.seen self.old) (steps_sink W.seen self.new)
@@ -59,7 +59,7 @@ impl<W: CountedWrite> StepWriter<W> {
         self.output.try_step(step)
     }
 
-    /// Writes out the pending bytes, and flushes the writer.
+    /// Writes out the pending bytes, and flushes the underlying writer.
     pub fn flush(&mut self) -> io::Result<()>
         ensures { Flushes result (steps_sink W.seen self.old) (steps_sink W.seen self.new) }
     {
@@ -67,7 +67,7 @@ impl<W: CountedWrite> StepWriter<W> {
         self.output.give_error(flushed)
     }
 
-    /// Writes out the pending bytes, if there are any. Returns the writer, and whether that succeeded.
+    /// Writes out the pending bytes, if there are any. Returns the underlying writer, and the result of writing.
     pub fn into_inner(self) -> (W, io::Result<()>)
         ensures puts { WritesText (steps_sink W.seen self).waiting result.1 (steps_sink W.seen self).writer
             (W.seen result.0) }
@@ -79,7 +79,7 @@ impl<W: CountedWrite> StepWriter<W> {
         (output.into_writer(), result)
     }
 
-    /// Returns the writer. Pending bytes are lost.
+    /// Returns the underlying writer. Pending bytes are lost.
     pub fn into_writer(self) -> W
         ensures { W.seen result ≡ (steps_sink W.seen self).writer }
     {
@@ -88,8 +88,8 @@ impl<W: CountedWrite> StepWriter<W> {
     }
 }
 
-/// Writes the bytes of a step, in pieces of 64 bytes, so that most steps take one write. Does not allocate. After an
-/// error a prefix of the bytes may have been written.
+/// Writes the bytes of a step in pieces of at most 64 bytes, so that most steps take a single write. Does not allocate.
+/// After an error, a prefix of the bytes may have been written.
 pub fn write_step<W: CountedWrite>(writer: &mut W, step: &ProofStep<'_>) -> io::Result<()>
     ensures puts { WritesText (step_bytes (step_of step.now)) result (W.seen writer.old) (W.seen writer.new) }
     ensures spells { OnOk result (SpellsStep (step_of step.now) (step_bytes (step_of step.now))) }

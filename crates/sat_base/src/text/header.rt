@@ -1,4 +1,4 @@
-//! Places in a header line, `p cnf` and two numbers.
+//! Places in a header line, which consists of `p cnf` and two numbers.
 ghost use Rattle.std.specs.Prelude.{◌≡◌, false};
 ghost use Rattle.sat_base.specs.text.Text.{is_blank};
 ghost use Rattle.sat_base.specs.text.Position.{Position};
@@ -6,7 +6,7 @@ ghost use Rattle.sat_base.specs.text.Tokenizing.{BeganHeader, MovesHeader, IsAtH
 
 use super::{grown, is_digit};
 
-/// The finished words of the line. Numbers are capped at 2^64-1.
+/// The words of a header line that are finished. Numbers are capped at 2^64-1.
 #[derive(Clone, Copy, Drop)]
 pub(crate) enum Stage {
     /// `p`.
@@ -19,10 +19,10 @@ pub(crate) enum Stage {
     Both { vars: u64, clauses: u64 },
 }
 
-/// A place in the line. Numbers are capped at 2^64-1.
+/// A place in a header line. Numbers are capped at 2^64-1.
 #[derive(Clone, Copy, Drop)]
 pub(crate) enum HeaderPlace {
-    /// After the blanks that ended these words.
+    /// After a blank that follows these words.
     Between(Stage),
     /// After `p`.
     P,
@@ -38,7 +38,8 @@ pub(crate) enum HeaderPlace {
     Clauses { vars: u64, value: u64 },
 }
 
-/// Returns the place in a word that begins with this byte, after these words, if the word is allowed there.
+/// Returns the place after `byte`, which begins a word after the words `ended`, or `None` if no such word is
+/// allowed there.
 fn begun(ended: Stage, byte: u8) -> Option<HeaderPlace>
     requires { is_blank byte ≡ false }
     ensures { BeganHeader ended byte result }
@@ -72,7 +73,8 @@ fn begun(ended: Stage, byte: u8) -> Option<HeaderPlace>
     }
 }
 
-/// Returns the place after a nonblank byte, if the unfinished word is still allowed.
+/// Returns the place that follows `place` after the nonblank byte `byte`, or `None` if the unfinished word is
+/// malformed then.
 pub(crate) fn next_in_header(place: HeaderPlace, byte: u8) -> Option<HeaderPlace>
     requires { is_blank byte ≡ false }
     ensures { MovesHeader place byte result }
@@ -115,7 +117,7 @@ pub(crate) fn next_in_header(place: HeaderPlace, byte: u8) -> Option<HeaderPlace
     }
 }
 
-/// Returns the finished words if the unfinished one ends here, or `None` if it is not allowed then.
+/// Returns the words that are finished if the current word ends at `place`, or `None` if that word is malformed then.
 pub(crate) fn ended_in(place: HeaderPlace) -> Option<Stage>
     ensures { (spot : Position) → IsAtHeader place spot → IsStageIf result (ended_stage spot) }
 {

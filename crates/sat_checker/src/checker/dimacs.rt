@@ -38,7 +38,7 @@ fn is_want(error: DimacsError) -> bool
 impl<P: ProofProcessor, T: ProofTranscriptProcessor> Checker<P, T> {
     /// Reads a formula in DIMACS CNF, in chunks of at most 4,096 bytes, and adds its clauses in order. The clauses
     /// before a fault in the text, or before a refused clause, remain. If the text is malformed or can't be read, the
-    /// checker can still be used.
+    /// checker can still be used. A line that begins with `%` ends the text: the rest is read, but ignored.
     pub fn add_dimacs_cnf<R: CountedRead>(
         &mut self,
         reader: &mut R,

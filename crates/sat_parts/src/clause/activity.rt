@@ -1,4 +1,4 @@
-//! Activities of clauses, as integers that are rescaled before they grow too large.
+//! Activities of clauses. These are integers, which are rescaled before they grow too large.
 ghost use Rattle.std.specs.Prelude.{◌≡◌, ◌+◌, ◌*◌, ◌/◌, ◌^◌, ◌<◌, ◌≤◌};
 ghost use Rattle.std.specs.List.{Contains};
 ghost use Rattle.sat_store.specs.clause.Buffer.{header_at};
@@ -10,10 +10,10 @@ use crate::clause::db::{ClauseDb, put_header};
 use sat_store::{ClauseAlloc, ClauseRef};
 use std::marker::Model;
 
-/// Activities and bumps are rescaled when they reach this.
+/// Activities and the bump are rescaled when one of them reaches this limit.
 const LIMIT: u64 = 1 << 30;
 
-/// What a bump adds to the activity of a clause, and the decay in thousandths. Contracts see a `Scale`.
+/// The scale of activities: how much a bump adds, and the decay factor in thousandths. Contracts see a `Scale`.
 #[derive(Drop)]
 pub struct ClauseActivity {
     bump: u64,
@@ -37,7 +37,7 @@ impl Default for ClauseActivity {
 
     ghost is_default = { λ a. a ≡ first_scale };
 
-    /// Returns a bump of 1024 and a decay of 999 thousandths.
+    /// Returns a scale with a bump of 1024 and a decay factor of 999 thousandths.
     fn default() -> ClauseActivity {
         ClauseActivity {
             bump: 1024,
@@ -47,7 +47,7 @@ impl Default for ClauseActivity {
 }
 
 impl ClauseActivity {
-    /// Sets the factor of a decay, in thousandths.
+    /// Sets the decay factor, in thousandths.
     pub fn set_decay(&mut self, decay: u32)
         requires low { 500 ≤ decay }
         requires high { decay ≤ 999 }
@@ -56,7 +56,7 @@ impl ClauseActivity {
         self.decay = u64::from(decay);
     }
 
-    /// Returns what the next bump adds. It is never 0.
+    /// Returns how much the next bump adds, which is never 0.
     pub fn bump(&self) -> u64
         ensures value { result ≡ self.now.bump }
         ensures some { 0 < result }
@@ -94,7 +94,7 @@ fn put_activity(clauses: &mut ClauseAlloc, _db: &ClauseDb, cref: ClauseRef, acti
     put_header(clauses, cref, header);
 }
 
-/// Raises the activity of a clause. If it reaches 2^30, all activities and the bump are rescaled.
+/// Raises the activity of a clause. If the activity reaches 2^30, all activities and the bump are rescaled.
 pub fn bump_clause_activity(
     activity: &mut ClauseActivity,
     clauses: &mut ClauseAlloc,
@@ -117,7 +117,8 @@ pub fn bump_clause_activity(
     }
 }
 
-/// Lets all activities decay: later bumps add more. If the bump reaches 2^30, it and all activities are rescaled.
+/// Lets all activities decay, by making later bumps add more. If the bump reaches 2^30, the bump and all activities
+/// are rescaled.
 pub fn decay_clause_activities(
     activity: &mut ClauseActivity,
     clauses: &mut ClauseAlloc,

@@ -24,8 +24,8 @@ const HEADER_LEN: usize = 3;
 
 /// The long clauses, in the order in which they were added, and the number of clauses of every tier.
 ///
-/// A deleted clause stays in the list until garbage is collected. Contracts see a `Db`; `HoldsDb` states that it lists
-/// the clauses of a buffer.
+/// A deleted clause stays in the list until garbage is collected. Contracts see a `Db`. `HoldsDb` states that the `Db`
+/// lists the clauses of a buffer.
 #[derive(Drop)]
 pub struct ClauseDb {
     pub(crate) clauses: Vec<ClauseRef>,
@@ -61,7 +61,7 @@ impl ClauseDb {
         self.count_by_tier[tier.index()]
     }
 
-    /// Returns all clauses of the list, including deleted ones, in the order in which they were added.
+    /// Returns all clauses of the list, including deleted ones, in the order in which they were added, as a slice.
     pub fn refs(&self) -> &[ClauseRef]
         ensures { result.now ≡ self.now.refs }
     {
@@ -75,7 +75,7 @@ impl ClauseDb {
         self.clauses.len()
     }
 
-    /// Returns a clause of the list, which may be deleted.
+    /// Returns the clause at position `at` of the list. The clause may be deleted.
     pub fn cref(&self, at: usize) -> ClauseRef
         requires { at < length self.now.refs }
         ensures { result ≡ slice_index self.now.refs at }
@@ -83,7 +83,7 @@ impl ClauseDb {
         self.clauses[at]
     }
 
-    /// Returns the number of words of deleted clauses. It saturates at 2^64 - 1.
+    /// Returns the number of words of deleted clauses. The number saturates at 2^64 - 1.
     pub fn garbage_size(&self) -> usize
         ensures { result ≡ self.now.garbage }
     {
@@ -115,7 +115,7 @@ impl ClauseDb {
     }
 }
 
-/// Replaces the header of a clause by one of the same length.
+/// Replaces the header of a clause. The new header must have the length of the old one.
 pub(crate) fn put_header(clauses: &mut ClauseAlloc, cref: ClauseRef, header: ClauseHeader)
     requires clause { IsClause clauses.old cref }
     requires len { header.len ≡ (header_at clauses.old cref).len }
@@ -125,7 +125,7 @@ pub(crate) fn put_header(clauses: &mut ClauseAlloc, cref: ClauseRef, header: Cla
     clauses.set_header(cref, header);
 }
 
-/// Stores a clause, and watches its first two literals.
+/// Stores a clause, and watches its first two literals if the watch lists are enabled.
 fn store_clause(
     clauses: &mut ClauseAlloc,
     watchlists: &mut Watchlists,
@@ -151,10 +151,10 @@ fn store_clause(
     Ok(cref)
 }
 
-/// Appends a clause, with the tier of its header, and watches its first two literals if watch lists are enabled.
+/// Adds a clause to the tier in its header, and watches its first two literals if the watch lists are enabled.
 ///
-/// Its length is the number of literals, whatever the header says. An error changes nothing: `StoreFull` if no
-/// reference can name the next offset, otherwise `OutOfMemory`.
+/// The length of the clause is the number of literals, whatever the header says. If there is an error, nothing changes.
+/// The error is `StoreFull` if references can't represent the next offset, and `OutOfMemory` otherwise.
 pub fn add_clause(
     clauses: &mut ClauseAlloc,
     db: &mut ClauseDb,
@@ -222,7 +222,7 @@ pub fn delete_clause(
     put_header(clauses, cref, header);
 }
 
-/// Whether the first literal of the clause is true and the clause is its reason.
+/// Whether the first literal of the clause is true and the clause is the reason of that literal.
 fn is_asserting(
     clauses: &ClauseAlloc,
     graph: &ImplGraph,
@@ -247,7 +247,8 @@ fn is_asserting(
     }
 }
 
-/// Deletes a live clause unless it is the reason of its true first literal. Returns whether it was deleted.
+/// Deletes a live clause unless its first literal is true and the clause is the reason of that literal. Returns whether
+/// the clause was deleted.
 pub fn try_delete_clause(
     clauses: &mut ClauseAlloc,
     db: &mut ClauseDb,
@@ -274,7 +275,7 @@ pub fn try_delete_clause(
     true
 }
 
-/// Drops the literals of a live clause from position `len` on, at least 3, and disables the watch lists.
+/// Drops the literals of a live clause from position `len` on, and disables the watch lists. `len` must be at least 3.
 pub fn shorten_clause(
     clauses: &mut ClauseAlloc,
     db: &ClauseDb,

@@ -1,4 +1,4 @@
-//! Deletion of the live clauses that fail a test.
+//! Deletes the live clauses that fail a test.
 ghost use Rattle.std.specs.Prelude.{◌≡◌, false};
 ghost use Rattle.std.specs.List.Retain.{IsFiltered};
 ghost use Rattle.sat_parts.specs.clause.Db.{HoldsDb, live_refs};

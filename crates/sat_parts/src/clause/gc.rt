@@ -16,7 +16,7 @@ use sat_base::Lit;
 use sat_store::{ClauseAlloc, ClauseRef, StoreError};
 use std::alloc::Global;
 
-/// Appends a copy of a clause to a new buffer, and its reference to a list.
+/// Appends a copy of a clause to the buffer `to`, and the reference to the copy to `refs`.
 fn copy_one(
     clauses: &ClauseAlloc,
     cref: ClauseRef,
@@ -34,7 +34,7 @@ fn copy_one(
     }
 }
 
-/// Copies the live clauses, in order, into an empty buffer.
+/// Copies the live clauses, in order, to the buffer `to`, and lists the copies in `refs`. Both must be empty.
 fn copy_live(
     clauses: &ClauseAlloc,
     db: &ClauseDb,
@@ -59,7 +59,7 @@ fn copy_live(
     Ok(())
 }
 
-/// Replaces the reason of a literal by the clause `to` if it is the clause `from`.
+/// Replaces the reason of a literal by the clause `to` if the reason is the clause `from`.
 fn move_reason(graph: &mut ImplGraph, lit: Lit, from: ClauseRef, to: ClauseRef)
     ensures moved { HasReason graph.old (variable lit) from →
         graph.new ≡ with_reason (variable lit) (Reason.Long to) graph.old }
@@ -76,9 +76,10 @@ fn move_reason(graph: &mut ImplGraph, lit: Lit, from: ClauseRef, to: ClauseRef)
     }
 }
 
-/// Replaces every live clause that is the reason of its first literal by its copy.
+/// For every live clause that is the reason of its first literal, replaces the reason by the copy of the clause
+/// in `refs`.
 ///
-/// The trail is not read: it states which reasons the contract is about.
+/// The trail is not read. The contract uses it to say which reasons matter.
 fn move_reasons(
     clauses: &ClauseAlloc,
     db: &ClauseDb,
@@ -104,7 +105,7 @@ fn move_reasons(
     }
 }
 
-/// Copies of the live clauses, in a buffer of their own.
+/// Copies of the live clauses in a new buffer.
 #[derive(Drop)]
 struct Copied {
     clauses: ClauseAlloc,
@@ -118,7 +119,7 @@ fn copy_all(alloc: Global, clauses: &ClauseAlloc, db: &ClauseDb) -> Result<Copie
     ensures room { OnFull result ⊥ }
 {
     let live = clauses.buffer_size().saturating_sub(db.garbage_size());
-    // Reserves capacity for clauses that are learned next, too.
+    // Also reserves capacity for clauses that are learned later.
     let mut to = match ClauseAlloc::with_capacity(alloc, live.saturating_mul(2)) {
         Ok(to) => to,
         Err(_) => return Err(StoreError::OutOfMemory),
@@ -130,7 +131,7 @@ fn copy_all(alloc: Global, clauses: &ClauseAlloc, db: &ClauseDb) -> Result<Copie
     }
 }
 
-/// Replaces the buffer and the list by the copied clauses.
+/// Replaces the buffer and the list by those of the copied clauses.
 fn put_copied(copied: Copied, clauses: &mut ClauseAlloc, db: &mut ClauseDb)
     ensures words { clauses.new ≡ copied.clauses }
     ensures list { db.new ≡ after_collection copied.refs.items db.old }
@@ -141,7 +142,7 @@ fn put_copied(copied: Copied, clauses: &mut ClauseAlloc, db: &mut ClauseDb)
     db.garbage_size = 0;
 }
 
-/// Collects garbage if deleted clauses have more than half of the words of the buffer.
+/// Collects garbage if deleted clauses take up more than half of the buffer.
 ///
 /// Moves the live clauses to a new buffer, in order, updates the reasons of the literals on the trail, and disables the
 /// watch lists. If memory runs out, nothing changes.

@@ -10,7 +10,8 @@ use crate::clause::db::{ClauseDb, put_header, set_clause_tier};
 use sat_store::{ClauseAlloc, ClauseRef, Tier};
 use std::alloc::{AllocError, Global};
 
-/// Clears the flag of an active clause of tier Mid, or moves an inactive one to Local. Other clauses stay.
+/// If the clause is live and in tier Mid, clears its active flag, or moves the clause to tier Local if the flag is
+/// not set.
 fn reduce_one(clauses: &mut ClauseAlloc, db: &mut ClauseDb, cref: ClauseRef)
     requires db { HoldsDb clauses.old db.old }
     requires there { Contains db.old.refs cref }
@@ -34,7 +35,8 @@ fn reduce_one(clauses: &mut ClauseAlloc, db: &mut ClauseDb, cref: ClauseRef)
     set_clause_tier(clauses, db, cref, Tier::Local);
 }
 
-/// Moves the clauses of tier Mid that were not used since the last call to Local. Clears the flag of the others.
+/// Moves to tier Local the clauses of tier Mid that have not been used since the last call. Clears the active flag of
+/// the other clauses of tier Mid.
 pub fn reduce_mids(clauses: &mut ClauseAlloc, db: &mut ClauseDb)
     requires { HoldsDb clauses.old db.old }
     ensures headers { PutsHeaders clauses.old clauses.new db.old.refs (λ p. reduced (header_at clauses.old p)) }
@@ -48,7 +50,7 @@ pub fn reduce_mids(clauses: &mut ClauseAlloc, db: &mut ClauseDb)
     }
 }
 
-/// Whether a clause is live and in a tier.
+/// Whether a clause is live and in the tier `tier`.
 fn is_of_tier(clauses: &ClauseAlloc, cref: ClauseRef, tier: Tier) -> bool
     requires { IsClause clauses.now cref }
     ensures { result ≡ is_live_of clauses.now tier cref }
@@ -80,7 +82,7 @@ fn clauses_of_tier(
     Ok(list)
 }
 
-/// Marks a clause if it is live and in a tier.
+/// Marks a clause if it is live and in the tier `tier`.
 fn mark_one(clauses: &mut ClauseAlloc, _db: &ClauseDb, cref: ClauseRef, tier: Tier)
     requires db { HoldsDb clauses.old _db.now }
     requires there { Contains _db.now.refs cref }
@@ -112,7 +114,7 @@ fn mark_tier(clauses: &mut ClauseAlloc, db: &ClauseDb, tier: Tier)
     }
 }
 
-/// Marks and returns the live clauses of a tier, each once and in the order in which they were added.
+/// Marks the live clauses of a tier. Returns them, each once, in the order in which they were added.
 ///
 /// If memory runs out, nothing changes.
 pub fn dedup_and_mark_by_tier(

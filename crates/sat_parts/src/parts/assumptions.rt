@@ -16,15 +16,16 @@ use std::alloc::{AllocError, Global};
 
 /// The literals that an ask assumes.
 ///
-/// Before any decision they are made true in order, each at a level of its own. A literal that is already true gets
-/// no level.
+/// Before any decision the assumptions are made true in order, each at a level of its own. An assumption that is
+/// already true gets no level.
 #[derive(Drop)]
 pub struct Assumptions {
     /// All assumptions.
     pub lits: Vec<Lit>,
-    /// For level 0 and every level of an assumption, except the last one: the first assumption not considered there.
+    /// For level 0 and every level of an assumption except the last: the position in `lits` of the first assumption
+    /// that has not been considered at that level.
     pub below: Vec<usize>,
-    /// The same for the last of these levels.
+    /// The position in `lits` of the first assumption that has not been considered at the last of these levels.
     pub place: usize,
 }
 
@@ -52,14 +53,14 @@ impl Assumptions {
         }
     }
 
-    /// Returns the number of levels that assumptions began.
+    /// Returns the number of levels that begin with an assumption.
     pub fn levels(&self) -> usize
         ensures { result ≡ length self.now.below.items }
     {
         self.below.len()
     }
 
-    /// Starts again with the first assumption: for a new list, and after all levels were undone.
+    /// Starts again with the first assumption. To be called for a new list, and after all levels were undone.
     pub fn begin(&mut self)
         ensures lits { self.new.lits ≡ self.old.lits }
         ensures placed { (s : State) → s.trail.starts ≡ [] → ArePlaced self.new s }
@@ -68,7 +69,8 @@ impl Assumptions {
         self.place = 0;
     }
 
-    /// Goes back to the assumptions considered up to a level, when the levels above it are undone.
+    /// Goes back to the first assumption that was not considered at `level`. To be called when the levels above `level`
+    /// are undone.
     pub fn cut(&mut self, level: usize)
         ensures lits { self.new.lits ≡ self.old.lits }
         ensures placed { AreCutTo level self.old self.new }
@@ -81,7 +83,7 @@ impl Assumptions {
     }
 }
 
-/// Skips true assumptions, and returns the first that is not true, or `None` if all are.
+/// Skips true assumptions. Returns the next assumption that is not true, or `None` if all are true.
 fn next_untrue(parts: &Parts, assumptions: &mut Assumptions) -> Option<Lit>
     requires there { HaveVariablesIn assumptions.old.lits.items parts.now }
     requires within { assumptions.old.place ≤ length assumptions.old.lits.items }
@@ -103,7 +105,7 @@ fn next_untrue(parts: &Parts, assumptions: &mut Assumptions) -> Option<Lit>
     None
 }
 
-/// Begins a level with the current assumption, which must be unassigned.
+/// Begins a level with the current assumption `lit`, which must be unassigned.
 fn begin_level(parts: &mut Parts, assumptions: &mut Assumptions, lit: Lit) -> Result<(), AllocError>
     requires holds { PartsInvariant parts.old }
     requires done { IsFullyPropagated parts.old }
@@ -125,7 +127,7 @@ fn begin_level(parts: &mut Parts, assumptions: &mut Assumptions, lit: Lit) -> Re
     assume(parts, lit)
 }
 
-/// Makes true the next assumption that is not true yet, if there is one and it is not false.
+/// Assigns the next assumption that is not true yet, at a new level, unless it is false or there is none.
 pub fn enqueue_assumption(
     parts: &mut Parts,
     assumptions: &mut Assumptions,

@@ -1,4 +1,4 @@
-//! Changes of the clauses between rounds: deletion, reduction, garbage collection, activities.
+//! Changes to the clauses between rounds: deletion, reduction, garbage collection, activities.
 ghost use Rattle.std.specs.Prelude.{ℕ, ◌≡◌, ◌^◌, ◌<◌, ◌≢◌, ◌≤◌, ◌/◌, OnOk, length, [], true, false};
 ghost use Rattle.sat_base.specs.values.Literals.{negated};
 ghost use Rattle.sat_store.specs.clause.Buffer.{header_at};
@@ -24,7 +24,8 @@ use sat_base::Var;
 use sat_store::{ClauseHeader, ClauseRef, StoreError, Tier};
 use std::alloc::Global;
 
-/// Deletes a live clause unless it is the reason of its true first literal. Returns whether it was deleted.
+/// Deletes a live clause unless its first literal is true and the clause is the reason of that literal. Returns whether
+/// the clause was deleted.
 pub fn drop_clause(parts: &mut Parts, cref: ClauseRef) -> bool
     requires holds { PartsInvariant parts.old }
     requires live { HasClause parts.old cref }
@@ -64,7 +65,7 @@ pub fn delete_long(parts: &mut Parts, cref: ClauseRef)
     );
 }
 
-/// Moves the clauses of tier Mid that were not used since the last call to Local.
+/// Moves to tier Local the clauses of tier Mid that have not been used since the last call.
 pub fn reduce_middle(parts: &mut Parts)
     requires holds { PartsInvariant parts.old }
     ensures holds { PartsInvariant parts.new }
@@ -76,7 +77,7 @@ pub fn reduce_middle(parts: &mut Parts)
     reduce_mids(&mut parts.clauses, &mut parts.db);
 }
 
-/// Collects garbage if deleted clauses have more than half of the words of the buffer.
+/// Collects garbage if deleted clauses take up more than half of the buffer.
 pub fn collect(alloc: Global, parts: &mut Parts) -> Result<(), StoreError>
     requires holds { PartsInvariant parts.old }
     ensures holds { PartsInvariant parts.new }
@@ -96,7 +97,8 @@ pub fn collect(alloc: Global, parts: &mut Parts) -> Result<(), StoreError>
     )
 }
 
-/// Replaces the header of a live clause by one with the same tier and length.
+/// Replaces the header of a live clause. The new header must have the deleted flag, the tier and the length of the
+/// old one.
 pub fn put_header(parts: &mut Parts, cref: ClauseRef, header: ClauseHeader)
     requires holds { PartsInvariant parts.old }
     requires live { HasClause parts.old cref }
@@ -112,7 +114,8 @@ pub fn put_header(parts: &mut Parts, cref: ClauseRef, header: ClauseHeader)
     parts.clauses.set_header(cref, header);
 }
 
-/// Moves a live clause to another tier. A learned clause stays a learned one, an irredundant clause irredundant.
+/// Moves a live clause to another tier. A learned clause must stay learned, and an irredundant clause must
+/// stay irredundant.
 pub fn set_tier(parts: &mut Parts, cref: ClauseRef, tier: Tier)
     requires holds { PartsInvariant parts.old }
     requires live { HasClause parts.old cref }
@@ -125,7 +128,7 @@ pub fn set_tier(parts: &mut Parts, cref: ClauseRef, tier: Tier)
     set_clause_tier(&mut parts.clauses, &mut parts.db, cref, tier);
 }
 
-/// Swaps two literals of a live clause, neither of which is among its first two.
+/// Swaps two literals of a live clause. `i` and `j` must be at least 2.
 pub fn swap_behind(parts: &mut Parts, cref: ClauseRef, i: usize, j: usize)
     requires holds { PartsInvariant parts.old }
     requires live { HasClause parts.old cref }
@@ -141,9 +144,9 @@ pub fn swap_behind(parts: &mut Parts, cref: ClauseRef, i: usize, j: usize)
     parts.clauses.swap_lits(cref, i, j);
 }
 
-/// Drops the literals of a live clause from position `len` on, at least 3.
+/// Drops the literals of a live clause from position `len` on. `len` must be at least 3.
 ///
-/// The first two literals must not be false by literals that have left the queue.
+/// The negations of the first two literals must not have left the queue.
 pub fn shorten(parts: &mut Parts, cref: ClauseRef, len: usize)
     requires holds { PartsInvariant parts.old }
     requires live { HasClause parts.old cref }
@@ -163,7 +166,7 @@ pub fn shorten(parts: &mut Parts, cref: ClauseRef, len: usize)
     );
 }
 
-/// Removes the binary clauses with an assigned variable. The trail must be empty.
+/// Removes the binary clauses that contain an assigned variable. The trail must be empty.
 pub fn remove_binary(parts: &mut Parts)
     requires holds { PartsInvariant parts.old }
     requires empty { parts.old.trail.lits ≡ [] }
@@ -201,7 +204,7 @@ pub fn bump_variable(parts: &mut Parts, var: Var)
     parts.vsids.bump(var);
 }
 
-/// Lets the activities of clauses decay: later bumps add more.
+/// Lets the activities of clauses decay, by making later bumps add more.
 pub fn decay_clauses(parts: &mut Parts, activity: &mut ClauseActivity)
     requires holds { PartsInvariant parts.old }
     ensures holds { PartsInvariant parts.new }
@@ -216,7 +219,7 @@ pub fn decay_clauses(parts: &mut Parts, activity: &mut ClauseActivity)
     decay_clause_activities(activity, &mut parts.clauses, &parts.db);
 }
 
-/// Lets the activities of variables decay: later bumps add more.
+/// Lets the activities of variables decay, by making later bumps add more.
 pub fn decay_variables(parts: &mut Parts)
     requires holds { PartsInvariant parts.old }
     ensures holds { PartsInvariant parts.new }

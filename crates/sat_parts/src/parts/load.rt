@@ -1,4 +1,4 @@
-//! Loading of clauses at level 0.
+//! Loads clauses at level 0.
 ghost use Rattle.std.specs.Prelude.{ℕ, ◌≡◌, ◌-◌, ◌*◌, ◌^◌, ◌<◌, ◌≤◌, OnOk, IfOk, None, length, slice_index_or, []};
 ghost use Rattle.std.specs.Prelude.{true, false};
 ghost use Rattle.sat_base.specs.values.Literals.{variable, negated};
@@ -29,7 +29,7 @@ use std::alloc::{AllocError, Global};
 pub enum Loaded {
     /// The clause was stored.
     Stored,
-    /// The clause has one literal, which is true from now on.
+    /// The clause has one literal, which became true.
     Unit,
     /// A literal of the clause was already true, so the clause was not stored.
     Satisfied,
@@ -75,7 +75,7 @@ pub fn load_binary(parts: &mut Parts, lits: &[Lit]) -> Result<(), AllocError>
     Ok(())
 }
 
-/// Makes the literal of a unit clause true. It must be unassigned.
+/// Makes the literal of a unit clause true. The literal must be unassigned.
 pub fn load_unit(parts: &mut Parts, lit: Lit)
     requires holds { PartsInvariant parts.old }
     requires bottom { parts.old.trail.starts ≡ [] }
@@ -97,7 +97,7 @@ pub fn load_unit(parts: &mut Parts, lit: Lit)
     );
 }
 
-/// Puts the units that falsify the literals from position `kept` on back into the queue.
+/// Moves the units that falsify the literals from position `kept` on back to the trail and the queue.
 fn put_all_back(parts: &mut Parts, lits: &[Lit], kept: usize)
     requires holds { PartsInvariant parts.old }
     requires bottom { parts.old.trail.starts ≡ [] }
@@ -136,7 +136,7 @@ fn load_some(parts: &mut Parts, lits: &[Lit]) -> Result<(), StoreError>
     load_long(parts, lits)
 }
 
-/// Loads a clause without true literals, in which the false literals come last.
+/// Loads a clause without true literals. The false literals must be at the end, from position `kept` on.
 fn load_sorted(parts: &mut Parts, lits: &[Lit], kept: usize) -> Result<Loaded, StoreError>
     requires holds { PartsInvariant parts.old }
     requires bottom { parts.old.trail.starts ≡ [] }
@@ -160,8 +160,9 @@ fn load_sorted(parts: &mut Parts, lits: &[Lit], kept: usize) -> Result<Loaded, S
 
 /// Loads a clause at level 0.
 ///
-/// The false literals before the first true one move to the end, in order, and the units that falsify them return to
-/// the queue. The clause is stored in this order, unless a literal is true or it has fewer than two literals.
+/// The false literals before the first true literal move to the end, in order, and the units that falsify them are
+/// moved back to the queue. The clause is stored in this order, unless one of its literals is true or the clause has
+/// fewer than two literals.
 pub fn load(parts: &mut Parts, given: &[Lit], sorting: &mut Sorting) -> Result<Loaded, StoreError>
     requires holds { PartsInvariant parts.old }
     requires bottom { parts.old.trail.starts ≡ [] }

@@ -1,4 +1,4 @@
-//! The learned clauses that a reduction considers.
+//! Lists the learned clauses that a reduction considers.
 ghost use Rattle.std.specs.Prelude.{ℕ, ◌≡◌, ◌<◌, OnOk, map, length, slice_index_or};
 ghost use Rattle.std.specs.List.{filter};
 ghost use Rattle.std.specs.List.Sorted.{IsPermutation, IsNonDecreasingBy};
@@ -24,7 +24,7 @@ fn is_local(clauses: &ClauseAlloc, cref: ClauseRef) -> bool
     header.tier().index() == 3
 }
 
-/// Fills a list with the live clauses of tier Local, in the order in which they were added.
+/// Replaces the contents of `list` by the live clauses of tier Local, in the order in which they were added.
 fn find_locals(parts: &Parts, list: &mut Vec<ClauseRef>) -> Result<(), AllocError>
     requires holds { PartsInvariant parts.now }
     ensures { OnOk result (list.new.items ≡ filter (is_live_of parts.now.clauses Tier.Local) parts.now.db.refs) }
@@ -39,7 +39,7 @@ fn find_locals(parts: &Parts, list: &mut Vec<ClauseRef>) -> Result<(), AllocErro
     Ok(())
 }
 
-/// Returns the rank of a clause: by activity, then by offset.
+/// Returns the rank of a clause. Clauses are ranked by activity, and then by offset.
 fn rank_of(clauses: &ClauseAlloc, cref: ClauseRef) -> u128
     requires { IsClause clauses.now cref }
     ensures { result ≡ clause_rank clauses.now cref }
@@ -47,7 +47,7 @@ fn rank_of(clauses: &ClauseAlloc, cref: ClauseRef) -> u128
     u128::from(clauses.header(cref).activity()) * 18446744073709551616 + cref.offset() as u128
 }
 
-/// Fills a list with clauses and their ranks.
+/// Replaces the contents of `ranks` by the clauses of `list`, each with its rank.
 fn rank_all(
     clauses: &ClauseAlloc,
     list: &[ClauseRef],
@@ -63,7 +63,7 @@ fn rank_all(
     Ok(())
 }
 
-/// Fills a list with the clauses of a list of ranks.
+/// Replaces the contents of `list` by the clauses in `ranks`, in the same order.
 fn take_clauses(ranks: &[(u128, ClauseRef)], list: &mut Vec<ClauseRef>) -> Result<(), AllocError>
     ensures { OnOk result (list.new.items ≡ map (λ x. x.1) ranks.now) }
 {
@@ -74,8 +74,8 @@ fn take_clauses(ranks: &[(u128, ClauseRef)], list: &mut Vec<ClauseRef>) -> Resul
     Ok(())
 }
 
-/// Fills a list with the live clauses of tier Local, lowest activity first. Among equal activities the older clause
-/// comes first.
+/// Replaces the contents of `list` by the live clauses of tier Local, lowest activity first. Among clauses of equal
+/// activity, the older clause comes first.
 pub fn list_locals(
     alloc: Global,
     parts: &Parts,

@@ -1,4 +1,4 @@
-//! The steps of a round of the search: propagate, decide, learn, backtrack.
+//! The operations of a round of the search: propagate, decide, learn, backtrack.
 ghost use Rattle.std.specs.Prelude.{ℕ, List, ◌≡◌, ◌≢◌, ◌+◌, ◌<◌, ◌≤◌, OnOk, IfOk, MatchResult, MatchOption, Some, None};
 ghost use Rattle.std.specs.Prelude.{true, false, [], length};
 ghost use Rattle.sat_base.specs.values.Literals.{variable};
@@ -25,7 +25,8 @@ use sat_base::{Lit, Var};
 use sat_store::{ClauseHeader, StoreError, Vsids};
 use std::alloc::{AllocError, Global};
 
-/// Propagates all literals in the queue. After a conflict, the invariant holds again once the current level is undone.
+/// Propagates all literals in the queue. After a conflict, the invariant holds again only once the current level
+/// is undone.
 pub fn propagate_all(alloc: Global, parts: &mut Parts) -> Result<Result<(), Conflict>, AllocError>
     requires holds { HoldsBelow (length parts.old.trail.starts + 1) parts.old }
     ensures holds { IfOk result (λ r. MatchResult r (λ _. HoldsBelow (length parts.new.trail.starts + 1) parts.new)
@@ -54,7 +55,8 @@ pub fn propagate_all(alloc: Global, parts: &mut Parts) -> Result<Result<(), Conf
     )
 }
 
-/// Removes and returns the unassigned variable with the highest activity, or `None` if all are assigned.
+/// Removes variables from the queue, highest activity first, up to the first unassigned one. Returns that variable, or
+/// `None` if the queue has none.
 pub fn pick(vsids: &mut Vsids, assignment: &Assignment) -> Option<Var>
     requires size { length vsids.old.available ≡ length assignment.now.current }
     ensures size { length vsids.new.available ≡ length vsids.old.available }
@@ -74,7 +76,7 @@ pub fn pick(vsids: &mut Vsids, assignment: &Assignment) -> Option<Var>
     None
 }
 
-/// Decides an unassigned variable that was picked.
+/// Decides on an unassigned variable that was picked: assigns the last value of the variable, at a new level.
 fn decide_on(parts: &mut Parts, var: Var) -> Result<(), AllocError>
     requires picked { IsPicked parts.old var }
     requires done { IsFullyPropagated parts.old }
@@ -98,7 +100,7 @@ fn decide_on(parts: &mut Parts, var: Var) -> Result<(), AllocError>
     Ok(())
 }
 
-/// Makes the literal of a unit clause true at level 0.
+/// Makes the literal of a learned unit clause true at level 0.
 fn learn_unit(parts: &mut Parts, header: ClauseHeader, lits: &[Lit])
     requires holds { PartsInvariant parts.old }
     requires one { length lits.now ≡ 1 }
@@ -118,7 +120,7 @@ fn learn_unit(parts: &mut Parts, header: ClauseHeader, lits: &[Lit])
     );
 }
 
-/// Adds a binary clause, and makes its first literal true with the clause as the reason.
+/// Adds a learned binary clause, and makes its first literal true with the clause as the reason.
 fn learn_binary(parts: &mut Parts, header: ClauseHeader, lits: &[Lit]) -> Result<(), AllocError>
     requires holds { PartsInvariant parts.old }
     requires two { length lits.now ≡ 2 }
@@ -142,7 +144,7 @@ fn learn_binary(parts: &mut Parts, header: ClauseHeader, lits: &[Lit]) -> Result
     Ok(())
 }
 
-/// Adds a long clause, and makes its first literal true with the clause as the reason.
+/// Adds a learned long clause, and makes its first literal true with the clause as the reason.
 fn learn_long(parts: &mut Parts, header: ClauseHeader, lits: &[Lit]) -> Result<(), StoreError>
     requires holds { PartsInvariant parts.old }
     requires live { header.deleted ≡ false }
@@ -171,7 +173,7 @@ fn learn_long(parts: &mut Parts, header: ClauseHeader, lits: &[Lit]) -> Result<(
     Ok(())
 }
 
-/// Adds a learned clause, and makes its first literal true. All its other literals must be false.
+/// Adds a learned clause, and makes its first literal true. All other literals of the clause must be false.
 pub fn learn(parts: &mut Parts, header: ClauseHeader, lits: &[Lit]) -> Result<(), StoreError>
     requires holds { PartsInvariant parts.old }
     requires live { header.deleted ≡ false }
@@ -235,7 +237,7 @@ pub fn full_restart(parts: &mut Parts)
     undo(parts, 0);
 }
 
-/// Decides an unassigned variable, if there is one. Returns whether it did.
+/// Decides on an unassigned variable, if there is one. Returns whether there was one.
 pub fn make_decision(parts: &mut Parts) -> Result<bool, AllocError>
     requires holds { PartsInvariant parts.old }
     requires done { IsFullyPropagated parts.old }

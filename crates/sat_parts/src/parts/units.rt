@@ -1,4 +1,4 @@
-//! Units of level 0 that leave the trail and return to it.
+//! Removes units of level 0 from the trail, and moves them back to it.
 ghost use Rattle.std.specs.Prelude.{ℕ, ◌≡◌, ◌+◌, [], length};
 ghost use Rattle.sat_parts.specs.prop.Values.{IsTrueLit, value_of};
 ghost use Rattle.sat_parts.specs.prop.State.{HasLeftQueue};
@@ -12,7 +12,7 @@ use crate::parts::Parts;
 use crate::{ImplGraph, Reason, Trail, enqueue_assignment};
 use sat_base::Lit;
 
-/// Marks the literals on the trail as units that were taken off it.
+/// Marks the literals on the trail as removed units.
 fn mark_removed(graph: &mut ImplGraph, trail: &Trail)
     requires { HaveNodes graph.old trail.now.lits }
     ensures { graph.new ≡ removed trail.now.lits graph.old }
@@ -22,7 +22,7 @@ fn mark_removed(graph: &mut ImplGraph, trail: &Trail)
     }
 }
 
-/// Takes the literals of level 0 off the trail. All of them must be propagated.
+/// Removes the literals of level 0 from the trail. There must be no other level, and all literals must be propagated.
 pub fn clear_units(parts: &mut Parts)
     requires holds { HoldsBelow (length parts.old.trail.starts + 1) parts.old }
     requires bottom { parts.old.trail.starts ≡ [] }
@@ -39,7 +39,7 @@ pub fn clear_units(parts: &mut Parts)
     parts.trail.clear();
 }
 
-/// Puts a true literal back into the queue if it was taken off the trail.
+/// Moves a true literal back to the trail and the queue, if it was removed from the trail as a unit.
 pub fn put_back(parts: &mut Parts, lit: Lit)
     requires holds { PartsInvariant parts.old }
     requires bottom { parts.old.trail.starts ≡ [] }

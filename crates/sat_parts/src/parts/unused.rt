@@ -1,4 +1,4 @@
-//! The variables that occur in clauses.
+//! Finds the variables that occur in clauses.
 ghost use Rattle.std.specs.Prelude.{ℕ, ◌≡◌, ◌<◌, OnOk, true, false, length, slice_index_or};
 ghost use Rattle.sat_base.specs.values.Literals.{variable};
 ghost use Rattle.sat_store.specs.clause.Buffer.{IsClause};
@@ -76,7 +76,7 @@ fn mark_binary(used: &mut Vec<bool>, parts: &Parts)
     }
 }
 
-/// Fills a list of flags with whether each variable occurs in a clause.
+/// Replaces the contents of `used` by a flag for every variable, which says whether the variable occurs in a clause.
 pub fn mark_used(used: &mut Vec<bool>, parts: &Parts) -> Result<(), AllocError>
     requires holds { PartsInvariant parts.now }
     ensures size { OnOk result (length used.new.items ≡ length parts.now.assignment.current) }

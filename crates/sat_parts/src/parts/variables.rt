@@ -1,4 +1,4 @@
-//! Variables that the search uses again after they were freed.
+//! Prepares variables that were freed for being used again.
 ghost use Rattle.std.specs.Prelude.{◌≡◌, ◌<◌, length, [], true, false, slice_set};
 ghost use Rattle.sat_base.specs.values.Literals.{variable};
 ghost use Rattle.sat_store.specs.heap.Vsids.{may_pick, with_available};
@@ -10,7 +10,7 @@ ghost use Rattle.sat_parts.specs.parts.Frame.{SameClauses, GainsUnit, SameConten
 use crate::parts::Parts;
 use sat_base::{Lit, Var};
 
-/// Makes a variable available to decisions.
+/// Makes a variable available for decisions.
 pub fn use_variable(parts: &mut Parts, var: Var)
     requires holds { PartsInvariant parts.old }
     requires there { var < length parts.old.assignment.current }
@@ -34,7 +34,7 @@ pub fn reset_activity(parts: &mut Parts, var: Var)
     parts.vsids.reset(var);
 }
 
-/// Assigns a freed variable so that a unit is true, as a unit that was taken off the trail.
+/// Makes `lit` true as a removed unit, which is not on the trail. The variable must be unassigned and unavailable.
 pub fn use_with_unit(parts: &mut Parts, lit: Lit)
     requires holds { PartsInvariant parts.old }
     requires bottom { parts.old.trail.starts ≡ [] }

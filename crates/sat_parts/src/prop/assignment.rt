@@ -10,14 +10,14 @@ use sat_base::{Lit, Var};
 use std::alloc::{AllocError, Global};
 use std::marker::Model;
 
-/// The values of the assigned variables, and for every variable the value that it lost last, false at first.
+/// The values of the assigned variables, and for every variable the last value that it lost, which is initially false.
 ///
 /// Contracts see both lists, indexed by variable.
 #[derive(Drop)]
 pub struct Assignment {
     values: Vec<Option<bool>>,
     last_values: Vec<bool>,
-    /// The same values indexed by literal code: an inner loop needs one load and one branch.
+    /// The values of `values`, indexed by literal code, so that an inner loop needs only one load and one branch.
     lit_values: LitValues,
 }
 
@@ -35,7 +35,7 @@ impl Model for Assignment {
         × MirrorsValues a.values.items a.lit_values.codes.items };
 }
 
-/// Whether both are the same value, or both `None`.
+/// Whether both are the same value, or both are `None`.
 #[inline(always)] // called for each literal that an inner loop looks at
 pub fn fast_option_eq(a: Option<bool>, b: Option<bool>) -> bool
     ensures { IsTrue result ↔ (a ≡ b) }
@@ -56,7 +56,7 @@ impl Assignment {
         }
     }
 
-    /// Sets the number of variables. New ones have no value.
+    /// Sets the number of variables. New variables have no value.
     pub fn set_var_count(&mut self, count: usize) -> Result<(), AllocError>
         requires { count ≤ var_limit }
         ensures done { OnOk result (self.new ≡ with_var_count count self.old) }
@@ -89,7 +89,7 @@ impl Assignment {
         self.values[var.index()]
     }
 
-    /// Returns the value that a variable lost last.
+    /// Returns the last value that a variable lost.
     pub fn last_var_value(&self, var: Var) -> bool
         requires { var < length self.now.current }
         ensures { result ≡ slice_index_or self.now.last var result }
@@ -143,7 +143,7 @@ impl Assignment {
         self.lit_values.set_var(lit.var(), Some(lit.is_positive()));
     }
 
-    /// Removes the value of a variable. The value that it lost last stays as it was.
+    /// Removes the value of a variable, without recording the value as the last value that the variable lost.
     pub fn unassign_var(&mut self, var: Var)
         requires { var < length self.old.current }
         ensures { self.new ≡ assigned var None self.old }
@@ -152,7 +152,7 @@ impl Assignment {
         self.lit_values.set_var(var, None);
     }
 
-    /// Removes the value of a literal's variable, and stores it as the value that it lost last.
+    /// Removes the value of a literal's variable, and records the value as the last value that the variable lost.
     pub(crate) fn lose(&mut self, lit: Lit)
         requires { variable lit < length self.old.current }
         ensures { self.new ≡ lost lit self.old }

@@ -11,7 +11,7 @@ use crate::prop::trail::{Trail, enqueue_assignment};
 use sat_base::Lit;
 use std::alloc::AllocError;
 
-/// Makes true the literals that a literal taken off the queue implies through binary clauses. Never allocates.
+/// Assigns all literals that `lit` implies through binary clauses. `lit` must have left the queue. Never allocates.
 ///
 /// Returns `Ok(Err(conflict))` if both literals of a binary clause are false.
 pub fn propagate_binary(

@@ -11,8 +11,8 @@ use sat_store::{ClauseAlloc, Lits, LitsIter};
 use std::iter::FusedIterator;
 use std::marker::Model;
 
-/// The literals of a reason or a conflict: those that it holds itself, or those of a long clause. Contracts see
-/// their list.
+/// The literals of a reason or a conflict: those that the reason or conflict holds itself, or those of a long clause.
+/// Contracts see the list of the literals.
 #[derive(Drop)]
 pub struct CauseLits<'a> {
     own: &'a [Lit],
@@ -48,7 +48,7 @@ impl<'a> CauseLits<'a> {
         self.len() == 0
     }
 
-    /// Returns a literal.
+    /// Returns the literal at position `at`.
     pub fn get(&self, at: usize) -> Lit
         requires { at < length self.now }
         ensures { result ≡ slice_index self.now at }
@@ -61,7 +61,8 @@ impl<'a> CauseLits<'a> {
         }
     }
 
-    /// Returns two lists, one of which is empty: the literals that it holds itself, and those of its long clause.
+    /// Returns the literals that the reason or conflict holds itself, and the literals of its long clause. One of the
+    /// two lists is empty.
     #[inline(always)] // called for each reason that conflict analysis looks at
     pub fn parts(&self) -> (&'a [Lit], &Lits<'a>)
         ensures { result.0.now ++ result.1.now ≡ self.now }
@@ -81,7 +82,7 @@ impl<'a> CauseLits<'a> {
     }
 }
 
-/// An iterator over the literals of a reason or a conflict. Contracts see the literals that it has yet to return.
+/// An iterator over the literals of a reason or a conflict. Contracts see the literals that are still to come.
 #[derive(Drop)]
 pub struct CauseLitsIter<'a> {
     own: &'a [Lit],
@@ -118,7 +119,7 @@ impl<'a> FusedIterator for CauseLitsIter<'a> {}
 impl Reason {
     /// Returns the false literals that made the reason's literal true: none for a unit or a decision.
     ///
-    /// A long clause has that literal first; the others are returned.
+    /// In a long clause, that literal is the first one, and the others are returned.
     pub fn lits<'a>(&'a self, clauses: &'a ClauseAlloc) -> CauseLits<'a>
         requires clause { (o : ℕ) → self.now ≡ Reason.Long o → IsClause clauses.now o }
         requires some { (o : ℕ) → self.now ≡ Reason.Long o → 0 < length (lits_at clauses.now o) }

@@ -1,4 +1,4 @@
-//! The implication graph: for every variable the reason, the level and the position on the trail.
+//! The implication graph: the reason, the level and the position on the trail of every assigned variable.
 ghost use Rattle.std.specs.Prelude.{◌≡◌, ◌<◌, ◌↔◌, [], length, IsTrue, OnOk, OnErr};
 ghost use Rattle.sat_parts.specs.prop.Graphs.{node_of, with_node, with_nodes, removed_node, is_unit_reason};
 
@@ -14,7 +14,7 @@ pub enum Reason {
     Unit,
     /// The other literal of a binary clause is false.
     Binary([Lit; 1]),
-    /// The clause has the literal first, and its other literals are false.
+    /// The literal is the first literal of the clause, whose other literals are false.
     Long(ClauseRef),
 }
 
@@ -31,7 +31,7 @@ impl Reason {
     }
 }
 
-/// A falsified clause: all its literals are false.
+/// A falsified clause: all literals of the clause are false.
 #[derive(Clone, Copy, Debug, PartialEq, Eq)]
 pub enum Conflict {
     /// A binary clause.
@@ -42,7 +42,7 @@ pub enum Conflict {
 
 /// The reason, the level and the depth of an assigned variable.
 ///
-/// The depth is the length of the trail just after the literal was added. A unit that was taken off the trail has
+/// The depth is the length of the trail just after the literal was added. A unit that was removed from the trail has
 /// level 0 and depth 2^32 - 1.
 #[derive(Clone, Copy)]
 pub struct ImplNode {
@@ -51,7 +51,7 @@ pub struct ImplNode {
     pub depth: u32,
 }
 
-/// A node for every variable, by index.
+/// A node for every variable, indexed by variable.
 #[derive(Drop)]
 pub struct ImplGraph {
     pub nodes: Vec<ImplNode>,
@@ -105,7 +105,7 @@ impl ImplGraph {
         self.nodes[var.index()].level as usize
     }
 
-    /// Returns the length of the trail just after the variable's literal was added.
+    /// Returns the depth of a variable: the length of the trail just after the variable's literal was added.
     pub fn depth(&self, var: Var) -> usize
         requires { var < length self.now }
         ensures { result ≡ (node_of self.now var).depth }
@@ -121,7 +121,7 @@ impl ImplGraph {
         self.nodes[var.index()].reason = reason;
     }
 
-    /// Marks a variable as that of a unit that was taken off the trail.
+    /// Marks a variable as one whose unit was removed from the trail.
     pub fn update_removed_unit(&mut self, var: Var)
         requires { var < length self.old }
         ensures { self.new ≡ with_node var removed_node self.old }
@@ -133,7 +133,7 @@ impl ImplGraph {
         };
     }
 
-    /// Whether a variable is marked as that of a unit that was taken off the trail.
+    /// Whether a variable is marked as one whose unit was removed from the trail.
     pub fn is_removed_unit(&self, var: Var) -> bool
         requires { var < length self.now }
         ensures { IsTrue result ↔ ((node_of self.now var).depth ≡ 4294967295) }

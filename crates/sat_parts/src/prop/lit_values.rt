@@ -14,13 +14,14 @@ pub(crate) enum LitValue {
     False,
 }
 
-/// The value of every literal, indexed by its code.
+/// The values of all literals, indexed by literal code.
 #[derive(Drop)]
 pub(crate) struct LitValues {
     pub(crate) codes: Vec<LitValue>,
 }
 
-/// Returns the value of the positive or the negative literal of a variable with this value.
+/// Returns the value of the positive literal of a variable whose value is `value`, or of the negative literal if
+/// `positive` is false.
 #[inline(always)]
 fn lit_value(value: Option<bool>, positive: bool) -> LitValue
     ensures { result ≡ signed_value value positive }

@@ -1,4 +1,4 @@
-//! Propagation over long clauses, by two watched literals.
+//! Propagation over long clauses, with two watched literals per clause.
 ghost use Rattle.std.specs.Prelude.{ℕ, List, ◌≡◌, ◌≢◌, ◌+◌, ◌*◌, ◌<◌, ◌≤◌, length, IfOk, IsTrue, slice_set};
 ghost use Rattle.sat_store.specs.clause.Buffer.{IsClause};
 ghost use Rattle.sat_parts.specs.clause.Orders.{PermutesClause};
@@ -16,7 +16,7 @@ use sat_base::Lit;
 use sat_store::{ClauseAlloc, ClauseRef};
 use std::alloc::{AllocError, Global};
 
-/// The result of visiting a clause whose watched literal became false. It carries the first literal of the clause.
+/// The result of visiting a clause after a literal became false. Some variants carry the first literal of the clause.
 #[derive(Clone, Copy)]
 enum Visit {
     /// The clause does not watch the literal any more.
@@ -31,7 +31,8 @@ enum Visit {
     Falsified(Lit),
 }
 
-/// Returns the position of the first literal from the third on that is not false, or the length of the clause.
+/// Returns the position of the first literal that is not false, searching from the third literal on, or the length of
+/// the clause if there is none.
 #[inline(always)] // called for each clause that propagation reads
 fn find_open(clauses: &ClauseAlloc, assignment: &Assignment, cref: ClauseRef) -> usize
     requires clause { IsClause clauses.now cref }
@@ -53,9 +54,9 @@ fn find_open(clauses: &ClauseAlloc, assignment: &Assignment, cref: ClauseRef) ->
     len
 }
 
-/// Moves a literal to the second position if it is one of the first two. Returns whether it is.
+/// Moves a literal to the second position if it is one of the first two literals. Returns whether it is.
 ///
-/// The second position is tested first, so that a literal that is true by this clause stays first.
+/// The second position is checked first. If the literal is there, the clause does not change.
 #[inline(always)] // called for each clause that propagation reads
 fn orient(clauses: &mut ClauseAlloc, cref: ClauseRef, lit: Lit) -> bool
     requires clause { IsClause clauses.old cref }
@@ -119,9 +120,9 @@ fn visit_clause(
     }
 }
 
-/// Visits the watches of a literal that was taken off the queue. Returns a clause if it is falsified.
+/// Visits the watches of a literal that has left the queue. Returns a falsified clause if there is one.
 ///
-/// If memory runs out, the parts must not be used again.
+/// If memory runs out, the state may be inconsistent and must not be used again.
 fn propagate_list(
     clauses: &mut ClauseAlloc,
     watchlists: &mut Watchlists,
@@ -174,10 +175,10 @@ fn propagate_list(
     Ok(None)
 }
 
-/// Propagates a literal that was taken off the queue over the long clauses.
+/// Propagates a literal that has left the queue over the long clauses.
 ///
-/// All literals before it must be propagated. Returns `Ok(Err(conflict))` if a live clause is falsified. If memory
-/// runs out, the parts must not be used again.
+/// All literals before `lit` on the trail must have been propagated. Returns `Ok(Err(conflict))` if a live clause is
+/// falsified. If memory runs out, the state may be inconsistent and must not be used again.
 pub fn propagate_long(
     alloc: Global,
     clauses: &mut ClauseAlloc,

@@ -13,10 +13,9 @@ use crate::prop::watch::Watchlists;
 use sat_store::ClauseAlloc;
 use std::alloc::{AllocError, Global};
 
-/// Propagates all literals in the queue, each over the binary clauses and then over the long ones.
+/// Propagates all literals in the queue, each over the binary clauses and then over the long clauses.
 ///
-/// The list of clauses is not read: it states which clauses are live. If memory runs out, the parts must not be used
-/// again.
+/// The list of clauses is not read. If memory runs out, the state may be inconsistent and must not be used again.
 pub(crate) fn propagate_queue(
     alloc: Global,
     clauses: &mut ClauseAlloc,

@@ -21,7 +21,7 @@ use sat_store::Vsids;
 use std::alloc::{AllocError, Global};
 use std::marker::Model;
 
-/// The true literals in the order of assignment, the queue of those to propagate, and the starts of the levels.
+/// The true literals in the order of assignment, the queue of literals to propagate, and the starts of the levels.
 ///
 /// Contracts see a `Trailed`.
 #[derive(Drop)]
@@ -29,11 +29,11 @@ pub struct Trail {
     trail: Vec<Lit>,
     /// The position of the next literal to propagate.
     queue_head_pos: usize,
-    /// For every level above 0 the position of its first literal.
+    /// For every level above 0, the position of its first literal.
     decisions: Vec<u32>,
-    /// How many literals were cleared. It saturates.
+    /// The number of literals that were removed by `clear`. The number saturates at 2^64 - 1.
     units_removed: usize,
-    /// How many literals there is capacity for.
+    /// The number of literals for which there is capacity.
     room: usize,
 }
 
@@ -63,7 +63,7 @@ impl Trail {
         }
     }
 
-    /// Reserves capacity for a literal of each of `count` variables. A lower count than before changes nothing.
+    /// Reserves capacity for one literal of each of `count` variables. A lower count than before changes nothing.
     pub fn set_var_count(&mut self, count: usize) -> Result<(), AllocError>
         requires { count ≤ var_limit }
         ensures done { OnOk result (self.new ≡ record self.old { room = max self.old.room count }) }
@@ -84,7 +84,8 @@ impl Trail {
         self.trail.get(self.queue_head_pos).copied()
     }
 
-    /// Removes the next literal from the queue and returns it, or `None` if the queue is empty. It stays on the trail.
+    /// Removes the next literal from the queue and returns it, or returns `None` if the queue is empty. The literal
+    /// stays on the trail.
     pub fn pop_queue(&mut self) -> Option<Lit>
         ensures none { IfNone result ((self.old.head ≡ length self.old.lits) × (self.new ≡ self.old)) }
         ensures next { IfSome result (λ l. PopsNext self.old l self.new) }
@@ -97,14 +98,14 @@ impl Trail {
         Some(head)
     }
 
-    /// Puts all literals on the trail back into the queue.
+    /// Moves all literals on the trail back to the queue.
     pub fn reset_queue(&mut self)
         ensures { self.new ≡ record self.old { head = 0 } }
     {
         self.queue_head_pos = 0;
     }
 
-    /// Returns the literals, in the order of assignment.
+    /// Returns the literals in the order of assignment, as a slice.
     pub fn trail(&self) -> &[Lit]
         ensures lits { result.now ≡ self.now.lits }
         ensures sound { IsTrail self.now }
@@ -112,7 +113,8 @@ impl Trail {
         &self.trail
     }
 
-    /// Removes all literals from the trail. They still count as literals of level 0.
+    /// Removes all literals from the trail. There must be no level above 0. `top_level_assignment_count` still counts
+    /// the literals.
     pub fn clear(&mut self)
         requires { self.old.starts ≡ [] }
         ensures { self.new ≡ with_cleared self.old }
@@ -122,7 +124,7 @@ impl Trail {
         self.queue_head_pos = 0;
     }
 
-    /// Begins a level after the literals that are there.
+    /// Begins a level after the literals on the trail.
     pub fn new_decision_level(&mut self) -> Result<(), AllocError>
         requires { length self.old.starts + 1 < 2 ^ 32 }
         ensures done { OnOk result (self.new ≡ with_level self.old) }
@@ -132,7 +134,7 @@ impl Trail {
         self.push_level()
     }
 
-    /// Begins a level, with the contract from which `new_decision_level` proves its own.
+    /// Begins a level. The contract of `new_decision_level` is proved from this contract.
     fn push_level(&mut self) -> Result<(), AllocError>
         requires { length self.old.starts + 1 < 2 ^ 32 }
         ensures done { OnOk result (self.new ≡ with_level self.old) }
@@ -151,7 +153,8 @@ impl Trail {
         self.decisions.len()
     }
 
-    /// Returns the number of literals that were cleared or are at level 0. It saturates at 2^64 - 1.
+    /// Returns the number of literals at level 0, including those that `clear` has removed. The number saturates at
+    /// 2^64 - 1.
     pub fn top_level_assignment_count(&self) -> usize
         ensures { result ≡ min (first_start self.now + self.now.cleared) (2 ^ 64 - 1) }
     {
@@ -170,7 +173,7 @@ impl Trail {
     }
 }
 
-/// Makes an unassigned literal true, and appends it to the trail and its queue. Never allocates.
+/// Makes an unassigned literal true, and appends it to the trail and to the queue. Never allocates.
 #[inline(always)] // called for each literal that propagation finds
 pub fn enqueue_assignment(
     assignment: &mut Assignment,
@@ -182,7 +185,7 @@ pub fn enqueue_assignment(
     requires value { variable lit < length assignment.old.current }
     requires node { variable lit < length graph.old }
     requires open { IsOpenLit assignment.old.current lit }
-    // If the parts agree, there is room for every open literal.
+    // If the state is consistent, there is room for every unassigned literal.
     requires room { StateIsConsistent (state_of assignment.old graph.old trail.old) ⊎ (length trail.old.lits < trail.old.room) }
     ensures value { assignment.new ≡ made_true lit assignment.old }
     ensures node { graph.new ≡ with_node (variable lit) (node_at trail.old reason) graph.old }
@@ -195,7 +198,7 @@ pub fn enqueue_assignment(
     push_assignment(assignment, graph, trail, lit, reason);
 }
 
-/// Makes an unassigned literal true, with the contract from which `enqueue_assignment` proves its own.
+/// Makes an unassigned literal true. The contract of `enqueue_assignment` is proved from this contract.
 #[inline(always)] // called for each literal that propagation finds
 fn push_assignment(
     assignment: &mut Assignment,
@@ -221,7 +224,7 @@ fn push_assignment(
     };
 }
 
-/// Removes the values of the literals' variables, and makes these variables available again.
+/// Removes the values of the literals' variables, and makes the variables available again.
 fn undo(assignment: &mut Assignment, vsids: &mut Vsids, lits: &[Lit])
     requires values { VariablesBelow lits.now (length assignment.old.current) }
     requires queue { VariablesBelow lits.now (length vsids.old.available) }
@@ -236,7 +239,8 @@ fn undo(assignment: &mut Assignment, vsids: &mut Vsids, lits: &[Lit])
 
 /// Undoes the levels above `level`. Does nothing if `level` is not lower than the current one. Never allocates.
 ///
-/// Their literals leave the trail, their variables become unassigned and available, and the queue is empty.
+/// The literals of these levels are removed from the trail, their variables become unassigned and available, and the
+/// queue becomes empty.
 pub fn backtrack(assignment: &mut Assignment, trail: &mut Trail, vsids: &mut Vsids, level: usize)
     requires values { VariablesBelow trail.old.lits (length assignment.old.current) }
     requires queue { VariablesBelow trail.old.lits (length vsids.old.available) }

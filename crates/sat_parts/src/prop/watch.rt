@@ -1,4 +1,4 @@
-//! The watch lists: for every literal the long clauses to visit when it becomes true.
+//! The watch lists: for every literal, the long clauses to visit when the literal becomes true.
 ghost use Rattle.std.specs.Prelude.{ℕ, IsTrue, ◌≡◌, ◌-◌, ◌*◌, ◌<◌, ◌≤◌, ◌∷◌, ◌++◌, [], length, OnOk, OnErr, take, drop};
 ghost use Rattle.std.specs.Prelude.{true, false, slice_index_or, slice_set, if◌then◌else◌, is_ok, vec_capacity};
 ghost use Rattle.sat_base.specs.values.Literals.{var_limit, negated};
@@ -16,14 +16,14 @@ use std::alloc::{AllocError, Global};
 use std::marker::Model;
 use std::mem;
 
-/// A long clause to visit, and its blocking literal: if that is true, the clause is not read.
+/// A long clause to visit, and its blocking literal. If the blocking literal is true, the clause is not read.
 #[derive(Clone, Copy)]
 pub struct Watch {
     pub cref: ClauseRef,
     pub blocking: Lit,
 }
 
-/// The watches of one literal. Contracts see their list.
+/// The watches of one literal. Contracts see the list of the watches.
 #[derive(Drop)]
 pub struct WatchList {
     watches: Vec<Watch>,
@@ -55,7 +55,7 @@ impl WatchList {
         self.watches.len()
     }
 
-    /// Returns the clause of a watch.
+    /// Returns the clause of the watch at position `at`.
     #[inline(always)] // called for each watch that propagation goes through
     pub fn cref(&self, at: usize) -> ClauseRef
         requires { at < length self.now }
@@ -65,7 +65,7 @@ impl WatchList {
         watch.cref
     }
 
-    /// Returns the blocking literal of a watch.
+    /// Returns the blocking literal of the watch at position `at`.
     #[inline(always)] // called for each watch that propagation goes through
     pub fn blocking(&self, at: usize) -> Lit
         requires { at < length self.now }
@@ -75,7 +75,7 @@ impl WatchList {
         watch.blocking
     }
 
-    /// Replaces a watch.
+    /// Replaces the watch at position `at`.
     #[inline(always)] // called for each watch that propagation goes through
     pub fn set(&mut self, at: usize, cref: ClauseRef, blocking: Lit)
         requires { at < length self.old }
@@ -123,13 +123,14 @@ impl WatchList {
     }
 }
 
-/// For every literal the watches to visit when it becomes true.
+/// For every literal, the watches to visit when the literal becomes true.
 ///
-/// Contracts see a `Watching`: the lists, by literal code, and whether they are enabled.
+/// Contracts see a `Watching`: the lists, indexed by literal code, and whether they are enabled.
 #[derive(Drop)]
 pub struct Watchlists {
     alloc: Global,
-    /// The lists of the first literals, with capacity for all. The others are empty and created when first watched.
+    /// The lists of the first literals, with capacity for the lists of all literals. The missing lists are empty; they
+    /// are created when one of them is first needed.
     watches: Vec<WatchList>,
     /// The number of literals.
     count: usize,
@@ -186,14 +187,14 @@ impl Watchlists {
         self.enabled
     }
 
-    /// Disables the lists: they are not updated until `enable_watchlists` rebuilds them.
+    /// Disables the lists. They are not updated until `enable_watchlists` rebuilds them.
     pub fn disable(&mut self)
         ensures { self.new ≡ record self.old { enabled = false } }
     {
         self.enabled = false;
     }
 
-    /// Lends the watches of a literal for writing.
+    /// Returns a mutable reference to the watches of a literal.
     pub fn watched_by_mut(&mut self, lit: Lit) -> &mut WatchList
         requires { lit < length self.old.lists }
         ensures value { result.now ≡ watches_of self.old.lists lit }
@@ -204,7 +205,7 @@ impl Watchlists {
         &mut self.watches[code]
     }
 
-    /// Appends a watch to those of a literal.
+    /// Appends a watch to the watches of a literal.
     #[inline(always)] // called for each clause that gets a new watch in propagation
     pub fn add_watch(&mut self, lit: Lit, watch: Watch) -> Result<(), AllocError>
         requires { lit < length self.old.lists }
@@ -258,7 +259,7 @@ impl Watchlists {
         list.pop();
     }
 
-    /// Watches two literals of a clause. Does nothing while the lists are disabled.
+    /// Watches two literals of a clause. Does nothing if the lists are disabled.
     pub fn watch_clause(&mut self, cref: ClauseRef, lits: [Lit; 2]) -> Result<(), AllocError>
         requires first { negated (slice_index_or lits 0 0) < length self.old.lists }
         requires second { negated (slice_index_or lits 1 0) < length self.old.lists }
@@ -289,7 +290,7 @@ impl Watchlists {
     }
 }
 
-/// Creates the lists of all literals. Capacity for them must have been reserved.
+/// Creates the missing lists of literals. Capacity for them must have been reserved.
 #[inline(never)] // called for the first watch, and for the first one after variables were added
 fn widen(alloc: Global, watches: &mut Vec<WatchList>, count: usize)
     requires { HasListRoom count (vec_capacity watches.old) watches.old.items }
@@ -301,7 +302,7 @@ fn widen(alloc: Global, watches: &mut Vec<WatchList>, count: usize)
     }
 }
 
-/// Creates the lists of all literals if the one with this code does not exist yet.
+/// Creates all missing lists if the list of the literal with this code is missing.
 #[inline(always)] // called for each clause that gets a new watch in propagation
 fn make_list(alloc: Global, watches: &mut Vec<WatchList>, count: usize, code: usize)
     requires room { HasListRoom count (vec_capacity watches.old) watches.old.items }
@@ -342,7 +343,7 @@ impl Watchlists {
 
 /// Rebuilds the watch lists if they are disabled: every live clause watches its first two literals.
 ///
-/// If memory runs out, the parts must not be used again.
+/// If memory runs out, the watch lists must not be used again.
 pub fn enable_watchlists(
     watchlists: &mut Watchlists,
     clauses: &ClauseAlloc,

@@ -112,9 +112,10 @@ impl<W: CountedWrite + Drop, P: ProofProcessor> Solver<W, P> {
 
     /// Adds the clauses of a text in DIMACS CNF, in order. The text is read in chunks of 4,096 bytes.
     ///
-    /// Clauses before an error, or before a clause that is refused, remain. The solver can still be used if the text is
-    /// malformed (`Malformed`), has a number above the limit (`VariableLimit`), or cannot be read (`Read`). The numbers
-    /// in the header are ignored; its variable count introduces no name.
+    /// A line that begins with `%` ends the text: the rest is read, but ignored. Clauses before an error, or before a
+    /// clause that is refused, remain. The solver can still be used if the text is malformed (`Malformed`), has a number
+    /// above the limit (`VariableLimit`), or cannot be read (`Read`). The numbers in the header are ignored; its
+    /// variable count introduces no name.
     pub fn add_dimacs_cnf<R: CountedRead>(&mut self, reader: &mut R) -> Result<(), SolverError>
         requires { IsSolver self.old }
         ensures solver { IsSolver self.new }

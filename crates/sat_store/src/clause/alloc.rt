@@ -18,7 +18,7 @@ use std::marker::Model;
 /// The number of words of a clause before its literals.
 const HEADER_LEN: usize = 3;
 
-/// A reference to a clause of a `ClauseAlloc`. Clauses that were added later have greater references.
+/// A reference to a clause in a `ClauseAlloc`. Clauses that were added later have greater references.
 ///
 /// Contracts see the offset of the first word of the clause.
 #[derive(Clone, Copy, Debug, PartialEq, Eq, PartialOrd, Ord)]
@@ -48,14 +48,14 @@ impl ClauseRef {
 /// Why a clause was not stored.
 #[derive(Clone, Copy, Debug, PartialEq, Eq)]
 pub enum StoreError {
-    /// The buffer has more than 2^32 - 1 words, so that no reference can name the next offset.
+    /// The buffer has more than 2^32 - 1 words, so that references can't represent the next offset.
     StoreFull,
     /// An allocation failed.
     OutOfMemory,
 }
 
 impl fmt::Display for StoreError {
-    /// Writes the reason as a short message in lower case.
+    /// Writes a short message in lower case.
     fn fmt<W: fmt::Write>(&self, f: &mut fmt::Formatter<W>) -> fmt::Result {
         match self {
             StoreError::StoreFull => write!(f, "no room for another clause"),
@@ -80,7 +80,7 @@ impl From<AllocError> for StoreError {
 
 /// The buffer of the long clauses: a map from references to headers and literals.
 ///
-/// Contracts see its words, and read them only through `IsClause`, `header_at` and `lits_at`.
+/// Contracts see the words of the buffer, and read them only through `IsClause`, `header_at` and `lits_at`.
 #[derive(Debug, Drop)]
 pub struct ClauseAlloc {
     words: Vec<u32>,
@@ -120,7 +120,8 @@ impl ClauseAlloc {
         self.words.len()
     }
 
-    /// Appends a clause of three or more literals. Its length is the number of literals, whatever the header says.
+    /// Appends a clause of three or more literals. The length of the clause is the number of literals, whatever the
+    /// header says.
     pub fn add_clause(
         &mut self,
         header: ClauseHeader,
@@ -148,7 +149,7 @@ impl ClauseAlloc {
 
     /// Appends a copy of a clause from another buffer.
     ///
-    /// Never returns `StoreFull` if this buffer is no longer than the offset of that clause.
+    /// Never returns `StoreFull` if the length of this buffer is at most the offset of `cref`.
     pub fn copy_clause(
         &mut self,
         from: &ClauseAlloc,
@@ -173,7 +174,7 @@ impl ClauseAlloc {
         })
     }
 
-    /// Removes a clause and all words after it. If the clause is the last one, only that clause is removed.
+    /// Removes a clause, and all clauses after it.
     pub fn truncate(&mut self, cref: ClauseRef)
         ensures { self.new ≡ take cref self.old }
     {
@@ -191,7 +192,7 @@ impl ClauseAlloc {
         ClauseHeader::from_words(self.words[at], self.words[at + 1], self.words[at + 2])
     }
 
-    /// Lends a clause to set fields of its header.
+    /// Returns a mutable view of a clause, for setting fields of its header.
     pub fn header_mut(&mut self, cref: ClauseRef) -> ClauseMut<'_>
         ensures buffer { result.buffer.ghost_name ≡ self.entry.ghost_name }
         ensures words { result.buffer.now ≡ self.old }
@@ -200,7 +201,7 @@ impl ClauseAlloc {
         self.clause_mut(cref)
     }
 
-    /// Replaces the header of a clause. A smaller length drops literals from the end.
+    /// Replaces the header of a clause. A smaller length drops literals from the end of the clause.
     pub fn set_header(&mut self, cref: ClauseRef, header: ClauseHeader)
         requires clause { IsClause self.old cref }
         requires no_longer { header.len ≤ length (lits_at self.old cref) }
@@ -214,7 +215,7 @@ impl ClauseAlloc {
         self.words[at + 2] = header.len() as u32;
     }
 
-    /// Lends a clause for reading.
+    /// Returns a view of a clause.
     pub fn clause(&self, cref: ClauseRef) -> Clause<'_>
         requires { IsClause self.now cref }
         ensures header { result.header ≡ header_at self.now cref }
@@ -225,7 +226,7 @@ impl ClauseAlloc {
         Clause::new(&self.words[at..end])
     }
 
-    /// Lends a clause for reading and writing.
+    /// Returns a mutable view of a clause.
     pub fn clause_mut(&mut self, cref: ClauseRef) -> ClauseMut<'_>
         ensures buffer { result.buffer.ghost_name ≡ self.entry.ghost_name }
         ensures words { result.buffer.now ≡ self.old }
@@ -244,7 +245,7 @@ impl ClauseAlloc {
         self.words[cref.offset as usize + 2] as usize
     }
 
-    /// Returns a literal of a clause.
+    /// Returns the literal of a clause at position `at`.
     #[inline(always)] // read for each literal that an inner loop looks at
     pub fn lit(&self, cref: ClauseRef, at: usize) -> Lit
         requires clause { IsClause self.now cref }
@@ -255,7 +256,7 @@ impl ClauseAlloc {
         Lit::from_code(self.words[cref.offset as usize + HEADER_LEN + at] as usize)
     }
 
-    /// Replaces a literal of a clause.
+    /// Replaces the literal of a clause at position `at`.
     #[inline(always)] // written for each clause that an inner loop reorders
     pub fn set_lit(&mut self, cref: ClauseRef, at: usize, lit: Lit)
         requires clause { IsClause self.old cref }
@@ -267,7 +268,7 @@ impl ClauseAlloc {
         self.words[cref.offset as usize + HEADER_LEN + at] = lit.code() as u32;
     }
 
-    /// Swaps two literals of a clause.
+    /// Swaps the literals of a clause at positions `i` and `j`.
     #[inline(always)] // written for each clause that an inner loop reorders
     pub fn swap_lits(&mut self, cref: ClauseRef, i: usize, j: usize)
         requires clause { IsClause self.old cref }
@@ -284,7 +285,7 @@ impl ClauseAlloc {
     }
 }
 
-/// Appends the codes of literals to the words. Capacity for them must have been reserved.
+/// Appends the codes of literals to `words`. Capacity for them must have been reserved.
 fn push_lits(words: &mut Vec<u32>, lits: &[Lit])
     requires { vec_len words.old + length lits.now ≤ vec_capacity words.old }
     ensures words { words.new.items ≡ words.old.items ++ lits.now }

@@ -1,4 +1,4 @@
-//! A view of a clause for reading and writing, lent from the buffer.
+//! A mutable view of a clause, which borrows from the buffer.
 ghost use Rattle.std.specs.Prelude.{◌≡◌, ◌<◌, ◌≤◌, ℕ, length, min, slice_index, slice_set, take};
 ghost use Rattle.std.specs.Map.Iter.{ShowsInOrder};
 ghost use Rattle.sat_store.specs.clause.Header.{is_learned};
@@ -10,7 +10,7 @@ use crate::clause::tier::Tier;
 use crate::clause::view::LitsIter;
 use sat_base::Lit;
 
-/// A clause of the buffer, lent for reading and writing.
+/// A mutable view of a clause in the buffer.
 #[derive(Drop)]
 pub struct ClauseMut<'a> {
     /// The buffer of the clause.
@@ -22,7 +22,7 @@ pub struct ClauseMut<'a> {
 impl<'a> ClauseMut<'a> {
     ghost use Rattle.sat_store.specs.clause.Edits.{Edits, IsViewOfClause, header_there, lits_there};
 
-    /// Returns this view, which sets the fields of the header.
+    /// Returns the view itself, which can set the fields of the header.
     pub fn header_mut(&mut self) -> &mut ClauseMut<'a>
         ensures same { result.ghost_name ≡ self.entry.ghost_name }
         ensures value { result.now ≡ self.old }
@@ -30,7 +30,7 @@ impl<'a> ClauseMut<'a> {
         self
     }
 
-    /// Returns this view, which sets and swaps the literals.
+    /// Returns the view itself, which can set and swap the literals.
     pub fn lits_mut(&mut self) -> &mut ClauseMut<'a>
         ensures same { result.ghost_name ≡ self.entry.ghost_name }
         ensures value { result.now ≡ self.old }
@@ -62,7 +62,7 @@ impl<'a> ClauseMut<'a> {
         self.header().tier()
     }
 
-    /// Whether the clause is a learned one: its tier is not `Irred`.
+    /// Whether the clause is learned: its tier is not `Irred`.
     pub fn redundant(&self) -> bool
         requires { IsViewOfClause self.now }
         ensures { result ≡ is_learned (header_there self.now).tier }
@@ -86,7 +86,7 @@ impl<'a> ClauseMut<'a> {
         self.header().active()
     }
 
-    /// Returns the glue of the clause, at most 63.
+    /// Returns the glue of the clause, which is at most 63.
     pub fn glue(&self) -> usize
         requires { IsViewOfClause self.now }
         ensures { result ≡ (header_there self.now).glue }
@@ -110,7 +110,7 @@ impl<'a> ClauseMut<'a> {
         self.buffer.len(self.cref)
     }
 
-    /// Returns a literal.
+    /// Returns the literal at position `at`.
     pub fn get(&self, at: usize) -> Lit
         requires clause { IsViewOfClause self.now }
         requires within { at < length (lits_there self.now) }
@@ -128,7 +128,7 @@ impl<'a> ClauseMut<'a> {
         self.buffer.clause(self.cref).lits().iter()
     }
 
-    /// Replaces a literal.
+    /// Replaces the literal at position `at`.
     pub fn set(&mut self, at: usize, lit: Lit)
         requires clause { IsViewOfClause self.old }
         requires within { at < length (lits_there self.old) }
@@ -138,7 +138,7 @@ impl<'a> ClauseMut<'a> {
         self.buffer.set_lit(self.cref, at, lit);
     }
 
-    /// Swaps two literals.
+    /// Swaps the literals at positions `i` and `j`.
     pub fn swap(&mut self, i: usize, j: usize)
         requires clause { IsViewOfClause self.old }
         requires first_within { i < length (lits_there self.old) }
@@ -149,7 +149,7 @@ impl<'a> ClauseMut<'a> {
         self.buffer.swap_lits(self.cref, i, j);
     }
 
-    /// Replaces the header by one of the same length.
+    /// Replaces the header. The new header must have the length of the old one.
     fn set_header(&mut self, header: ClauseHeader)
         requires clause { IsViewOfClause self.old }
         requires same_len { header.len ≡ (header_there self.old).len }
@@ -206,7 +206,7 @@ impl<'a> ClauseMut<'a> {
         self.set_header(header);
     }
 
-    /// Sets whether the clause was used.
+    /// Sets whether the clause counts as used.
     pub fn set_active(&mut self, active: bool)
         requires { IsViewOfClause self.old }
         ensures buffer { self.new.buffer.ghost_name ≡ self.old.buffer.ghost_name }
@@ -218,7 +218,7 @@ impl<'a> ClauseMut<'a> {
         self.set_header(header);
     }
 
-    /// Sets the glue of the clause, or 63 if it is larger.
+    /// Sets the glue of the clause to `glue`, or to 63 if `glue` is larger.
     pub fn set_glue(&mut self, glue: usize)
         requires { IsViewOfClause self.old }
         ensures buffer { self.new.buffer.ghost_name ≡ self.old.buffer.ghost_name }

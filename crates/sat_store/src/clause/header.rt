@@ -1,15 +1,17 @@
-//! The header of a long clause: its data besides the literals.
+//! The header of a long clause: all of its data except for the literals.
 ghost use Rattle.std.specs.Prelude.{◌≡◌, ◌<◌, ◌^◌, min};
 ghost use Rattle.sat_store.specs.clause.Header.{header_of, no_header, is_learned};
 
 use crate::clause::tier::Tier;
 use std::marker::Model;
 
-/// The activity, tier, flags, glue and length of a clause, in three words. Contracts see a `Header` of these.
+/// The activity, tier, flags, glue and length of a clause, packed into three words. Contracts see a `Header` with
+/// these fields.
 #[derive(Clone, Copy)]
 pub struct ClauseHeader {
     activity: u32,
-    /// From the lowest bit: two bits of tier, deleted, mark, six bits of glue, active.
+    /// From the lowest bit: two bits for the tier, one for `deleted`, one for `mark`, six for the glue, and one
+    /// for `active`.
     flags: u32,
     len: u32,
 }
@@ -47,14 +49,14 @@ impl Default for ClauseHeader {
 }
 
 impl ClauseHeader {
-    /// Returns the header of an irredundant clause without literals. All flags are false; glue and activity are 0.
+    /// Returns the header of an irredundant clause without literals. All flags are false, and glue and activity are 0.
     pub fn new() -> ClauseHeader
         ensures { result ≡ no_header }
     {
         ClauseHeader::default()
     }
 
-    /// Returns the header that these words hold.
+    /// Returns the header that is packed into these words.
     #[inline(always)] // read for each clause that an inner loop looks at
     pub(crate) fn from_words(activity: u32, flags: u32, len: u32) -> ClauseHeader
         requires { flags < 2 ^ 11 }
@@ -68,7 +70,7 @@ impl ClauseHeader {
         }
     }
 
-    /// Returns the word of flags.
+    /// Returns the word that holds the tier, the flags and the glue.
     pub(crate) fn flags(&self) -> u32
         ensures value { header_of self.now.activity result self.now.len ≡ self.now }
         ensures bound { result < 2 ^ 11 }
@@ -92,7 +94,7 @@ impl ClauseHeader {
         self.len = len as u32;
     }
 
-    /// Whether the clause was deleted. Its words stay until garbage is collected.
+    /// Whether the clause was deleted. A deleted clause stays in the buffer until garbage is collected.
     pub fn deleted(&self) -> bool
         ensures { result ≡ self.now.deleted }
     {
@@ -125,14 +127,14 @@ impl ClauseHeader {
         self.flags = self.flags / 4 * 4 + tier.index() as u32;
     }
 
-    /// Whether the clause is a learned one: its tier is not `Irred`.
+    /// Whether the clause is learned: its tier is not `Irred`.
     pub fn redundant(&self) -> bool
         ensures { result ≡ is_learned self.now.tier }
     {
         self.flags % 4 != 0
     }
 
-    /// Whether the clause is marked. Passes over all clauses use the mark.
+    /// Whether the clause is marked. Passes over all clauses use this mark.
     pub fn mark(&self) -> bool
         ensures { result ≡ self.now.mark }
     {
@@ -153,21 +155,22 @@ impl ClauseHeader {
         self.flags / 1024 % 2 == 1
     }
 
-    /// Sets whether the clause was used.
+    /// Sets whether the clause counts as used.
     pub fn set_active(&mut self, active: bool)
         ensures { self.new ≡ record self.old { active = active } }
     {
         self.flags = u32::from(active) * 1024 + self.flags % 1024;
     }
 
-    /// Returns the glue, at most 63: one less than the smallest number of levels seen in the clause.
+    /// Returns the glue, which is at most 63: one less than the smallest number of levels that the clause was seen
+    /// to have.
     pub fn glue(&self) -> usize
         ensures { result ≡ self.now.glue }
     {
         (self.flags / 16 % 64) as usize
     }
 
-    /// Sets the glue, or 63 if it is larger.
+    /// Sets the glue to `glue`, or to 63 if `glue` is larger.
     pub fn set_glue(&mut self, glue: usize)
         ensures { self.new ≡ record self.old { glue = min glue 63 } }
     {
@@ -175,7 +178,7 @@ impl ClauseHeader {
         self.flags = self.flags / 1024 * 1024 + kept * 16 + self.flags % 16;
     }
 
-    /// Returns the activity: how often the clause was useful, on the scale of the current bump.
+    /// Returns the activity, which measures how much the clause was used, on the scale of the current bump.
     pub fn activity(&self) -> u32
         ensures { result ≡ self.now.activity }
     {

@@ -2,16 +2,16 @@
 ghost use Rattle.std.specs.Prelude.{◌≡◌, ◌≤◌, MatchOption};
 ghost use Rattle.sat_store.specs.clause.Header.{index_of};
 
-/// How long a clause is kept.
+/// The tier of a clause, which determines how long the clause is kept.
 #[derive(Clone, Copy, Debug, PartialEq, Eq)]
 pub enum Tier {
-    /// An irredundant clause, which is never dropped.
+    /// An irredundant clause, which is not removed by reductions.
     Irred = 0,
-    /// A learned clause of low glue, which is kept.
+    /// A learned clause with a low glue, which is not removed by reductions.
     Core = 1,
     /// A learned clause that becomes `Local` if it is not used for a while.
     Mid = 2,
-    /// A learned clause that is dropped if its activity is low.
+    /// A learned clause that a reduction removes if its activity is low.
     Local = 3,
 }
 
@@ -23,7 +23,7 @@ impl Tier {
         4
     }
 
-    /// Returns the tier with this number, counting from 0, or `None` if there is none.
+    /// Returns the tier with this number, or `None` if there is none. Tiers are counted from 0.
     pub fn from_index(index: usize) -> Option<Tier>
         ensures { MatchOption result (4 ≤ index) (λ tier. index_of tier ≡ index) }
     {
@@ -36,7 +36,7 @@ impl Tier {
         }
     }
 
-    /// Returns the number of the tier, counting from 0.
+    /// Returns the number of the tier. Tiers are counted from 0.
     pub fn index(self) -> usize
         ensures { result ≡ index_of self }
     {

@@ -1,4 +1,4 @@
-//! Views of a clause for reading, lent from the buffer.
+//! Views of a clause, for reading. They borrow from the buffer.
 ghost use Rattle.std.specs.Prelude.{◌≡◌, ◌<◌, ◌*◌, List, ℕ, [], length, slice_index, drop, IsTrue, ◌↔◌};
 ghost use Rattle.std.specs.List.{All};
 ghost use Rattle.std.specs.Iterator.{at_most};
@@ -14,7 +14,7 @@ use std::marker::Model;
 /// The number of words of a clause before its literals.
 const HEADER_LEN: usize = 3;
 
-/// A clause, lent for reading. Contracts see its header and its literals.
+/// A view of a clause, for reading. Contracts see the header and the literals of the clause.
 #[derive(Drop)]
 pub struct Clause<'a> {
     words: &'a [u32],
@@ -31,7 +31,7 @@ impl<'a> Model for Clause<'a> {
 }
 
 impl<'a> Clause<'a> {
-    /// Returns the clause that these words hold.
+    /// Returns a view of the clause that `words` holds.
     pub(crate) fn new(words: &'a [u32]) -> Clause<'a>
         requires { IsClause words.now 0 }
         ensures header { result.header ≡ header_at words.now 0 }
@@ -58,7 +58,7 @@ impl<'a> Clause<'a> {
     }
 }
 
-/// The literals of a clause, lent for reading. Contracts see their list.
+/// A view of the literals of a clause, for reading. Contracts see the list of the literals.
 #[derive(Drop)]
 pub struct Lits<'a> {
     words: &'a [u32],
@@ -84,7 +84,7 @@ impl<'a> Lits<'a> {
         Lits { words: &[] }
     }
 
-    /// Returns the literals after the first.
+    /// Returns the literals after the first one. There must be a first one.
     pub fn without_first(&self) -> Lits<'a>
         requires { 0 < length self.now }
         ensures { result ≡ drop 1 self.now }
@@ -108,7 +108,7 @@ impl<'a> Lits<'a> {
         self.words.is_empty()
     }
 
-    /// Returns a literal.
+    /// Returns the literal at position `at`.
     pub fn get(&self, at: usize) -> Lit
         requires { at < length self.now }
         ensures { result ≡ slice_index self.now at }
@@ -126,7 +126,7 @@ impl<'a> Lits<'a> {
     }
 }
 
-/// An iterator over the literals of a clause, in order. Contracts see the literals that it has yet to return.
+/// An iterator over the literals of a clause, in order. Contracts see the literals that are still to come.
 #[derive(Drop)]
 pub struct LitsIter<'a> {
     words: &'a [u32],

@@ -1,4 +1,4 @@
-//! A heap with four children per node, in a list of all variables with their activities.
+//! A heap with four children per node, at the start of a list of all variables with their activities.
 ghost use Rattle.std.specs.Prelude.{◌≡◌, ◌+◌, ◌*◌, ◌<◌, ◌≤◌, ◌↔◌, IsTrue, length, MatchOption, slice_set, ◌-◌, true};
 ghost use Rattle.std.specs.Prelude.{false, vec_capacity};
 ghost use Rattle.sat_base.specs.values.Literals.{var_limit};
@@ -13,7 +13,7 @@ pub(super) struct Entry {
     pub(super) var: u32,
 }
 
-/// Writes an entry at a position, and records the position for its variable.
+/// Writes an entry at a position, and records that position for the entry's variable.
 #[inline(always)] // called for each step through the heap
 fn put(heap: &mut Vec<Entry>, positions: &mut Vec<u32>, at: usize, entry: Entry)
     requires few { length heap.old.items ≤ var_limit }
@@ -40,7 +40,8 @@ pub(super) fn exchange(heap: &mut Vec<Entry>, positions: &mut Vec<u32>, i: usize
     put(heap, positions, j, first);
 }
 
-/// Whether `a` comes before `b`: its activity is higher, or equal and its index is lower.
+/// Whether `a` comes before `b`: the activity of `a` is higher, or the activities are equal and the index of `a`
+/// is lower.
 #[inline(always)] // each step through the heap asks this once or more
 fn is_above(a: Entry, b: Entry) -> bool
     requires first { a.var < var_limit }
@@ -82,7 +83,7 @@ pub(super) fn sift_up(heap: &mut Vec<Entry>, positions: &mut Vec<u32>, available
     put(heap, positions, hole, entry);
 }
 
-/// Returns the child that comes before the other children of a position. The position must have a child.
+/// Returns the child of a position that comes before the other children. The position must have a child.
 #[inline(always)] // each step down asks this
 fn first_child(heap: &[Entry], available: usize, at: usize) -> usize
     requires listed { HoldsVariables heap.now }
@@ -108,7 +109,7 @@ fn first_child(heap: &[Entry], available: usize, at: usize) -> usize
     child
 }
 
-/// Returns the first child of a position if it comes before `entry`, otherwise `None`.
+/// Returns the child of a position that comes before the other children, if it also comes before `entry`.
 #[inline(always)] // each step down asks this
 fn child_above(heap: &[Entry], available: usize, entry: Entry, at: usize) -> Option<usize>
     requires listed { HoldsVariables heap.now }
@@ -153,7 +154,7 @@ pub(super) fn sift_down(
     put(heap, positions, hole, entry);
 }
 
-/// Orders the heap from the bottom up.
+/// Turns the first `available` entries into a heap, from the bottom up.
 pub(super) fn heapify(heap: &mut Vec<Entry>, positions: &mut Vec<u32>, available: usize)
     requires placed { Placed heap.old.items positions.old.items }
     requires few { length heap.old.items ≤ var_limit }
@@ -168,7 +169,7 @@ pub(super) fn heapify(heap: &mut Vec<Entry>, positions: &mut Vec<u32>, available
     }
 }
 
-/// Removes the variable at a position from the heap, so that one fewer variable is available.
+/// Removes the variable at a position from the heap, so that there is one less available variable.
 pub(super) fn take_out(heap: &mut Vec<Entry>, positions: &mut Vec<u32>, available: usize, at: usize)
     requires heap { IsHeap heap.old.items positions.old.items available }
     requires at { at < available }
@@ -189,7 +190,8 @@ pub(super) fn take_out(heap: &mut Vec<Entry>, positions: &mut Vec<u32>, availabl
     sift_down(heap, positions, last, at);
 }
 
-/// Inserts the variable at a position after the heap, so that one more variable is available.
+/// Inserts the variable at position `at`, which must be after the heap, into the heap, so that there is one more
+/// available variable.
 pub(super) fn put_in(heap: &mut Vec<Entry>, positions: &mut Vec<u32>, available: usize, at: usize)
     requires heap { IsHeap heap.old.items positions.old.items available }
     requires behind { available ≤ at }
@@ -203,7 +205,7 @@ pub(super) fn put_in(heap: &mut Vec<Entry>, positions: &mut Vec<u32>, available:
     sift_up(heap, positions, available + 1, available);
 }
 
-/// Appends new variables with activity 0 until there are `count`. Capacity for them must have been reserved.
+/// Appends new variables with activity 0 until there are `count` variables. Capacity for them must have been reserved.
 pub(super) fn add_variables(heap: &mut Vec<Entry>, positions: &mut Vec<u32>, count: usize)
     requires heap_room { count ≤ vec_capacity heap.old }
     requires positions_room { count ≤ vec_capacity positions.old }

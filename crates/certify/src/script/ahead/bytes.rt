@@ -1,11 +1,11 @@
-//! Consumes bytes that were read before they are needed.
+//! Reads chunks, and consumes their bytes.
 ghost use Rattle.std.specs.Prelude.{◌≡◌, ◌+◌, ◌≤◌, [], length, drop, OnOk};
 ghost use Rattle.certify.specs.script.LastPiece.{RefillsAhead, source_in, waiting_bytes};
 
 use super::{LastPiece, PIECE};
 use sat_base::{CountedRead, ReadError};
 
-/// The largest number of reads.
+/// The largest number of reads of one reader.
 const MAX_READS: u64 = 1 << 48;
 
 impl LastPiece {
@@ -22,14 +22,14 @@ impl LastPiece {
         }
     }
 
-    /// Returns the bytes that are not consumed yet.
+    /// Returns the bytes that have not been consumed yet.
     pub fn waiting(&self) -> &[u8]
         ensures { result.now ≡ waiting_bytes self.now }
     {
         &self.piece[self.at..self.end]
     }
 
-    /// Consumes `count` of these bytes.
+    /// Consumes the first `count` bytes that have not been consumed yet. There must be as many.
     pub fn take(&mut self, count: usize)
         requires { count ≤ length (waiting_bytes self.old) }
         ensures waiting { waiting_bytes self.new ≡ drop count (waiting_bytes self.old) }
@@ -38,8 +38,8 @@ impl LastPiece {
         self.at += count;
     }
 
-    /// Reads the next chunk, if all of the last one is consumed. Returns its length, which is 0 only at the reader's
-    /// end.
+    /// Reads the next chunk. The last chunk must have been consumed completely. Returns the length of the new chunk,
+    /// which is 0 only at the end of the reader.
     pub fn refill<R: CountedRead>(&mut self, reader: &mut R) -> Result<usize, ReadError>
         requires { waiting_bytes self.old ≡ [] }
         ensures bytes { RefillsAhead result (source_in R.seen reader.old self.old) (source_in R.seen reader.new self.new) }
