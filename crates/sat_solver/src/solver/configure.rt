@@ -31,6 +31,9 @@ fn hand_on<W: CountedWrite + Drop, P: ProofProcessor>(core: &mut Core<W, P>, sta
 impl<W: CountedWrite + Drop, P: ProofProcessor> Solver<W, P> {
     /// Changes the parameters as `update` says. If one of its fields is out of range, returns `OutOfRange` and
     /// changes nothing.
+    ///
+    /// The new parameters apply to all later rounds; the answer is unchanged. A new `luby_restart_interval_scale` does
+    /// not change when the next restart is due, but only the gaps after that restart.
     pub fn config(&mut self, update: &SolverConfigUpdate) -> Result<(), SolverError>
         requires { IsSolver self.old }
         ensures solver { IsSolver self.new }

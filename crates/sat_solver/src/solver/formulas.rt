@@ -112,10 +112,12 @@ impl<W: CountedWrite + Drop, P: ProofProcessor> Solver<W, P> {
 
     /// Adds the clauses of a text in DIMACS CNF, in order. The text is read in chunks of 4,096 bytes.
     ///
-    /// A line that begins with `%` ends the text: the rest is read, but ignored. Clauses before an error, or before a
-    /// clause that is refused, remain. The solver can still be used if the text is malformed (`Malformed`), has a number
-    /// above the limit (`VariableLimit`), or cannot be read (`Read`). The numbers in the header are ignored; its
-    /// variable count introduces no name.
+    /// The text may have one header, before its first clause; a header anywhere else is malformed. The numbers in the
+    /// header are ignored, and its variable count introduces no name. A line that begins with `%` ends the text: the
+    /// rest is read, but ignored. A text that ends inside a clause is malformed.
+    ///
+    /// Clauses before an error, or before a clause that is refused, remain. The solver can still be used if the text is
+    /// malformed (`Malformed`), has a number above the limit (`VariableLimit`), or cannot be read (`Read`).
     pub fn add_dimacs_cnf<R: CountedRead>(&mut self, reader: &mut R) -> Result<(), SolverError>
         requires { IsSolver self.old }
         ensures solver { IsSolver self.new }

@@ -40,7 +40,9 @@ impl<W: CountedWrite + Drop, P: ProofProcessor> Solver<W, P> {
     /// Hides a name, which is introduced first if it is not in use.
     ///
     /// The variable of the name remains in the clauses, and the name can be introduced again, for a new variable.
-    /// If the variable has no index, it is in no clause and is deleted immediately. The answer is unchanged.
+    /// A variable that no clause or assumption has used is deleted immediately, and so is one that, as a simplification
+    /// has found, no clause uses any more. Any other variable remains in use, at least until a later simplification
+    /// finds that no clause uses it. The answer is unchanged.
     /// Errors: `AssumedVariable` if the name is assumed; `VariableLimit` if there is no variable for a name that
     /// would be introduced.
     pub fn hide_var(&mut self, user: Var) -> Result<(), SolverError>
@@ -91,8 +93,8 @@ impl<W: CountedWrite + Drop, P: ProofProcessor> Solver<W, P> {
     /// Sets the mode of a name to witness. If the name is not in use, it is introduced first.
     ///
     /// From then on, clauses and assumptions that contain the name are refused. The answer is unchanged. Errors:
-    /// `AssumedVariable` if the name is assumed, even if it already has this mode; `VariableLimit` if there is no
-    /// variable for a name that would be introduced.
+    /// `AssumedVariable` if the name is assumed; `VariableLimit` if there is no variable for a name that would be
+    /// introduced.
     pub fn witness_var(&mut self, user: Var) -> Result<(), SolverError>
         requires { IsSolver self.old }
         ensures solver { IsSolver self.new }

@@ -25,6 +25,9 @@ impl<W: CountedWrite + Drop, P: ProofProcessor> Solver<W, P> {
     /// Returns `TooLate` if the solver has received a clause, a name, assumptions or an ask, or if a proof is open.
     /// After an error, the target has been dropped. While DRAT lines are written, `assume` returns `NotInDrat`, and so
     /// does `add_clause` after the first `solve`.
+    ///
+    /// DRAT lines list derived and deleted clauses, but not the added ones. Their literals are proof variables, numbered
+    /// from 1. Until a name is hidden, the variable of name n has the number n; afterwards the numbers may differ.
     pub fn write_proof(&mut self, target: W, format: ProofFormat) -> Result<(), SolverError>
         requires { IsSolver self.old }
         ensures solver { IsSolver self.new }
@@ -43,8 +46,8 @@ impl<W: CountedWrite + Drop, P: ProofProcessor> Solver<W, P> {
     /// Starts the solver's own checker, which receives all further steps.
     ///
     /// The checker receives the steps that a proof in the format `Varisat` would contain, except for the ends of
-    /// proofs, and rejects none of these steps. Returns `TooLate` if the solver has received a clause, a name,
-    /// assumptions or an ask.
+    /// proofs, and rejects none of these steps. If there is a checker already, nothing changes. Returns `TooLate` if
+    /// the solver has received a clause, a name, assumptions or an ask.
     pub fn enable_self_checking(&mut self) -> Result<(), SolverError>
         requires { IsSolver self.old }
         ensures solver { IsSolver self.new }
