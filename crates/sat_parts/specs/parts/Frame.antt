@@ -156,7 +156,7 @@ pub record RemovesBinaries (p p' : Parts) : Type 0 where
   pub state : SameState p p'
   pub queue : p'.vsids ≡ p.vsids
 
--- there are `count` variables; the new ones are unassigned, may not be picked, and are in no clause
+-- there are `count` variables, at the same level; the new ones are unassigned, may not be picked, and are in no clause
 pub record AddsVars (p p' : Parts) (count : ℕ) : Type 0 where
   pub size : length p'.assignment.current ≡ count
   pub values : (v : ℕ) → value_of p'.assignment.current v ≡ value_of p.assignment.current v
@@ -165,6 +165,7 @@ pub record AddsVars (p p' : Parts) (count : ℕ) : Type 0 where
   pub db : p'.db ≡ p.db
   pub binary : p'.binary ≡ with_binary_lists (2 * count) p.binary
   pub units : (l : ℕ) → IsUnitLit (state p') l → IsUnitLit (state p) l
+  pub starts : p'.trail.starts ≡ p.trail.starts
   pub keeps : KeepsLevels p p'
 
 -- a variable lost its value, and may not be picked

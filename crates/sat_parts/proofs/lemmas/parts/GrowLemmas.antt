@@ -230,6 +230,7 @@ grown_frame p n w h le =
       db = refl;
       binary = refl;
       units = λ l u. grown_units n p.assignment p.graph p.trail l le small u;
+      starts = refl;
       keeps = λ top. grown_keeps top n p.assignment p.graph p.trail le small;
     }
 

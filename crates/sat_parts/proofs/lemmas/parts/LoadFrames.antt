@@ -11,7 +11,7 @@ use Rattle.sat_parts.specs.clause.Db.{Db, AddsLongClause}
 use Rattle.sat_parts.specs.prop.Binaries.{Binaries, with_binary}
 use Rattle.sat_parts.specs.prop.Graphs.{is_unit_reason, node_at, node_of, new_node}
 use Rattle.sat_parts.specs.prop.Values.{IsTrueLit, value_of, assigned}
-use Rattle.sat_parts.specs.prop.State.{State, node, lit_at, IsRemoved, StateIsConsistent, enqueued}
+use Rattle.sat_parts.specs.prop.State.{State, node, level, lit_at, IsRemoved, StateIsConsistent, enqueued}
 use Rattle.sat_parts.proofs.lemmas.prop.StateLemmas.{lit_front, lit_last}
 use Rattle.sat_parts.specs.declared.parts.Parts.{Parts}
 use Rattle.sat_parts.specs.declared.parts.load.Loaded.{Loaded}
@@ -116,6 +116,17 @@ says_units Stored p p' ls says l u = inl (stored_units p p' ls says l u)
 says_units One p p' ls says l u = elim (says.3.units l u) [ inl o ↦ inl o | inr e ↦ inr (omega (arith, says.0), e) ]
 says_units Satisfied p p' ls says l u = inl (says.1.units l u)
 says_units Falsified p p' ls says l u = inl (says.3.units l u)
+
+-- the literals of level 0 stay
+stored_bottom : (p p' : Parts) (ls : List ℕ) → AddsOriginalClause p p' ls → (l : ℕ) → IsTrueLit p.assignment.current l → level (state p) l ≡ 0 → IsTrueLit p'.assignment.current l × (level (state p') l ≡ 0)
+stored_bottom p p' ls (stores_binary two a b c carries) l t z = carries.bottom l t z
+stored_bottom p p' ls (stores_long three o adds b carries) l t z = carries.bottom l t z
+
+pub says_bottom : (r : Loaded) (p p' : Parts) (ls : List ℕ) → LoadEffect r p p' ls → (l : ℕ) → IsTrueLit p.assignment.current l → level (state p) l ≡ 0 → IsTrueLit p'.assignment.current l × (level (state p') l ≡ 0)
+says_bottom Stored p p' ls says l t z = stored_bottom p p' ls says l t z
+says_bottom One p p' ls says l t z = says.3.bottom l t z
+says_bottom Satisfied p p' ls says l t z = says.1.bottom l t z
+says_bottom Falsified p p' ls says l t z = says.3.bottom l t z
 
 -- a variable that no clause has loses its value
 pub freed_frame : (p : Parts) (v : ℕ) → p.trail.lits ≡ [] → v < length p.assignment.current → FreesVar p (record p { assignment = assigned v None p.assignment; vsids = with_available v false p.vsids }) v
