@@ -1,7 +1,7 @@
 pub mod Alike
-pub mod Bottom
 pub mod Faults
 pub mod Loaded
 pub mod Literals
+pub mod Restart
 pub mod Clauses
 pub mod Assumed

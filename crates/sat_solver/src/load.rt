@@ -11,15 +11,14 @@ ghost use Rattle.sat_solver.specs.load.Loaded.{LoadsClause};
 ghost use Rattle.sat_parts.specs.clause.Glue.{VariablesBelow};
 
 pub mod assume;
-pub mod backtrack;
 pub mod clause;
 pub mod faults;
 pub mod literals;
+pub mod restart;
 
 use crate::cdcl::fault::Fault;
 use crate::context::Search;
 use crate::decision::make_ready;
-use crate::load::backtrack::back_to_bottom;
 use crate::proof::Proof;
 use crate::proof::map_step::map_lits;
 use sat_base::{CountedWrite, DeleteClauseProof, Lit, ProofStep, Var};
@@ -82,7 +81,6 @@ pub fn load_clause<W: CountedWrite + Drop, P: ProofProcessor>(
 {
     make_ready(&mut search.parts, lits);
     let loaded = load(&mut search.parts, lits, sorting)?;
-    back_to_bottom(search);
     match loaded {
         Loaded::Stored => Ok(true),
         Loaded::Unit => Ok(true),

@@ -15,6 +15,7 @@ use crate::load::assume::assume;
 use crate::load::clause::add_clause;
 use crate::load::literals::Taken;
 use crate::load::load_clause;
+use crate::load::restart::full_restart;
 use crate::variables::Variables;
 use crate::variables::initialize::new_indices;
 use sat_base::{CountedWrite, Lit};
@@ -28,8 +29,8 @@ pub struct Loading {
     pub sorting: Sorting,
 }
 
-/// Adds a clause without a name of mode witness, when the clauses are not known to be unsatisfiable. Returns whether
-/// the formula may still be satisfiable.
+/// Restarts the search, and adds a clause without a name of mode witness, when the clauses are not known to be
+/// unsatisfiable. Returns whether the formula may still be satisfiable.
 pub fn take_clause<W: CountedWrite + Drop, P: ProofProcessor>(
     core: &mut Core<W, P>,
     names: &mut Variables,
@@ -41,6 +42,7 @@ pub fn take_clause<W: CountedWrite + Drop, P: ProofProcessor>(
     ensures takes { TakesClause W.seen result names.old names.new core.old core.new lits.now }
     ensures room { HasVariablesFor names.old (users_in lits.now) → IfErr result (IsFaultOr (IsFull core.new.search.parts)) }
 {
+    full_restart(&mut core.search);
     let both_signs = add_clause(names, &mut core.proof, lits, &mut loading.taken)?;
     new_indices(&mut core.search, &names.globals, &loading.taken.given)?;
     if both_signs {
@@ -54,7 +56,7 @@ pub fn take_clause<W: CountedWrite + Drop, P: ProofProcessor>(
     )
 }
 
-/// Replaces the assumptions with these, which have no name of mode witness.
+/// Restarts the search, and replaces the assumptions with these, which have no name of mode witness.
 pub fn take_assumptions<W: CountedWrite + Drop, P: ProofProcessor>(
     core: &mut Core<W, P>,
     names: &mut Variables,
@@ -67,6 +69,7 @@ pub fn take_assumptions<W: CountedWrite + Drop, P: ProofProcessor>(
     ensures takes { TakesAssumptions W.seen result names.old names.new core.old core.new lits.now asked.new }
     ensures room { HasVariablesFor names.old (users_in lits.now) → IfErr result IsFault }
 {
+    full_restart(&mut core.search);
     assume(names, &mut core.proof, lits, asked)?;
     new_indices(&mut core.search, &names.globals, &asked.given)?;
     set_assumptions(&mut core.search, &asked.order)?;

@@ -8,7 +8,6 @@ ghost use Rattle.sat_solver.specs.variables.Initialized.{IsVacant, AreVacant, Ta
 ghost use Rattle.sat_solver.specs.variables.Initialized.{GivesSearchIndices};
 
 use crate::context::Search;
-use crate::load::backtrack::back_to_bottom;
 use crate::variables::solver_vars::Given;
 use sat_base::Var;
 use sat_parts::Parts;
@@ -71,35 +70,24 @@ fn count_with(count: usize, given: &[Given]) -> usize
     all
 }
 
-/// Makes room for the indices that proof variables were given, backtracks to level 0, and adds them.
-fn add_indices(search: &mut Search, globals: &[Var], given: &[Given]) -> Result<(), AllocError>
-    requires holds { PartsInvariant search.old.parts }
-    requires same { length search.old.globals.items ≡ length search.old.parts.assignment.current }
-    requires vacant { AreVacant search.old.parts (length globals.now) given.now }
-    ensures { OnOk result (GivesSearchIndices globals.now given.now search.old search.new) }
-{
-    let count = count_with(search.globals.len(), given);
-    grow(search.alloc, &mut search.parts, count)?;
-    search.analysis.set_var_count(count)?;
-    search.flags.set_var_count(count)?;
-    search.globals.resize(count, Var::from_index(0))?;
-    back_to_bottom(search);
-    rename(&mut search.globals, globals, given);
-    take_indices(&mut search.parts, given);
-    Ok(())
-}
-
-/// Backtracks to level 0, and adds the indices that proof variables were given: new ones, or released ones. `globals`
-/// has the proof variable that each index has, or had last.
+/// Adds the indices that proof variables were given, at level 0: new ones, or released ones. `globals` has the proof
+/// variable that each index has, or had last.
 pub fn new_indices(search: &mut Search, globals: &[Var], given: &[Given]) -> Result<(), AllocError>
     requires holds { PartsInvariant search.old.parts }
+    requires bottom { search.old.parts.trail.starts ≡ [] }
     requires same { length search.old.globals.items ≡ length search.old.parts.assignment.current }
     requires vacant { AreVacant search.old.parts (length globals.now) given.now }
     ensures { OnOk result (GivesSearchIndices globals.now given.now search.old search.new) }
 {
     if given.is_empty() {
-        back_to_bottom(search);
         return Ok(());
     }
-    add_indices(search, globals, given)
+    let count = count_with(search.globals.len(), given);
+    grow(search.alloc, &mut search.parts, count)?;
+    search.analysis.set_var_count(count)?;
+    search.flags.set_var_count(count)?;
+    search.globals.resize(count, Var::from_index(0))?;
+    rename(&mut search.globals, globals, given);
+    take_indices(&mut search.parts, given);
+    Ok(())
 }

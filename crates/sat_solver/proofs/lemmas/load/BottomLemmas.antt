@@ -18,12 +18,12 @@ use Rattle.sat_solver.proofs.lemmas.fits.LearnedLemmas.{fits_undone}
 use Rattle.sat_solver.specs.declared.context.Search.{Search}
 use Rattle.sat_solver.specs.cdcl.Joint.{global_in, assumed_indices, SameVarsAndAssumptions}
 use Rattle.sat_solver.proofs.lemmas.cdcl.TurnLemmas.{ready_moved, free_moved, leaves_refl}
-use Rattle.sat_solver.specs.load.Bottom.{AtBottom}
+use Rattle.sat_solver.specs.load.Restart.{FullyRestarted}
 use Rattle.sat_solver.specs.assumptions.Setting.{ReplacesAssumed}
 
-pub at_bottom : (c : Search) (p : Parts) (a : Assumptions) → p.trail.starts ≡ [] → PartsInvariant p → SameClauses c.parts p → AddsNoUnit (state c.parts) (state p) → TrailWordStays c.parts p → ArePlaced a (state p) → a.lits ≡ c.assumptions.lits →
-    AtBottom c (record c { parts = p; assumptions = a })
-at_bottom c p a bottom holds same carries stay placed lits =
+pub fully_restarted : (c : Search) (p : Parts) (a : Assumptions) → p.trail.starts ≡ [] → PartsInvariant p → SameClauses c.parts p → AddsNoUnit (state c.parts) (state p) → TrailWordStays c.parts p → ArePlaced a (state p) → a.lits ≡ c.assumptions.lits →
+    FullyRestarted c (record c { parts = p; assumptions = a })
+fully_restarted c p a bottom holds same carries stay placed lits =
     let c' : Search = record c { parts = p; assumptions = a } in
     let moved : SameVarsAndAssumptions c c' = record { globals = refl; lits = lits; size = carries.size } in
     record {

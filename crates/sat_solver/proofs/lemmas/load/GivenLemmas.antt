@@ -24,14 +24,13 @@ use Rattle.sat_solver.specs.session.Naming.{global_of_index}
 use Rattle.sat_solver.proofs.lemmas.fits.AddedLemmas.{unit_true}
 use Rattle.sat_solver.proofs.lemmas.fits.CodeLemmas.{coded_by}
 use Rattle.sat_solver.proofs.lemmas.fits.FramedParts.{fits_grown}
-use Rattle.sat_solver.proofs.lemmas.fits.LearnedLemmas.{fits_undone}
 use Rattle.sat_solver.specs.variables.Variables.{says_unit}
 use Rattle.sat_solver.specs.variables.Search.{GivenApart, HasGiven}
 use Rattle.sat_solver.specs.declared.variables.solver_vars.Given.{Given}
 use Rattle.sat_solver.specs.declared.context.Search.{Search}
 use Rattle.sat_solver.specs.cdcl.Joint.{global_in, assumed_indices, IsFree, IsSearch}
 use Rattle.sat_solver.proofs.lemmas.cdcl.TurnLemmas.{ready_names}
-use Rattle.sat_solver.specs.load.Bottom.{AtBottom}
+use Rattle.sat_solver.specs.load.Restart.{FullyRestarted}
 use Rattle.sat_solver.specs.variables.Initialized.{GivesLit, IsVacant, AreVacant, TakesIndices, Renames, IsGivenTo, GivesNames, GivesSearchIndices}
 use Rattle.sat_solver.proofs.lemmas.load.IndexLemmas.{given_or_not, lit_given}
 
@@ -118,73 +117,72 @@ placed_bottom ls below place s s' e e' kept h =
       all = λ lt. absurd (omega arith);
     }
 
-module _ (c c1 c2 c3 : Search) (globals : List ℕ) (gs : List Given) (count : ℕ) (holds : PartsInvariant c.parts) (next : length c.globals.items ≡ length c.parts.assignment.current) (more : length c.globals.items ≤ count) (least : length c.globals.items ≤ length globals → count ≤ length globals) (past : AllByRecursion (λ g. g.solver < count) gs)
-    (grown : AddsVars c.parts c1.parts count) (assumptions1 : c1.assumptions ≡ c.assumptions) (flags1 : length c1.analysis.flags ≡ count) (clear1 : AreClear c.analysis.flags → AreClear c1.analysis.flags)
-    (glue1 : GrowsFlags count c.flags.flags.items c1.flags.flags.items) (globals1 : (v : ℕ) → v < length c.globals.items → get_or c1.globals.items v 0 ≡ get_or c.globals.items v 0) (many1 : length c1.globals.items ≡ count)
-    (back : AtBottom c1 c2) (holds1 : PartsInvariant c1.parts) (renamed : Renames gs globals c2.globals.items c3.globals.items) (takes : TakesIndices gs c2.parts c3.parts)
-    (analysis3 : c3.analysis ≡ c2.analysis) (flags3 : c3.flags ≡ c2.flags) (assumptions3 : c3.assumptions ≡ c2.assumptions) where
+module _ (c c' : Search) (globals : List ℕ) (gs : List Given) (count : ℕ) (holds : PartsInvariant c.parts) (bottom : c.parts.trail.starts ≡ []) (next : length c.globals.items ≡ length c.parts.assignment.current) (more : length c.globals.items ≤ count) (least : length c.globals.items ≤ length globals → count ≤ length globals) (past : AllByRecursion (λ g. g.solver < count) gs)
+    (p : Parts) (grown : AddsVars c.parts p count) (takes : TakesIndices gs p c'.parts)
+    (xs : List ℕ) (front : (v : ℕ) → v < length c.globals.items → get_or xs v 0 ≡ get_or c.globals.items v 0) (many : length xs ≡ count) (renamed : Renames gs globals xs c'.globals.items)
+    (assumptions : c'.assumptions ≡ c.assumptions) (flags : length c'.analysis.flags ≡ count) (clear : AreClear c.analysis.flags → AreClear c'.analysis.flags) (glue : GrowsFlags count c.flags.flags.items c'.flags.flags.items) where
   abbrev n : ℕ
   n = length c.parts.assignment.current
 
-  size3 : length c3.parts.assignment.current ≡ count
-  size3 = takes.size ∙ back.moved.size ∙ grown.size
+  size : length c'.parts.assignment.current ≡ count
+  size = takes.size ∙ grown.size
 
-  globals_size : length c3.globals.items ≡ count
-  globals_size = renamed.size ∙ ap (λ v. length v.items) back.moved.globals ∙ many1
+  globals_size : length c'.globals.items ≡ count
+  globals_size = renamed.size ∙ many
 
-  lits3 : c3.assumptions.lits ≡ c.assumptions.lits
-  lits3 = ap (λ a. a.lits) assumptions3 ∙ back.moved.lits ∙ ap (λ a. a.lits) assumptions1
+  same_lits : c'.assumptions.lits ≡ c.assumptions.lits
+  same_lits = ap (λ a. a.lits) assumptions
 
-  others : (v : ℕ) → v < length c.globals.items → (HasGiven gs v → ⊥) → get_or c3.globals.items v 0 ≡ get_or c.globals.items v 0
-  others v lt out = renamed.others v out ∙ ap (λ w. get_or w.items v 0) back.moved.globals ∙ globals1 v lt
+  others : (v : ℕ) → v < length c.globals.items → (HasGiven gs v → ⊥) → get_or c'.globals.items v 0 ≡ get_or c.globals.items v 0
+  others v lt out = renamed.others v out ∙ front v lt
 
   module _ (s t : Session) (x : IsSearch s c) (g : GivesNames globals gs (length c.globals.items) s t) where
     -- what had a solver name wasn't given
-    old_stays : (v : ℕ) → s.solver_names (global_in c v) ≡ Some v → (global_in c3 v ≡ global_in c v) × (t.solver_names (global_in c3 v) ≡ Some v)
+    old_stays : (v : ℕ) → s.solver_names (global_in c v) ≡ Some v → (global_in c' v ≡ global_in c v) × (t.solver_names (global_in c' v) ≡ Some v)
     old_stays v own =
         let out : HasGiven gs v → ⊥ = λ h. (found globals s t gs v g.each h).free (global_in c v) own in
-        let same : global_in c3 v ≡ global_in c v = others v (g.below (global_in c v) v own) out in
+        let same : global_in c' v ≡ global_in c v = others v (g.below (global_in c v) v own) out in
         (same, ap t.solver_names same ∙ g.stays (global_in c v) v own)
 
-    new_named : (v : ℕ) → HasGiven gs v → t.solver_names (global_in c3 v) ≡ Some v
+    new_named : (v : ℕ) → HasGiven gs v → t.solver_names (global_in c' v) ≡ Some v
     new_named v h = ap t.solver_names (renamed.named v h) ∙ (found globals s t gs v g.each h).named
 
-    fits2 : SessionMatchesParts c2.parts s (global_in c)
-    fits2 = fits_undone c1.parts c2.parts s (global_in c) back.same back.carries (fits_grown c.parts c1.parts count s (global_in c) holds (omega (arith, next, more)) grown x.stands.fits)
+    grown_fits : SessionMatchesParts p s (global_in c)
+    grown_fits = fits_grown c.parts p count s (global_in c) holds (omega (arith, next, more)) grown x.stands.fits
 
     names : TrueLitsHaveNames c.parts.assignment.current s (global_in c)
     names = ready_names s c x.ready
 
     -- units of before are of variables that had solver names
-    unit_named : (l : ℕ) → IsUnitLit (state c2.parts) l → s.solver_names (global_in c (variable l)) ≡ Some (variable l)
-    unit_named l u = names l (unit_true (state c.parts) l holds.below.asks.agrees (grown.units l (back.carries.units l u))).0
+    unit_named : (l : ℕ) → IsUnitLit (state p) l → s.solver_names (global_in c (variable l)) ≡ Some (variable l)
+    unit_named l u = names l (unit_true (state c.parts) l holds.below.asks.agrees (grown.units l u)).0
 
-    moved_lit : (l : ℕ) → global_in c3 (variable l) ≡ global_in c (variable l) → with_var (global_in c3) l ≡ with_var (global_in c) l
+    moved_lit : (l : ℕ) → global_in c' (variable l) ≡ global_in c (variable l) → with_var (global_in c') l ≡ with_var (global_in c) l
     moved_lit l e = ap (λ v. 2 * v + l % 2) e
 
-    given_lit : (l : ℕ) → HasGiven gs (variable l) → with_var (global_in c3) l ≡ with_var (global_of_index globals) l
+    given_lit : (l : ℕ) → HasGiven gs (variable l) → with_var (global_in c') l ≡ with_var (global_of_index globals) l
     given_lit l h = ap (λ v. 2 * v + l % 2) (renamed.named (variable l) h)
 
-    fits3 : SessionMatchesParts c3.parts t (global_in c3)
-    fits3 = rw (takes.same.0, takes.same.1, takes.same.2) (record {
-      clauses = of_on (global_in c) (global_in c3) s.solver_names t.solver_names old_stays s t (solver_clauses (is_redundant c2.parts.clauses) c2.parts.clauses (live_refs c2.parts.clauses c2.parts.db.refs) c2.parts.binary.implied) refl refl g.keeps.live fits2.clauses;
-      paired = fits2.paired;
+    fits : SessionMatchesParts c'.parts t (global_in c')
+    fits = rw (takes.same.0, takes.same.1, takes.same.2) (record {
+      clauses = of_on (global_in c) (global_in c') s.solver_names t.solver_names old_stays s t (solver_clauses (is_redundant p.clauses) p.clauses (live_refs p.clauses p.db.refs) p.binary.implied) refl refl g.keeps.live grown_fits.clauses;
+      paired = grown_fits.paired;
       known = λ l u. elim (takes.units l u) [
-        | inl o ↦ ap t.units (moved_lit l (old_stays (variable l) (unit_named l o)).0) ∙ ap (λ f. f (with_var (global_in c) l)) g.keeps.units ∙ fits2.known l o
+        | inl o ↦ ap t.units (moved_lit l (old_stays (variable l) (unit_named l o)).0) ∙ ap (λ f. f (with_var (global_in c) l)) g.keeps.units ∙ grown_fits.known l o
         | inr k ↦ ap t.units (given_lit l (lit_given gs l k)) ∙ ap (λ f. f (with_var (global_of_index globals) l)) g.keeps.units ∙ lit_unit globals s t gs l g.each k
       ];
       sound = λ l own u. elim (given_or_not gs (variable l)) [
         | inl h ↦ takes.its l (unit_lit globals s t gs l g.each h (ap (λ f. f (with_var (global_of_index globals) l)) (sym g.keeps.units) ∙ ap t.units (sym (given_lit l h)) ∙ u))
-        | inr out ↦ elim (g.others (global_in c3 (variable l)) (variable l) own) [
+        | inr out ↦ elim (g.others (global_in c' (variable l)) (variable l) own) [
           | inl old ↦
-              let same : global_in c3 (variable l) ≡ global_in c (variable l) = others (variable l) (g.below (global_in c3 (variable l)) (variable l) old) out in
-              let y = fits2.sound l (ap s.solver_names (sym same) ∙ old) (ap (λ f. f (with_var (global_in c) l)) (sym g.keeps.units) ∙ ap t.units (sym (moved_lit l same)) ∙ u) in
+              let same : global_in c' (variable l) ≡ global_in c (variable l) = others (variable l) (g.below (global_in c' (variable l)) (variable l) old) out in
+              let y = grown_fits.sound l (ap s.solver_names (sym same) ∙ old) (ap (λ f. f (with_var (global_in c) l)) (sym g.keeps.units) ∙ ap t.units (sym (moved_lit l same)) ∙ u) in
               takes.kept l y.0 y.1
           | inr h ↦ absurd (out h)
         ]
       ];
-      consistent = g.keeps.unsat ∙ fits2.consistent;
-      width = g.keeps.width ∙ fits2.width;
+      consistent = g.keeps.unsat ∙ grown_fits.consistent;
+      width = g.keeps.width ∙ grown_fits.width;
     })
 
     small : (k : ℕ) → k < length c.assumptions.lits.items → variable (get_or c.assumptions.lits.items k 0) < n
@@ -203,11 +201,8 @@ module _ (c c1 c2 c3 : Search) (globals : List ℕ) (gs : List Given) (count : �
         past_all (l ∷ ls) v below ge (zero, lt, e) = (let z : variable l < n = below 0 (omega arith) in let f : variable l ≡ v = e in omega arith)
         past_all (l ∷ ls) v below ge (suc i, lt, e) = past_all ls v (λ j less. below (suc j) (omega arith)) ge (i, omega arith, e)
 
-    idle3 : (v : ℕ) → (HasGiven gs v → ⊥) → IsIdle (assumed_indices c) (state c.parts) c.parts.vsids v → IsIdle (assumed_indices c) (state c3.parts) c3.parts.vsids v
-    idle3 v out idle =
-        let one : IsIdle (assumed_indices c) (state c1.parts) c1.parts.vsids v = (grown.values v ∙ idle.0, grown.picks v ∙ idle.1, idle.2) in
-        let two : IsIdle (assumed_indices c) (state c2.parts) c2.parts.vsids v = (back.stay (assumed_indices c)).idle v one in
-        (takes.values v out ∙ two.0, takes.picks v out ∙ two.1, two.2)
+    idle_stays : (v : ℕ) → (HasGiven gs v → ⊥) → IsIdle (assumed_indices c) (state c.parts) c.parts.vsids v → IsIdle (assumed_indices c) (state c'.parts) c'.parts.vsids v
+    idle_stays v out idle = (takes.values v out ∙ grown.values v ∙ idle.0, takes.picks v out ∙ grown.picks v ∙ idle.1, idle.2)
 
     used_or_idle : (v : ℕ) → (s.solver_names (global_in c v) ≡ Some v) ⊎ IsIdle (assumed_indices c) (state c.parts) c.parts.vsids v
     used_or_idle v = elim (cases_lt v n) [ inl lt ↦ x.ready.used v lt | inr ge ↦ inr (past_idle v ge) ]
@@ -223,58 +218,49 @@ module _ (c c1 c2 c3 : Search) (globals : List ℕ) (gs : List Given) (count : �
         contains_at (l ∷ ls) zero lt = (0, omega arith, refl)
         contains_at (l ∷ ls) (suc k) lt = let y = contains_at ls k (omega arith) in (suc y.0, omega (arith, y.1), y.2)
 
-    free1 : IsFree c1
-    free1 = record {
-      names = omega (arith, many1, grown.size);
-      size = flags1 ∙ sym grown.size;
-      clear = clear1 x.ready.free.clear;
-      flags_size = omega (arith, glue1.size, grown.size);
-      flags_clear = glue1.clear x.ready.free.flags_clear;
+    free : IsFree c'
+    free = record {
+      names = omega (arith, globals_size, size);
+      size = flags ∙ sym size;
+      clear = clear x.ready.free.clear;
+      flags_size = omega (arith, glue.size, size);
+      flags_clear = glue.clear x.ready.free.flags_clear;
     }
 
-    free2 : IsFree c2
-    free2 = back.free free1
+    bottom_stays : (l : ℕ) → IsTrueLit c.parts.assignment.current l → level (state c.parts) l ≡ 0 → IsTrueLit c'.parts.assignment.current l × (level (state c'.parts) l ≡ 0)
+    bottom_stays l true_before z = (let k = (grown.keeps 0).low l true_before (omega (arith, z)) in takes.kept l k.0 (k.1 ∙ z))
 
-    free3 : IsFree c3
-    free3 = record {
-      names = omega (arith, globals_size, size3);
-      size = ap (λ a. length a.flags) analysis3 ∙ free2.size ∙ sym takes.size;
-      clear = rw analysis3 free2.clear;
-      flags_size = rw (flags3, takes.size) free2.flags_size;
-      flags_clear = rw flags3 free2.flags_clear;
-    }
+    placed : ArePlaced c'.assumptions (state c'.parts)
+    placed = rw assumptions (placed_bottom c.assumptions.lits.items c.assumptions.below.items c.assumptions.place (state c.parts) (state c'.parts) bottom takes.bottom bottom_stays x.ready.placed)
 
-    placed3 : ArePlaced c3.assumptions (state c3.parts)
-    placed3 = rw assumptions3 (placed_bottom c2.assumptions.lits.items c2.assumptions.below.items c2.assumptions.place (state c2.parts) (state c3.parts) back.bottom takes.bottom takes.kept back.placed)
-
-    search3 : IsSearch t c3
-    search3 = record {
-      stands = record { holds = takes.holds; fits = fits3 };
+    still : IsSearch t c'
+    still = record {
+      stands = record { holds = takes.holds; fits = fits };
       ready = record {
-        free = free3;
-        placed = placed3;
-        there = rw (lits3, size3) (λ k lt. (let z : variable (get_or c.assumptions.lits.items k 0) < n = small k lt in omega (arith, next, more)));
-        asked = rw lits3 (g.keeps.assumed ∙ x.ready.asked ∙ mapped_same (global_in c) (global_in c3) c.assumptions.lits.items (λ k lt. sym (old_stays (variable (get_or c.assumptions.lits.items k 0)) (assumed_named k lt)).0));
+        free = free;
+        placed = placed;
+        there = rw (same_lits, size) (λ k lt. (let z : variable (get_or c.assumptions.lits.items k 0) < n = small k lt in omega (arith, next, more)));
+        asked = rw same_lits (g.keeps.assumed ∙ x.ready.asked ∙ mapped_same (global_in c) (global_in c') c.assumptions.lits.items (λ k lt. sym (old_stays (variable (get_or c.assumptions.lits.items k 0)) (assumed_named k lt)).0));
         used = λ v lt. elim (given_or_not gs v) [
           | inl h ↦ inl (new_named v h)
-          | inr out ↦ elim (used_or_idle v) [ inl own ↦ inl (old_stays v own).1 | inr idle ↦ inr (rw lits3 (idle3 v out idle)) ]
+          | inr out ↦ elim (used_or_idle v) [ inl own ↦ inl (old_stays v own).1 | inr idle ↦ inr (rw same_lits (idle_stays v out idle)) ]
         ];
       };
     }
 
-  pub indexed : GivesSearchIndices globals gs c c3
+  pub indexed : GivesSearchIndices globals gs c c'
   indexed = record {
     named = renamed.named;
     others = others;
     more = omega (arith, more, globals_size);
     few = λ le. (let k = least le in omega (arith, globals_size));
     there = subst (λ m. AllByRecursion (λ g. g.solver < m) gs) (sym globals_size) past;
-    size = size3 ∙ sym globals_size;
+    size = size ∙ sym globals_size;
     ready = takes.ready;
-    lits = lits3;
+    lits = same_lits;
     bottom = takes.bottom;
     holds = takes.holds;
-    search = search3;
+    search = still;
   }
 
 -- an index that no proof variable has is vacant
@@ -291,15 +277,23 @@ are_vacant globals s t c count gs h each below apart = record { each = go gs eac
     go [] a b = tt
     go (k ∷ ks) a b = let i = idle_index s c k.solver h a.0.free in (record { below = b.0; open_value = i.0; unpicked = i.1 }, go ks a.1 b.1)
 
--- what is vacant is so at level 0, where there are more variables
-pub vacant_bottom : (c c1 c2 : Search) (reach count : ℕ) (gs : List Given) → AddsVars c.parts c1.parts count → AtBottom c1 c2 → AllByRecursion (λ g. g.solver < count) gs → AreVacant c.parts reach gs → AreVacant c2.parts (length c2.parts.assignment.current) gs
-vacant_bottom c c1 c2 reach count gs grown back past h = record { each = subst (λ n. AllByRecursion (IsVacant c2.parts n) gs) (sym (back.moved.size ∙ grown.size)) (go gs past h.each); apart = h.apart }
+-- what is vacant is so after a restart
+pub vacant_restarted : (c c' : Search) (count : ℕ) (gs : List Given) → FullyRestarted c c' → AreVacant c.parts count gs → AreVacant c'.parts count gs
+vacant_restarted c c' count gs back h = record { each = go gs h.each; apart = h.apart }
   where
-    go : (ks : List Given) → AllByRecursion (λ g. g.solver < count) ks → AllByRecursion (IsVacant c.parts reach) ks → AllByRecursion (IsVacant c2.parts count) ks
+    go : (ks : List Given) → AllByRecursion (IsVacant c.parts count) ks → AllByRecursion (IsVacant c'.parts count) ks
+    go [] a = tt
+    go (k ∷ ks) a =
+        let idle : IsIdle [] (state c'.parts) c'.parts.vsids k.solver = (back.stay []).idle k.solver (a.0.open_value, a.0.unpicked, λ x. let lt : x.0 < 0 = x.1 in omega arith) in
+        (record { below = a.0.below; open_value = idle.0; unpicked = idle.1 }, go ks a.1)
+
+-- and where there are more variables
+pub vacant_grown : (p q : Parts) (reach count : ℕ) (gs : List Given) → AddsVars p q count → AllByRecursion (λ g. g.solver < count) gs → AreVacant p reach gs → AreVacant q (length q.assignment.current) gs
+vacant_grown p q reach count gs grown past h = record { each = subst (λ n. AllByRecursion (IsVacant q n) gs) (sym grown.size) (go gs past h.each); apart = h.apart }
+  where
+    go : (ks : List Given) → AllByRecursion (λ g. g.solver < count) ks → AllByRecursion (IsVacant p reach) ks → AllByRecursion (IsVacant q count) ks
     go [] b a = tt
-    go (k ∷ ks) b a =
-        let idle : IsIdle [] (state c2.parts) c2.parts.vsids k.solver = (back.stay []).idle k.solver (grown.values k.solver ∙ a.0.open_value, grown.picks k.solver ∙ a.0.unpicked, λ x. let lt : x.0 < 0 = x.1 in omega arith) in
-        (record { below = b.0; open_value = idle.0; unpicked = idle.1 }, go ks b.1 a.1)
+    go (k ∷ ks) b a = (record { below = b.0; open_value = grown.values k.solver ∙ a.0.open_value; unpicked = grown.picks k.solver ∙ a.0.unpicked }, go ks b.1 a.1)
 
 pub below_all : (p : Parts) (count : ℕ) (gs : List Given) → AllByRecursion (IsVacant p count) gs → AllByRecursion (λ g. g.solver < count) gs
 below_all p count [] a = tt
@@ -309,8 +303,6 @@ below_all p count (g ∷ gs) a = (a.0.below, below_all p count gs a.1)
 
 pub front_kept : (xs zs : List ℕ) (count m x : ℕ) → length xs ≤ count → zs ≡ take count xs ++ replicate m x → (v : ℕ) → v < length xs → get_or zs v 0 ≡ get_or xs v 0
 front_kept xs zs count m x le e v lt = ap (λ ws. get_or ws v 0) e ∙ ap (λ ws. get_or (ws ++ replicate m x) v 0) (take_all count xs le) ∙ get_or_append_left xs (replicate m x) 0 v lt
-
--- THE COUNT
 
 -- NO INDICES
 
@@ -341,20 +333,38 @@ none_given globals count s t c x g = record {
   };
 }
 
--- where no index was given, a search that went back to level 0 has all of them
-pub none_indexed : (globals : List ℕ) (c c' : Search) → length c.globals.items ≡ length c.parts.assignment.current → AtBottom c c' → GivesSearchIndices globals [] c c'
-none_indexed globals c c' next back =
-    let kept : length c'.globals.items ≡ length c.globals.items = ap (λ v. length v.items) back.moved.globals in
-    record {
-      named = λ v h. absurd h;
-      others = λ v lt out. ap (λ w. get_or w.items v 0) back.moved.globals;
-      more = omega (arith, kept);
-      few = λ le. omega (arith, kept, le);
-      there = tt;
-      size = back.moved.size ∙ sym next ∙ sym kept;
-      ready = λ v h unset. absurd h;
-      lits = back.moved.lits;
-      bottom = back.bottom;
-      holds = back.holds;
-      search = λ s t x g. none_given globals (length c.globals.items) s t c' (back.search s x) g;
-    }
+-- where no index was given, a search at level 0 has all of them
+pub none_indexed : (globals : List ℕ) (c : Search) → length c.globals.items ≡ length c.parts.assignment.current → c.parts.trail.starts ≡ [] → PartsInvariant c.parts → GivesSearchIndices globals [] c c
+none_indexed globals c next bottom holds = record {
+  named = λ v h. absurd h;
+  others = λ v lt out. refl;
+  more = omega arith;
+  few = λ le. le;
+  there = tt;
+  size = sym next;
+  ready = λ v h unset. absurd h;
+  lits = refl;
+  bottom = bottom;
+  holds = holds;
+  search = λ s t x g. none_given globals (length c.globals.items) s t c x g;
+}
+
+-- THE RESTART
+
+-- a search was restarted, and then it got these indices
+pub restarted_indexed : (gs ks : List ℕ) (hs js : List Given) (c m c' : Search) → gs ≡ ks → hs ≡ js → FullyRestarted c m → GivesSearchIndices gs hs m c' → GivesSearchIndices ks js c c'
+restarted_indexed gs ks hs js c m c' same_globals same_given back i =
+    let kept : length m.globals.items ≡ length c.globals.items = ap (λ w. length w.items) back.moved.globals in
+    subst (λ (xs : List ℕ). GivesSearchIndices xs js c c') same_globals (subst (λ (is : List Given). GivesSearchIndices gs is c c') same_given (record {
+      named = i.named;
+      others = λ v lt out. i.others v (omega (arith, lt, kept)) out ∙ ap (λ w. get_or w.items v 0) back.moved.globals;
+      more = omega (arith, i.more, kept);
+      few = λ le. i.few (omega (arith, le, kept));
+      there = i.there;
+      size = i.size;
+      ready = i.ready;
+      lits = i.lits ∙ back.moved.lits;
+      bottom = i.bottom;
+      holds = i.holds;
+      search = λ s t x g. i.search s t (back.search s x) (subst (λ n. GivesNames gs hs n s t) (sym kept) g);
+    }))

@@ -18,7 +18,7 @@ use Rattle.sat_parts.specs.parts.Frame.{SameClauses, SameState}
 use Rattle.sat_parts.specs.parts.Loadable.{false_last}
 use Rattle.sat_parts.specs.parts.Loading.{LoadEffect}
 use Rattle.sat_parts.specs.parts.Whole.{state, PartsInvariant}
-use Rattle.sat_parts.proofs.lemmas.parts.LoadFrames.{carries_same, says_size, says_units}
+use Rattle.sat_parts.proofs.lemmas.parts.LoadFrames.{carries_same, says_size, says_units, says_bottom}
 use Rattle.sat_parts.proofs.lemmas.parts.SortLemmas.{shuffled_last}
 use Rattle.sat_parts.proofs.lemmas.parts.WordSteps.{fits_below}
 use Rattle.sat_solver.specs.session.Session.{Session, May, after, session_after}
@@ -34,8 +34,7 @@ use Rattle.sat_solver.specs.declared.context.Search.{Search}
 use Rattle.sat_solver.specs.declared.context.Scratch.{Scratch}
 use Rattle.sat_solver.specs.cdcl.Joint.{global_in, IsSearch, SameVarsAndAssumptions, SameAssumedAndNames, AreNamedOrIdle, assumed_indices}
 use Rattle.sat_solver.proofs.lemmas.cdcl.AskedLemmas.{asked_after, leaves_after}
-use Rattle.sat_solver.proofs.lemmas.cdcl.TurnLemmas.{free_moved, moved_trans}
-use Rattle.sat_solver.specs.load.Bottom.{AtBottom}
+use Rattle.sat_solver.proofs.lemmas.cdcl.TurnLemmas.{free_moved}
 use Rattle.sat_solver.specs.load.Loaded.{MayLoad, IsAdded, IsLoaded}
 use Rattle.sat_checker.specs.LiteralSets.{mentions}
 use Rattle.sat_checker.specs.declared.processing.ProofProcessor.{Ghosts}
@@ -47,6 +46,8 @@ use Rattle.sat_parts.proofs.lemmas.parts.ValueLemmas.{open_or_true}
 use Rattle.sat_solver.proofs.lemmas.fits.FramedParts.{bottom_unit}
 use Rattle.sat_solver.proofs.lemmas.fits.AddedLemmas.{unit_true}
 use Rattle.sat_solver.proofs.lemmas.load.BottomLemmas.{mention_named}
+use Rattle.sat_solver.proofs.lemmas.load.GivenLemmas.{placed_bottom}
+use Rattle.sat_parts.specs.parts.Assumed.{ArePlaced}
 
 -- what is assumed stays so as a clause is added
 pub asked_added : (ks : List ℕ) (earlier : List Step) → (session_after earlier).unsat ≡ false → (session_after (AddClause ks ∷ earlier)).assumed ≡ (session_after earlier).assumed
@@ -94,15 +95,15 @@ loaded_scratch s c c' x h =
       bottom = h.bottom;
     }
 
-module _ (c : Search) (ls : List ℕ) (steps : List Step) (added : IsAdded steps c ls) (may : MayLoad c ls) (p1 : Parts) (holds1 : PartsInvariant p1) (ready : SameClauses c.parts p1 × SameState c.parts p1) (others : (v : ℕ) → mentions ls v ≡ false → may_pick p1.vsids v ≡ may_pick c.parts.vsids v) (p2 : Parts) (holds2 : PartsInvariant p2) (kept : (p2.vsids ≡ p1.vsids) × (p2.trail.starts ≡ [])) (c' : Search) (back : AtBottom (record c { parts = p2 }) c') where
+module _ (c : Search) (ls : List ℕ) (steps : List Step) (added : IsAdded steps c ls) (may : MayLoad c ls) (p1 : Parts) (holds1 : PartsInvariant p1) (ready : SameClauses c.parts p1 × SameState c.parts p1) (others : (v : ℕ) → mentions ls v ≡ false → may_pick p1.vsids v ≡ may_pick c.parts.vsids v) (p2 : Parts) (holds2 : PartsInvariant p2) (kept : (p2.vsids ≡ p1.vsids) × (p2.trail.starts ≡ [])) where
   abbrev s : Session
   s = session_after added.earlier
 
   abbrev ms : List ℕ
   ms = false_last p1.assignment.current ls
 
-  abbrev c2 : Search
-  c2 = record c { parts = p2 }
+  abbrev c' : Search
+  c' = record c { parts = p2 }
 
   same_values : p1.assignment ≡ c.parts.assignment
   same_values = ready.1.0
@@ -114,7 +115,7 @@ module _ (c : Search) (ls : List ℕ) (steps : List Step) (added : IsAdded steps
   fits2 r says =
       fits_loaded p1 p2 s (global_in c) holds1 fits1 (rw ready.1.2 may.bottom) ls ms (shuffled_last p1.assignment.current ls) may.differ (rw same_values may.below) may.plain added.named r says
 
-  moved2 : (r : Loaded) → LoadEffect r p1 p2 ms → SameVarsAndAssumptions c c2
+  moved2 : (r : Loaded) → LoadEffect r p1 p2 ms → SameVarsAndAssumptions c c'
   moved2 r says = record { globals = refl; lits = refl; size = says_size r p1 p2 ms says ∙ ap (λ a. length a.current) same_values }
 
   none_some : {A : Type 0} (x : A) → None ≡ Some x → ⊥
@@ -140,29 +141,30 @@ module _ (c : Search) (ls : List ℕ) (steps : List Step) (added : IsAdded steps
   )
 
   used2 : (r : Loaded) → LoadEffect r p1 p2 ms → (t : Session) → SameAssumedAndNames s t → AreNamedOrIdle t c'
-  used2 r says t leaves v lt =
-      let m : SameVarsAndAssumptions c c' = moved_trans c c2 c' (moved2 r says) back.moved in
-      elim (added.search.ready.used v (subst (λ n. v < n) m.size lt)) [
-        | inl own ↦ inl (rw m.globals (leaves.names (global_in c v) ∙ own))
-        | inr idle ↦ elim (cases_Bool (mentions ls v)) [
-          | inl i ↦ inl (rw m.globals (leaves.names (global_in c v) ∙ mention_named (global_in c) s.solver_names ls v added.named i))
-          | inr out ↦ inr (rw m.lits ((back.stay (assumed_indices c)).idle v (idle2 r says v out idle)))
-        ]
-      ]
+  used2 r says t leaves v lt = elim (added.search.ready.used v (subst (λ n. v < n) (moved2 r says).size lt)) [
+    | inl own ↦ inl (leaves.names (global_in c v) ∙ own)
+    | inr idle ↦ elim (cases_Bool (mentions ls v)) [
+      | inl i ↦ inl (leaves.names (global_in c v) ∙ mention_named (global_in c) s.solver_names ls v added.named i)
+      | inr out ↦ inr (idle2 r says v out idle)
+    ]
+  ]
+
+  placed2 : (r : Loaded) → LoadEffect r p1 p2 ms → ArePlaced c.assumptions (state p2)
+  placed2 r says =
+      placed_bottom c.assumptions.lits.items c.assumptions.below.items c.assumptions.place (state c.parts) (state p2) may.bottom kept.1
+      (λ l t z. (let k = (carries_same c.parts p1 ready.1).bottom l t z in says_bottom r p1 p2 ms says l k.0 k.1)) added.search.ready.placed
 
   whole : (r : Loaded) → LoadEffect r p1 p2 ms → (t : Session) → SameAssumedAndNames s t → SessionMatchesParts p2 t (global_in c) → IsSearch t c'
-  whole r says t leaves fits =
-      let m : SameVarsAndAssumptions c c' = moved_trans c c2 c' (moved2 r says) back.moved in
-      record {
-        stands = record { holds = back.holds; fits = rw back.moved.globals (fits_undone p2 c'.parts t (global_in c) back.same back.carries fits) };
-        ready = record {
-          free = back.free (free_moved c c2 added.search.ready.free (moved2 r says) refl refl);
-          placed = back.placed;
-          there = rw (m.lits, m.size) added.search.ready.there;
-          asked = rw (m.lits, m.globals) (leaves.assumed ∙ added.search.ready.asked);
-          used = used2 r says t leaves;
-        };
-      }
+  whole r says t leaves fits = record {
+    stands = record { holds = holds2; fits = fits };
+    ready = record {
+      free = free_moved c c' added.search.ready.free (moved2 r says) refl refl;
+      placed = placed2 r says;
+      there = rw (moved2 r says).size added.search.ready.there;
+      asked = leaves.assumed ∙ added.search.ready.asked;
+      used = used2 r says t leaves;
+    };
+  }
 
   asked : SameAssumedAndNames s (session_after steps)
   asked = rw added.added (leaves_added (map (with_var (global_in c)) ls) added.earlier added.search.stands.fits.consistent)
@@ -173,8 +175,8 @@ module _ (c : Search) (ls : List ℕ) (steps : List Step) (added : IsAdded steps
   goes_on : (r : Loaded) → LoadEffect r p1 p2 ms → SessionMatchesParts p2 (after (AddClause (map (with_var (global_in c)) ls)) s) (global_in c) → IsLoaded true (session_after steps) c c'
   goes_on r says fits = record {
     goes_on = whole r says (session_after steps) asked (rw now fits);
-    moved = moved_trans c c2 c' (moved2 r says) back.moved;
-    bottom = back.bottom;
+    moved = moved2 r says;
+    bottom = kept.1;
   }
 
   pub loaded_stored : LoadEffect Stored p1 p2 ms → IsLoaded true (session_after steps) c c'
@@ -189,8 +191,8 @@ module _ (c : Search) (ls : List ℕ) (steps : List Step) (added : IsAdded steps
   pub loaded_false : LoadEffect Falsified p1 p2 ms → IsLoaded false (session_after steps) c c'
   loaded_false says = record {
     goes_on = ap (λ (x : Session). x.unsat) now ∙ fits2 Falsified says;
-    moved = moved_trans c c2 c' (moved2 Falsified says) back.moved;
-    bottom = back.bottom;
+    moved = moved2 Falsified says;
+    bottom = kept.1;
   }
 
   pub loaded_may : LoadEffect Satisfied p1 p2 ms → 2 ≤ length ms → May (session_after steps) (DeleteClause (map (with_var (global_in c)) ms) True)
@@ -199,8 +201,8 @@ module _ (c : Search) (ls : List ℕ) (steps : List Step) (added : IsAdded steps
   pub loaded_deleted : LoadEffect Satisfied p1 p2 ms → 2 ≤ length ms → IsLoaded true (session_after (DeleteClause (map (with_var (global_in c)) ms) True ∷ steps)) c c'
   loaded_deleted says two = record {
     goes_on = whole Satisfied says (session_after (DeleteClause (map (with_var (global_in c)) ms) True ∷ steps)) (leaves_both s (session_after steps) (session_after (DeleteClause (map (with_var (global_in c)) ms) True ∷ steps)) asked (leaves_after (DeleteClause (map (with_var (global_in c)) ms) True ∷ []) steps (refl, tt))) (rw now ((fits2 Satisfied says).1 two).1);
-    moved = moved_trans c c2 c' (moved2 Satisfied says) back.moved;
-    bottom = back.bottom;
+    moved = moved2 Satisfied says;
+    bottom = kept.1;
   }
 
   -- each of its literals has a proof variable
@@ -210,13 +212,12 @@ module _ (c : Search) (ls : List ℕ) (steps : List Step) (added : IsAdded steps
       let j = x.back k (omega (arith, x.size)) in
       let small : get_or ms k 0 < 2 * length c.parts.assignment.current = subst (λ z. z < 2 * length c.parts.assignment.current) j.1.1 (may.below j.0 j.1.0) in
       let names : length c.parts.assignment.current ≤ length c.globals.items = added.search.ready.free.names in
-      let same : length c'.globals.items ≡ length c.globals.items = ap (λ v. length v.items) back.moved.globals in
       omega arith
 
   pub loaded_behind : LoadEffect Satisfied p1 p2 ms → 2 ≤ length ms → (ds : List ℕ) → ds ≡ ms → (later : List Step) → later ≡ DeleteClause (map (with_var (global_in c')) ds) True ∷ steps → (left : Bool) → left ≡ true → (c4 : Search) → c4 ≡ record c' { scratch = c4.scratch } →
       IsLoaded left (session_after later) c c4
   loaded_behind says two ds same later made left good c4 rest =
-      let e : later ≡ DeleteClause (map (with_var (global_in c)) ms) True ∷ steps = rw (same, back.moved.globals) at made in
+      let e : later ≡ DeleteClause (map (with_var (global_in c)) ms) True ∷ steps = rw same at made in
       let h : IsLoaded true (session_after later) c c' = rw e (loaded_deleted says two) in
       rw good (subst (λ z. IsLoaded true (session_after later) c z) (sym rest) (loaded_scratch (session_after later) c c' c4.scratch h))
 
@@ -226,5 +227,5 @@ module _ (c : Search) (ls : List ℕ) (steps : List Step) (added : IsAdded steps
     added = map (with_var (global_in c)) ls;
     before = added.earlier;
     last = added.added;
-    same = rw (same, back.moved.globals) (sym (canonical_shuffled (with_var (global_in c)) ls ms (shuffled_last p1.assignment.current ls)));
+    same = rw same (sym (canonical_shuffled (with_var (global_in c)) ls ms (shuffled_last p1.assignment.current ls)));
   }

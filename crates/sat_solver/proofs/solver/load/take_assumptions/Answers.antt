@@ -1,7 +1,6 @@
 use Rattle.std.proofs.Common.{ℕ, List, subst}
-use Rattle.sat_solver.specs.variables.Initialized.{GivesSearchIndices}
 use Rattle.sat_solver.specs.assumptions.Setting.{ReplacesAssumed}
-use Rattle.sat_solver.specs.declared.variables.solver_vars.Given.{Given}
+use Rattle.sat_solver.proofs.lemmas.load.GivenLemmas.{vacant_restarted, restarted_indexed}
 use Rattle.std.proofs.lemmas.Result.{err_from_is_err_and}
 use Rattle.sat_solver.proofs.lemmas.solver.TakingLemmas.{reported_fails, fault_on, asked_vacant, asked_there, asked_taken, none_took, names_broke, names_starved}
 use Rattle.sat_solver.specs.declared.error.SolverError.TheVariants as errors
@@ -10,11 +9,11 @@ use Rattle.sat_solver.proofs.solver.load.take_assumptions.Goals as goal
 pub returns-in_err-assume-clause-takes : goal.returns-in_err-assume-clause-takes
 returns-in_err-assume-clause-takes g c =
     let p = err_from_is_err_and c.from_residual.result c.from_residual.ensures.1 in
-    rw (p.1, p.2) (names_broke g.W.CountedWrite.seen c.args.core.now (record c.args.core.now { proof = c.assume.new.writer }) c.in_err-assume.field-0.0 (c.in_err-assume.ensures.came c.args.core.now.proof (none_took g.W.CountedWrite.seen c.args.core.now.proof)))
+    rw (p.1, p.2) (names_broke g.W.CountedWrite.seen c.args.core.now (record c.args.core.now { proof = c.assume.new.writer; search = c.full_restart.new.search }) c.in_err-assume.field-0.0 (c.in_err-assume.ensures.came c.args.core.now.proof (none_took g.W.CountedWrite.seen c.args.core.now.proof)))
 
 pub new_indices-requires-clause-vacant : goal.new_indices-requires-clause-vacant
 new_indices-requires-clause-vacant g c = rw (c.deref.ensures.value, c.deref-2.ensures.value)
-    (asked_vacant g.W.CountedWrite.seen c.args.names.now c.assume.new.variables c.args.core.now c.requires.joined c.args.lits.now c.assume.new.asked c.assume.new.writer c.in_ok-assume.ensures.assumes (c.in_ok-assume.ensures.came c.args.core.now.proof (none_took g.W.CountedWrite.seen c.args.core.now.proof)) c.in_ok-assume.ensures.keeps)
+    (vacant_restarted c.args.core.now.search c.full_restart.new.search _ _ c.full_restart.ensures (asked_vacant g.W.CountedWrite.seen c.args.names.now c.assume.new.variables c.args.core.now c.requires.joined c.args.lits.now c.assume.new.asked c.assume.new.writer c.in_ok-assume.ensures.assumes (c.in_ok-assume.ensures.came c.args.core.now.proof (none_took g.W.CountedWrite.seen c.args.core.now.proof)) c.in_ok-assume.ensures.keeps))
 
 pub returns-in_err-new_indices-clause-takes : goal.returns-in_err-new_indices-clause-takes
 returns-in_err-new_indices-clause-takes g c =
@@ -23,8 +22,7 @@ returns-in_err-new_indices-clause-takes g c =
 
 pub set_assumptions-requires-clause-there : goal.set_assumptions-requires-clause-there
 set_assumptions-requires-clause-there g c = rw c.deref-3.ensures.value (asked_there g.W.CountedWrite.seen c.args.names.now c.assume.new.variables c.args.core.now c.requires.joined c.args.lits.now c.assume.new.asked c.assume.new.writer c.in_ok-assume.ensures.assumes (c.in_ok-assume.ensures.came c.args.core.now.proof (none_took g.W.CountedWrite.seen c.args.core.now.proof)) c.in_ok-assume.ensures.keeps c.new_indices.new.search
-    (subst (λ (gs : List ℕ). GivesSearchIndices gs c.assume.new.asked.given.items c.args.core.now.search c.new_indices.new.search) c.deref.ensures.value
-    (subst (λ (hs : List Given). GivesSearchIndices c.deref.result.now hs c.args.core.now.search c.new_indices.new.search) c.deref-2.ensures.value c.in_ok-new_indices.ensures)))
+    (restarted_indexed _ _ _ _ c.args.core.now.search c.full_restart.new.search c.new_indices.new.search c.deref.ensures.value c.deref-2.ensures.value c.full_restart.ensures c.in_ok-new_indices.ensures))
 
 pub returns-in_err-set_assumptions-clause-takes : goal.returns-in_err-set_assumptions-clause-takes
 returns-in_err-set_assumptions-clause-takes g c =
@@ -33,8 +31,7 @@ returns-in_err-set_assumptions-clause-takes g c =
 
 pub returns-clause-takes : goal.returns-clause-takes
 returns-clause-takes g c = asked_taken g.W.CountedWrite.seen c.args.names.now c.assume.new.variables c.args.core.now c.requires.joined c.args.lits.now c.assume.new.asked c.assume.new.writer c.in_ok-assume.ensures.assumes (c.in_ok-assume.ensures.came c.args.core.now.proof (none_took g.W.CountedWrite.seen c.args.core.now.proof)) c.in_ok-assume.ensures.keeps c.new_indices.new.search
-    (subst (λ (gs : List ℕ). GivesSearchIndices gs c.assume.new.asked.given.items c.args.core.now.search c.new_indices.new.search) c.deref.ensures.value
-    (subst (λ (hs : List Given). GivesSearchIndices c.deref.result.now hs c.args.core.now.search c.new_indices.new.search) c.deref-2.ensures.value c.in_ok-new_indices.ensures))
+    (restarted_indexed _ _ _ _ c.args.core.now.search c.full_restart.new.search c.new_indices.new.search c.deref.ensures.value c.deref-2.ensures.value c.full_restart.ensures c.in_ok-new_indices.ensures)
     c.set_assumptions.new.search (subst (λ (ls : List ℕ). ReplacesAssumed ls c.new_indices.new.search c.set_assumptions.new.search) c.deref-3.ensures.value c.in_ok-set_assumptions.ensures)
 
 pub returns-in_err-assume-clause-room : goal.returns-in_err-assume-clause-room

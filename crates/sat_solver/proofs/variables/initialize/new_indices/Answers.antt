@@ -1,13 +1,29 @@
-use Rattle.std.proofs.Common.{◌≡◌, List, [], sym, subst, arith}
+use Rattle.std.proofs.Common.{◌≡◌, ◌≤◌, List, [], arith, refl, length, sym, subst}
 use Rattle.std.proofs.lemmas.Grind.{common_steps}
 use Rattle.std.proofs.lemmas.List.{nil_from_length}
 use Rattle.sat_solver.specs.variables.Initialized.{GivesSearchIndices}
 use Rattle.sat_solver.specs.declared.variables.solver_vars.Given.{Given}
-use Rattle.sat_solver.proofs.lemmas.load.GivenLemmas.{none_indexed}
+use Rattle.sat_solver.proofs.lemmas.load.GivenLemmas.{none_indexed, indexed, vacant_grown, below_all, front_kept}
 use Rattle.sat_solver.proofs.variables.initialize.new_indices.Goals as goal
 
 pub returns-then-is_empty : goal.returns-then-is_empty
 returns-then-is_empty c =
     let none : c.args.given.now ≡ [] = nil_from_length c.args.given.now (grind (arith, common_steps, c.is_empty.ensures, c.if-is_empty.true)) in
-    subst (λ (gs : List Given). GivesSearchIndices c.args.globals.now gs c.args.search.now c.back_to_bottom.new.search) (sym none)
-    (none_indexed c.args.globals.now c.args.search.now c.back_to_bottom.new.search c.requires.same c.back_to_bottom.ensures)
+    subst (λ (gs : List Given). GivesSearchIndices c.args.globals.now gs c.args.search.now c.args.search.now) (sym none)
+    (none_indexed c.args.globals.now c.args.search.now c.requires.same c.requires.bottom c.requires.holds)
+
+pub rename-requires-clause-below : goal.rename-requires-clause-below
+rename-requires-clause-below c = below_all c.args.search.now.parts (length c.args.globals.now) c.args.given.now c.requires.vacant.each
+
+pub take_indices-requires-clause-vacant : goal.take_indices-requires-clause-vacant
+take_indices-requires-clause-vacant c = vacant_grown c.args.search.now.parts c.grow.new.parts _ _ c.args.given.now c.in_ok-grow.ensures.grown c.count_with-count.ensures.past c.requires.vacant
+
+pub returns : goal.returns
+returns c =
+    let o = c.args.search.now in
+    let len : c.len.result ≡ length c.args.search.now.globals.items = omega (arith, c.len.ensures, c.args.search.now.globals.ok.0) in
+    let more : length c.args.search.now.globals.items ≤ c.count_with-count.result = omega (arith, len, c.count_with-count.ensures.more) in
+    indexed o _ c.args.globals.now c.args.given.now c.count_with-count.result c.requires.holds c.requires.bottom c.requires.same more (λ le. c.count_with-count.ensures.least (length c.args.globals.now) (omega (arith, len, le)) (below_all o.parts (length c.args.globals.now) c.args.given.now c.requires.vacant.each)) c.count_with-count.ensures.past
+    c.grow.new.parts c.in_ok-grow.ensures.grown c.take_indices.ensures
+    c.resize.new.self.items (front_kept o.globals.items _ c.count_with-count.result _ _ more c.in_ok-resize.ensures.items) (omega (arith, c.in_ok-resize.ensures.len, c.resize.new.self.ok.0)) c.rename.ensures
+    refl c.in_ok-set_var_count.ensures.size c.in_ok-set_var_count.ensures.clear c.in_ok-set_var_count-2.ensures.grows

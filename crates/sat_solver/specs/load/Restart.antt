@@ -1,4 +1,4 @@
--- A search at level 0.
+-- A restart, down to level 0.
 use Rattle.std.specs.Prelude.{◌≡◌, []}
 use Rattle.sat_parts.specs.parts.Assumed.{ArePlaced}
 use Rattle.sat_parts.specs.parts.Frame.{SameClauses, AddsNoUnit}
@@ -9,7 +9,7 @@ use Rattle.sat_solver.specs.cdcl.Joint.{IsFree, IsSearch, SameVarsAndAssumptions
 use Rattle.sat_solver.specs.declared.context.Search.{Search}
 
 -- all levels were undone: clauses, units, variables and assumptions are unchanged, and the invariant of the search is preserved
-pub record AtBottom (c c' : Search) : Type 0 where
+pub record FullyRestarted (c c' : Search) : Type 0 where
   pub bottom : c'.parts.trail.starts ≡ []
   pub holds : PartsInvariant c'.parts
   pub same : SameClauses c.parts c'.parts

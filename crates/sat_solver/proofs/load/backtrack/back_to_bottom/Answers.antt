@@ -1,8 +1,0 @@
-use Rattle.sat_parts.specs.parts.Whole.{state}
-use Rattle.sat_solver.proofs.lemmas.load.BottomLemmas.{at_bottom}
-use Rattle.sat_solver.proofs.load.backtrack.back_to_bottom.Goals as goal
-
-pub returns : goal.returns
-returns c =
-    let e = c.full_restart.ensures in
-    at_bottom c.args.search.now c.full_restart.new.parts c.begin.new.self e.bottom e.holds e.same e.carries e.stay (c.begin.ensures.placed (state c.full_restart.new.parts) e.bottom) c.begin.ensures.lits
