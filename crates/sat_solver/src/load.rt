@@ -26,7 +26,7 @@ use sat_checker::ProofProcessor;
 use sat_parts::parts::load::{Loaded, load};
 use sat_parts::parts::sorting::Sorting;
 
-/// Deletes a clause that has a true literal.
+/// Writes the deletion of the clause `lits`, which has a true literal.
 pub fn delete_satisfied<W: CountedWrite + Drop, P: ProofProcessor>(
     proof: &mut Proof<W, P>,
     globals: &[Var],
@@ -47,7 +47,8 @@ pub fn delete_satisfied<W: CountedWrite + Drop, P: ProofProcessor>(
     Ok(())
 }
 
-/// Deletes a clause that has a true literal. Returns true: the formula may still be satisfiable.
+/// Writes the deletion of the clause `lits`, which has a true literal. Returns true: the formula may still be
+/// satisfiable.
 fn delete_true<W: CountedWrite + Drop, P: ProofProcessor>(
     proof: &mut Proof<W, P>,
     search: &mut Search,
@@ -64,9 +65,9 @@ fn delete_true<W: CountedWrite + Drop, P: ProofProcessor>(
     Ok(true)
 }
 
-/// Loads the clause that the last step added, at level 0. A clause with a true literal and at least one other literal
-/// is deleted at once. Returns whether the formula may still be satisfiable: after an empty clause, or one whose only
-/// literal is false, it is not, and unsat is recorded.
+/// Loads the clause that the last step added, at level 0. If it has a true literal and at least one other literal, the
+/// clause is deleted at once. Returns whether the formula may still be satisfiable. After an empty clause, or a clause
+/// whose only literal is false, it is not, and unsat is recorded.
 pub fn load_clause<W: CountedWrite + Drop, P: ProofProcessor>(
     proof: &mut Proof<W, P>,
     search: &mut Search,

@@ -22,15 +22,15 @@ use sat_base::{CountedWrite, Lit};
 use sat_checker::ProofProcessor;
 use sat_parts::parts::sorting::Sorting;
 
-/// Where a clause is assembled.
+/// Buffers in which a clause is assembled.
 #[derive(Drop)]
 pub struct Loading {
     pub taken: Taken,
     pub sorting: Sorting,
 }
 
-/// Restarts the search, and adds a clause without a name of mode witness, when the clauses are not known to be
-/// unsatisfiable. Returns whether the formula may still be satisfiable.
+/// Restarts the search and adds the clause `lits`, none of whose names may have the mode witness. Returns whether the
+/// formula may still be satisfiable.
 pub fn take_clause<W: CountedWrite + Drop, P: ProofProcessor>(
     core: &mut Core<W, P>,
     names: &mut Variables,
@@ -56,7 +56,7 @@ pub fn take_clause<W: CountedWrite + Drop, P: ProofProcessor>(
     )
 }
 
-/// Restarts the search, and replaces the assumptions with these, which have no name of mode witness.
+/// Restarts the search and replaces the assumptions with `lits`, none of whose names may have the mode witness.
 pub fn take_assumptions<W: CountedWrite + Drop, P: ProofProcessor>(
     core: &mut Core<W, P>,
     names: &mut Variables,

@@ -1,4 +1,4 @@
-//! Gives indices of the search to variables.
+//! Adding the search's data for new indices.
 ghost use Rattle.std.specs.Prelude.{ℕ, ◌≡◌, ◌<◌, ◌≤◌, None, [], ◌∷◌, OnOk, length};
 ghost use Rattle.std.specs.List.{AllByRecursion};
 ghost use Rattle.sat_base.specs.values.Literals.{var_limit};
@@ -15,8 +15,8 @@ use sat_parts::parts::grow;
 use sat_parts::parts::variables::{reset_activity, use_variable, use_with_unit};
 use std::alloc::AllocError;
 
-/// Adds an index at level 0: its unit becomes its value, or it may be picked, with activity 0. Its saved phase is the
-/// value that it had last.
+/// Adds an index at level 0. If its variable has a unit, the unit becomes its value; otherwise it may be picked, with
+/// activity 0. Its saved phase is the last value of the index.
 fn take_index(parts: &mut Parts, given: &Given)
     requires holds { PartsInvariant parts.old }
     requires bottom { parts.old.trail.starts ≡ [] }
@@ -30,7 +30,7 @@ fn take_index(parts: &mut Parts, given: &Given)
     }
 }
 
-/// Adds these indices.
+/// Adds the indices in `given`, in order.
 fn take_indices(parts: &mut Parts, given: &[Given])
     requires holds { PartsInvariant parts.old }
     requires bottom { parts.old.trail.starts ≡ [] }
@@ -42,7 +42,7 @@ fn take_indices(parts: &mut Parts, given: &[Given])
     }
 }
 
-/// Stores the variables that have these indices.
+/// Copies the proof variables of the indices in `given` from `globals` to `list`.
 fn rename(list: &mut Vec<Var>, globals: &[Var], given: &[Given])
     requires there { AllByRecursion (λ g. g.solver < length list.old.items) given.now }
     requires below { AllByRecursion (λ g. g.solver < length globals.now) given.now }
@@ -55,7 +55,7 @@ fn rename(list: &mut Vec<Var>, globals: &[Var], given: &[Given])
     }
 }
 
-/// Returns the lowest number that is at least `count` and above these indices.
+/// Returns the lowest number that is at least `count` and above all indices in `given`.
 fn count_with(count: usize, given: &[Given]) -> usize
     requires few { count ≤ var_limit }
     ensures few { result ≤ var_limit }
