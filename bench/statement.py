@@ -14,9 +14,9 @@ from pathlib import Path
 
 # What is printed: chapters, each with its roots. A root is a clause of a function, or a definition.
 CHAPTERS = [
-    ('What a yes means', 'Where `confirm` says yes, the answers that its reader gave are right.',
+    ('What `Yes` means', 'If `confirm` returns `Yes`, the answers that its reader gave are correct.',
      [('clause', 'certify', 'confirm', 'confirm', ['sound'])]),
-    ('What the headline says', 'A script in memory is run, what was written is confirmed, and so are any answers with any certificate.',
+    ('What the headline says', '`headline_over` runs a script in memory and confirms what the run wrote. It also judges other answers with another certificate.',
      [('clause', 'certify', 'headline', 'headline_over', ['headline']),
       ('definition', 'Rattle.certify.specs.laws.Headline', 'Headline')]),
 ]
@@ -40,12 +40,12 @@ SUBJECTS = [
     ('Bytes and words', ['sat_base.specs.text.*']),
     ('The grammar of scripts', ['sat_base.specs.script.Script', 'sat_base.specs.script.Language', 'certify.specs.answers.ScriptText']),
     ('Clauses and valuations', ['sat_base.specs.values.*']),
-    ('What commands leave', ['sat_base.specs.script.ScriptState']),
+    ('The state after commands', ['sat_base.specs.script.ScriptState']),
     ('Answers', ['sat_checker.specs.matching.Expected', 'certify.specs.answers.RightAnswers', 'certify.specs.answers.Asks',
                  'certify.specs.answers.Answers', 'certify.specs.answers.AnswersText']),
     ('Steps and their bytes', ['sat_base.specs.steps.*']),
     ('What a checker accepts', ['sat_checker.specs.*']),
-    ('What a solver makes', ['sat_solver.specs.*']),
+    ('What a solver produces', ['sat_solver.specs.*']),
     ('Devices', ['sat_base.src.device', 'sat_base.specs.device.*', 'certify.specs.Devices']),
     ('A run', ['certify.src.summary', 'certify.specs.run.*']),
     ('Verdicts', ['certify.src.verdict', 'certify.specs.confirm.*']),
@@ -498,8 +498,11 @@ def sizes(repository, spec):
 
 def page(repository):
     out = ['# The statement', '',
-           'What the public clauses say, with every definition that they reach, from the sources. `statement.py` makes this page; `--check` tells',
-           'whether it is up to date. A chapter leaves out what an earlier one has.', '']
+           'For auditors. This page prints the contract clauses that state the main promises, and every definition that they use, from the sources.',
+           '`bench/statement.py` generates it; with `--check`, it checks that the page is up to date. Each chapter omits definitions that an',
+           'earlier chapter prints.', '',
+           'The table counts, for these clauses and others, the definitions that they use, the lines of these definitions, and the length of the',
+           'longest chain in which each definition uses the next.', '']
     rows, seen_specs = [], []
     for spec in [s for c in CHAPTERS for s in c[2]] + COUNTED:
         if spec in seen_specs:
@@ -508,7 +511,7 @@ def page(repository):
         size = sizes(repository, spec)
         if size:
             rows.append((title_of(spec), *size))
-    out += ['| Reached by | Definitions | Lines | Depth |', '|---|---|---|---|']
+    out += ['| Clause or definition | Definitions used | Lines | Depth |', '|---|---|---|---|']
     out += [f'| {a} | {b} | {c:,} | {d} |' for a, b, c, d in rows]
     printed, std = {}, {}
     for number, (title, says, specs) in enumerate(CHAPTERS, 1):
@@ -519,7 +522,7 @@ def page(repository):
             printed[item.key] = item
             for module, name in item.std:
                 std.setdefault(module, set()).add(name)
-        out += ['', f'## {number}. {title}', '', f'{says} {len(new)} definitions{", beside those above" if number > 1 else ""}.']
+        out += ['', f'## {number}. {title}', '', f'{says} {len(new)} definitions{", besides those above" if number > 1 else ""}.']
         for root in roots:
             if root.kind == 'clause':
                 out += ['', f'`{root.file}`', '', '```rust', *root.comment, *root.lines, '```']
@@ -535,7 +538,7 @@ def page(repository):
                 out += ([''] if at else []) + item.comment + item.lines
             out += ['```']
     repository.check_fields(printed.values())
-    out += ['', '## Words of the standard library', '']
+    out += ['', '## Definitions of the standard library', '']
     for module in sorted(std):
         out.append(f'- `{module}`: ' + ', '.join(f'`{n}`' for n in sorted(std[module])))
     return '\n'.join(out) + '\n', rows

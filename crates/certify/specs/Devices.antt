@@ -2,18 +2,18 @@
 use Rattle.std.specs.Prelude.{◌+◌, ◌≡◌, true}
 use Rattle.sat_base.specs.device.Device.{Reader, Writer}
 
--- a reader before and after
+-- the reader of a device, before and after
 abbrev pub gave : {D : Type 0} → (D → Reader) → D → D → Reader × Reader
 gave seen old new = (seen old, seen new)
 
--- a writer before and after
+-- the writer of a device, before and after
 abbrev pub took : {D : Type 0} → (D → Writer) → D → D → Writer × Writer
 took seen old new = (seen old, seen new)
 
--- none did
+-- that no call of the writer failed
 abbrev pub NoneFailed : Writer → Writer → Type 0
 NoneFailed old new = (new.failures ≡ old.failures) × (new.loans ≡ old.loans)
 
--- one did, the last
+-- that exactly one call of the writer failed, and it was the last
 abbrev pub OneFailed : Writer → Writer → Type 0
 OneFailed old new = (new.failures ≡ old.failures + 1) × (new.failed ≡ true) × (new.loans ≡ old.loans)

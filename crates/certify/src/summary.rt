@@ -5,7 +5,7 @@ use sat_solver::Progress;
 /// The kind of an answer.
 #[derive(Clone, Copy, Debug, Drop, PartialEq, Eq)]
 pub enum Answer {
-    /// Some valuation satisfies the clauses and the literals of the ask. The answer lists one.
+    /// Some valuation satisfies the clauses and the literals of the ask. The answer is a model.
     Sat,
     /// No valuation satisfies the clauses and the literals of the ask.
     Unsat,

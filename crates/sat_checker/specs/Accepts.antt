@@ -1,4 +1,4 @@
--- Which steps are accepted, and what they leave. Lists of steps have the newest first.
+-- Which steps are accepted, and the effect of each step. Lists of steps have the newest first.
 use Rattle.std.specs.Prelude.{ℕ, ◌<◌, ◌≡◌, ◌≢◌, ◌⊎◌, true, false, Option, None, Some, List, [], ◌∷◌, map, if◌then◌else◌}
 use Rattle.std.specs.List.{list_any, AllByRecursion}
 use Rattle.sat_base.specs.values.Literals.{variable, negated}
@@ -8,11 +8,11 @@ use Rattle.sat_checker.specs.Propagation.{PassesCheck}
 use Rattle.sat_checker.specs.Stored.{Sample, Witness, Hide, Stored, nothing_stored, is_known, mode_of, name_of, is_unit, unit_literals, bucket}
 use Rattle.sat_checker.specs.Storing.{clause_with, irredundant_count, redundant_count, last_literals, with_stored, with_input, with_unit, with_units, settled, with_variable, with_known, with_literals_known, with_solver_name, without_variable, without_clause}
 
--- the propagation check of a clause under the hashes that a step names
+-- that a clause passes the propagation check under the hashes of a step
 abbrev pub PassesByHashes : Stored → List ℕ → List ℕ → Type 0
 PassesByHashes f clause hashes = PassesCheck (unit_literals f) clause (map (bucket f) hashes)
 
--- whether a variable may get a name: no variable has the name, and this one has none and is not hidden
+-- that a variable may get a name: no variable has the name, and the variable has no name and is not hidden
 pub record MayGetName (f : Stored) (v name : ℕ) : Type 0 where
   pub free : (w : ℕ) → name_of w f ≢ Some name
   pub nameless : name_of v f ≡ None
@@ -25,33 +25,34 @@ pub record MayBeDeleted (f : Stored) (v : ℕ) : Type 0 where
   pub unused : list_any (λ c. mentions c.literals v) f.clauses ≡ false
   pub not_assumed : mentions f.assumed v ≡ false
 
--- unsat is recorded, or every variable is sampling or unknown
+-- that a clause of the formula may be added: unsat is recorded, or every variable of the clause has mode sample
 abbrev pub MayBeAdded : Stored → List ℕ → Type 0
 MayBeAdded f clause = (f.unsat ≡ true) ⊎ AllByRecursion (λ l. mode_of (variable l) f ≡ Sample) clause
 
--- every literal in turn passes the check as a clause under its one hash, while the literals before it are units
+-- that every literal, as a clause of its own, passes the check under its hash, with the literals before it as units
 abbrev pub PassInTurn : Stored → List (ℕ × ℕ) → Type 0
 PassInTurn f [] = Unit {0}
 PassInTurn f (u ∷ us) = PassesByHashes f (u.0 ∷ []) (u.1 ∷ []) × PassInTurn (with_unit u.0 f) us
 
--- the list, if there is one, is a part of the clause but not all of it
+-- that there is a list, and it contains some but not all literals of the clause
 abbrev pub IsStrictSubset : Option (List ℕ) → List ℕ → Type 0
 IsStrictSubset None clause = ⊥
 IsStrictSubset (Some ls) clause = (is_part ls clause ≡ true) × (is_part clause ls ≡ false)
 
--- no variable occurs twice
+-- that no variable occurs twice
 abbrev pub VariablesApart : List ℕ → Type 0
 VariablesApart [] = Unit {0}
 VariablesApart (l ∷ ls) = (mentions ls (variable l) ≡ false) × VariablesApart ls
 
--- no variable twice, no unit contradicted, a true literal in every clause with an irredundant count, and no recorded unsat
+-- that unsat is not recorded, no variable occurs twice, no unit is contradicted, and every clause with an irredundant count has a literal of
+-- the model
 pub record FitsModel (f : Stored) (ls : List ℕ) : Type 0 where
   pub consistent : f.unsat ≡ false
   pub apart : VariablesApart ls
   pub units : AllByRecursion (λ u. is_among ls (negated u) ≡ false) (unit_literals f)
   pub clauses : AllByRecursion (λ c. (c.irredundant ≡ 0) ⊎ (list_any (is_among ls) c.literals ≡ true)) f.clauses
 
--- when a step is accepted, given what is stored before it
+-- that a step is accepted, given what is stored before it
 abbrev pub Accepts : Stored → Step → Type 0
 Accepts f (SolverVarName v name) = Unit {0}
 Accepts f (UserVarName v (Some name)) = MayGetName f v name
@@ -73,7 +74,7 @@ Accepts f (Assumptions ls) = Unit {0}
 Accepts f (FailedAssumptions core hashes) = (is_part core f.assumed ≡ true) × PassesByHashes f (map negated core) hashes
 Accepts f End = Unit {0}
 
--- what an accepted step leaves, if no unit conflict was pending
+-- what is stored after an accepted step, if no unit conflict was pending
 abbrev pub effect : Step → Stored → Stored
 effect (SolverVarName v None) f = with_solver_name v None f
 effect (SolverVarName v (Some name)) f = with_solver_name v (Some name) (with_known (v ∷ []) f)
@@ -93,16 +94,16 @@ effect (Assumptions ls) f = record (with_literals_known ls f) { assumed = ls }
 effect (FailedAssumptions core hashes) f = f
 effect End f = record f { ended = true }
 
--- A unit conflict is settled before the next step is judged.
+-- What is stored after accepted steps. A unit conflict is settled before the next step is judged.
 abbrev pub stored_after : List Step → Stored
 stored_after [] = nothing_stored
 stored_after (step ∷ earlier) = effect step (settled (stored_after earlier))
 
--- what the next step is judged against
+-- what is stored when the next step is judged
 abbrev pub ready_after : List Step → Stored
 ready_after steps = settled (stored_after steps)
 
--- every step is accepted in its turn
+-- that every step is accepted after the steps before it
 abbrev pub AcceptsAll : List Step → Type 0
 AcceptsAll [] = Unit {0}
 AcceptsAll (step ∷ earlier) = AcceptsAll earlier × Accepts (ready_after earlier) step

@@ -15,16 +15,16 @@ use Rattle.sat_checker.specs.declared.error.CheckerError.TheVariants as errors
 use Rattle.sat_checker.specs.declared.processing.ProcessingError.{ProcessingError}
 use Rattle.sat_checker.specs.declared.processing.ProcessingError.TheVariants as faults
 
--- what contracts see of a checker: what judges the steps, and the listeners
+-- what contracts see of a checker: the kernel, which judges the steps, and the listeners
 pub record CheckerView (L : Type 0) : Type 0 where
   pub kernel : Kernel
   pub listeners : L
 
--- the view of this kernel, with these listeners
+-- the view of this kernel with these listeners
 abbrev pub seen : {L : Type 0} → Kernel → L → CheckerView L
 seen kernel listeners = record { kernel = kernel; listeners = listeners }
 
--- the part that judges steps
+-- the kernel of a checker, which judges steps
 abbrev pub kernel_of : {P T : Type 0} → Checker P T → Kernel
 kernel_of c = c.kernel
 
@@ -32,19 +32,19 @@ kernel_of c = c.kernel
 abbrev pub seen_of : {P T : Type 0} → Checker P T → CheckerView (Processing P T)
 seen_of c = seen c.kernel c.processing
 
--- the view of a checker, with an additional processor that one call lends
+-- the view of a checker with an additional processor that is borrowed for one call
 abbrev pub seen_with : {V P T : Type 0} → V → Checker P T → CheckerView (Hearers V (Processing P T))
 seen_with own c = seen c.kernel (hearers own c.processing)
 
--- whether it only returns HasFailed from now on
+-- whether the checker only returns `HasFailed` from now on
 abbrev pub has_failed : {L : Type 0} → CheckerView L → Bool
 has_failed c = c.kernel.failed
 
--- how many literals it has looked at
+-- the number of looks of the checker
 abbrev pub looks_of : {L : Type 0} → CheckerView L → ℕ
 looks_of c = c.kernel.looks
 
--- no unit conflict is waiting for the id of its empty clause
+-- that no unit conflict is waiting for the id of its empty clause
 abbrev pub IsSettled : {L : Type 0} → CheckerView L → Type 0
 IsSettled c = kernels.KernelIsSettled c.kernel
 
@@ -52,11 +52,11 @@ IsSettled c = kernels.KernelIsSettled c.kernel
 abbrev pub FaultIsFromListener : {P T : Type 0} → Result Unit CheckerError → Checker P T → Type 0
 FaultIsFromListener result old = (steps : List Step) → kernels.HasAccepted (kernel_of old) steps → IfErr result (IsListenerFault old.processing)
 
--- once it has failed, it returns only that, and does not change
+-- that a checker that has failed only returns `fault` and does not change
 abbrev pub FailsAgain : {E P T : Type 0} → E → Result Unit E → Checker P T → Checker P T → Type 0
 FailsAgain fault result old new = kernels.kernel_has_failed (kernel_of old) ≡ true → (result ≡ Err fault) × (new ≡ old)
 
--- What the result means when a listener is added: the listeners are then those before and the new one.
+-- the result of adding a listener: the listeners are then the earlier listeners and the new one
 abbrev pub AddsListener : {L : Type 0} → Result Unit CheckerError → Kernel → Kernel → L → L → L → Type 0
 AddsListener (Ok x) old new listened listen more = (kernels.kernel_has_failed old ≡ false) × (new ≡ old) × (listen ≡ more)
 AddsListener (Err errors.OutOfMemory) old new listened listen more = (kernels.kernel_has_failed old ≡ false) × (new ≡ record old { failed = true }) × (listen ≡ listened)
@@ -70,42 +70,43 @@ AddsListener (Err errors.ParseError) old new listened listen more = ⊥
 
 -- How listeners change when they hear something, what was announced earlier, and what the listeners were then.
 module _ {L : Type 0} (Hears : L → Notice → Result Unit ProcessingError → L → Type 0) (before : List Notice) (begun : L) where
-  -- It has accepted these steps, the newest first, and stores what they leave unless it has failed. The listeners have heard all that these steps announced after what was announced earlier.
+  -- That the checker has accepted these steps, the newest first, and stores what is stored after them unless it has failed. The listeners have
+  -- received all announcements of these steps after those made earlier.
   pub record HasAccepted (checker : CheckerView L) (steps : List Step) : Type 0 where
     pub kernel : kernels.HasAccepted checker.kernel steps
     pub heard : has_failed checker ≡ false → HearsSince Hears before (notices_by checker.kernel.state.formula.status.conflict steps) begun checker.listeners
 
-  -- its state did not change, but from then on it only returns HasFailed
+  -- that the checker only returns `HasFailed` from now on; its state did not change
   pub record Fails (new : CheckerView L) (steps : List Step) : Type 0 where
     pub stands : HasAccepted new steps
     pub failed : has_failed new ≡ true
 
-  -- the checker failed, and has announced what was pending, and no more
+  -- that the checker failed, and has announced only what was pending
   pub record FailsRefusing (new : CheckerView L) (steps : List Step) : Type 0 where
     pub fails : Fails new steps
     pub heard : HearsSince Hears before (all_notices_after steps) begun new.listeners
 
-  -- the checker failed, and has announced nothing more, or only what was pending
+  -- that the checker failed, and has announced nothing more, or only what was pending
   pub record FailsBeforeStep (new : CheckerView L) (steps : List Step) : Type 0 where
     pub fails : Fails new steps
     pub heard : HearsSince Hears before (notices_after steps) begun new.listeners ⊎ HearsSince Hears before (all_notices_after steps) begun new.listeners
 
-  -- a listener returned a fault for some of this
+  -- that a listener returned a fault for some of these announcements
   pub record FailsAtListener (e : ProcessingError) (reported : List Notice) (new : CheckerView L) (steps : List Step) : Type 0 where
     pub fails : Fails new steps
     pub heard : HearsSinceUpTo Hears e before reported begun new.listeners
 
-  -- a listener returned a fault for a pending unit conflict, or for what an accepted step announces; that step then counts as accepted
+  -- that a listener returned a fault for a pending unit conflict, or for an announcement of an accepted step, which then counts
   abbrev pub BreaksAt : ProcessingError → CheckerView L → Step → List Step → Type 0
   BreaksAt e new step steps =
       (kernels.LeavesConflict steps × FailsAtListener e (all_notices_after steps) new steps)
       ⊎ (Accepts (ready_after steps) step × FailsAtListener e (notices_after (step ∷ steps)) new (step ∷ steps))
 
-  -- Memory ran out for the step, which would be accepted, or while something was announced.
+  -- That memory ran out for the step, which would be accepted, or during an announcement.
   abbrev pub StarvesAt : CheckerView L → Step → List Step → Type 0
   StarvesAt new step steps = (Accepts (ready_after steps) step × FailsBeforeStep new steps) ⊎ BreaksAt faults.OutOfMemory new step steps
 
-  -- the step was accepted, in agreement with the definition
+  -- that the step was accepted, in agreement with the definition
   pub record Takes (new : CheckerView L) (step : Step) (steps : List Step) : Type 0 where
     pub accepts : Accepts (ready_after steps) step
     pub stands : HasAccepted new (step ∷ steps)
@@ -138,7 +139,7 @@ module _ {L : Type 0} (Hears : L → Notice → Result Unit ProcessingError → 
   AnswersDelayed (Err errors.IoError) old new steps = ⊥
   AnswersDelayed (Err errors.ParseError) old new steps = ⊥
 
-  -- What the result for a clause of the formula means. A refused one does not change the checker.
+  -- The result of adding a clause of the formula. A refused clause does not change the checker.
   abbrev pub AnswersClause : Result Unit CheckerError → CheckerView L → List ℕ → CheckerView L → List Step → Type 0
   AnswersClause (Ok x) old clause new steps = AnswersStep (Ok x) old (AddClause clause) new steps
   AnswersClause (Err errors.CheckFailed) old clause new steps = (has_failed old ≡ false) × (Accepts (ready_after steps) (AddClause clause) → ⊥) × (new ≡ old)
@@ -151,14 +152,14 @@ module _ {L : Type 0} (Hears : L → Notice → Result Unit ProcessingError → 
   AnswersClause (Err errors.ParseError) old clause new steps = ⊥
 
 module _ {L : Type 0} (Hears : L → Notice → Result Unit ProcessingError → L → Type 0) where
-  -- the result for a step means this, whatever was accepted and announced earlier
+  -- the result of checking a step, whatever was accepted and announced earlier
   abbrev pub ChecksStep : Result Unit CheckerError → CheckerView L → Step → CheckerView L → Type 0
   ChecksStep result old step new = (before : List Notice) (begun : L) (steps : List Step) → HasAccepted Hears before begun old steps → AnswersStep Hears before begun result old step new steps
 
-  -- the result when a pending unit conflict is settled means this, whatever was accepted and announced earlier
+  -- the result of settling a pending unit conflict, whatever was accepted and announced earlier
   abbrev pub ChecksDelayed : Result Unit CheckerError → CheckerView L → CheckerView L → Type 0
   ChecksDelayed result old new = (before : List Notice) (begun : L) (steps : List Step) → HasAccepted Hears before begun old steps → AnswersDelayed Hears before begun result old new steps
 
-  -- the result for a clause of the formula means this, whatever was accepted and announced earlier
+  -- the result of adding a clause of the formula, whatever was accepted and announced earlier
   abbrev pub ChecksClause : Result Unit CheckerError → CheckerView L → List ℕ → CheckerView L → Type 0
   ChecksClause result old clause new = (before : List Notice) (begun : L) (steps : List Step) → HasAccepted Hears before begun old steps → AnswersClause Hears before begun result old clause new steps

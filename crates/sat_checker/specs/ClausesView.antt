@@ -15,20 +15,20 @@ use Rattle.sat_checker.specs.declared.processing.ProcessingError.TheVariants as 
 abbrev pub additions : List (List ℕ) → List Step
 additions = map AddClause
 
--- The first of the clauses were added, and these were tried.
+-- That the first of the clauses were added, and the clauses in `tried` were tried.
 pub record AddsFirstClauses {L : Type 0} (old new : CheckerView L) (clauses added tried : List (List ℕ)) (earlier : List Step) : Type 0 where
   pub well : has_failed old ≡ false
   pub left : List (List ℕ)
   pub split : clauses ≡ (added ++ tried) ++ left
   pub looks : looks_of new ≤ looks_of old + most_looks_behind (additions (added ++ tried)) earlier
 
--- the accepted steps once clauses were added after these steps
+-- the accepted steps after clauses were added, given the earlier steps
 abbrev pub after_additions : List (List ℕ) → List Step → List Step
 after_additions clauses earlier = taken_after (additions clauses) earlier
 
 module _ {L : Type 0} (Hears : L → Notice → Result Unit ProcessingError → L → Type 0) (before : List Notice) (begun : L) where
-  -- What the result for clauses means: they are added as if by one call for each, up to the first that isn't accepted. A refused one does not change
-  -- the checker.
+  -- The result of adding clauses: they are added as if by one call for each, up to the first that is not accepted. A refused clause does not
+  -- change the checker.
   abbrev pub AnswersClauses : Result Unit CheckerError → CheckerView L → CheckerView L → List (List ℕ) → List Step → Type 0
   AnswersClauses (Ok x) old new clauses earlier = AddsFirstClauses old new clauses clauses [] earlier × StandsUnfailed Hears before begun new (after_additions clauses earlier)
   AnswersClauses (Err errors.CheckFailed) old new clauses earlier =
@@ -49,6 +49,6 @@ module _ {L : Type 0} (Hears : L → Notice → Result Unit ProcessingError → 
   AnswersClauses (Err errors.ParseError) old new clauses earlier = ⊥
 
 module _ {L : Type 0} (Hears : L → Notice → Result Unit ProcessingError → L → Type 0) where
-  -- the result for clauses means this, whatever was accepted and announced earlier
+  -- the result of adding clauses, whatever was accepted and announced earlier
   abbrev pub AddsClauses : Result Unit CheckerError → CheckerView L → CheckerView L → List (List ℕ) → Type 0
   AddsClauses result old new clauses = (before : List Notice) (begun : L) (steps : List Step) → HasAccepted Hears before begun old steps → AnswersClauses Hears before begun result old new clauses steps

@@ -6,7 +6,7 @@ use Rattle.sat_checker.specs.LiteralSets.{is_among, is_tautology, canonical, sam
 use Rattle.sat_checker.specs.Stored.{Sample, Witness, Hide, Variable, unknown, StoredClause, Stored, is_unit}
 use Rattle.sat_checker.specs.Storing.{clause_with, irredundant_count, redundant_count}
 
--- the redundant (true) or the irredundant count of a clause, 0 if it isn't stored
+-- the redundant (true) or the irredundant count of a clause, or 0 if the clause is not stored
 abbrev pub count_in : Bool → Option StoredClause → ℕ
 count_in true c = redundant_count c
 count_in false c = irredundant_count c
@@ -17,7 +17,7 @@ count_of redundant set clauses = count_in redundant (clause_with set clauses)
 
 -- what steps say about clauses, units, variables, names, the width of hashes and assumptions: no ids, no order, no pending unit conflict
 pub record ProofState : Type 0 where
-  pub counts : Bool → List ℕ → ℕ  -- of each set of literals, redundant (true) or irredundant
+  pub counts : Bool → List ℕ → ℕ  -- the redundant (true) or irredundant count of each set of literals
   pub units : ℕ → Bool
   pub unsat : Bool
   pub variables : ℕ → Variable
@@ -31,7 +31,7 @@ pub record Contents : Type 0 where
   pub ended : Bool
   pub var_deleted : Bool
 
--- counts by sets of literals, units by literals, the rest unchanged
+-- the proof state of what is stored: counts by sets of literals, units by literals, the rest unchanged
 abbrev pub stored_state : Stored → ProofState
 stored_state f = record {
   counts = λ redundant set. count_of redundant set f.clauses;
@@ -43,71 +43,71 @@ stored_state f = record {
   assumed = f.assumed;
 }
 
--- what is stored, by its contents
+-- the contents of what is stored
 abbrev pub contents : Stored → Contents
 contents f = record { state = stored_state f; ended = f.ended; var_deleted = f.var_deleted }
 
--- whether both are redundant, or both irredundant
+-- whether the two flags are equal
 abbrev pub same_side : Bool → Bool → Bool
 same_side true redundant = redundant
 same_side false redundant = not redundant
 
--- one more if it is this one
+-- `n` plus 1 if the flag is true
 abbrev pub more_if : Bool → ℕ → ℕ
 more_if b n = if b then n + 1 else n
 
--- one less if it is this one
+-- `n` minus 1 if the flag is true
 abbrev pub less_if : Bool → ℕ → ℕ
 less_if b n = if b then n - 1 else n
 
--- one more count of this set, as redundant (true) or as irredundant
+-- the state with one more count of this set, as redundant (true) or as irredundant
 abbrev pub one_more : Bool → List ℕ → ProofState → ProofState
 one_more redundant set c = record c { counts = λ r other. more_if (same_side redundant r && same_literals set other) (c.counts r other) }
 
--- one fewer count of this set, as redundant (true) or as irredundant
+-- the state with one fewer count of this set, as redundant (true) or as irredundant
 abbrev pub one_less : Bool → List ℕ → ProofState → ProofState
 one_less redundant set c = record c { counts = λ r other. less_if (same_side redundant r && same_literals set other) (c.counts r other) }
 
--- adds a unit: changes nothing if it is one already, and records unsat if its negation is one
+-- the state after a unit is added: unchanged if the unit is stored already; unsat is recorded if its negation is stored
 abbrev pub unit_more : ℕ → ProofState → ProofState
 unit_more l c = if c.units l then c else (if c.units (negated l) then record c { unsat = true } else record c { units = λ m. l == m || c.units m })
 
--- adds all of these units, from left to right
+-- the state after these units are added, from left to right
 abbrev pub units_more : List ℕ → ProofState → ProofState
 units_more [] c = c
 units_more (l ∷ ls) c = units_more ls (unit_more l c)
 
--- adds a sorted set of literals
+-- the state after a sorted set of literals is added as a clause
 abbrev pub set_more : Bool → List ℕ → ProofState → ProofState
 set_more redundant [] c = record c { unsat = true }
 set_more redundant (l ∷ []) c = unit_more l c
 set_more redundant (l ∷ m ∷ ls) c = one_more redundant (l ∷ m ∷ ls) c
 
--- adds a clause; a tautology changes nothing
+-- the state after a clause is added; a tautology changes nothing
 abbrev pub clause_more : Bool → List ℕ → ProofState → ProofState
 clause_more redundant clause c = if is_tautology clause then c else set_more redundant (canonical clause) c
 
--- a variable has this data from now on
+-- the state in which a variable has this data
 abbrev pub variable_set : ℕ → Variable → ProofState → ProofState
 variable_set v x c = record c { variables = λ w. if w == v then x else c.variables w }
 
--- these variables become known
+-- the state in which these variables are also known
 abbrev pub known_more : List ℕ → ProofState → ProofState
 known_more vs c = record c { variables = λ v. if is_among vs v then record (c.variables v) { known = true } else c.variables v }
 
--- the variables of these literals become known
+-- the state in which the variables of these literals are also known
 abbrev pub literals_known : List ℕ → ProofState → ProofState
 literals_known ls = known_more (map variable ls)
 
--- a variable has this solver name or none from now on
+-- the state in which a variable has this solver name, or none
 abbrev pub solver_name_set : ℕ → Option ℕ → ProofState → ProofState
 solver_name_set v name c = record c { solver_names = λ w. if w == v then name else c.solver_names w }
 
--- a variable's unit is removed, and it is unknown again
+-- the state in which a variable has no unit and is unknown
 abbrev pub variable_less : ℕ → ProofState → ProofState
 variable_less v c = record (variable_set v unknown c) { units = λ l. c.units l && not (variable l == v) }
 
--- after a step, whether it is accepted or not
+-- the proof state after a step, whether or not the step is accepted
 abbrev pub state_after : Step → ProofState → ProofState
 state_after (SolverVarName v None) c = solver_name_set v None c
 state_after (SolverVarName v (Some name)) c = solver_name_set v (Some name) (known_more (v ∷ []) c)
@@ -126,7 +126,7 @@ state_after (Assumptions ls) c = record (literals_known ls c) { assumed = ls }
 state_after (FailedAssumptions core hashes) c = c
 state_after End c = c
 
--- before the first step
+-- the proof state before the first step
 abbrev pub empty_state : ProofState
 empty_state = record {
   counts = λ redundant set. 0;
@@ -138,12 +138,12 @@ empty_state = record {
   assumed = [];
 }
 
--- only the end of a proof ends it
+-- whether the proof has ended after a step
 abbrev pub ended_after : Step → Bool → Bool
 ended_after End ended = true
 ended_after step ended = ended
 
--- only a deletion deletes a variable
+-- whether a variable was deleted, including by this step
 abbrev pub deleted_after : Step → Bool → Bool
 deleted_after (DeleteVar v) deleted = true
 deleted_after step deleted = deleted
@@ -152,7 +152,7 @@ deleted_after step deleted = deleted
 abbrev pub contents_after : Step → Contents → Contents
 contents_after step c = record { state = state_after step c.state; ended = ended_after step c.ended; var_deleted = deleted_after step c.var_deleted }
 
--- the newest step first
+-- the contents after steps, of which the newest comes first
 abbrev pub contents_of : List Step → Contents
 contents_of [] = record { state = empty_state; ended = false; var_deleted = false }
 contents_of (step ∷ earlier) = contents_after step (contents_of earlier)

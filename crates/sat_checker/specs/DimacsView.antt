@@ -20,19 +20,19 @@ use Rattle.sat_checker.specs.declared.error.CheckerError.TheVariants as errors
 use Rattle.sat_checker.specs.declared.error.CheckerDimacsError.{CheckerDimacsError}
 use Rattle.sat_checker.specs.declared.error.CheckerDimacsError.TheVariants as refused
 
--- the clauses of the words that have ended in a prefix of the text
+-- that these are the clauses of the words that have ended in a prefix of the text
 abbrev pub AreOfFront : List ℕ → List (List ℕ) → Type 0
 AreOfFront text clauses = (front : List ℕ) × (left : List ℕ) × (text ≡ front ++ left) × (clauses ≡ (dimacs (up_to_last_blank front)).clauses)
 
--- the clauses that were read: those of the words that have ended, or all of the text
+-- that these are the clauses that were read: those of the words that have ended, or all clauses of the text
 abbrev pub AreRead : List ℕ → List (List ℕ) → Type 0
 AreRead text clauses = AreOfFront text clauses ⊎ (clauses ≡ (dimacs text).clauses)
 
--- the text has these clauses first
+-- that the text begins with these clauses
 abbrev pub AreFirst : List (List ℕ) → List ℕ → Type 0
 AreFirst clauses text = (behind : List (List ℕ)) × ((dimacs text).clauses ≡ clauses ++ behind)
 
--- the text has these clauses before a fault, or memory ran out after them
+-- that the text has these clauses before a fault, or memory ran out after them
 abbrev pub FaultBehind : DimacsError → List ℕ → List (List ℕ) → Type 0
 FaultBehind (texts.Malformed line) text clauses = (n : ℕ) × (line ≡ held n) × IsDimacs text clauses (Malformed n)
 FaultBehind (texts.Limit line) text clauses = (n : ℕ) × (line ≡ held n) × IsDimacs text clauses (Limit n)
@@ -40,13 +40,13 @@ FaultBehind texts.OutOfMemory text clauses = ParsesShort text × AreOfFront text
 FaultBehind texts.Read text clauses = ⊥
 FaultBehind texts.HasFailed text clauses = ⊥
 
--- A text was read up to its fault, or to a read that failed. This holds whatever would follow.
+-- That a text was read up to its fault, or to a read that failed, whatever bytes could follow.
 abbrev pub FailsBehind : DimacsError → Reader → Reader → List (List ℕ) → Type 0
 FailsBehind texts.Read from to clauses = ReadFails from to × (text : List ℕ) × GaveFront from to text × IsSoundText text × (clauses ≡ (dimacs (up_to_last_blank text)).clauses)
 FailsBehind error from to clauses = NoReadFailed from to × GaveEnough from to (λ text. FaultBehind error text clauses)
 
 module _ {L : Type 0} (Hears : L → Notice → Result Unit ProcessingError → L → Type 0) (before : List Notice) (begun : L) where
-  -- the checker continues, unless memory ran out
+  -- that the checker continues, unless memory ran out
   abbrev pub StandsBehind : DimacsError → CheckerView L → List Step → Type 0
   StandsBehind texts.OutOfMemory new steps = FailsBeforeStep Hears before begun new steps
   StandsBehind error new steps = StandsUnfailed Hears before begun new steps
@@ -62,23 +62,23 @@ module _ {L : Type 0} (Hears : L → Notice → Result Unit ProcessingError → 
       NoReadFailed from to × (clauses : List (List ℕ)) × GaveEnough from to (λ text. AreRead text clauses) × AnswersClauses Hears before begun (Err error) old new clauses earlier
 
 module _ {L : Type 0} (Hears : L → Notice → Result Unit ProcessingError → L → Type 0) where
-  -- the result for a formula's text means this, whatever was accepted and announced earlier
+  -- the result of adding a formula's text, whatever was accepted and announced earlier
   abbrev pub AddsDimacs : Result Unit CheckerDimacsError → CheckerView L → CheckerView L → Reader → Reader → Type 0
   AddsDimacs result old new from to = (before : List Notice) (begun : L) (steps : List Step) → HasAccepted Hears before begun old steps → AnswersDimacs Hears before begun result old new from to steps
 
--- if the result is a listener's fault, a listener that was added returned it
+-- that a listener that was added returned the fault, if the result is a listener's fault
 abbrev pub DimacsFaultIsFromListener : {P T : Type 0} → Processing P T → CheckerDimacsError → Type 0
 DimacsFaultIsFromListener old (refused.Checker error) = IsListenerFault old error
 DimacsFaultIsFromListener old (refused.Dimacs error) = Unit {0}
 
--- the result is a listener's fault only if a listener was added
+-- that the result is a listener's fault only if a listener was added
 abbrev pub DimacsFaultNeedsListener : {P T : Type 0} → Result Unit CheckerDimacsError → Checker P T → Type 0
 DimacsFaultNeedsListener result old = (steps : List Step) → kernels.HasAccepted (kernel_of old) steps → IfErr result (DimacsFaultIsFromListener old.processing)
 
--- the clauses of the words that have ended in a text stay the first, whatever follows
+-- that the clauses of the words that have ended in a text stay the first, whatever bytes follow
 abbrev pub EndedStayFirst : Type 0
 EndedStayFirst = (text rest : List ℕ) → AreFirst (dimacs (up_to_last_blank text)).clauses (text ++ rest)
 
--- the clauses that are read from a text stay the first, whatever follows
+-- that the clauses that are read from a text stay the first, whatever bytes follow
 abbrev pub ReadAreFirst : Type 0
 ReadAreFirst = (text : List ℕ) (clauses : List (List ℕ)) → AreRead text clauses → AreFirst clauses text

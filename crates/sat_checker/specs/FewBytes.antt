@@ -6,11 +6,11 @@ use Rattle.sat_checker.specs.Accepts.{stored_after, ready_after}
 use Rattle.sat_checker.specs.ProofView.{most_bytes, taken_after}
 use Rattle.sat_checker.specs.Spent.{SpentBy}
 
--- steps assign no more ids than they have bytes
+-- that steps assign at most as many ids as they have bytes
 abbrev pub IdsWithinBytes : Type 0
 IdsWithinBytes = (steps : List Step) (text : List ℕ) → SpellsSteps steps text → (ready_after (taken_after steps [])).next_id ≤ length text
 
--- no steps that a reader can provide exhaust the ids or counts
+-- that no steps that a reader can provide exhaust the ids or counts
 abbrev pub NoneIsSpent : Type 0
 NoneIsSpent = (steps : List Step) (step : Step) (text : List ℕ) → SpellsSteps (steps ++ step ∷ []) text → length text ≤ most_bytes
     → SpentBy step (stored_after (taken_after steps [])) → ⊥

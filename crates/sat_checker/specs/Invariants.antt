@@ -1,4 +1,4 @@
--- What always holds of what is stored, and what steps leave unchanged.
+-- Invariants of what is stored, and what steps leave unchanged.
 use Rattle.std.specs.Prelude.{ℕ, ◌+◌, ◌<◌, ◌≤◌, ◌≡◌, ◌⊎◌, ◌↔◌, Bool, true, false, ◌&&◌, None, Some, List, [], ◌∷◌, map, length}
 use Rattle.std.specs.List.{AllByRecursion, list_any}
 use Rattle.sat_base.specs.values.Literals.{variable}
@@ -12,31 +12,31 @@ use Rattle.sat_checker.specs.Accepts.{VariablesApart, Accepts, AcceptsAll, effec
 use Rattle.sat_checker.specs.Fold.{Holds}
 use Rattle.sat_checker.specs.Contents.{count_of, same_side, less_if, contents, contents_after, contents_of}
 
--- no set of literals is stored twice
+-- that no set of literals is stored twice
 abbrev pub EachOnce : List StoredClause → Type 0
 EachOnce [] = Unit {0}
 EachOnce (c ∷ cs) = (clause_with c.literals cs ≡ None) × EachOnce cs
 
--- every clause has a count
+-- that every clause has a count above 0
 abbrev pub EachCounted : List StoredClause → Type 0
 EachCounted = AllByRecursion (λ c. 0 < c.irredundant + c.redundant)
 
--- clauses are in order of ids, all of which were assigned
+-- that clauses are in order of their ids, all of which were assigned
 pub record IdsRise (f : Stored) : Type 0 where
   pub rising : IsIncreasing (map (λ c. c.id) f.clauses)
   pub given : AllByRecursion (λ id. id < f.next_id) (map (λ c. c.id) f.clauses)
 
--- every clause has two literals or more, sorted, different, and not both signs of a variable
+-- that a clause has at least two literals, which are sorted and different, and no variable with both signs
 pub record IsProper (literals : List ℕ) : Type 0 where
   pub two : 2 ≤ length literals
   pub sorted : IsIncreasing literals
   pub apart : is_tautology literals ≡ false
 
--- the variables of these literals are known
+-- that the variables of these literals are known
 abbrev pub AllKnown : Stored → List ℕ → Type 0
 AllKnown f = AllByRecursion (λ l. is_known (variable l) f ≡ true)
 
--- what always holds of clauses, their counts and ids, and of units; their variables and those of what is assumed are known
+-- the invariant of clauses, their counts and ids, and of units; the variables of clauses, units and assumptions are known
 pub record IsTidy (f : Stored) : Type 0 where
   pub proper : AllByRecursion IsProper (long_clauses f)
   pub once : EachOnce f.clauses
@@ -47,49 +47,49 @@ pub record IsTidy (f : Stored) : Type 0 where
   pub units_known : AllKnown f (unit_literals f)
   pub assumed_known : AllKnown f f.assumed
 
--- this holds after every list of accepted steps
+-- that `IsTidy` holds after every list of accepted steps
 abbrev pub AlwaysTidy : Type 0
 AlwaysTidy = (steps : List Step) → AcceptsAll steps → IsTidy (ready_after steps)
 
--- once unsat is recorded, it stays so
+-- that unsat stays recorded once it is
 abbrev pub UnsatStays : Type 0
 UnsatStays = (f : Stored) (step : Step) → f.unsat ≡ true → (effect step f).unsat ≡ true
 
--- a pending unit conflict changes nothing in what is accepted
+-- that a pending unit conflict does not affect which steps are accepted
 abbrev pub PendingChangesNothing : Type 0
 PendingChangesNothing = (f : Stored) (step : Step) → Accepts f step ↔ Accepts (settled f) step
 
--- redundant clauses hold whenever the others do
+-- that all stored clauses hold in every valuation that the accepted steps allow
 abbrev pub AllClausesHold : Type 0
 AllClausesHold = (steps : List Step) (a : Valuation) → AcceptsAll steps → Holds steps a → EachHolds a (long_clauses (ready_after steps))
 
--- every step changes the contents as contents_after says
+-- that every step changes the contents as `contents_after` says
 abbrev pub ContentsFollow : Type 0
 ContentsFollow = (f : Stored) (step : Step) → EachOnce f.clauses → contents (effect step f) ≡ contents_after step (contents f)
 
--- settling a unit conflict does not change the contents
+-- that settling a unit conflict does not change the contents
 abbrev pub ContentsAreSettled : Type 0
 ContentsAreSettled = (f : Stored) → contents (settled f) ≡ contents f
 
--- the contents of what steps leave are the initial contents, changed by the steps one by one
+-- that the contents after accepted steps are the initial contents, changed by the steps one by one
 abbrev pub ContentsOfSteps : Type 0
 ContentsOfSteps = (steps : List Step) → contents (ready_after steps) ≡ contents_of steps
 
--- a count that is removed is one of this set and this side, and no other
+-- that removing a count affects only the count of this set on this side
 abbrev pub TakingCounts : Type 0
 TakingCounts = (redundant side : Bool) (set other : List ℕ) (cs : List StoredClause) → EachOnce cs →
     count_of side other (without_clause redundant set cs) ≡ less_if (same_side redundant side && same_literals set other) (count_of side other cs)
 
--- a set is stored exactly if it has a count
+-- that a set is stored exactly if it has a count
 abbrev pub CountedIsStored : Type 0
 CountedIsStored = (set : List ℕ) (cs : List StoredClause) → EachCounted cs → (clause_with set cs ≡ None) ↔ (count_of false set cs + count_of true set cs ≡ 0)
 
--- an irredundant derived clause of two literals or more is the last one stored
+-- that an irredundant derived clause of two or more literals is then the last irredundant clause stored
 abbrev pub DerivedIsLast : Type 0
 DerivedIsLast = (steps : List Step) (clause hashes : List ℕ) → AcceptsAll (AtClause false clause hashes ∷ steps) → is_tautology clause ≡ false → 2 ≤ length (canonical clause) →
     last_literals (ready_after (AtClause false clause hashes ∷ steps)).last (ready_after (AtClause false clause hashes ∷ steps)) ≡ Some (canonical clause)
 
--- a step that neither stores nor removes a clause or a unit
+-- whether a step neither stores nor removes a clause or a unit
 abbrev pub leaves_last : Step → Bool
 leaves_last (SolverVarName v name) = true
 leaves_last (UserVarName v name) = true
@@ -101,44 +101,44 @@ leaves_last (FailedAssumptions core hashes) = true
 leaves_last End = true
 leaves_last step = false
 
--- such a step does not change which irredundant clause was stored last
+-- that a step with `leaves_last` does not change which irredundant clause was stored last
 abbrev pub LastStays : Type 0
 LastStays = (f : Stored) (step : Step) → leaves_last step ≡ true → last_literals (effect step f).last (effect step f) ≡ last_literals f.last f
 
--- settling a unit conflict does not change it either
+-- that settling a unit conflict does not change which irredundant clause was stored last
 abbrev pub LastIsSettled : Type 0
 LastIsSettled = (f : Stored) → last_literals (settled f).last (settled f) ≡ last_literals f.last f
 
--- a unit satisfies the clause, or it has an irredundant count
+-- that a unit satisfies the clause, or the clause has an irredundant count
 abbrev pub Supported : List ℕ → List StoredClause → List ℕ → Type 0
 Supported us cs ls = (list_any (is_among us) ls ≡ true) ⊎ (0 < irredundant_count (clause_with ls cs))
 
--- what is known about the last irredundant clause stored, if it is still there
+-- what is known about the last irredundant clause stored, if it is still stored
 abbrev pub LastHolds : Last → Bool → List ℕ → List StoredClause → Type 0
 LastHolds NoneYet unsat us cs = Unit {0}
 LastHolds (Empty id) unsat us cs = unsat ≡ true
 LastHolds (UnitClause id) unsat us cs = Unit {0}
 LastHolds (LongClause id) unsat us cs = (ls : List ℕ) → clause_numbered id cs ≡ Some ls → Supported us cs ls
 
--- the id of the last irredundant clause stored was assigned
+-- that the id of the last irredundant clause stored was assigned
 abbrev pub LastBelow : ℕ → Last → Type 0
 LastBelow n NoneYet = Unit {0}
 LastBelow n (Empty id) = id < n
 LastBelow n (UnitClause id) = Unit {0}
 LastBelow n (LongClause id) = id < n
 
--- clauses are in order of ids, which were assigned, and what is known about the last irredundant clause stored holds
+-- that clauses are in order of their ids, which were assigned, and `LastHolds` and `LastBelow` hold
 pub record Orderly (f : Stored) : Type 0 where
   pub increasing : IsIncreasing (map (λ c. c.id) f.clauses)
   pub below : AllByRecursion (λ i. i < f.next_id) (map (λ c. c.id) f.clauses)
   pub last_below : LastBelow f.next_id f.last
   pub last_holds : LastHolds f.last f.unsat (unit_literals f) f.clauses
 
--- this holds after every list of accepted steps
+-- that `Orderly` holds after every list of accepted steps
 abbrev pub AlwaysOrderly : Type 0
 AlwaysOrderly = (steps : List Step) → AcceptsAll steps → Orderly (ready_after steps)
 
--- both have the same variables and the same assumptions
+-- that both have the same variables and the same assumptions
 pub record SameVariables (f g : Stored) : Type 0 where
   pub variables : g.variables ≡ f.variables
   pub deleted : g.var_deleted ≡ f.var_deleted

@@ -14,19 +14,19 @@ use Rattle.sat_checker.specs.declared.error.CheckerError.TheVariants as errors
 use Rattle.sat_checker.specs.declared.kernel.StepRefusal.{StepRefusal}
 use Rattle.sat_checker.specs.declared.kernel.StepRefusal.TheVariants as refusals
 
--- whether it only returns HasFailed from now on
+-- whether the kernel only returns `HasFailed` from now on
 abbrev pub kernel_has_failed : Kernel → Bool
 kernel_has_failed k = k.failed
 
--- how many literals it has looked at
+-- the number of looks of the kernel
 abbrev pub kernel_looks : Kernel → ℕ
 kernel_looks k = k.looks
 
--- no unit conflict is waiting for the id of its empty clause
+-- that no unit conflict is waiting for the id of its empty clause
 abbrev pub KernelIsSettled : Kernel → Type 0
 KernelIsSettled k = k.state.formula.status.conflict ≡ None
 
--- It stores what these steps leave. A unit conflict that they left pending may have been settled since.
+-- That the kernel stores what is stored after these steps. A unit conflict that was then pending may have been settled since.
 pub record KeepsAfter (state : State) (steps : List Step) : Type 0 where
   pub formula : Stored
   pub keeps : KeepsStored state formula
@@ -36,22 +36,22 @@ pub record KeepsAfter (state : State) (steps : List Step) : Type 0 where
 abbrev pub records_of : Stored → Records
 records_of f = record { unsat = f.unsat; ended = f.ended; var_deleted = f.var_deleted }
 
--- It has accepted these steps, the newest first, and stores what they leave unless it has failed.
+-- That the kernel has accepted these steps, the newest first, and stores what is stored after them unless it has failed.
 pub record HasAccepted (kernel : Kernel) (steps : List Step) : Type 0 where
   pub accepted : AcceptsAll steps
   pub records : kernel.records ≡ records_of (stored_after steps)
   pub kept : kernel.failed ≡ false → KeepsAfter kernel.state steps
 
--- its state did not change, but from then on it only returns HasFailed
+-- that the kernel only returns `HasFailed` from now on; its state did not change
 pub record Fails (new : Kernel) (steps : List Step) : Type 0 where
   pub stands : HasAccepted new steps
   pub failed : kernel_has_failed new ≡ true
 
--- a unit conflict that these steps left is pending, and is announced before the next step is judged
+-- that a unit conflict is pending after these steps, and is announced before the next step is judged
 abbrev pub LeavesConflict : List Step → Type 0
 LeavesConflict steps = (stored_after steps).conflict ≢ None
 
--- the step was accepted, in agreement with the definition
+-- that the step was accepted, in agreement with the definition
 pub record AcceptsStep (new : Kernel) (step : Step) (steps : List Step) : Type 0 where
   pub accepts : Accepts (ready_after steps) step
   pub stands : HasAccepted new (step ∷ steps)
@@ -77,23 +77,23 @@ AnswersStep (Err errors.ParseError) old step new steps = ⊥
 AnswersStep (Err (errors.ProofProcessorError cause)) old step new steps =
     (kernel_has_failed old ≡ false) × ((LeavesConflict steps × Fails new steps) ⊎ (Accepts (ready_after steps) step × Fails new (step ∷ steps)))
 
--- why a step is not accepted, as a checker's error
+-- the checker's error for a step that is not accepted
 abbrev pub step_error : StepRefusal → CheckerError
 step_error refusals.HasFailed = errors.HasFailed
 step_error refusals.CheckFailed = errors.CheckFailed
 step_error refusals.OutOfMemory = errors.OutOfMemory
 step_error refusals.CounterEnd = errors.CounterEnd
 
--- the result for a step of which no listener is notified, as a checker's result
+-- the checker's result for a step of which no listener is notified
 abbrev pub answer_of : Result Unit StepRefusal → Result Unit CheckerError
 answer_of (Ok x) = Ok x
 answer_of (Err refusal) = Err (step_error refusal)
 
--- the result for a step means this, whatever steps were accepted before
+-- the result of checking a step, whatever steps were accepted before
 abbrev pub ChecksStep : Result Unit CheckerError → Kernel → Step → Kernel → Type 0
 ChecksStep result old step new = (steps : List Step) → HasAccepted old steps → AnswersStep result old step new steps
 
--- the step needs no more looks than its bound
+-- that the step needs no more looks than its bound
 abbrev pub LooksAtMost : Kernel → Step → Kernel → Type 0
 LooksAtMost old step new = (steps : List Step) → HasAccepted old steps → kernel_looks new ≤ kernel_looks old + most_looks (ready_after steps) step
 
@@ -110,6 +110,6 @@ AnswersDelayed (Err errors.ProofIncomplete) old new steps = ⊥
 AnswersDelayed (Err errors.IoError) old new steps = ⊥
 AnswersDelayed (Err errors.ParseError) old new steps = ⊥
 
--- the result when a pending unit conflict is settled means this, whatever steps were accepted before
+-- the result of settling a pending unit conflict, whatever steps were accepted before
 abbrev pub ChecksDelayed : Result Unit CheckerError → Kernel → Kernel → Type 0
 ChecksDelayed result old new = (steps : List Step) → HasAccepted old steps → AnswersDelayed result old new steps

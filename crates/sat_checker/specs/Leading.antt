@@ -10,47 +10,47 @@ use Rattle.sat_checker.specs.Stored.{Stored, is_unit, hash_by}
 use Rattle.sat_checker.specs.Storing.{clause_with}
 use Rattle.sat_checker.specs.Accepts.{PassesByHashes}
 
--- In every clause but the last, all literals but one are false so far, and that one is true from then on; in the last, all are false. Nothing is
--- required of that one literal: it may already be true or false.
+-- That in every clause but the last, all literals but one are false so far, and that literal is true from then on. All literals of the last
+-- clause are false. The one literal may already be true or false.
 abbrev pub LeadsToConflict : (ℕ → Bool) → List (List ℕ) → Type 0
 LeadsToConflict holds [] = ⊥
 LeadsToConflict holds (c ∷ []) = AllByRecursion (λ l. holds (negated l) ≡ true) c
 LeadsToConflict holds (c ∷ d ∷ cs) =
     (open_literal : ℕ) × AllByRecursion (λ l. (l ≡ open_literal) ⊎ (holds (negated l) ≡ true)) c × (is_among c open_literal ≡ true) × LeadsToConflict (λ l. open_literal == l || holds l) (d ∷ cs)
 
--- a stored clause, its literals in any order, and its hash
+-- that a clause, its literals in any order, is stored and has this hash
 pub record IsStoredByHash (f : Stored) (clause : List ℕ) (name : ℕ) : Type 0 where
   pub once : NoRepeats clause
   pub stored : is_some (clause_with (canonical clause) f.clauses) ≡ true
   pub hash : name ≡ hash_by f.solver_names f.width clause
 
--- stored clauses, and their hashes
+-- that these clauses are stored and have these hashes
 abbrev pub AreStoredByHash : Stored → List (List ℕ) → List ℕ → Type 0
 AreStoredByHash f [] [] = Unit {0}
 AreStoredByHash f [] (h ∷ hs) = ⊥
 AreStoredByHash f (c ∷ cs) [] = ⊥
 AreStoredByHash f (c ∷ cs) (h ∷ hs) = IsStoredByHash f c h × AreStoredByHash f cs hs
 
--- what the check of a clause begins with: its literals are false, and the units are true
+-- whether a literal is assumed at the start of the check of a clause: the clause's literals are false, and units are true
 abbrev pub denied : Stored → List ℕ → ℕ → Bool
 denied f clause l = is_among (map negated clause) l || is_unit f l
 
--- stored clauses that are named and lead to a conflict make a clause pass
+-- that a clause passes the check if stored clauses whose hashes are given lead to a conflict
 abbrev pub LeadingPasses : Type 0
 LeadingPasses = (f : Stored) (clause hashes : List ℕ) (named : List (List ℕ)) → AreStoredByHash f named hashes → LeadsToConflict (denied f clause) named → PassesByHashes f clause hashes
 
--- clauses that are unit in turn lead to a conflict
+-- that clauses that are unit in turn lead to a conflict
 abbrev pub TurnsLead : Type 0
 TurnsLead = (assumed : List ℕ) (clauses : List (List ℕ)) → UnitInTurn assumed clauses → LeadsToConflict (is_among assumed) clauses
 
--- clauses that are unit in turn cannot all be true if the assumed literals are
+-- that clauses that are unit in turn cannot all be true if the assumed literals are
 abbrev pub TurnsConflict : Type 0
 TurnsConflict = (a : Valuation) (assumed : List ℕ) (clauses : List (List ℕ)) → UnitInTurn assumed clauses → EachTrue a assumed → EachHolds a clauses → ⊥
 
--- clauses that lead to a conflict also do so under more assumed literals
+-- that clauses that lead to a conflict also do so if more literals are assumed
 abbrev pub LeadsOnMore : Type 0
 LeadsOnMore = (clauses : List (List ℕ)) (p q : ℕ → Bool) → ((l : ℕ) → p l ≡ true → q l ≡ true) → LeadsToConflict p clauses → LeadsToConflict q clauses
 
--- the hash of literals without repeats is that of their sorted set
+-- that the hash of literals without repeats is that of their sorted set
 abbrev pub HashOfAnyOrder : Type 0
 HashOfAnyOrder = (names : ℕ → Option ℕ) (width : ℕ) (literals : List ℕ) → NoRepeats literals → hash_by names width (canonical literals) ≡ hash_by names width literals

@@ -1,4 +1,5 @@
--- How many looks at literals a step needs at most. The store lends the literals of a clause of two or more only by one call, which adds the clause's length to the looks.
+-- The largest number of looks at literals that a step needs. Literals of a clause of two or more are read from the store only by one call,
+-- which adds the clause's length to the looks.
 use Rattle.std.specs.Prelude.{ℕ, ◌+◌, ◌*◌, List, [], ◌∷◌, length}
 use Rattle.sat_base.specs.steps.Steps.{Step, AtClause, UnitClauses, FailedAssumptions}
 use Rattle.sat_checker.specs.Stored.{Stored, long_clauses}
@@ -13,18 +14,18 @@ total_length (c ∷ cs) = length c + total_length cs
 abbrev pub literal_count : Stored → ℕ
 literal_count f = total_length (long_clauses f)
 
--- the number of hashes that a step names
+-- the number of hashes that a step contains
 abbrev pub hashes_named : Step → ℕ
 hashes_named (AtClause redundant clause hashes) = length hashes
 hashes_named (UnitClauses us) = length us
 hashes_named (FailedAssumptions core hashes) = length hashes
 hashes_named step = 0
 
--- five passes over all literals, and two more for every hash that the step names
+-- the largest number of looks that a step needs: five passes over all literals, and two more for every hash of the step
 abbrev pub most_looks : Stored → Step → ℕ
 most_looks f step = (5 + 2 * hashes_named step) * literal_count f
 
--- over a list of steps, the newest first
+-- the largest number of looks that a list of steps needs, the newest first
 abbrev pub most_looks_of : List Step → ℕ
 most_looks_of [] = 0
 most_looks_of (step ∷ earlier) = most_looks_of earlier + most_looks (ready_after earlier) step

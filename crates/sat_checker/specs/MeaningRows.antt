@@ -7,19 +7,19 @@ use Rattle.sat_checker.specs.Fold.{Holds}
 use Rattle.sat_checker.specs.Looks.{most_looks, most_looks_of}
 use Rattle.sat_checker.specs.Rows.{behind, ready_by, four_clauses}
 
--- only this variable is true
+-- the valuation in which only this variable is true
 abbrev pub only : ℕ → Valuation
 only v w = w == v
 
--- all variables are false
+-- the valuation in which all variables are false
 abbrev pub none_true : Valuation
 none_true v = false
 
--- these steps, in the order of a certificate, leave the valuation
+-- that these steps, in the order of a certificate, allow the valuation
 abbrev pub HoldsBehind : List Step → Valuation → Type 0
 HoldsBehind steps = Holds (behind steps [])
 
--- [1, 2] is true by either literal, and false by none
+-- the clause [1, 2] is true by either literal, and false if neither is true
 abbrev pub EitherHolds : Type 0
 EitherHolds =
     HoldsBehind (AddClause (0 ∷ 2 ∷ []) ∷ []) (only 0) × HoldsBehind (AddClause (0 ∷ 2 ∷ []) ∷ []) (only 1)
@@ -29,17 +29,17 @@ EitherHolds =
 abbrev pub FourHaveNone : Type 0
 FourHaveNone = (a : Valuation) → HoldsBehind four_clauses a → ⊥
 
--- [1], after which its variable is deleted: it may be false, even if [2] is added then
+-- after the clause [1], its variable is deleted: the variable may then be false, even if [2] is added
 abbrev pub DeletedIsFree : Type 0
 DeletedIsFree =
     HoldsBehind (AddClause (0 ∷ []) ∷ DeleteVar 0 ∷ []) none_true × HoldsBehind (AddClause (0 ∷ []) ∷ DeleteVar 0 ∷ AddClause (2 ∷ []) ∷ []) (only 1)
     × (HoldsBehind (AddClause (0 ∷ []) ∷ DeleteVar 0 ∷ AddClause (2 ∷ []) ∷ []) none_true → ⊥)
 
--- derived clauses and deleted ones require nothing
+-- derived clauses and deleted clauses require nothing
 abbrev pub OnlyAddedAsk : Type 0
 OnlyAddedAsk = HoldsBehind (AtClause false (0 ∷ []) [] ∷ AddClause (2 ∷ []) ∷ DeleteClause (2 ∷ []) Redundant ∷ []) (only 1)
 
--- a stored clause requires a true literal, a redundant one requires nothing, and a unit requires itself
+-- a stored clause requires a true literal, a redundant clause requires nothing, and a unit requires itself
 abbrev pub StoredAsk : Type 0
 StoredAsk =
     Satisfies (ready_by (AddClause (0 ∷ 2 ∷ []) ∷ [])) (only 0)
@@ -47,16 +47,16 @@ StoredAsk =
     × Satisfies (ready_by (AtClause true (0 ∷ 2 ∷ []) [] ∷ [])) none_true
     × (Satisfies (ready_by (AddClause (0 ∷ []) ∷ [])) none_true → ⊥)
 
--- recorded unsat leaves none
+-- recorded unsat allows no valuation
 abbrev pub UnsatAsks : Type 0
 UnsatAsks = (a : Valuation) → Satisfies (ready_by (AddClause [] ∷ [])) a → ⊥
 
--- Eight literals are stored: 40 looks, and 16 more for every hash that is named.
+-- Eight literals are stored: a step needs at most 40 looks, and 16 more for every hash in it.
 abbrev pub LooksOfKinds : Type 0
 LooksOfKinds =
     map (most_looks (ready_by four_clauses)) (AddClause (0 ∷ []) ∷ AtClause true (0 ∷ []) (1 ∷ 2 ∷ []) ∷ UnitClauses ((0, 1) ∷ []) ∷ FailedAssumptions [] (1 ∷ []) ∷ End ∷ [])
     ≡ 40 ∷ 72 ∷ 56 ∷ 56 ∷ 40 ∷ []
 
--- nothing is stored before the first step, and a clause of two literals before both others
+-- nothing is stored before the first step, and a clause of two literals is stored before both others
 abbrev pub LooksOfAll : Type 0
 LooksOfAll = most_looks_of (behind (AddClause (0 ∷ 2 ∷ []) ∷ AddClause (4 ∷ []) ∷ End ∷ []) []) ≡ 20

@@ -15,21 +15,21 @@ use Rattle.sat_checker.specs.declared.error.CheckerError.TheVariants as errors
 use Rattle.sat_checker.specs.declared.processing.ProcessingError.{ProcessingError}
 use Rattle.sat_checker.specs.declared.processing.ProcessingError.TheVariants as faults
 
--- steps in the order in which they were accepted, after earlier ones, the newest first
+-- the accepted steps after `steps`, in the order in which they were accepted, follow the earlier ones; the newest comes first
 abbrev pub taken_after : List Step → List Step → List Step
 taken_after [] earlier = earlier
 taken_after (step ∷ steps) earlier = taken_after steps (step ∷ earlier)
 
--- the looks that they need at most
+-- the largest number of looks that these steps need after the earlier steps
 abbrev pub most_looks_behind : List Step → List Step → ℕ
 most_looks_behind [] earlier = 0
 most_looks_behind (step ∷ steps) earlier = most_looks (ready_after earlier) step + most_looks_behind steps (step ∷ earlier)
 
--- this many reads give at most this many bytes: 2^60
+-- the largest number of bytes that the allowed reads can give: 2^60
 abbrev pub most_bytes : ℕ
 most_bytes = piece_size * most_reads
 
--- Between two moments a reader gave the text of these steps, and after it these bytes. Few reads were made for it, and few bytes given.
+-- That a reader gave the text of these steps, and then these bytes. The numbers of reads and of bytes are bounded.
 pub record GaveSteps (old new : Reader) (steps : List Step) (rest : List ℕ) : Type 0 where
   pub text : List ℕ
   pub spelt : SpellsSteps steps text
@@ -38,7 +38,7 @@ pub record GaveSteps (old new : Reader) (steps : List Step) (rest : List ℕ) : 
   pub reads : new.calls ≤ old.calls + most_reads
   pub bytes : length (text ++ rest) ≤ most_bytes
 
--- these bytes begin with a step, complete or cut off, of at least one byte
+-- that these bytes begin with a step, complete or cut off, of at least one byte
 pub record BeginsWithStep (bytes : List ℕ) : Type 0 where
   pub tag : ℕ
   pub more : List ℕ
@@ -53,16 +53,16 @@ pub record ReadsProofPart {L : Type 0} (old new : CheckerView L) (from to : Read
   pub unended : AllByRecursion (λ step. step ≢ End) passed
   pub looks : looks_of new ≤ looks_of old + most_looks_behind (passed ++ last) earlier
 
--- no read failed
+-- that no read failed
 abbrev pub NoReadFailed : Reader → Reader → Type 0
 NoReadFailed from to = to.failures ≡ from.failures
 
--- No read since found the end.
+-- That no read since `from` found the end.
 abbrev pub FoundNoEnd : Reader → Reader → Type 0
 FoundNoEnd from to = from.calls < to.calls → to.ended ≡ true → ⊥
 
 module _ {L : Type 0} (Hears : L → Notice → Result Unit ProcessingError → L → Type 0) (before : List Notice) (begun : L) where
-  -- these steps were accepted, and it continues
+  -- that these steps were accepted, and the checker has not failed
   abbrev pub StandsUnfailed : CheckerView L → List Step → Type 0
   StandsUnfailed new steps = HasAccepted Hears before begun new steps × (has_failed new ≡ false)
 
@@ -102,6 +102,6 @@ module _ {L : Type 0} (Hears : L → Notice → Result Unit ProcessingError → 
   AnswersProof (Err errors.HasFailed) old new from to earlier = (has_failed old ≡ true) × (to ≡ from) × (new ≡ old)
 
 module _ {L : Type 0} (Hears : L → Notice → Result Unit ProcessingError → L → Type 0) where
-  -- the result for a proof means this, whatever was accepted and announced earlier
+  -- the result of checking a proof, whatever was accepted and announced earlier
   abbrev pub ChecksProof : Result Unit CheckerError → CheckerView L → CheckerView L → Reader → Reader → Type 0
   ChecksProof result old new from to = (before : List Notice) (begun : L) (steps : List Step) → HasAccepted Hears before begun old steps → AnswersProof Hears before begun result old new from to steps

@@ -1,28 +1,28 @@
--- When clauses are unit in turn, the last falsified, and when a clause passes the propagation check.
+-- When clauses are unit in turn, and when a clause passes the propagation check.
 use Rattle.std.specs.Prelude.{ℕ, ◌≡◌, ◌≢◌, ◌⊎◌, true, false, List, [], ◌∷◌, ◌++◌, map}
 use Rattle.std.specs.List.{AllByRecursion, list_any}
 use Rattle.sat_base.specs.values.Literals.{negated}
 use Rattle.sat_checker.specs.LiteralSets.{is_among, is_tautology}
 
--- every literal of the clause is false if the assumed literals are true
+-- that every literal of the clause is false if the assumed literals are true
 abbrev pub IsFalsified : List ℕ → List ℕ → Type 0
 IsFalsified assumed clause = AllByRecursion (λ l. is_among assumed (negated l) ≡ true) clause
 
--- the literal is in the clause and not assigned, and every other literal of the clause is false
+-- that the literal is in the clause and not assigned, and every other literal of the clause is false
 pub record IsUnit (assumed clause : List ℕ) (open_literal : ℕ) : Type 0 where
   pub within : is_among clause open_literal ≡ true
   pub not_true : is_among assumed open_literal ≡ false
   pub not_false : is_among assumed (negated open_literal) ≡ false
   pub others : AllByRecursion (λ l. (l ≡ open_literal) ⊎ (is_among assumed (negated l) ≡ true)) clause
 
--- every clause but the last is unit in its turn, its literal being assumed from then on, and the last is falsified
+-- that every clause but the last is unit once the literals of the clauses before it are assumed, and the last clause is falsified
 abbrev pub UnitInTurn : List ℕ → List (List ℕ) → Type 0
 UnitInTurn assumed [] = ⊥
 UnitInTurn assumed (clause ∷ []) = IsFalsified assumed clause
 UnitInTurn assumed (clause ∷ next ∷ rest) =
     (open_literal : ℕ) × IsUnit assumed clause open_literal × UnitInTurn (open_literal ∷ assumed) (next ∷ rest)
 
--- xs is ys with some elements left out
+-- that the first list is the second with some elements left out
 abbrev pub IsSubsequence : List (List ℕ) → List (List ℕ) → Type 0
 IsSubsequence [] ys = Unit {0}
 IsSubsequence (x ∷ xs) [] = ⊥
@@ -33,7 +33,7 @@ abbrev pub clauses_in : List (List (List ℕ)) → List (List ℕ)
 clauses_in [] = []
 clauses_in (b ∷ bs) = b ++ clauses_in bs
 
--- some of the clauses of the first buckets, none of these empty, are unit in turn, the last falsified
+-- that some of the clauses of the first buckets, none of which is empty, are unit in turn, and the last of them is falsified
 pub record LeadToConflict (assumed : List ℕ) (buckets : List (List (List ℕ))) : Type 0 where
   pub first : List (List (List ℕ))
   pub rest : List (List (List ℕ))
@@ -43,7 +43,8 @@ pub record LeadToConflict (assumed : List ℕ) (buckets : List (List (List ℕ))
   pub chosen : IsSubsequence picked (clauses_in first)
   pub conflict : UnitInTurn assumed picked
 
--- When a clause passes the check under stored units and the buckets that were named: it has both signs of a variable, a unit is true in it, or the buckets lead to a conflict under its negated literals and the units.
+-- That a clause passes the check under stored units and the buckets of a step: it has both signs of a variable, a unit satisfies it, or the
+-- buckets lead to a conflict.
 pub data PassesCheck (units clause : List ℕ) (buckets : List (List (List ℕ))) : Type 0 where
   tautology : is_tautology clause ≡ true → PassesCheck units clause buckets
   unit_true : list_any (is_among units) clause ≡ true → PassesCheck units clause buckets

@@ -1,28 +1,28 @@
--- Worked examples: steps in the order of a certificate, whether they are accepted, and what they leave.
+-- Worked examples: steps in the order of a certificate, whether they are accepted, and what is stored after them.
 use Rattle.std.specs.Prelude.{ℕ, ◌≡◌, true, false, Option, Some, None, List, [], ◌∷◌, ◌++◌, map}
 use Rattle.sat_base.specs.values.Hashes.{hash_of}
 use Rattle.sat_base.specs.steps.Steps.{Redundant, Simplified, Satisfied, Step, SolverVarName, UserVarName, DeleteVar, ChangeSamplingMode, AddClause, AtClause, UnitClauses, DeleteClause, ChangeHashBits, Model, Assumptions, FailedAssumptions, End}
 use Rattle.sat_checker.specs.Stored.{Stored, Witness, UnitClause, hash_by, is_known, mode_of}
 use Rattle.sat_checker.specs.Accepts.{Accepts, AcceptsAll, stored_after, ready_after}
 
--- steps in the order of the certificate, one after another
+-- the steps in the order of the certificate, after the earlier steps, as a list with the newest first
 abbrev pub behind : List Step → List Step → List Step
 behind [] earlier = earlier
 behind (step ∷ steps) earlier = behind steps (step ∷ earlier)
 
--- what steps in this order leave
+-- what is stored after steps in this order
 abbrev pub left_by : List Step → Stored
 left_by steps = stored_after (behind steps [])
 
--- what the step after them is judged against
+-- what is stored when the next step after them is judged
 abbrev pub ready_by : List Step → Stored
 ready_by steps = ready_after (behind steps [])
 
--- all of them are accepted
+-- that all of the steps are accepted
 abbrev pub AllAccepted : List Step → Type 0
 AllAccepted steps = AcceptsAll (behind steps [])
 
--- those before the last are accepted, and the last isn't
+-- that the steps are accepted, and the step `last` after them is not
 abbrev pub LastRefused : List Step → Step → Type 0
 LastRefused steps last = AllAccepted steps × (Accepts (ready_by (steps)) last → ⊥)
 
@@ -34,7 +34,7 @@ no_names v = None
 abbrev pub HashesOfOneTwo : Type 0
 HashesOfOneTwo = map (λ width. hash_by no_names width (0 ∷ 2 ∷ [])) (64 ∷ 8 ∷ 6 ∷ 0 ∷ []) ≡ 0x449114950295082a ∷ 0x44 ∷ 17 ∷ 0 ∷ []
 
--- only the end
+-- a proof of only the end is accepted
 abbrev pub EndAloneAccepted : Type 0
 EndAloneAccepted = AllAccepted (End ∷ []) × ((left_by (End ∷ [])).ended ≡ true) × ((left_by (End ∷ [])).unsat ≡ false)
 
@@ -43,7 +43,7 @@ abbrev pub named_again : List Step
 named_again =
     UserVarName 0 (Some 0) ∷ AddClause (0 ∷ []) ∷ UserVarName 0 None ∷ ChangeSamplingMode 0 true ∷ UserVarName 0 (Some 0) ∷ AddClause (1 ∷ []) ∷ End ∷ []
 
--- all are accepted, and the second clause contradicts the stored unit
+-- all of these steps are accepted, and the second clause contradicts the stored unit
 abbrev pub NamedAgain : Type 0
 NamedAgain = AllAccepted named_again × ((left_by named_again).unsat ≡ true)
 
@@ -51,7 +51,7 @@ NamedAgain = AllAccepted named_again × ((left_by named_again).unsat ≡ true)
 abbrev pub four_clauses : List Step
 four_clauses = AddClause (0 ∷ 2 ∷ []) ∷ AddClause (0 ∷ 3 ∷ []) ∷ AddClause (1 ∷ 2 ∷ []) ∷ AddClause (1 ∷ 3 ∷ []) ∷ []
 
--- they have ids 0 to 3
+-- the four clauses have ids 0 to 3
 abbrev pub FourClauses : Type 0
 FourClauses = AllAccepted four_clauses × (map (λ c. c.id) (left_by four_clauses).clauses ≡ 0 ∷ 1 ∷ 2 ∷ 3 ∷ [])
 
@@ -64,15 +64,15 @@ refuted =
 abbrev pub FourAndFive : List Step → Type 0
 FourAndFive steps = AllAccepted steps × ((left_by steps).units ≡ record { id = 4; literal = 0 } ∷ []) × ((left_by steps).unsat ≡ true) × ((left_by steps).next_id ≡ 6)
 
--- the empty clause is derived, and unsat recorded
+-- the empty clause is derived, and unsat is recorded
 abbrev pub Refuted : Type 0
 Refuted = FourAndFive refuted
 
--- the same at width 0, when one bucket has all clauses
+-- the derivation at width 0, when one bucket has all clauses
 abbrev pub RefutedAtZero : Type 0
 RefutedAtZero = FourAndFive (four_clauses ++ ChangeHashBits 0 ∷ AtClause false (0 ∷ []) (0 ∷ []) ∷ AtClause false [] (0 ∷ []) ∷ [])
 
--- a clause stored before gets an id and is stored once more; [3] doesn't follow
+-- a clause stored before gets an id and is stored once more; [3] does not follow
 abbrev pub StoredTwice : Type 0
 StoredTwice = let steps : List Step = AddClause (0 ∷ 2 ∷ []) ∷ AddClause (2 ∷ 0 ∷ 0 ∷ []) ∷ [] in
     LastRefused steps (AtClause false (4 ∷ []) [])
@@ -83,7 +83,7 @@ StoredTwice = let steps : List Step = AddClause (0 ∷ 2 ∷ []) ∷ AddClause (
 abbrev pub three_at_zero : List Step
 three_at_zero = ChangeHashBits 0 ∷ AddClause (3 ∷ 4 ∷ 6 ∷ []) ∷ AddClause (0 ∷ 2 ∷ []) ∷ AddClause (3 ∷ 7 ∷ []) ∷ []
 
--- if the bucket is named once, [1, 3] doesn't follow
+-- if the bucket is named once, [1, 3] does not follow
 abbrev pub NamedOnce : Type 0
 NamedOnce = LastRefused three_at_zero (AtClause false (0 ∷ 4 ∷ []) (0 ∷ []))
 
@@ -101,7 +101,7 @@ colliding =
     UserVarName 0 (Some 0) ∷ SolverVarName 0 (Some 0) ∷ UserVarName 1 (Some 1) ∷ SolverVarName 1 (Some 1) ∷ four_clauses
     ++ Assumptions [] ∷ ChangeHashBits 8 ∷ AtClause false (0 ∷ []) (0x44 ∷ 0xe6 ∷ []) ∷ UnitClauses ((2, 0xe6) ∷ []) ∷ AtClause false [] (0x44 ∷ []) ∷ Assumptions [] ∷ End ∷ []
 
--- all of it is accepted, and unsat recorded
+-- all of these steps are accepted, and unsat is recorded
 abbrev pub Colliding : Type 0
 Colliding = AllAccepted colliding × ((left_by colliding).unsat ≡ true) × ((left_by colliding).ended ≡ true)
 
@@ -125,7 +125,7 @@ abbrev pub ConflictAndUnit : Type 0
 ConflictAndUnit = AllAccepted conflict_and_unit × ((left_by conflict_and_unit).units ≡ record { id = 0; literal = 0 } ∷ record { id = 5; literal = 4 } ∷ [])
     × ((left_by conflict_and_unit).conflict ≡ Some (0, 3)) × ((ready_by conflict_and_unit).next_id ≡ 7)
 
--- [1, 2, 3] is deleted by [1, 2], whatever order it is named in and whatever the width
+-- [1, 2, 3] is deleted as simplified to [1, 2], with its literals in any order and at any width
 abbrev pub SimplifiedByPart : Type 0
 SimplifiedByPart = let steps : List Step = AddClause (0 ∷ 2 ∷ 4 ∷ []) ∷ AddClause (0 ∷ 2 ∷ []) ∷ ChangeHashBits 8 ∷ DeleteClause (4 ∷ 2 ∷ 0 ∷ []) Simplified ∷ [] in
     AllAccepted steps × ((left_by steps).clauses ≡ record { id = 1; literals = 0 ∷ 2 ∷ []; irredundant = 1; redundant = 0 } ∷ [])
@@ -134,7 +134,7 @@ SimplifiedByPart = let steps : List Step = AddClause (0 ∷ 2 ∷ 4 ∷ []) ∷ 
 abbrev pub SimplifiedByItself : Type 0
 SimplifiedByItself = LastRefused (AddClause (0 ∷ 2 ∷ []) ∷ []) (DeleteClause (0 ∷ 2 ∷ []) Simplified)
 
--- no clause is deleted by one that was removed
+-- no clause is deleted by a clause that was removed
 abbrev pub SimplifiedByGone : Type 0
 SimplifiedByGone = LastRefused (AddClause (0 ∷ []) ∷ AddClause (0 ∷ 2 ∷ 4 ∷ []) ∷ AddClause (0 ∷ 2 ∷ []) ∷ DeleteClause (0 ∷ 2 ∷ []) Satisfied ∷ []) (DeleteClause (0 ∷ 2 ∷ 4 ∷ []) Simplified)
 
@@ -191,7 +191,7 @@ NoNameTaken = LastRefused (AddClause (0 ∷ []) ∷ []) (UserVarName 0 None)
 abbrev pub for_a_model : List Step
 for_a_model = AddClause (0 ∷ 2 ∷ []) ∷ AddClause (4 ∷ []) ∷ AtClause true (4 ∷ 6 ∷ []) [] ∷ []
 
--- -1 and 2: the first clause is true by 2
+-- the model -1, 2: the first clause is satisfied by 2
 abbrev pub Modelled : Type 0
 Modelled = AllAccepted (for_a_model ++ Model (1 ∷ 2 ∷ []) ∷ [])
 
@@ -199,19 +199,19 @@ Modelled = AllAccepted (for_a_model ++ Model (1 ∷ 2 ∷ []) ∷ [])
 abbrev pub ModelAgainstUnit : Type 0
 ModelAgainstUnit = LastRefused for_a_model (Model (1 ∷ 2 ∷ 5 ∷ []))
 
--- -1 on its own makes no literal of the first clause true
+-- -1 by itself satisfies no literal of the first clause
 abbrev pub ModelWithoutClause : Type 0
 ModelWithoutClause = LastRefused for_a_model (Model (1 ∷ []))
 
--- 1 and -1 are of the same variable
+-- 1 and -1 have the same variable
 abbrev pub ModelTwice : Type 0
 ModelTwice = LastRefused for_a_model (Model (0 ∷ 1 ∷ []))
 
--- a core with both signs of a variable passes, one that isn't among the assumptions doesn't
+-- a core with both signs of a variable passes; a core that is not among the assumptions does not
 abbrev pub BothSigns : Type 0
 BothSigns = AllAccepted (Assumptions (0 ∷ 1 ∷ []) ∷ FailedAssumptions (0 ∷ 1 ∷ []) [] ∷ [])
 
--- -1 isn't among the assumptions
+-- -1 is not among the assumptions
 abbrev pub NotAssumed : Type 0
 NotAssumed = LastRefused (Assumptions (0 ∷ []) ∷ []) (FailedAssumptions (0 ∷ 1 ∷ []) [])
 
@@ -235,11 +235,11 @@ for_units = AddClause (1 ∷ 2 ∷ []) ∷ AddClause (3 ∷ 4 ∷ []) ∷ AddCla
 abbrev pub two_units : List Step
 two_units = for_units ++ UnitClauses ((2, hash_of (1 ∷ 2 ∷ [])) ∷ (4, hash_of (3 ∷ 4 ∷ [])) ∷ []) ∷ []
 
--- their ids are 3 and 4, and the last irredundant clause is [1]
+-- the ids of the units are 3 and 4, and the last irredundant clause is [1]
 abbrev pub TwoUnits : Type 0
 TwoUnits = AllAccepted two_units × (map (λ u. u.id) (left_by two_units).units ≡ 2 ∷ 3 ∷ 4 ∷ []) × ((left_by two_units).last ≡ UnitClause 2)
 
--- the other way round the first of them isn't accepted
+-- in the opposite order, the first of the units is not accepted
 abbrev pub UnitsTurned : Type 0
 UnitsTurned = LastRefused for_units (UnitClauses ((4, hash_of (3 ∷ 4 ∷ [])) ∷ (2, hash_of (1 ∷ 2 ∷ [])) ∷ []))
 
@@ -264,7 +264,7 @@ ByOneCount = AllAccepted (AddClause (0 ∷ []) ∷ AddClause (0 ∷ 2 ∷ 4 ∷ 
 abbrev pub BehindUnsat : Type 0
 BehindUnsat = let steps : List Step = AddClause [] ∷ AddClause (0 ∷ []) ∷ [] in AllAccepted steps × ((left_by steps).next_id ≡ 1) × (is_known 0 (left_by steps) ≡ false)
 
--- a tautology gets id 0 as an input clause and none as a derived one; its variable becomes known, and it isn't stored
+-- a tautology gets id 0 as an input clause and none as a derived clause; its variable becomes known, and the tautology is not stored
 abbrev pub Tautologies : Type 0
 Tautologies = let input : List Step = AddClause (0 ∷ 1 ∷ []) ∷ [] in let derived : List Step = AtClause false (2 ∷ 3 ∷ []) [] ∷ [] in
     AllAccepted input × ((left_by input).next_id ≡ 1) × (is_known 0 (left_by input) ≡ true) × ((left_by input).clauses ≡ [])
@@ -290,10 +290,10 @@ EmptyBehind = AllAccepted (two_clauses ++ AtClause false (0 ∷ []) (hash_of (0 
 abbrev pub EmptyBefore : Type 0
 EmptyBefore = LastRefused two_clauses (AtClause false (0 ∷ []) (5 ∷ hash_of (0 ∷ 2 ∷ []) ∷ hash_of (0 ∷ 3 ∷ []) ∷ []))
 
--- a unit that isn't stored isn't the last irredundant clause, one that is stored is
+-- a unit that is not stored is not the last irredundant clause; a unit that is stored is
 abbrev pub LastBehindConflict : Type 0
 LastBehindConflict = AllAccepted (AddClause (0 ∷ []) ∷ AddClause (2 ∷ 4 ∷ 6 ∷ []) ∷ AddClause (2 ∷ 4 ∷ []) ∷ AddClause (1 ∷ []) ∷ DeleteClause (2 ∷ 4 ∷ 6 ∷ []) Simplified ∷ [])
 
--- [1] is the last one, which is not a part of [2, 3]
+-- [1] is the last irredundant clause stored, which is not a part of [2, 3]
 abbrev pub LastUnit : Type 0
 LastUnit = LastRefused (AddClause (2 ∷ 4 ∷ []) ∷ AddClause (0 ∷ []) ∷ AddClause (1 ∷ []) ∷ []) (DeleteClause (2 ∷ 4 ∷ []) Simplified)

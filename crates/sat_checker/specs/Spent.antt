@@ -5,12 +5,12 @@ use Rattle.sat_checker.specs.Stored.{Stored}
 use Rattle.sat_checker.specs.Storing.{clause_with, irredundant_count, redundant_count, settled}
 use Rattle.sat_checker.specs.Accepts.{Accepts, effect}
 
--- a count of a stored clause does not fit in 64 bits
+-- that a count of a stored clause does not fit in 64 bits
 pub record CountSpent (f : Stored) : Type 0 where
   pub literals : List ℕ
   pub past : (2 ^ 64 ≤ irredundant_count (clause_with literals f.clauses)) ⊎ (2 ^ 64 ≤ redundant_count (clause_with literals f.clauses))
 
--- the last id, 2^64-2, was assigned, and one more would be; or a count does not fit in 64 bits
+-- that an id after the last one, 2^64-2, would be needed, or a count does not fit in 64 bits
 abbrev pub IsSpent : Stored → Type 0
 IsSpent f = (2 ^ 64 ≤ f.next_id) ⊎ CountSpent f
 

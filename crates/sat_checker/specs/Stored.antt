@@ -30,7 +30,7 @@ pub record Variable : Type 0 where
   pub mode : Mode
   pub name : Option ℕ
 
--- every variable at first; it counts as a sampling one
+-- the initial data of every variable, whose mode counts as sample
 abbrev pub unknown : Variable
 unknown = record { known = false; mode = Sample; name = None }
 
@@ -41,7 +41,7 @@ pub data Last : Type 0 where
   UnitClause : ℕ → Last
   LongClause : ℕ → Last
 
--- what accepted steps leave: clauses, units and variables, and what is recorded besides them
+-- what is stored after accepted steps: clauses, units and variables, and some records
 pub record Stored : Type 0 where
   pub clauses : List StoredClause  -- in order of their ids
   pub units : List StoredUnit
@@ -56,7 +56,7 @@ pub record Stored : Type 0 where
   pub ended : Bool
   pub var_deleted : Bool
 
--- before the first step
+-- what is stored before the first step
 abbrev pub nothing_stored : Stored
 nothing_stored = record {
   clauses = [];
@@ -73,19 +73,19 @@ nothing_stored = record {
   var_deleted = false;
 }
 
--- whether a step made the variable known, and none deleted it since
+-- whether a step made the variable known and no step deleted it since
 abbrev pub is_known : ℕ → Stored → Bool
 is_known v f = (f.variables v).known
 
--- a variable's mode, which is that of a sampling one at first
+-- the mode of a variable, initially sample
 abbrev pub mode_of : ℕ → Stored → Mode
 mode_of v f = (f.variables v).mode
 
--- the user's name of a variable, if it has one
+-- the user's name of a variable, or `None`
 abbrev pub name_of : ℕ → Stored → Option ℕ
 name_of v f = (f.variables v).name
 
--- the literals that are stored as units, in order of their ids
+-- the literals stored as units, in order of their ids
 abbrev pub unit_literals : Stored → List ℕ
 unit_literals f = map (λ u. u.literal) f.units
 
@@ -97,7 +97,7 @@ is_unit f = is_among (unit_literals f)
 abbrev pub solver_literal : (ℕ → Option ℕ) → ℕ → ℕ
 solver_literal names l = 2 * unwrap_or (names (variable l)) (variable l) + l % 2
 
--- the hash of a clause by solver names: of its 64 bits this many are kept, from the top
+-- the hash of a clause with solver names, of whose 64 bits only the top `width` are kept
 abbrev pub hash_by : (ℕ → Option ℕ) → ℕ → List ℕ → ℕ
 hash_by names width clause = hash_of (map (solver_literal names) clause) / 2 ^ (64 - width)
 
@@ -109,7 +109,7 @@ long_clauses f = map (λ c. c.literals) f.clauses
 abbrev pub bucket : Stored → ℕ → List (List ℕ)
 bucket f hash = filter (λ c. hash_by f.solver_names f.width c == hash) (long_clauses f)
 
--- every clause with an irredundant count and every unit is true, and unsat isn't recorded
+-- that every unit and every clause with an irredundant count is true, and unsat is not recorded
 pub record Satisfies (f : Stored) (a : Valuation) : Type 0 where
   pub consistent : f.unsat ≡ false
   pub kept : AllByRecursion (λ c. (c.irredundant ≡ 0) ⊎ (clause_true a c.literals ≡ true)) f.clauses

@@ -4,65 +4,65 @@ use Rattle.sat_base.specs.values.Literals.{variable, negated}
 use Rattle.sat_checker.specs.LiteralSets.{is_among, is_tautology, canonical, same_literals}
 use Rattle.sat_checker.specs.Stored.{StoredClause, StoredUnit, Variable, unknown, Last, NoneYet, Empty, UnitClause, LongClause, Stored, is_unit}
 
--- a clause with one more count
+-- the clause with one more count, redundant or irredundant
 abbrev pub with_count : Bool → StoredClause → StoredClause
 with_count redundant c = if redundant then record c { redundant = c.redundant + 1 } else record c { irredundant = c.irredundant + 1 }
 
--- a clause that is stored once
+-- a new clause, which is stored once
 abbrev pub new_clause : Bool → ℕ → List ℕ → StoredClause
 new_clause redundant id literals = with_count redundant (record { id = id; literals = literals; irredundant = 0; redundant = 0 })
 
--- one more count of the clause with these literals, which is added after the others if it isn't there
+-- the clauses with one more count of the clause with these literals, which is appended if it is not stored
 abbrev pub with_stored_clause : Bool → ℕ → List ℕ → List StoredClause → List StoredClause
 with_stored_clause redundant id literals [] = new_clause redundant id literals ∷ []
 with_stored_clause redundant id literals (c ∷ cs) =
     if same_literals c.literals literals then with_count redundant c ∷ cs else c ∷ with_stored_clause redundant id literals cs
 
--- the clause with these literals
+-- the stored clause with these literals, or `None`
 abbrev pub clause_with : List ℕ → List StoredClause → Option StoredClause
 clause_with literals = find (λ c. same_literals c.literals literals)
 
--- how often a clause is stored as irredundant, 0 if it isn't stored
+-- how often a clause is stored as irredundant, or 0 if it is not stored
 abbrev pub irredundant_count : Option StoredClause → ℕ
 irredundant_count None = 0
 irredundant_count (Some c) = c.irredundant
 
--- how often a clause is stored as redundant, 0 if it isn't stored
+-- how often a clause is stored as redundant, or 0 if it is not stored
 abbrev pub redundant_count : Option StoredClause → ℕ
 redundant_count None = 0
 redundant_count (Some c) = c.redundant
 
--- a clause with one fewer count
+-- the clause with one fewer count, redundant or irredundant
 abbrev pub without_count : Bool → StoredClause → StoredClause
 without_count redundant c = if redundant then record c { redundant = c.redundant - 1 } else record c { irredundant = c.irredundant - 1 }
 
--- a clause is removed once both its counts are zero
+-- the clause, or nothing once both its counts are zero
 abbrev pub unless_gone : StoredClause → List StoredClause
 unless_gone c = if c.irredundant == 0 && c.redundant == 0 then [] else c ∷ []
 
--- one fewer count of the clause with these literals
+-- the clauses with one fewer count of the clause with these literals
 abbrev pub without_clause : Bool → List ℕ → List StoredClause → List StoredClause
 without_clause redundant literals [] = []
 without_clause redundant literals (c ∷ cs) =
     if same_literals c.literals literals then unless_gone (without_count redundant c) ++ cs else c ∷ without_clause redundant literals cs
 
--- the id under which a literal is stored as a unit, if it is
+-- the id under which a literal is stored as a unit, or `None`
 abbrev pub unit_id : ℕ → List StoredUnit → Option ℕ
 unit_id l [] = None
 unit_id l (u ∷ us) = if u.literal == l then Some u.id else unit_id l us
 
--- a unit conflict is recorded unless one is pending
+-- the unit conflict that is recorded: the pending one if there is one, otherwise the new one
 abbrev pub first_conflict : Option (ℕ × ℕ) → Option ℕ → ℕ → Option (ℕ × ℕ)
 first_conflict (Some pending) stored id = Some pending
 first_conflict None None id = None
 first_conflict None (Some stored) id = Some (stored, id)
 
--- A unit whose negation is stored isn't stored, but gets an id, and records unsat and a unit conflict.
+-- What is stored after a unit whose negation is stored: the unit is not stored, but gets an id, and unsat and a unit conflict are recorded.
 abbrev pub with_contradiction : ℕ → Stored → Stored
 with_contradiction l f =
     record f { unsat = true; conflict = first_conflict f.conflict (unit_id (negated l) f.units) f.next_id; next_id = f.next_id + 1 }
 
--- a unit is stored under the next id, if neither it nor its negation was stored
+-- what is stored after a unit, if neither the unit nor its negation was stored
 abbrev pub with_new_unit : ℕ → Stored → Stored
 with_new_unit l f = record f { units = f.units ++ (record { id = f.next_id; literal = l }) ∷ []; next_id = f.next_id + 1 }
 

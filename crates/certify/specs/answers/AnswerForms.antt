@@ -1,27 +1,27 @@
--- How literals stand for named ones, and which outcomes an answer may print.
+-- How literals represent literals of names, and which outcomes an answer may print.
 use Rattle.std.specs.Prelude.{ℕ, ◌+◌, ◌<◌, ◌≤◌, List, [], ◌∷◌, map}
 use Rattle.std.specs.List.{AllByRecursion}
 use Rattle.sat_base.specs.values.Literals.{var_limit, variable, is_positive}
 use Rattle.sat_base.specs.script.Script.{Literal, names_of, InOrder}
 use Rattle.sat_checker.specs.matching.Expected.{Outcome, Sat, Unsat, Unknown}
 
--- the literal under the name that is the number of its variable, counted from 1
+-- the literal whose name is the number of its variable, counted from 1
 abbrev pub named_literal : ℕ → Literal
 named_literal l = record { name = variable l + 1; positive = is_positive l }
 
--- the same of several, in order
+-- the literals with the names of `named_literal`, in order
 abbrev pub named_literals : List ℕ → List Literal
 named_literals = map named_literal
 
--- names are counted from 1 up to the limit
+-- that a name is at least 1 and at most the limit
 abbrev pub IsName : ℕ → Type 0
 IsName n = (1 ≤ n) × (n ≤ var_limit)
 
--- each literal is over a name that a script may have
+-- that the name of every literal is one that a script may contain
 abbrev pub HaveNames : List Literal → Type 0
 HaveNames = AllByRecursion (λ l. IsName l.name)
 
--- each name is greater than the one before it
+-- that each name is greater than the name before it
 abbrev pub NamesRise : List ℕ → Type 0
 NamesRise [] = Unit {0}
 NamesRise (n ∷ []) = Unit {0}
@@ -33,12 +33,12 @@ literals_of (Sat line) = line
 literals_of (Unsat core) = core
 literals_of Unknown = []
 
--- a model's line by increasing names, each once; a core by names, of one name the positive literal first, without repeats
+-- That the literals of an outcome are in order: the literals of a model by strictly increasing name, and those of a core as in `InOrder`.
 abbrev pub IsOrdered : Outcome → Type 0
 IsOrdered (Sat line) = NamesRise (names_of line)
 IsOrdered (Unsat core) = InOrder core
 IsOrdered Unknown = Unit {0}
 
--- what an answer may print
+-- that an answer may print the outcome: its names are allowed and its literals are in order
 abbrev pub IsInForm : Outcome → Type 0
 IsInForm o = HaveNames (literals_of o) × IsOrdered o

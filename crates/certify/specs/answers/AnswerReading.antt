@@ -1,4 +1,4 @@
--- What the bytes are where an answer is read, and where none is.
+-- What is read from the bytes of an answer, and why nothing is read from other bytes.
 use Rattle.std.specs.Prelude.{ℕ, zero, suc, ◌≡◌, ◌≢◌, ◌⊎◌, List, [], ◌∷◌, ◌++◌, decimal}
 use Rattle.sat_base.specs.values.Literals.{variable}
 use Rattle.sat_base.specs.script.Script.{Literal}
@@ -10,70 +10,70 @@ use Rattle.certify.specs.declared.answers.read.AnswerKind.TheVariants as kind
 use Rattle.certify.specs.declared.answers.read.AnswerFault.{AnswerFault}
 use Rattle.certify.specs.declared.answers.read.AnswerFault.TheVariants.{Missing, Text, OutOfMemory}
 
--- the outcome of this kind, with this line
+-- the outcome of this kind, with these literals
 abbrev pub outcome_of : AnswerKind → List Literal → Outcome
 outcome_of kind.Sat line = Sat line
 outcome_of kind.Unsat core = Unsat core
 outcome_of kind.Unknown line = Unknown
 
--- `s SATISFIABLE`, `s UNSATISFIABLE` or `s UNKNOWN`, with LF
+-- the first line of an answer of this kind, with LF
 abbrev pub first_answer_line : AnswerKind → List ℕ
 first_answer_line kind.Sat = s_satisfiable
 first_answer_line kind.Unsat = s_unsatisfiable
 first_answer_line kind.Unknown = s_unknown
 
--- `v LITS 0` or `f LITS 0`, with LF, where there is one
+-- the second line of an answer, with LF, or nothing if there is none
 abbrev pub second_line : Outcome → List ℕ
 second_line (Sat line) = v_line line
 second_line (Unsat core) = f_line core
 second_line Unknown = []
 
--- whether there is one
+-- that an answer of this kind has a second line
 abbrev pub HasLine : AnswerKind → Type 0
 HasLine kind.Unknown = ⊥
 HasLine k = Unit {0}
 
--- `v ` or `f `
+-- that the second line of an answer of this kind begins with `head`: `v ` or `f `
 abbrev pub IsHead : AnswerKind → List ℕ → Type 0
 IsHead kind.Sat head = head ≡ 118 ∷ 32 ∷ []
 IsHead kind.Unsat head = head ≡ 102 ∷ 32 ∷ []
 IsHead kind.Unknown head = ⊥
 
--- a model's literals are in the order of variables, those of a core in the order of codes
+-- the sort key of a literal in a line of this kind: its variable in a model, its code in a core
 abbrev pub literal_place : AnswerKind → ℕ → ℕ
 literal_place kind.Sat l = variable l
 literal_place k l = l
 
--- the digits of a name that has begun; 0 where none has been read
+-- the digits of a name that has begun, or none if the name is 0
 abbrev pub digits_so_far : ℕ → List ℕ
 digits_so_far zero = []
 digits_so_far (suc n) = decimal (suc n)
 
--- no name continues with this byte
+-- that no name continues with this byte
 abbrev pub NoNameDigit : ℕ → ℕ → Type 0
 NoNameDigit name byte = (n : ℕ) (more : List ℕ) → IsName n → decimal n ≡ digits_so_far name ++ (byte ∷ more) → ⊥
 
--- the bytes don't begin with a name and a space
+-- that the bytes do not begin with a name and a space
 abbrev pub NoName : List ℕ → Type 0
 NoName bytes = (n : ℕ) (tail : List ℕ) → IsName n → bytes ≡ decimal n ++ (32 ∷ tail) → ⊥
 
--- nor with a literal and a space
+-- that the bytes do not begin with a literal and a space
 abbrev pub NoLiteral : List ℕ → Type 0
 NoLiteral bytes = (l : Literal) (tail : List ℕ) → IsName l.name → bytes ≡ word_of l ++ (32 ∷ tail) → ⊥
 
--- nor does a name and a space, or a literal and a space, begin with the bytes
+-- that the bytes, whatever follows them, do not begin with a name and a space
 abbrev pub StartsNoName : List ℕ → Type 0
 StartsNoName bytes = (more : List ℕ) → NoName (bytes ++ more)
 
--- the bytes and whatever would follow never begin with a literal and a space
+-- that the bytes, whatever follows them, do not begin with a literal and a space
 abbrev pub StartsNoLiteral : List ℕ → Type 0
 StartsNoLiteral bytes = (more : List ℕ) → NoLiteral (bytes ++ more)
 
--- the bytes begin with this text, but for the `0` and LF at its end
+-- that the bytes begin with this text, without the `0` and LF at its end
 abbrev pub BeginWithWordsOf : List ℕ → List ℕ → Type 0
 BeginWithWordsOf text bytes = (front : List ℕ) × (tail : List ℕ) × ((text ≡ front ++ (48 ∷ 10 ∷ [])) × (bytes ≡ front ++ tail))
 
--- memory is needed for a literal that was read: with it and those before it the line is in form so far
+-- that memory is needed for a literal that was read, and the line up to that literal is in form
 abbrev pub WantsRoom : AnswerKind → (List Literal → List ℕ) → List ℕ → Type 0
 WantsRoom k text bytes = HasLine k
     × ((ls : List Literal) × (l : Literal) × (IsInForm (outcome_of k (ls ++ (l ∷ []))) × BeginWithWordsOf (text (ls ++ (l ∷ []))) bytes))
@@ -97,23 +97,23 @@ NoLine k bytes Text = (bytes ≢ [])
     × ((ls : List Literal) (tail : List ℕ) → IsInForm (outcome_of k ls) → bytes ≡ second_line (outcome_of k ls) ++ tail → ⊥)
 NoLine k bytes OutOfMemory = WantsRoom k (λ ls. second_line (outcome_of k ls)) bytes
 
--- no literals in form begin with the bytes, up to `0` and LF
+-- that the bytes are not a prefix of literals in form, with their `0` and LF
 abbrev pub StartsNoLiterals : AnswerKind → List ℕ → Type 0
 StartsNoLiterals k bytes = (ls : List Literal) (more : List ℕ) → IsInForm (outcome_of k ls) → literals_text ls ≡ bytes ++ more → ⊥
 
--- no first line begins with the bytes, and no second line in form
+-- that the bytes are not a prefix of a first line
 abbrev pub StartsNoKind : List ℕ → Type 0
 StartsNoKind bytes = (k : AnswerKind) (more : List ℕ) → first_answer_line k ≡ bytes ++ more → ⊥
 
--- the bytes are no prefix of a second line in form
+-- that the bytes are not a prefix of a second line in form
 abbrev pub StartsNoLine : AnswerKind → List ℕ → Type 0
 StartsNoLine k bytes = (ls : List Literal) (more : List ℕ) → IsInForm (outcome_of k ls) → second_line (outcome_of k ls) ≡ bytes ++ more → ⊥
 
--- the bytes end where a line of an answer is expected
+-- that the bytes end where a line of an answer is expected
 abbrev pub IsCutShort : List ℕ → Type 0
 IsCutShort bytes = (bytes ≡ []) ⊎ ((bytes ≡ s_satisfiable) ⊎ (bytes ≡ s_unsatisfiable))
 
--- the bytes don't begin with the text of an outcome in form
+-- that the bytes do not begin with the text of an outcome in form
 abbrev pub BeginsNoOutcome : List ℕ → Type 0
 BeginsNoOutcome bytes = (o : Outcome) (tail : List ℕ) → IsInForm o → bytes ≡ outcome_text o ++ tail → ⊥
 
@@ -123,20 +123,20 @@ NoOutcome bytes Missing = IsCutShort bytes × BeginsNoOutcome bytes
 NoOutcome bytes Text = (IsCutShort bytes → ⊥) × BeginsNoOutcome bytes
 NoOutcome bytes OutOfMemory = (k : AnswerKind) × (rest : List ℕ) × ((bytes ≡ first_answer_line k ++ rest) × NoLine k rest OutOfMemory)
 
--- the bytes begin with a literal and the space after it
+-- that the bytes begin with a literal and the space after it
 abbrev pub BeginsWithLiteral : List ℕ → ℕ → List ℕ → Type 0
 BeginsWithLiteral bytes l rest = IsName (named_literal l).name × (bytes ≡ word_of (named_literal l) ++ (32 ∷ rest))
 
--- the literals of a line of this kind
+-- that the bytes begin with the literals of a line of this kind, which is in form
 abbrev pub BeginsWithLiterals : AnswerKind → List ℕ → List ℕ → List ℕ → Type 0
 BeginsWithLiterals k bytes line rest = IsInForm (outcome_of k (named_literals line)) × (bytes ≡ literals_text (named_literals line) ++ rest)
 
--- the second line of an answer of this kind, where there is one
+-- that the bytes begin with the second line of an answer of this kind, if there is one
 abbrev pub BeginsWithSecondLine : AnswerKind → List ℕ → List ℕ → List ℕ → Type 0
 BeginsWithSecondLine k bytes line rest = IsInForm (outcome_of k (named_literals line))
     × (bytes ≡ second_line (outcome_of k (named_literals line)) ++ rest)
 
--- an answer
+-- that the bytes begin with an answer of this kind
 abbrev pub BeginsWithAnswer : AnswerKind → List ℕ → List ℕ → List ℕ → Type 0
 BeginsWithAnswer k bytes line rest = IsInForm (outcome_of k (named_literals line))
     × (bytes ≡ outcome_text (outcome_of k (named_literals line)) ++ rest)

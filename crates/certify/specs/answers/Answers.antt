@@ -1,74 +1,74 @@
--- What is answered, and the answers' text.
+-- The lines of answers, and the answers to a script.
 use Rattle.std.specs.Prelude.{ℕ, ◌+◌, Option, Some, None, List, [], ◌∷◌, ◌++◌, decimal, if◌then◌else◌}
 use Rattle.sat_base.specs.script.Script.{Literal, Command, Ask, ScriptEnding, Clean, Malformed}
 use Rattle.sat_checker.specs.matching.Expected.{Outcome, Sat, Unsat, Unknown}
 use Rattle.sat_base.specs.script.ScriptState.{ScriptState, Refusal, PastLimit, WitnessName, refusal_of, after_command, start}
 
--- a sign and a number
+-- the text of a literal: `-` if it is negative, and its name
 abbrev pub word_of : Literal → List ℕ
 word_of l = (if l.positive then [] else 45 ∷ []) ++ decimal l.name
 
--- each literal and a space, then `0` and LF
+-- the text of literals: each literal with a space after it, then `0` and LF
 abbrev pub literals_text : List Literal → List ℕ
 literals_text [] = 48 ∷ 10 ∷ []
 literals_text (l ∷ ls) = word_of l ++ (32 ∷ literals_text ls)
 
--- `s SATISFIABLE`, `s UNSATISFIABLE`, `s UNKNOWN`, each with LF
+-- the first line of an answer that has a model: `s SATISFIABLE` and LF
 abbrev pub s_satisfiable : List ℕ
 s_satisfiable = 115 ∷ 32 ∷ 83 ∷ 65 ∷ 84 ∷ 73 ∷ 83 ∷ 70 ∷ 73 ∷ 65 ∷ 66 ∷ 76 ∷ 69 ∷ 10 ∷ []
 
--- the first line of an answer that has a core
+-- the first line of an answer that has a core: `s UNSATISFIABLE` and LF
 abbrev pub s_unsatisfiable : List ℕ
 s_unsatisfiable = 115 ∷ 32 ∷ 85 ∷ 78 ∷ 83 ∷ 65 ∷ 84 ∷ 73 ∷ 83 ∷ 70 ∷ 73 ∷ 65 ∷ 66 ∷ 76 ∷ 69 ∷ 10 ∷ []
 
--- the only line of an answer where the rounds were exhausted
+-- the only line of an answer whose rounds were exhausted: `s UNKNOWN` and LF
 abbrev pub s_unknown : List ℕ
 s_unknown = 115 ∷ 32 ∷ 85 ∷ 78 ∷ 75 ∷ 78 ∷ 79 ∷ 87 ∷ 78 ∷ 10 ∷ []
 
--- `v LITS 0` and `f LITS 0`, each with LF
+-- the second line of an answer that has a model: `v LITS 0` and LF
 abbrev pub v_line : List Literal → List ℕ
 v_line line = 118 ∷ 32 ∷ literals_text line
 
--- the second line of an answer that has a core
+-- the second line of an answer that has a core: `f LITS 0` and LF
 abbrev pub f_line : List Literal → List ℕ
 f_line core = 102 ∷ 32 ∷ literals_text core
 
--- the lines of one outcome
+-- the answer lines for one outcome
 abbrev pub outcome_text : Outcome → List ℕ
 outcome_text (Sat line) = s_satisfiable ++ v_line line
 outcome_text (Unsat core) = s_unsatisfiable ++ f_line core
 outcome_text Unknown = s_unknown
 
--- `witness V` or `limit`, with LF
+-- the reason for a refusal, `limit` or `witness V`, and LF
 abbrev pub refusal_text : Refusal → List ℕ
 refusal_text PastLimit = 108 ∷ 105 ∷ 109 ∷ 105 ∷ 116 ∷ 10 ∷ []
 refusal_text (WitnessName name) = 119 ∷ 105 ∷ 116 ∷ 110 ∷ 101 ∷ 115 ∷ 115 ∷ 32 ∷ decimal name ++ 10 ∷ []
 
--- `c refused K ` and why
+-- the answer line for the refused command with number `k`: `c refused K`, a space, and the reason
 abbrev pub refused_line : ℕ → Refusal → List ℕ
 refused_line k refusal = 99 ∷ 32 ∷ 114 ∷ 101 ∷ 102 ∷ 117 ∷ 115 ∷ 101 ∷ 100 ∷ 32 ∷ decimal k ++ 32 ∷ refusal_text refusal
 
--- `c malformed K`, with LF
+-- the answer line for a text that is malformed at command `k`: `c malformed K` and LF
 abbrev pub malformed_line : ℕ → List ℕ
 malformed_line k = 99 ∷ 32 ∷ 109 ∷ 97 ∷ 108 ∷ 102 ∷ 111 ∷ 114 ∷ 109 ∷ 101 ∷ 100 ∷ 32 ∷ decimal k ++ 10 ∷ []
 
--- the last line, where the script's text is malformed at command k
+-- the last line if the script is malformed at command `k`, otherwise nothing
 abbrev pub ending_text : ℕ → ScriptEnding → List ℕ
 ending_text k Clean = []
 ending_text k Malformed = malformed_line k
 
--- what command k adds to the answers; the first outcome is that of the next accepted ask
+-- the answer lines for the command with number `k`; the first outcome is that of the next accepted ask
 abbrev pub piece : ℕ → Option Refusal → Command → List Outcome → List ℕ
 piece k (Some refusal) command outcomes = refused_line k refusal
 piece k None (Ask ls) (o ∷ os) = outcome_text o
 piece k None command outcomes = []
 
--- the outcomes for the commands after this one
+-- the outcomes for the commands after this command
 abbrev pub outcomes_left : Option Refusal → Command → List Outcome → List Outcome
 outcomes_left None (Ask ls) (o ∷ os) = os
 outcomes_left refusal command outcomes = outcomes
 
--- the answers to commands from number k on
+-- the answers to commands, the first of which has number `k`
 abbrev pub answers_from : ℕ → ScriptState → List Command → ScriptEnding → List Outcome → List ℕ
 answers_from k j [] ending outcomes = ending_text k ending
 answers_from k j (command ∷ commands) ending outcomes =

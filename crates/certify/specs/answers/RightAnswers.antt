@@ -1,16 +1,16 @@
--- When answers are right, over all valuations. It mentions no trail, hash or step.
+-- When answers are correct, over all valuations. No trail, hash or step is mentioned.
 use Rattle.std.specs.Prelude.{List, [], ◌∷◌}
 use Rattle.sat_base.specs.script.Script.{Literal, Command, Clause, Ask, Hide, Witness, Sample}
 use Rattle.sat_base.specs.script.ScriptState.{ScriptState, IsRightModel, IsRightCore, accepted, start, accepted_of}
 use Rattle.sat_checker.specs.matching.Expected.{Outcome, Sat, Unsat, Unknown}
 
--- The outcome of an ask, j being the state after its names were introduced. Unknown is right for every ask.
+-- That an outcome of `ask` is correct. `j` is the state after the names of `ask` were introduced. `Unknown` is correct for every ask.
 abbrev pub IsRight : ScriptState → List Literal → Outcome → Type 0
 IsRight j ask (Sat line) = IsRightModel j ask line
 IsRight j ask (Unsat core) = IsRightCore j ask core
 IsRight j ask Unknown = Unit {0}
 
--- of commands that aren't refused: one outcome for each ask, in order, and each is right
+-- that for accepted commands, there is one outcome for each ask, in order, and each outcome is correct
 abbrev pub AreRight : ScriptState → List Command → List Outcome → Type 0
 AreRight j [] [] = Unit {0}
 AreRight j [] (o ∷ os) = ⊥

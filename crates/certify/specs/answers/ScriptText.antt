@@ -1,28 +1,29 @@
--- What a script says, in as few definitions as that takes. Laws say that it is what `reading` says, and that texts of answers are the same.
+-- The meaning of a script's text, in as few definitions as possible. A law states that it agrees with `reading`.
 use Rattle.std.specs.Prelude.{ℕ, Bool, true, false, not, ◌&&◌, Option, Some, None, List, [], ◌∷◌, ◌++◌, map, nat_eq, unwrap_or, if◌then◌else◌}
 use Rattle.sat_base.specs.text.Text.{is_letter, is_none, lines, words, begins_with, digits, header_in, Token, Number, Letter, Header, Wrong}
 use Rattle.sat_base.specs.script.Script.{Literal, Command, Clause, Ask, Hide, Witness, Sample, Clean, Malformed}
 use Rattle.sat_base.specs.script.Language.{Reading, with_ask}
 
--- a number, unless it is a 0 after a minus sign
+-- the token of a number, or `Wrong` if there is no number or it is a 0 with a minus sign
 abbrev pub number : Bool → Option ℕ → Token
 number negative None = Wrong
 number negative (Some n) = if negative && nat_eq n 0 then Wrong else Number negative n
 
--- a token of one byte
+-- token `t` if no bytes follow, otherwise `Wrong`
 abbrev pub single : Token → List ℕ → Token
 single t [] = t
 single t (c ∷ cs) = Wrong
 
--- a word is one letter, or a number: an optional `-` and digits
+-- the token of a word: a single letter, or an optional `-` and digits; any other word is `Wrong`
 abbrev pub token_in : List ℕ → Token
 token_in [] = Wrong
 token_in (b ∷ bs) =
     if nat_eq b 45 then number true (digits 0 bs)
     else (if is_letter b then single (Letter b) bs else number false (digits 0 (b ∷ bs)))
 
--- The tokens of lines. A line that begins with `%` ends the text, also within a command. One that begins with `c` is a comment, and one that
--- begins with `p` is a header, which `may` come only once, and only before the first word of other lines.
+-- The tokens of lines. A line that begins with `%` ends the text, even within a command. A line that begins with `c` is a comment. A line that
+-- begins with `p` is a header if `may` is true, otherwise `Wrong`. `may` becomes false after such a line, and after any other line that
+-- contains a word and is not a comment.
 unfoldable pub tokens_in : Bool → List (List ℕ) → List Token
 tokens_in may [] = []
 tokens_in may (line ∷ lines) =
@@ -31,7 +32,7 @@ tokens_in may (line ∷ lines) =
     else (if begins_with 112 line then (if may then header_in (words line) else Wrong) ∷ tokens_in false lines
     else map token_in (words line) ++ tokens_in (may && is_none (words line)) lines))
 
--- `a`, `h`, `w` and `s` begin a command
+-- the command, still empty, that a letter begins, or `None` if the letter is not `a`, `h`, `w` or `s`
 abbrev pub begun_by : ℕ → Option Command
 begun_by b =
     if nat_eq b 97 then Some (Ask [])
@@ -39,7 +40,7 @@ begun_by b =
     else (if nat_eq b 119 then Some (Witness [])
     else (if nat_eq b 115 then Some (Sample []) else None)))
 
--- the command with one literal more, or one name, which has no minus sign
+-- The command with literal `l` appended. `Hide`, `Witness` and `Sample` get only its name, and the result is `None` if `l` is negative.
 abbrev pub command_with_literal : Literal → Command → Option Command
 command_with_literal l (Clause ls) = Some (Clause (ls ++ l ∷ []))
 command_with_literal l (Ask ls) = Some (Ask (ls ++ l ∷ []))
@@ -47,14 +48,14 @@ command_with_literal l (Hide names) = if l.positive then Some (Hide (names ++ l.
 command_with_literal l (Witness names) = if l.positive then Some (Witness (names ++ l.name ∷ [])) else None
 command_with_literal l (Sample names) = if l.positive then Some (Sample (names ++ l.name ∷ [])) else None
 
--- reads on with the command, or ends as malformed if there is none
+-- the reading that `more` gives for the command, or a malformed reading without commands if there is no command
 abbrev pub going_on : Option Command → (Option Command → Reading) → Reading
 going_on None more = ([], Malformed)
 going_on (Some command) more = more (Some command)
 
--- The commands that tokens spell, and how they end. `hand` is the command that has begun and lacks its zero. A zero ends it; with nothing in
--- hand, a zero is the empty clause. Malformed are a wrong token, an unknown letter, a letter or the end within a command, and a negative
--- name after `h`, `w` or `s`.
+-- The commands that tokens spell, and how the text ends. `hand` is the command that has begun and has no zero yet, or `None`. A zero ends the
+-- command; if there is none, a zero is the empty clause. Headers are skipped. The text is malformed at a wrong token, at an unknown letter, and
+-- at a letter or the end of the text within a command. It is also malformed at a negative name after `h`, `w` or `s`.
 unfoldable pub spelled : Option Command → List Token → Reading
 spelled None [] = ([], Clean)
 spelled (Some command) [] = ([], Malformed)
@@ -65,11 +66,12 @@ spelled None (Letter b ∷ ts) = going_on (begun_by b) (λ h. spelled h ts)
 spelled hand (Header v c ∷ ts) = spelled hand ts
 spelled hand (t ∷ ts) = ([], Malformed)
 
--- a header comes first
+-- whether the first token is a header
 abbrev pub is_headed : List Token → Bool
 is_headed (Header v c ∷ ts) = true
 is_headed ts = false
 
--- what a text says: its commands and, after a header if none of them is an ask, an ask under no literals
+-- The commands of a text, and how the text ends. If it begins with a header, ends cleanly and contains no ask, an ask without literals is
+-- appended.
 abbrev pub script_in : List ℕ → Reading
 script_in text = with_ask (is_headed (tokens_in true (lines text))) (spelled None (tokens_in true (lines text)))

@@ -1,5 +1,5 @@
--- The steps of a certificate up to the next ordered one, and whether that one is what is expected. The variables of names are an argument of
--- their own.
+-- The steps of a certificate up to the next ordered step, and whether that step is the expected one. The variables of names are a separate
+-- argument.
 use Rattle.std.specs.Prelude.{◌≡◌, true, false, Option, Some, None, Result, Ok, Err, List, [], ◌∷◌}
 use Rattle.sat_base.specs.script.Script.{Literal}
 use Rattle.sat_base.specs.steps.Steps.{Step}
@@ -18,48 +18,48 @@ use Rattle.certify.specs.declared.confirm.stop.Stop.TheVariants as stop
 use Rattle.certify.specs.declared.confirm.variables.NamedVars.{NamedVars}
 use Rattle.certify.specs.declared.verdict.Why.{Why}
 
--- the checker was fed these steps, after which the names stand for these variables
+-- that the checker was fed these steps, after which the names refer to these variables
 pub record CheckerIsAt (checker : Kernel) (names : NamedVars) (earlier : List Step) : Type 0 where
   pub taken : HasTaken checker earlier
   pub stand : StandFor names earlier
 
--- the next ordered step was read, and unsat isn't recorded
+-- that the next ordered step was read, and unsat is not recorded
 pub record StepIsReady (names : NamedVars) (old : CertificateState) (earlier : List Step) (new : CertificateState) : Type 0 where
   pub later : List Step
   pub stands : CheckerIsAt new.checker names later
   pub open_yet : (ready_after later).unsat ≡ false
   pub offers : NextIsOrdered earlier old.rest later new.step new.rest
 
--- unsat is recorded before an ordered step came
+-- that unsat was recorded before an ordered step was read
 pub record UnsatIsRecorded (names : NamedVars) (old : CertificateState) (earlier : List Step) (new : CertificateState) : Type 0 where
   pub later : List Step
   pub stands : CheckerIsAt new.checker names later
   pub closed : (ready_after later).unsat ≡ true
   pub skips : SkipsUnordered earlier old.rest later new.rest
 
--- an unordered step was accepted
+-- that only unordered steps were accepted
 pub record StepWasPassed (names : NamedVars) (old : CertificateState) (earlier : List Step) (new : CertificateState) : Type 0 where
   pub later : List Step
   pub stands : CheckerIsAt new.checker names later
   pub skips : SkipsUnordered earlier old.rest later new.rest
 
--- what was found while an ordered step is awaited, or why none can follow
+-- the result of awaiting an ordered step: what was found, or why no expected step can follow
 abbrev pub AwaitsNext : NamedVars → CertificateState → CertificateState → Result Awaited Why → Type 0
 AwaitsNext names old new (Ok awaited.Step) = (earlier : List Step) → CheckerIsAt old.checker names earlier → StepIsReady names old earlier new
 AwaitsNext names old new (Ok awaited.Cut) = (earlier : List Step) → CheckerIsAt old.checker names earlier → UnsatIsRecorded names old earlier new
 AwaitsNext names old new (Err why) = (earlier : List Step) → CheckerIsAt old.checker names earlier → MeetsNothing earlier old.rest
 
--- what one more step led to
+-- the result of reading one more step while an ordered step is awaited
 abbrev pub StepsOnce : NamedVars → CertificateState → CertificateState → Result (Option Awaited) Why → Type 0
 StepsOnce names old new (Ok None) = (earlier : List Step) → CheckerIsAt old.checker names earlier → StepWasPassed names old earlier new
 StepsOnce names old new (Ok (Some a)) = AwaitsNext names old new (Ok a)
 StepsOnce names old new (Err why) = AwaitsNext names old new (Err why)
 
--- only unordered steps were accepted
+-- that only unordered steps were accepted, whatever the result is
 abbrev pub PassesUnordered : NamedVars → CertificateState → CertificateState → Result (Unit {0}) Why → Type 0
 PassesUnordered names old new r = (earlier : List Step) → CheckerIsAt old.checker names earlier → StepWasPassed names old earlier new
 
--- just what is expected is met
+-- that exactly what is expected is met
 pub record IsDueMet (due : Due) (after : NamedVars) (old : CertificateState) (earlier : List Step) (new : CertificateState) : Type 0 where
   pub later : List Step
   pub stands : CheckerIsAt new.checker after later
@@ -68,13 +68,13 @@ pub record IsDueMet (due : Due) (after : NamedVars) (old : CertificateState) (ea
   pub alone : (o : Outcome) (ask : List Literal) (es : List Expected)
       → CanMeet earlier (due o ask ∷ es) old.rest → (ready_after later).unsat ≡ true → MayStayUnmet (due o ask)
 
--- what is expected is met, or can't be
+-- that what is expected is met or, with an error, cannot be met
 abbrev pub MeetsDue : Due → NamedVars → NamedVars → CertificateState → CertificateState → Result (Unit {0}) Why → Type 0
 MeetsDue due before after old new (Ok x) = (earlier : List Step) → CheckerIsAt old.checker before earlier → IsDueMet due after old earlier new
 MeetsDue due before after old new (Err why) = (earlier : List Step) → CheckerIsAt old.checker before earlier
     → (o : Outcome) (ask : List Literal) → MeetsNoneOf earlier old.rest (due o ask ∷ [])
 
--- what is said where it stays unmet
+-- the result if what is expected stays unmet once unsat is recorded
 abbrev pub SaysUnmet : Due → Result (Unit {0}) Stop → Type 0
 SaysUnmet due (Ok x) = ExcusesDue due None
 SaysUnmet due (Err (stop.No why)) = ExcusesDue due (Some why)

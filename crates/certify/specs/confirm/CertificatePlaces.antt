@@ -1,4 +1,4 @@
--- What is known of a certificate between two of its places.
+-- What is known about a certificate between two of its places.
 use Rattle.std.specs.Prelude.{ℕ, List, ◌∷◌, ◌++◌}
 use Rattle.sat_base.specs.steps.Steps.{Step}
 use Rattle.sat_checker.specs.Accepts.{Accepts, ready_after}
@@ -6,30 +6,31 @@ use Rattle.sat_checker.specs.matching.Expected.{Expected, Fits}
 use Rattle.certify.specs.confirm.LeftToMatch.{CertificateMeets}
 use Rattle.sat_checker.specs.matching.ProofChecking.{checker_rules}
 
--- the rest of the certificate meets what is expected
+-- that the rest of the certificate meets the expected steps `es`
 abbrev pub CanMeet : List Step → List Expected → List ℕ → Type 0
 CanMeet earlier es certificate = CertificateMeets checker_rules earlier es certificate
 
--- Exactly these are met between two places: whatever is expected after them, all is met from the first place exactly if the rest is met from
--- the second.
+-- That exactly the steps in `pending` are met between two places. Whatever is expected after them, everything is met from the first place
+-- exactly if the rest is met from the second.
 pub record MeetsExactly (earlier : List Step) (certificate : List ℕ) (pending : List Expected) (later : List Step) (rest : List ℕ) : Type 0 where
   pub on : (es : List Expected) → CanMeet earlier (pending ++ es) certificate → CanMeet later es rest
   pub back : (es : List Expected) → CanMeet later es rest → CanMeet earlier (pending ++ es) certificate
 
--- no list that begins with these is met
+-- that the certificate meets no list of expected steps that begins with `pending`
 pub record MeetsNoneOf (earlier : List Step) (certificate : List ℕ) (pending : List Expected) : Type 0 where
   pub none : (es : List Expected) → CanMeet earlier (pending ++ es) certificate → ⊥
 
--- there are only unordered steps between two places
+-- that there are only unordered steps between two places
 pub record SkipsUnordered (earlier : List Step) (certificate : List ℕ) (later : List Step) (rest : List ℕ) : Type 0 where
   pub on : (e : Expected) (es : List Expected) → CanMeet earlier (e ∷ es) certificate → CanMeet later (e ∷ es) rest
   pub back : (e : Expected) (es : List Expected) → CanMeet later (e ∷ es) rest → CanMeet earlier (e ∷ es) certificate
 
--- nothing is met, whatever is expected
+-- that the certificate meets no list with at least one expected step
 pub record MeetsNothing (earlier : List Step) (certificate : List ℕ) : Type 0 where
   pub none : (e : Expected) (es : List Expected) → CanMeet earlier (e ∷ es) certificate → ⊥
 
--- the next ordered step is this one: what is expected next is met exactly if the step is that and is accepted
+-- That `step` is the next ordered step. The expected steps are met exactly if `step` fits the first of them and is accepted, and the rest is
+-- met after it.
 pub record NextIsOrdered (earlier : List Step) (certificate : List ℕ) (later : List Step) (step : Step) (rest : List ℕ) : Type 0 where
   pub on : (e : Expected) (es : List Expected) → CanMeet earlier (e ∷ es) certificate
       → Fits (checker_rules.knows later) later e step × Accepts (ready_after later) step × CanMeet (step ∷ later) es rest

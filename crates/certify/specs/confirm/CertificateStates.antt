@@ -1,4 +1,4 @@
--- What confirming sees of a certificate.
+-- The state of a certificate that is being confirmed.
 use Rattle.std.specs.Prelude.{ℕ, List}
 use Rattle.sat_base.specs.steps.Steps.{Step}
 use Rattle.certify.specs.confirm.ReadSteps.{CertificatePlace}
@@ -6,10 +6,10 @@ use Rattle.sat_checker.specs.declared.kernel.Kernel.{Kernel}
 
 -- How far a certificate was read, and the checker that its steps were fed to.
 pub record CertificateState : Type 0 where
-  pub checker : Kernel  -- what the steps are fed to
+  pub checker : Kernel  -- the checker that is fed the steps
   pub step : Step  -- the step that was read last
   pub rest : List ℕ  -- the bytes still to come
 
--- how far it was read
+-- how far the certificate was read
 abbrev pub certificate_place : CertificateState → CertificatePlace
 certificate_place v = record { step = v.step; rest = v.rest }

@@ -16,11 +16,11 @@ use Rattle.certify.specs.declared.confirm.expect.Expected.TheVariants as code
 use Rattle.certify.specs.declared.confirm.expect.Known.{Known}
 use Rattle.certify.specs.declared.verdict.Why.{Why}
 
--- what is expected, where this outcome answers this ask
+-- the expected step, given the outcome and the literals of an ask
 abbrev pub Due : Type 0
 Due = Outcome → List Literal → Expected
 
--- what is expected, from the variables and codes that the code holds
+-- the expected step, from the variables and literal codes that the code stores
 abbrev pub due_of : CodeExpected → Due
 due_of (code.NewName v) = λ o ask. NewName (v + 1)
 due_of (code.NoName v) = λ o ask. NoName (v + 1)
@@ -31,27 +31,27 @@ due_of (code.Core core) = λ o ask. Fails ask (named_literals core.now)
 due_of code.Close = λ o ask. Closes
 due_of code.End = λ o ask. Finish
 
--- the names have the variables that are known after these steps, which the checker accepted
+-- that the names have the variables that are known after these steps, which the checker accepted
 pub record AreKnown (known : Known) (earlier : List Step) : Type 0 where
   pub stands : HasAccepted (kernel_of known.checker.now) earlier
   pub goes_on : kernel_has_failed (kernel_of known.checker.now) ≡ false
   pub named : variable_of earlier ≡ variable_in known.variables.now
 
--- the step is what is expected, whatever outcome and ask, or isn't
+-- that the step is the expected step, for any outcome and ask, or, with a reason, is not
 abbrev pub Compares : Due → Known → Step → Option Why → Type 0
 Compares due known step None = (earlier : List Step) → AreKnown known earlier
     → (o : Outcome) (ask : List Literal) → Fits (checker_rules.knows earlier) earlier (due o ask) step
 Compares due known step (Some why) = (earlier : List Step) → AreKnown known earlier
     → (o : Outcome) (ask : List Literal) → Fits (checker_rules.knows earlier) earlier (due o ask) step → ⊥
 
--- the step is a model that has the literals of a line, or isn't
+-- that the step is a model that has the literals of a line or, with a reason, is not
 abbrev pub ComparesLine : Known → List ℕ → Step → Option Why → Type 0
 ComparesLine known line step None = (codes : List ℕ) × (step ≡ Model codes)
     × EachSpelt (variable_in known.variables.now) (named_literals line) codes
 ComparesLine known line step (Some why) = (codes : List ℕ) → step ≡ Model codes
     → EachSpelt (variable_in known.variables.now) (named_literals line) codes → ⊥
 
--- what may be left unmet once unsat is recorded, where the outcome of an ask is then the only one; no other steps
+-- that the expected step does not open an ask, or opens an ask whose outcome is the empty core
 abbrev pub MayStayUnmet : Expected → Type 0
 MayStayUnmet (NewName name) = Unit {0}
 MayStayUnmet (NoName name) = Unit {0}
@@ -62,7 +62,7 @@ MayStayUnmet (Fails ask core) = Unit {0}
 MayStayUnmet Closes = Unit {0}
 MayStayUnmet Finish = Unit {0}
 
--- what is expected may stay unmet once unsat is recorded, or may not
+-- That the expected step may be unmet once unsat is recorded, provided that `MayStayUnmet` holds. With a reason: that it may never be unmet.
 abbrev pub ExcusesDue : Due → Option Why → Type 0
 ExcusesDue due None = (o : Outcome) (ask : List Literal) → MayStayUnmet (due o ask) → MayBeUnmet (due o ask)
 ExcusesDue due (Some why) = (o : Outcome) (ask : List Literal) → MayBeUnmet (due o ask) → ⊥

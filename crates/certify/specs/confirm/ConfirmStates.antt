@@ -1,4 +1,4 @@
--- What the calls that confirm a command do to answers and certificate.
+-- The effect on answers and certificate of the calls that confirm a command.
 use Rattle.std.specs.Prelude.{ℕ, ◌≡◌, ◌≤◌, Bool, List, Result, OnOk}
 use Rattle.sat_base.specs.declared.steps.reader.Buffers.{Buffers}
 use Rattle.sat_base.specs.declared.steps.reader.StepReader.{StepReader}
@@ -15,16 +15,16 @@ use Rattle.certify.specs.declared.confirm.names.Matching.{Matching}
 use Rattle.certify.specs.declared.confirm.commands.ConfirmState.{ConfirmState}
 use Rattle.certify.specs.declared.verdict.Why.{Why}
 
--- the answers' reader, and what was read of it
+-- the answers' reader, and the bytes read ahead from it
 abbrev pub answers_in : {A : Type 0} → (A → Reader) → A → ConfirmState → Source
 answers_in seen answers s = answers_source seen answers s.answers
 
--- the certificate, and what was made of it
+-- the certificate's reader of steps, and the checker that is fed the steps
 abbrev pub stream_in : {C : Type 0} → (C → Reader) → StepReader C Buffers → Matching → Stream
 stream_in seen steps m = stream_of seen steps (kernel_of m.certificate.checker)
 
--- A call that confirms: the certificate's reader stays the same one and goes on where the call does, and P says what it makes of
--- answers and certificate. M is so where the commands are too many.
+-- The effect of a call that confirms. The certificate's reader stays the same borrow and can be read further if the call succeeds. P says what
+-- the result means for answers and certificate. M holds if there are too many commands.
 pub record ConfirmsBoth {A C T : Type 0} (M : Type 0) (goes : Bool) (result : Result T Stop)
     (seen : A → Reader) (steps_seen : C → Reader) (old_answers new_answers : A)
     (old new : StepReader C Buffers) (before after : ConfirmState) (P : List ℕ → List ℕ → CertificateState → CertificateState → Result T Why → Type 0) : Type 0 where

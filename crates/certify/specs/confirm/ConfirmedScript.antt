@@ -1,4 +1,4 @@
--- How a script is confirmed while it is read, whatever would follow in the three texts.
+-- How a script is confirmed while it is read, whatever bytes could follow in the three texts.
 use Rattle.std.specs.Prelude.{ℕ, ◌+◌, ◌-◌, ◌^◌, ◌<◌, ◌≡◌, min, true, false, List, Result, Ok, Err}
 use Rattle.sat_base.specs.declared.steps.reader.Buffers.{Buffers}
 use Rattle.sat_base.specs.declared.steps.reader.StepReader.{StepReader}
@@ -29,11 +29,11 @@ pub record ConfirmPlace : Type 0 where
   pub number : ℕ
   pub table : Table
 
--- the script's reader, and what was read of it
+-- the script's reader, and the bytes read ahead from it
 abbrev pub script_source : {S : Type 0} → (S → Reader) → S → Confirmation → Source
 script_source seen script c = source_in seen script c.script.ahead
 
--- the same, from the three readers and the state of the code
+-- the place that the three readers and the state of the code are at
 abbrev pub confirm_place : {S A C : Type 0} → (S → Reader) → (A → Reader) → (C → Reader) → S → A → StepReader C Buffers → Confirmation → ConfirmPlace
 confirm_place script_seen seen steps_seen script answers steps c = record {
   script = script_source script_seen script c;
@@ -43,7 +43,7 @@ confirm_place script_seen seen steps_seen script answers steps c = record {
   table = table_of c.session.matching;
 }
 
--- These commands were confirmed between two places. After them, `left` says what the reader of scripts has still to read.
+-- That the commands between two places were confirmed. After them, `left` gives the reading of the rest of the script.
 pub record ConfirmsThrough (text : List ℕ → Reading) (old new : ConfirmPlace) (reader : ScriptReader) : Type 0 where
   pub left : List ℕ → Reading
   pub means : ReaderMeans reader left
@@ -53,16 +53,16 @@ pub record ConfirmsThrough (text : List ℕ → Reading) (old new : ConfirmPlace
   pub joins : (total : List ℕ) → Covers new.script total → Joins ⊥ true (Ok tt) old.answers new.answers old.certificate new.certificate
       (Through old.number (text (rest_in total old.script)) old.table new.number (left (rest_in total new.script)) new.table)
 
--- what is said of this complete script
+-- that the complete script is confirmed or, with an error, cannot be
 abbrev pub JoinsWhole : Result (Unit {0}) Stop → Reading → ConfirmPlace → ConfirmPlace → Type 0
 JoinsWhole r script old new = Joins ⊥ false r old.answers new.answers old.certificate new.certificate
     (λ before behind u v. ConfirmsLast old.number script old.table before u)
 
--- nothing is said of it
+-- the effect on answers and certificate if the result says nothing about the script
 abbrev pub Unsaid : ConfirmPlace → ConfirmPlace → Type 0
 Unsaid old new = NoReadFailedAhead old.answers new.answers × Confirms {A = Unit {0}} (Err stop.OutOfMemory) old.certificate new.certificate Any
 
--- The script is confirmed to its end, or isn't; or a text can't be read, or the commands are too many.
+-- That the script is confirmed to its end, or cannot be; or a text cannot be read, memory or numbers run out, or there are too many commands.
 abbrev pub ConfirmsScript : (List ℕ → Reading) → Result (Unit {0}) Stop → ConfirmPlace → ConfirmPlace → Type 0
 ConfirmsScript text (Ok x) old new = TakesSome false old.script new.script
     × ((total : List ℕ) → Covers new.script total → JoinsWhole (Ok x) (text (rest_in total old.script)) old new)
@@ -80,7 +80,7 @@ ConfirmsScript text (Err stop.TooMany) old new = TakesSome false old.script new.
     × ((total : List ℕ) → Covers new.script total → 2 ^ 64 < old.number + numbers (text (rest_in total old.script)))
     × Unsaid old new
 
--- what is returned after `asks` asks, whose number saturates at 2^64-1
+-- the result that is returned after `asks` confirmed asks; the number of an ask saturates at 2^64-1
 abbrev pub said_by : Result (Unit {0}) Stop → ℕ → Result Verdict ConfirmFault
 said_by (Ok x) asks = Ok Yes
 said_by (Err (stop.No why)) asks = Ok (No (min (asks + 1) (2 ^ 64 - 1)) why)

@@ -17,26 +17,26 @@ use Rattle.certify.specs.declared.confirm.variables.NamedVars.{NamedVars}
 use Rattle.certify.specs.declared.confirm.names.Matching.{Matching}
 use Rattle.certify.specs.declared.verdict.Why.{Why}
 
--- what is known of names: which are in use, with their modes, and their variables
+-- what is known of names: which are in use, their modes, and their variables
 pub record Table : Type 0 where
   pub names : Names
   pub variables : NamedVars
 
--- the same, from the code's state
+-- the table that the code's state represents
 abbrev pub table_of : Matching → Table
 table_of m = record { names = m.names; variables = m.certificate.names }
 
--- names and modes are those of the script state, and the checker accepted these steps, after which the names stand for their variables
+-- That names and modes are those of the script state. The checker accepted these steps, after which the names refer to their variables.
 pub record HoldsAt (t : Table) (u : CertificateState) (j : ScriptState) (earlier : List Step) : Type 0 where
   pub judged : NamesHaveState t.names j
   pub kept : ScriptStateInvariant j
   pub at : CheckerIsAt u.checker t.variables earlier
 
--- what is still to be confirmed, from command n on
+-- that the rest of the script, from command `n` on, matches the rest of the answers and of the certificate
 abbrev pub ToConfirm : ScriptState → ℕ → List Step → List Command → ScriptEnding → List ℕ → List ℕ → Type 0
 ToConfirm j n earlier commands ending answers certificate = Left checker_rules j n earlier [] commands ending answers certificate
 
--- Command n is confirmed: the script from here is confirmed exactly if the commands after it are.
+-- That command `n` is confirmed: the script from `n` on is confirmed exactly if the commands after `n` are.
 pub record Confirmed (before behind : List ℕ) (old new : CertificateState) (j : ScriptState) (earlier : List Step) (n : ℕ)
     (command : Command) (t : Table) : Type 0 where
   pub later : List Step
@@ -46,7 +46,7 @@ pub record Confirmed (before behind : List ℕ) (old new : CertificateState) (j 
   pub back : (commands : List Command) (ending : ScriptEnding) → ToConfirm (after_command command j) (n + 1) later commands ending behind new.rest
       → ToConfirm j n earlier (command ∷ commands) ending before old.rest
 
--- command n is confirmed, or can't be
+-- that command `n` is confirmed or, with an error, cannot be
 abbrev pub ConfirmsNext : ℕ → Command → Table → Table → List ℕ → List ℕ → CertificateState → CertificateState → Result (Unit {0}) Why → Type 0
 ConfirmsNext n command t next before behind old new (Ok x) =
     (j : ScriptState) (earlier : List Step) → HoldsAt t old j earlier → Confirmed before behind old new j earlier n command next
@@ -54,13 +54,13 @@ ConfirmsNext n command t next before behind old new (Err why) =
     (j : ScriptState) (earlier : List Step) → HoldsAt t old j earlier
     → (commands : List Command) (ending : ScriptEnding) → ToConfirm j n earlier (command ∷ commands) ending before old.rest → ⊥
 
--- a command of this kind isn't refused, and what it expects for its names is met
+-- that a command of this kind is not refused, and the steps expected for its names are met
 pub record MeetsCommandNames (kind : Kind) (ls : List Literal) (t next : Table) (old new : CertificateState) : Type 0 where
   pub allowed : (j : ScriptState) → NamesHaveState t.names j → refusal_of j (command_of kind ls) ≡ None
   pub met : (j : ScriptState) → NamesHaveState t.names j → MeetsAll (naming_all kind (names_of ls) j) t.variables next.variables old new (Ok tt)
   pub changes : Changes t.names next.names (taken_by kind (names_of ls))
 
--- what a command of this kind adds or asks after its names is met, or can't be
+-- that what a command of this kind adds or asks after its names is met or, with an error, cannot be
 abbrev pub MeetsContent : Kind → List Literal → NamedVars → NamedVars → CertificateState → CertificateState → Result (Unit {0}) Why → Type 0
 MeetsContent OfClause ls before after old new r = MeetsAll (Adds ls ∷ []) before after old new r
 MeetsContent OfAsk ls before after old new r = MeetsDue (λ o ask. Opens ls o) before after old new r
@@ -68,36 +68,36 @@ MeetsContent OfHide ls before after old new r = MeetsAll [] before after old new
 MeetsContent OfWitness ls before after old new r = MeetsAll [] before after old new r
 MeetsContent OfSample ls before after old new r = MeetsAll [] before after old new r
 
--- the rest of a command after its names is confirmed, or can't be
+-- that the rest of a command after its names is confirmed or, with an error, cannot be
 abbrev pub ConfirmsContent : ℕ → Kind → List Literal → Table → Table → List ℕ → List ℕ → CertificateState → CertificateState → Result (Unit {0}) Why → Type 0
 ConfirmsContent n kind ls named next before behind old new r =
     (t : Table) (u : CertificateState) → MeetsCommandNames kind ls t named u old → ConfirmsNext n (command_of kind ls) t next before behind u new r
 
--- an ask is confirmed by its answer after its assumptions, or can't be
+-- that an ask is confirmed by the answer after its assumptions or, with an error, cannot be
 abbrev pub ConfirmsAnswer : ℕ → List Literal → Table → Table → List ℕ → List ℕ → CertificateState → CertificateState → Result (Unit {0}) Why → Type 0
 ConfirmsAnswer n ask asked next before behind old new r =
     (t named : Table) (u v : CertificateState) → MeetsCommandNames OfAsk ask t named u v → named.names ≡ asked.names
     → MeetsDue (λ o under. Opens ask o) named.variables asked.variables v old (Ok tt)
     → ConfirmsNext n (Ask ask) t next before behind u new r
 
--- what shows the outcome of an ask is met, or can't be
+-- that the steps that show the outcome of an ask are met or, with an error, cannot be
 abbrev pub MeetsShown : Names → List Literal → Outcome → NamedVars → NamedVars → CertificateState → CertificateState → Result (Unit {0}) Why → Type 0
 MeetsShown names ask o before after old new r =
     (j : ScriptState) → NamesHaveState names j → NamesIncrease j.in_use → MeetsAll (showing j ask o) before after old new r
 
--- the same with the end of the ask
+-- that the steps that show the outcome of an ask, and the end of the ask, are met or, with an error, cannot be
 abbrev pub MeetsOutcome : Names → List Literal → Outcome → NamedVars → NamedVars → CertificateState → CertificateState → Result (Unit {0}) Why → Type 0
 MeetsOutcome names ask o before after old new r =
     (j : ScriptState) → NamesHaveState names j → NamesIncrease j.in_use → MeetsAll (showing j ask o ++ Closes ∷ []) before after old new r
 
--- The rest of the script is confirmed from command n on, or can't be.
+-- That the rest of the script is confirmed from command `n` on or, with an error, cannot be.
 abbrev pub ConfirmsLast : ℕ → Reading → Table → List ℕ → CertificateState → Result (Unit {0}) Why → Type 0
 ConfirmsLast n script t before old (Ok x) =
     (j : ScriptState) (earlier : List Step) → HoldsAt t old j earlier → ToConfirm j n earlier script.0 script.1 before old.rest
 ConfirmsLast n script t before old (Err why) =
     (j : ScriptState) (earlier : List Step) → HoldsAt t old j earlier → ToConfirm j n earlier script.0 script.1 before old.rest → ⊥
 
--- The script was confirmed from one command up to another: it is confirmed completely exactly if the rest is.
+-- That the script was confirmed from command `n` up to command `m`: it is confirmed completely exactly if the rest is.
 pub record IsThrough (old new : CertificateState) (j : ScriptState) (earlier : List Step) (n : ℕ) (script : Reading) (before : List ℕ)
     (m : ℕ) (left : Reading) (next : Table) (behind : List ℕ) : Type 0 where
   pub judge : ScriptState
@@ -106,7 +106,7 @@ pub record IsThrough (old new : CertificateState) (j : ScriptState) (earlier : L
   pub on : ToConfirm j n earlier script.0 script.1 before old.rest → ToConfirm judge m later left.0 left.1 behind new.rest
   pub back : ToConfirm judge m later left.0 left.1 behind new.rest → ToConfirm j n earlier script.0 script.1 before old.rest
 
--- the same for every script state and all steps for which the table holds
+-- that `IsThrough` holds for every script state and all steps for which the table holds
 abbrev pub Through : ℕ → Reading → Table → ℕ → Reading → Table → List ℕ → List ℕ → CertificateState → CertificateState → Result (Unit {0}) Why → Type 0
 Through n script t m left next before behind old new r =
     (j : ScriptState) (earlier : List Step) → HoldsAt t old j earlier → IsThrough old new j earlier n script before m left next behind

@@ -11,12 +11,12 @@ use Rattle.certify.specs.declared.confirm.stop.Stop.{Stop}
 use Rattle.certify.specs.declared.confirm.stop.Stop.TheVariants as stop
 use Rattle.certify.specs.declared.verdict.Why.TheVariants.{StepRefused}
 
--- it accepted these steps, the newest first, and has not failed
+-- that the checker accepted these steps, the newest first, and has not failed
 pub record HasTaken (checker : Kernel) (steps : List Step) : Type 0 where
   pub stands : HasAccepted checker steps
   pub goes_on : kernel_has_failed checker ≡ false
 
--- What is returned if a step isn't accepted. A checker that has not failed can only refuse it, run out of memory, or run out of numbers.
+-- What is returned if a step is not accepted. A checker that has not failed can only refuse the step, run out of memory, or run out of numbers.
 abbrev pub stop_by : CheckerError → Stop
 stop_by errors.CheckFailed = stop.No StepRefused
 stop_by errors.OutOfMemory = stop.OutOfMemory
@@ -28,7 +28,8 @@ stop_by errors.ParseError = stop.No StepRefused
 -- there is no listener
 stop_by (errors.ProofProcessorError cause) = stop.OutOfMemory
 
--- The step is accepted after the earlier ones, or isn't, or a number does not fit into 64 bits.
+-- That the step is accepted after the earlier steps; or, with an error, that it is refused, memory runs out, or a number does not fit into 64
+-- bits.
 abbrev pub FeedsStep : Result (Unit {0}) Stop → Kernel → Step → Kernel → Type 0
 FeedsStep (Ok x) old step new = (steps : List Step) → HasTaken old steps → Accepts (ready_after steps) step × HasTaken new (step ∷ steps)
 FeedsStep (Err (stop.No why)) old step new = (steps : List Step) → HasTaken old steps → Accepts (ready_after steps) step → ⊥
@@ -39,7 +40,8 @@ FeedsStep (Err stop.ScriptRead) old step new = ⊥
 FeedsStep (Err stop.AnswersRead) old step new = ⊥
 FeedsStep (Err stop.TooMany) old step new = ⊥
 
--- A pending unit conflict is settled, or no id is left for it. No step is added, and there are no further looks.
+-- That a pending unit conflict is settled; or, with an error, that no id is left for it or memory runs out. No step is added, and there are no
+-- further looks.
 abbrev pub SettlesConflict : Result (Unit {0}) Stop → Kernel → Kernel → Type 0
 SettlesConflict (Ok x) old new = (steps : List Step) → HasTaken old steps → HasTaken new steps × (kernel_looks new ≡ kernel_looks old)
 SettlesConflict (Err (stop.No why)) old new = (steps : List Step) → HasTaken old steps → ⊥

@@ -1,4 +1,4 @@
--- What names stand for after one more step.
+-- Which variables names refer to after one more step.
 use Rattle.std.specs.Prelude.{ℕ, ◌≤◌, ◌≡◌, true, false, Some, List, ◌∷◌}
 use Rattle.sat_base.specs.values.Literals.{var_limit}
 use Rattle.sat_base.specs.script.Script.{Literal}
@@ -11,7 +11,7 @@ use Rattle.certify.specs.confirm.Comparing.{Due}
 use Rattle.certify.specs.confirm.Variables.{variable_in}
 use Rattle.certify.specs.declared.confirm.variables.NamedVars.{NamedVars}
 
--- after accepted steps these are the variables of the names: no two names share one, and every one is known
+-- that after these accepted steps the names have these variables: no two names share a variable, and every variable is known
 pub record StandFor (variables : NamedVars) (earlier : List Step) : Type 0 where
   pub accepted : Accepted checker_rules earlier
   pub named : variable_of earlier ≡ variable_in variables
@@ -19,12 +19,12 @@ pub record StandFor (variables : NamedVars) (earlier : List Step) : Type 0 where
   pub known : (m v : ℕ) → variable_of earlier m ≡ Some v → checker_rules.knows earlier v ≡ true
   pub few : (name v : ℕ) → variable_of earlier name ≡ Some v → name ≤ var_limit
 
--- after an accepted step that is what is expected
+-- that `new` has the variables of the names after an accepted step, if the step is the expected one
 abbrev pub NamesFollow : Due → NamedVars → Step → NamedVars → Type 0
 NamesFollow due old step new = (earlier : List Step) (o : Outcome) (ask : List Literal) → StandFor old earlier
     → Fits (checker_rules.knows earlier) earlier (due o ask) step → Accepts (ready_after earlier) step → StandFor new (step ∷ earlier)
 
--- unordered steps change no variable of a name
+-- that an unordered step does not change the variable of any name
 abbrev pub OthersPass : Type 0
 OthersPass = (variables : NamedVars) (earlier : List Step) (step : Step) → StandFor variables earlier
     → is_ordered step ≡ false → Accepts (ready_after earlier) step → StandFor variables (step ∷ earlier)

@@ -1,4 +1,4 @@
--- What is still to be matched after some place: the invariant of the loops that confirm.
+-- What remains to be matched at some place: the invariant of the loops that confirm.
 use Rattle.std.specs.Prelude.{ℕ, ◌≡◌, List, [], ◌∷◌, ◌++◌}
 use Rattle.std.specs.List.{AllByRecursion}
 use Rattle.sat_base.specs.script.Script.{Literal, Command, ScriptEnding}
@@ -10,7 +10,7 @@ use Rattle.sat_checker.specs.matching.Expected.{Outcome, Expected, Opens, Closes
 use Rattle.sat_checker.specs.matching.Checking.{CheckerRules}
 use Rattle.certify.specs.confirm.Matches.{OneEach, InForm, Meets}
 
--- the rest of the certificate begins with the steps that are expected after the earlier ones
+-- that the rest of the certificate begins with the steps that are expected after the earlier steps
 pub record CertificateMeets (k : CheckerRules) (earlier : List Step) (es : List Expected) (certificate : List ℕ) : Type 0 where
   pub steps : List Step
   pub text : List ℕ
@@ -19,7 +19,7 @@ pub record CertificateMeets (k : CheckerRules) (earlier : List Step) (es : List 
   pub spelt : SpellsSteps steps text
   pub meets : Meets k earlier steps es
 
--- Command n is next, in this script state; what is pending belongs to the commands before it.
+-- That the rest of the script matches from command `n` on, in state `j`. What is pending belongs to earlier commands.
 pub record Left (k : CheckerRules) (j : ScriptState) (n : ℕ) (earlier : List Step) (pending : List Expected)
     (commands : List Command) (ending : ScriptEnding) (answers certificate : List ℕ) : Type 0 where
   pub outcomes : List Outcome
@@ -28,7 +28,8 @@ pub record Left (k : CheckerRules) (j : ScriptState) (n : ℕ) (earlier : List S
   pub in_form : AllByRecursion InForm outcomes
   pub certified : CertificateMeets k earlier (pending ++ expected j (accepted_of j commands) outcomes) certificate
 
--- The answer to an ask is still to be read, j being the state after its names were introduced. Of its names these are pending, and then its assumptions.
+-- That the rest matches from the answer to an ask on. `j` is the state after the names of the ask were introduced. First the steps in `pending`
+-- are expected, then the ask's assumptions.
 pub record LeftOfAsk (k : CheckerRules) (j : ScriptState) (n : ℕ) (earlier : List Step) (pending : List Expected) (ask : List Literal)
     (commands : List Command) (ending : ScriptEnding) (answers certificate : List ℕ) : Type 0 where
   pub outcome : Outcome

@@ -24,58 +24,58 @@ use Rattle.certify.specs.declared.confirm.lines.Wanted.TheVariants as wanted
 use Rattle.certify.specs.declared.verdict.Why.{Why}
 use Rattle.certify.specs.declared.verdict.Why.TheVariants.{AnswerMissing, AnswerText}
 
--- no LF is among the bytes
+-- that no byte is LF
 abbrev pub HasNoLf : List ℕ → Type 0
 HasNoLf = AllByRecursion (λ byte. byte ≡ 10 → ⊥)
 
--- an LF is the last byte, and the only LF
+-- that LF is the last byte, and no other byte is LF
 pub record IsOneLine (text : List ℕ) : Type 0 where
   pub front : List ℕ
   pub none : HasNoLf front
   pub whole : text ≡ front ++ 10 ∷ []
 
--- the first `n` bytes are a line, or all of them are and have no LF
+-- that the first `count` bytes are a line or, if the flag is false, are all bytes and contain no LF
 abbrev pub GoesUpToLine : Bool → List ℕ → ℕ → Type 0
 GoesUpToLine true bytes count = (count ≤ length bytes) × IsOneLine (take count bytes)
 GoesUpToLine false bytes count = (count ≡ length bytes) × HasNoLf bytes
 
--- up to the end of a line, or all
+-- that the text is a line or, if the flag is false, has no LF and nothing is left
 abbrev pub EndsPart : Bool → List ℕ → List ℕ → Type 0
 EndsPart true text left = IsOneLine text
 EndsPart false text left = HasNoLf text × (left ≡ [])
 
--- bytes that were read ahead were moved to the line being read
+-- that bytes that were read ahead were moved to the line being read
 abbrev pub MovesFront : {E : Type 0} → Result Bool E → LastPiece → LastPiece → List ℕ → List ℕ → Type 0
 MovesFront (Ok whole) old new before after = (text : List ℕ) × (waiting_bytes old ≡ text ++ waiting_bytes new) × (new.reads ≡ old.reads)
     × (after ≡ before ++ text) × EndsPart whole text (waiting_bytes new)
 MovesFront (Err e) old new before after = new ≡ old
 
--- the lines that are expected next
+-- that the line is one that is expected next
 abbrev pub IsWantedLine : Wanted → List ℕ → List ℕ → Type 0
 IsWantedLine wanted.Due due line = line ≡ due
 IsWantedLine wanted.First due line = (k : AnswerKind) × (line ≡ first_answer_line k)
 IsWantedLine (wanted.Second k) due line = (ls : List Literal) × (IsInForm (outcome_of k ls) × (line ≡ second_line (outcome_of k ls)))
 IsWantedLine wanted.Nothing due line = ⊥
 
--- none of these lines begins with the bytes, whatever would follow
+-- that no line that satisfies P begins with the bytes
 abbrev pub StartsNone : (List ℕ → Type 0) → List ℕ → Type 0
 StartsNone P bytes = (more : List ℕ) → P (bytes ++ more) → ⊥
 
--- and there are some bytes
+-- that there are bytes, and no line that satisfies P begins with them
 abbrev pub IsWrong : (List ℕ → Type 0) → List ℕ → Type 0
 IsWrong P bytes = StartsNone P bytes × (bytes ≡ [] → ⊥)
 
--- a line was read, or what is left without one, or bytes without LF with which none of these lines begins
+-- that a line was read, or the rest of the text without an LF, or bytes without an LF with which no line that satisfies P begins
 abbrev pub IsNextLine : (List ℕ → Type 0) → Source → Source → List ℕ → Type 0
 IsNextLine P a b line = (ConsumesBytes a b line × IsOneLine line) ⊎ ((ConsumesToEnd a b line × HasNoLf line) ⊎ ((ConsumesBytes a b line × HasNoLf line) × IsWrong P line))
 
--- the same, or the reader failed, or memory ran out
+-- that `IsNextLine` holds or, with an error, that the reader failed or memory ran out
 abbrev pub ReadsLineOfKind : (List ℕ → Type 0) → Result (Unit {0}) ReadError → Source → Source → List ℕ → Type 0
 ReadsLineOfKind P (Ok x) a b line = IsNextLine P a b line
 ReadsLineOfKind P (Err errors.Failed) a b line = FaultsAhead a b
 ReadsLineOfKind P (Err errors.OutOfMemory) a b line = NoReadFailedAhead a b
 
--- the same of answers
+-- the result of reading a line of the answers: that of `ReadsLineOfKind`, as a `Stop`
 abbrev pub NextLine : (List ℕ → Type 0) → Result (Unit {0}) Stop → Source → Source → List ℕ → Type 0
 NextLine P (Ok x) a b line = IsNextLine P a b line
 NextLine P (Err stop.AnswersRead) a b line = FaultsAhead a b
@@ -86,11 +86,11 @@ NextLine P (Err stop.CounterEnd) a b line = ⊥
 NextLine P (Err stop.ScriptRead) a b line = ⊥
 NextLine P (Err stop.TooMany) a b line = ⊥
 
--- the answers' reader, and what was read of it
+-- the answers' reader, and the bytes read ahead from it
 abbrev pub answers_source : {A : Type 0} → (A → Reader) → A → Answers → Source
 answers_source seen answers s = source_in seen answers s.lines.ahead
 
--- the expected line was read, or another text is there
+-- that the expected line was read or, with an error, that the bytes do not begin with it
 abbrev pub TakesDueLine : List ℕ → List ℕ → List ℕ → Result (Unit {0}) Why → Type 0
 TakesDueLine old new line (Ok x) = old ≡ line ++ new
 TakesDueLine old new line (Err why) = (tail : List ℕ) → old ≡ line ++ tail → ⊥
@@ -101,22 +101,23 @@ stop_after unread.Missing = stop.No AnswerMissing
 stop_after unread.Text = stop.No AnswerText
 stop_after unread.OutOfMemory = stop.OutOfMemory
 
--- the first line of an answer was read, or the bytes begin with none
+-- that the first line of an answer was read or, with an error, that the bytes begin with no answer
 abbrev pub ReadsFirst : List ℕ → List ℕ → Result AnswerKind Why → Type 0
 ReadsFirst before behind (Ok kind) = before ≡ first_answer_line kind ++ behind
 ReadsFirst before behind (Err why) = (o : Outcome) (tail : List ℕ) → before ≡ outcome_text o ++ tail → ⊥
 
--- the same of the second line of an answer of this kind
+-- that the second line of an answer of this kind was read or, with an error, that the bytes begin with no such line
 abbrev pub ReadsSecond : AnswerKind → List Literal → List ℕ → List ℕ → Result (Unit {0}) Why → Type 0
 ReadsSecond kind line before behind (Ok x) = (before ≡ second_line (outcome_of kind line) ++ behind) × IsInForm (outcome_of kind line)
 ReadsSecond kind line before behind (Err why) =
     (ls : List Literal) (tail : List ℕ) → IsInForm (outcome_of kind ls) → before ≡ second_line (outcome_of kind ls) ++ tail → ⊥
 
--- what an answer says
+-- the outcome that a reply represents
 abbrev pub outcome_in : Reply → Outcome
 outcome_in r = outcome_of r.kind (named_literals r.lits.items)
 
--- an answer was read, which is the only one where unsat is recorded; or none can be
+-- That an answer was read, which is the empty core if unsat is recorded (`settled`); or, with an error, that the bytes begin with no such
+-- answer.
 abbrev pub IsReply : List ℕ → List ℕ → Outcome → Bool → Result (Unit {0}) Why → Type 0
 IsReply before behind reply settled (Ok x) = (before ≡ outcome_text reply ++ behind) × IsInForm reply × (settled ≡ true → reply ≡ Unsat [])
 IsReply before behind reply settled (Err why) =

@@ -1,4 +1,4 @@
--- When script, answers and certificate belong together.
+-- When a script, answers and a certificate match.
 use Rattle.std.specs.Prelude.{◌≡◌, ℕ, true, false, List, [], ◌∷◌, ◌++◌}
 use Rattle.std.specs.List.{AllByRecursion}
 use Rattle.sat_base.specs.script.Script.{Command, Ask, ScriptEnding, InOrder}
@@ -12,7 +12,7 @@ use Rattle.certify.specs.answers.Answers.{answers_text}
 use Rattle.certify.specs.answers.AnswersText.{lines_from}
 use Rattle.certify.specs.answers.ScriptText.{script_in}
 
--- one outcome for each ask
+-- that there is one outcome for each ask among the commands
 abbrev pub OneEach : List Command → List Outcome → Type 0
 OneEach [] [] = Unit {0}
 OneEach [] (o ∷ os) = ⊥
@@ -20,20 +20,21 @@ OneEach (Ask ls ∷ commands) [] = ⊥
 OneEach (Ask ls ∷ commands) (o ∷ os) = OneEach commands os
 OneEach (command ∷ commands) outcomes = OneEach commands outcomes
 
--- a core is sorted by name, of one name the positive literal first, without repeats
+-- that a core is sorted as in `InOrder`, without repeats; a model need not be sorted
 abbrev pub InForm : Outcome → Type 0
 InForm (Sat line) = Unit {0}
 InForm (Unsat core) = InOrder core
 InForm Unknown = Unit {0}
 
--- what may be left unmet once unsat is recorded: no model, no core but the empty one, and no ask with another outcome
+-- that an expected step may be unmet once unsat is recorded: any step but a model, a core that is not empty, or an ask whose outcome is not the
+-- empty core
 abbrev pub MayBeUnmet : Expected → Type 0
 MayBeUnmet (Opens ls o) = o ≡ Unsat []
 MayBeUnmet (Shows names ask line) = ⊥
 MayBeUnmet (Fails ask core) = core ≡ []
 MayBeUnmet e = Unit {0}
 
--- after the earlier steps, these steps are accepted in turn, and the ordered ones are those that are expected
+-- that after the earlier steps, these steps are accepted one by one, and the ordered steps among them are those that are expected
 pub data Meets (k : CheckerRules) : List Step → List Step → List Expected → Type 0 where
   met : {earlier : List Step} → k.unsat earlier ≡ false → Meets k earlier [] []
   cut : {earlier : List Step} {es : List Expected} → k.unsat earlier ≡ true → AllByRecursion MayBeUnmet es → Meets k earlier [] es
@@ -44,14 +45,14 @@ pub data Meets (k : CheckerRules) : List Step → List Step → List Expected �
       → k.unsat earlier ≡ false → Fits (k.knows earlier) earlier e step → k.Accepts earlier step → Meets k (step ∷ earlier) steps es
       → Meets k earlier (step ∷ steps) (e ∷ es)
 
--- the steps are those of the script's commands and these outcomes
+-- that the steps are those of the script's commands and these outcomes
 pub record StepsMatch (k : CheckerRules) (commands : List Command) (outcomes : List Outcome) (steps : List Step) : Type 0 where
   pub one_each : OneEach (accepted_of start commands) outcomes
   pub in_form : AllByRecursion InForm outcomes
   pub meets : Meets k [] steps (expected start (accepted_of start commands) outcomes)
 
--- How a script is read is a definition of its own: here are its commands and how it ends. Nothing is said of the bytes after the steps in the
--- certificate.
+-- That the answers and the certificate match these commands and this ending of a script. The certificate may continue with any bytes after the
+-- steps.
 pub record MatchesCommands (k : CheckerRules) (commands : List Command) (ending : ScriptEnding) (answers certificate : List ℕ) : Type 0 where
   pub outcomes : List Outcome
   pub steps : List Step
@@ -62,12 +63,12 @@ pub record MatchesCommands (k : CheckerRules) (commands : List Command) (ending 
   pub spelt : SpellsSteps steps text
   pub match : StepsMatch k commands outcomes steps
 
--- the same of three texts, however a script is read
+-- that three texts match if `reading` defines how a script is read
 abbrev pub Matches : CheckerRules → (List ℕ → List Command × ScriptEnding) → List ℕ → List ℕ → List ℕ → Type 0
 Matches k reading script answers certificate = MatchesCommands k (reading script).0 (reading script).1 answers certificate
 
--- The three texts match. The answers are the lines of these outcomes. The certificate begins with the text of these steps, each of which the
--- checker accepts in its turn, and the ordered ones are those of the script's commands and these outcomes. Nothing is said of the bytes after
+-- That the three texts match. The answers are the lines of these outcomes. The certificate begins with the text of these steps, and the checker
+-- accepts each of them after the earlier ones. The ordered steps are those of the script's commands and these outcomes. Any bytes may follow
 -- the steps.
 pub record TextsMatch (script answers certificate : List ℕ) : Type 0 where
   pub outcomes : List Outcome

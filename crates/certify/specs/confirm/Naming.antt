@@ -1,4 +1,4 @@
--- The steps that the names of a command call for.
+-- The steps that the names of a command require.
 use Rattle.std.specs.Prelude.{ℕ, ◌≡◌, Result, Ok, Err, List, [], ◌∷◌, ◌++◌, map}
 use Rattle.sat_base.specs.script.Script.{Hide, Witness, Sample}
 use Rattle.sat_base.specs.script.ScriptState.{ScriptState, Sampled, Witnessed, new_names, bring_all, accepted}
@@ -13,18 +13,18 @@ use Rattle.certify.specs.declared.judge.names.Names.{Names}
 use Rattle.certify.specs.declared.confirm.variables.NamedVars.{NamedVars}
 use Rattle.certify.specs.declared.verdict.Why.{Why}
 
--- exactly what is pending was met
+-- that exactly the steps in `pending` were met
 pub record GoesOnTo (pending : List Expected) (after : NamedVars) (old : CertificateState) (earlier : List Step) (new : CertificateState) : Type 0 where
   pub later : List Step
   pub stands : CheckerIsAt new.checker after later
   pub leads : MeetsExactly earlier old.rest pending later new.rest
 
--- what is pending is met, or can't be
+-- that the steps in `pending` are met or, with an error, cannot be
 abbrev pub MeetsAll : List Expected → NamedVars → NamedVars → CertificateState → CertificateState → Result (Unit {0}) Why → Type 0
 MeetsAll pending before after old new (Ok x) = (earlier : List Step) → CheckerIsAt old.checker before earlier → GoesOnTo pending after old earlier new
 MeetsAll pending before after old new (Err why) = (earlier : List Step) → CheckerIsAt old.checker before earlier → MeetsNoneOf earlier old.rest pending
 
--- a name is hidden after those that are introduced with it
+-- the step that hides a name, if the command is of kind `OfHide`
 abbrev pub hidden_by : Kind → ℕ → List Expected
 hidden_by OfClause name = []
 hidden_by OfAsk name = []
@@ -32,29 +32,30 @@ hidden_by OfHide name = NoName name ∷ []
 hidden_by OfWitness name = []
 hidden_by OfSample name = []
 
--- what a command of this kind expects for one of its names
+-- the steps that a command of this kind expects for one of its names
 abbrev pub expected_naming : Kind → ℕ → ScriptState → List Expected
 expected_naming kind name j = map NewName (new_names name j) ++ hidden_by kind name
 
--- it is met, or can't be
+-- that the steps that a command expects for one of its names are met or, with an error, cannot be
 abbrev pub MeetsName : Kind → ℕ → Names → NamedVars → NamedVars → CertificateState → CertificateState → Result (Unit {0}) Why → Type 0
 MeetsName kind name names before after old new r = (j : ScriptState) → NamesHaveState names j → MeetsAll (expected_naming kind name j) before after old new r
 
--- what a command of this kind expects for names, from left to right
+-- the steps that a command of this kind expects for names, from left to right
 abbrev pub naming_all : Kind → List ℕ → ScriptState → List Expected
 naming_all kind [] j = []
 naming_all kind (name ∷ names) j = expected_naming kind name j ++ naming_all kind names (taken kind name j)
 
--- it is met, or can't be
+-- that the steps that a command expects for its names are met or, with an error, cannot be
 abbrev pub MeetsNames : Kind → List ℕ → Names → NamedVars → NamedVars → CertificateState → CertificateState → Result (Unit {0}) Why → Type 0
 MeetsNames kind list names before after old new r = (j : ScriptState) → NamesHaveState names j → MeetsAll (naming_all kind list j) before after old new r
 
--- the state after the names of a command
+-- the state after a command of this kind has processed its names
 abbrev pub taken_by : Kind → List ℕ → ScriptState → ScriptState
 taken_by kind [] j = j
 taken_by kind (name ∷ names) j = taken_by kind names (taken kind name j)
 
--- so it is for each kind of command, and what its names leave is what the command leaves, but for a clause
+-- that `naming_all` gives the steps that each kind of command expects, and `taken_by` gives the state after the command, or, for a clause or an
+-- ask, after its names are introduced
 pub record NamesAreExpected : Type 0 where
   pub clauses : (names : List ℕ) (j : ScriptState) → naming_all OfClause names j ≡ bringing names j
   pub asks : (names : List ℕ) (j : ScriptState) → naming_all OfAsk names j ≡ bringing names j

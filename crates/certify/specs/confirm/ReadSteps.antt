@@ -8,12 +8,12 @@ pub record CertificatePlace : Type 0 where
   pub step : Step
   pub rest : List ℕ
 
--- a step was read from the beginning of the bytes
+-- that a step was read from the beginning of the bytes
 pub record ReadsStep (old new : CertificatePlace) : Type 0 where
   pub text : List ℕ
   pub spelt : SpellsStep new.step text
   pub front : old.rest ≡ text ++ new.rest
 
--- no step's text begins the bytes
+-- that the bytes do not begin with the text of a step
 abbrev pub BeginsNoStep : List ℕ → Type 0
 BeginsNoStep bytes = (step : Step) (text rest : List ℕ) → bytes ≡ text ++ rest → SpellsStep step text → ⊥

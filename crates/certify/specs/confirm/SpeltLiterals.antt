@@ -1,29 +1,29 @@
--- Names' literals as literals of their variables.
+-- Literals of names as literals of their variables.
 use Rattle.std.specs.Prelude.{ℕ, Bool, Option, List, [], ◌∷◌}
 use Rattle.std.specs.Bool.{MatchBool}
 use Rattle.std.specs.List.{AllByRecursion}
 use Rattle.sat_base.specs.script.Script.{Literal, Among}
 use Rattle.sat_checker.specs.matching.Expected.{Spells, EachSpelt}
 
--- each of the literals is one of the others
+-- that each of the literals is among the others
 abbrev pub AllAmong : List ℕ → List ℕ → Type 0
 AllAmong ls others = AllByRecursion (λ l. Among l others) ls
 
--- one literal of a variable for each literal of a name, in order
+-- that the codes are the literals of the names' variables, one for each literal, in order
 abbrev pub AreSpelt : (ℕ → Option ℕ) → List Literal → List ℕ → Type 0
 AreSpelt names [] [] = Unit {0}
 AreSpelt names [] (c ∷ cs) = ⊥
 AreSpelt names (l ∷ ls) [] = ⊥
 AreSpelt names (l ∷ ls) (c ∷ cs) = Spells names l c × AreSpelt names ls cs
 
--- the answer is whether it is so
+-- that the answer says whether `IsSo` holds
 abbrev pub AnswersWhether : Bool → Type 0 → Type 0
 AnswersWhether answer IsSo = MatchBool answer IsSo (IsSo → ⊥)
 
--- every literal of the ask is in the line
+-- that every literal of the ask is in the line
 abbrev pub HasEach : List Literal → List Literal → Type 0
 HasEach line ask = AllByRecursion (λ l. Among l line) ask
 
--- the literals are spelt by these codes, or no codes spell each of them
+-- that these codes spell the literals or, if the answer is false, that no codes spell each literal
 abbrev pub SpellsAll : Bool → (ℕ → Option ℕ) → List Literal → List ℕ → Type 0
 SpellsAll answer names ls spelt = MatchBool answer (AreSpelt names ls spelt) ((codes : List ℕ) → EachSpelt names ls codes → ⊥)

@@ -1,4 +1,4 @@
--- The steps of a certificate up to the next ordered one.
+-- The steps of a certificate up to the next ordered step.
 use Rattle.std.specs.Prelude.{ℕ, ◌==◌, ◌||◌, Bool, true, false, Option, Some, None, Result, Ok, Err}
 use Rattle.certify.specs.confirm.ReadSteps.{ReadsStep, BeginsNoStep}
 use Rattle.certify.specs.confirm.CertificateStates.{CertificateState, certificate_place}
@@ -6,21 +6,21 @@ use Rattle.certify.specs.declared.confirm.ordered.Awaited.{Awaited}
 use Rattle.certify.specs.declared.confirm.ordered.Awaited.TheVariants as awaited
 use Rattle.certify.specs.declared.verdict.Why.{Why}
 
--- the tags of ordered steps
+-- whether a tag is that of an ordered step
 abbrev pub is_ordered_tag : ℕ → Bool
 is_ordered_tag tag = tag == 2 || tag == 5 || tag == 10 || tag == 11 || tag == 12 || tag == 13
 
--- whether the checker was fed what was read so far
+-- whether the checker was fed all steps read so far
 abbrev pub is_fed : Awaited → Bool
 is_fed awaited.Step = false
 is_fed awaited.Cut = true
 
--- the same before an ordered step was found (`None`): every other step is fed at once
+-- whether the checker was fed all steps read so far; before an ordered step is found (`None`), every step is fed at once
 abbrev pub is_fed_so_far : Option Awaited → Bool
 is_fed_so_far None = true
 is_fed_so_far (Some a) = is_fed a
 
--- a step was read, or the bytes begin with none
+-- that a step was read or, with an error, that the bytes begin with no step
 abbrev pub ReadsOne : CertificateState → CertificateState → Result (Unit {0}) Why → Type 0
 ReadsOne old new (Ok x) = ReadsStep (certificate_place old) (certificate_place new)
 ReadsOne old new (Err why) = BeginsNoStep old.rest

@@ -1,4 +1,4 @@
--- What calls return that read answers, or answers and a certificate, whatever would follow in either.
+-- What calls return that read answers, or answers and a certificate, whatever bytes could follow in either text.
 use Rattle.std.specs.Prelude.{ℕ, Bool, false, List, Result, Ok, Err}
 use Rattle.sat_base.specs.device.Reading.{Source}
 use Rattle.sat_base.specs.declared.device.whole.ReadError.{ReadError}
@@ -10,17 +10,17 @@ use Rattle.certify.specs.declared.confirm.stop.Stop.TheVariants as stop
 use Rattle.certify.specs.declared.confirm.stop.Stop.{Stop}
 use Rattle.certify.specs.declared.verdict.Why.{Why}
 
--- what a call returns if a text can't be read
+-- what a call returns if the answers cannot be read
 abbrev pub answers_stop : ReadError → Stop
 answers_stop errors.Failed = stop.AnswersRead
 answers_stop errors.OutOfMemory = stop.OutOfMemory
 
--- the same if that text is the script
+-- what a call returns if the script cannot be read
 abbrev pub script_stop : ReadError → Stop
 script_stop errors.Failed = stop.ScriptRead
 script_stop errors.OutOfMemory = stop.OutOfMemory
 
--- The result of a call that reads only answers: P says what it means for the answers left before and after.
+-- The result of a call that reads only answers. P says what the result means for the remaining answers before and after the call.
 abbrev pub Replies : {A : Type 0} → Bool → Result A Stop → Source → Source → (List ℕ → List ℕ → Result A Why → Type 0) → Type 0
 Replies goes (Ok x) a b P = TakesSome goes a b × ((total : List ℕ) → Covers b total → P (rest_in total a) (rest_in total b) (Ok x))
 Replies goes (Err (stop.No why)) a b P =
@@ -32,11 +32,12 @@ Replies goes (Err stop.CounterEnd) a b P = ⊥
 Replies goes (Err stop.ScriptRead) a b P = ⊥
 Replies goes (Err stop.TooMany) a b P = ⊥
 
--- says nothing
+-- no statement about the result
 abbrev pub Any : {A : Type 0} → CertificateState → CertificateState → Result A Why → Type 0
 Any old new r = Unit {0}
 
--- The result of a call that reads both: P says what it means for what is left of both. M holds if there are too many commands.
+-- The result of a call that reads answers and certificate. P says what the result means for what remains of both. M holds if there are too many
+-- commands.
 abbrev pub Joins : {A : Type 0} → Type 0 → Bool → Result A Stop → Source → Source → Stream → Stream
     → (List ℕ → List ℕ → CertificateState → CertificateState → Result A Why → Type 0) → Type 0
 Joins M goes (Ok x) a b s t P = TakesSome goes a b
@@ -50,7 +51,7 @@ Joins {A} M goes (Err stop.AnswersRead) a b s t P = FaultsAhead a b × Confirms 
 Joins {A} M goes (Err stop.TooMany) a b s t P = NoReadFailedAhead a b × Confirms {A = A} (Err stop.OutOfMemory) s t Any × M
 Joins M goes (Err stop.ScriptRead) a b s t P = ⊥
 
--- it is so, or isn't
+-- that P holds or, with an error, does not hold
 abbrev pub SaysSo : Type 0 → Result (Unit {0}) Why → Type 0
 SaysSo P (Ok x) = P
 SaysSo P (Err why) = P → ⊥

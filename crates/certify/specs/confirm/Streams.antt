@@ -1,4 +1,4 @@
--- A certificate that is read step by step, whatever would follow.
+-- A certificate that is read step by step, whatever bytes could follow.
 use Rattle.std.specs.Prelude.{◌≡◌, ◌+◌, ◌-◌, ◌*◌, ◌≤◌, ℕ, Bool, true, false, List, [], ◌++◌, drop, length, Result, Ok, Err, OnOk}
 use Rattle.std.specs.Io.KnownBytes.{IsAtEnd}
 use Rattle.sat_base.specs.declared.steps.error.StepError.{StepError}
@@ -17,71 +17,71 @@ use Rattle.certify.specs.declared.confirm.stop.Stop.TheVariants as stop
 use Rattle.certify.specs.declared.verdict.Why.{Why}
 use Rattle.certify.specs.declared.verdict.Why.TheVariants.{CertificateEnds, StepRefused}
 
--- what its steps are read from, the checker, and the last step
+-- the source of the steps of a certificate, the checker, and the last step
 pub record Stream : Type 0 where
   pub source : Source
   pub checker : Kernel
   pub step : Step
 
--- the same, from a reader of steps and the checker that is fed them
+-- the stream of a reader of steps and the checker that is fed the steps
 abbrev pub stream_of : {R : Type 0} → (R → Reader) → StepReader R Buffers → Kernel → Stream
 stream_of seen r checker = record { source = reader_source seen r; checker = checker; step = step_in r }
 
--- a reader of steps that can be read further: it has not failed, and is not at its end
+-- that a reader of steps can be read further: it has not failed, and is not at its end
 pub record StepsGoOn {R : Type 0} (seen : R → Reader) (r : StepReader R Buffers) : Type 0 where
   pub well : has_reader_failed r ≡ false
   pub open_yet : AtEnd (reader_source seen r) → ⊥
   pub bound : (reader_source seen r).reads ≤ most_reads
 
--- it is the same loan as before
+-- that the reader of steps has the same borrow as before
 abbrev pub SameLoan : {R : Type 0} → StepReader R Buffers → StepReader R Buffers → Type 0
 SameLoan old new = reader_name new ≡ reader_name old
 
--- its reader was read at most 2^48 times
+-- that the reader of a certificate was read at most `most_reads` times
 abbrev pub IsReadFew : {R : Type 0} → (R → Reader) → StepReader R Buffers → Type 0
 IsReadFew seen r = (reader_source seen r).reads ≤ most_reads
 
--- it can be read further unless a call failed
+-- that the reader of steps can be read further unless the call failed
 abbrev pub StepsGoOnIf : {R T E : Type 0} → Result T E → (R → Reader) → StepReader R Buffers → Type 0
 StepsGoOnIf result seen r = OnOk result (StepsGoOn seen r)
 
--- the most bytes that can still be taken
+-- the largest number of bytes that can still be read
 abbrev pub most_bytes_left : Source → ℕ
 most_bytes_left s = piece_size * (most_reads - s.reads) + length s.waiting
 
--- the bytes still to come, if these are all that its reader will have given, to whomever
+-- the bytes still to come, if `total` is everything that the reader will ever have given
 abbrev pub rest_in : List ℕ → Source → List ℕ
 rest_in total s = s.waiting ++ drop (length s.reader.given) total
 
--- the state of the certificate, if these are all its bytes
+-- the state of the certificate, if `total` is everything that its reader will ever have given
 abbrev pub seen_in : List ℕ → Stream → CertificateState
 seen_in total s = record { checker = s.checker; step = s.step; rest = rest_in total s.source }
 
--- these can be all bytes that a reader will have given: no more where it is at its end
+-- that `total` can be everything that a reader will ever have given: nothing more if the reader is at its end
 pub record Covers (s : Source) (total : List ℕ) : Type 0 where
   pub later : List ℕ
   pub whole : total ≡ s.reader.given ++ later
   pub none : AtEnd s → later ≡ []
 
--- whatever would follow, P holds of the states of the certificate before and after
+-- that P holds of the certificate's states before and after, whatever bytes could follow
 abbrev pub HoldsWhateverFollows : Stream → Stream → (CertificateState → CertificateState → Type 0) → Type 0
 HoldsWhateverFollows old new P = (total : List ℕ) → Covers new.source total → P (seen_in total old) (seen_in total new)
 
--- some bytes were taken
+-- that some bytes were read
 abbrev pub TakesStreamBytes : Stream → Stream → Type 0
 TakesStreamBytes old new = (text : List ℕ) × ConsumesBytes old.source new.source text
 
--- some bytes were taken, and then perhaps the end was found
+-- that some bytes were read, and then possibly the end was found
 abbrev pub TakesBytesOrEnds : Stream → Stream → Type 0
 TakesBytesOrEnds old new = ((text : List ℕ) × ConsumesWithReads 1 old.source new.source text) × (AtEnd new.source → IsAtEnd new.source.reader.to_come)
 
--- A call succeeded: P holds of the states before and after, and the checker was fed the steps between them, except for the last one if that is
--- still to be fed.
+-- The effect of a successful call. P holds of the states before and after. The checker was fed the steps between these states, except for the
+-- last step if `fed` is false.
 abbrev pub GoesOnWith : Bool → Stream → Stream → (CertificateState → CertificateState → Type 0) → Type 0
 GoesOnWith fed old new P = TakesStreamBytes old new × HoldsWhateverFollows old new P × HoldsWhateverFollows old new (walks_if fed)
 
--- A call stopped, whatever would follow. P says what a `No` means for the states before and after. Whatever the cause, the looks are those of
--- the steps that the checker was fed.
+-- The effect of a call that stopped, whatever bytes could follow. P says what a `No` means for the states before and after. Whatever the
+-- reason, the looks are those of the steps that the checker was fed.
 abbrev pub StopsWith : Stop → Stream → Stream → (CertificateState → CertificateState → Why → Type 0) → Type 0
 StopsWith (stop.No why) old new P = TakesBytesOrEnds old new × HoldsWhateverFollows old new (λ a b. P a b why) × HoldsWhateverFollows old new FeedsSomeSteps
 StopsWith stop.CertificateRead old new P = ((text : List ℕ) × ConsumesAndFails old.source new.source text) × HoldsWhateverFollows old new FeedsSomeSteps
@@ -91,16 +91,16 @@ StopsWith stop.ScriptRead old new P = ⊥
 StopsWith stop.AnswersRead old new P = ⊥
 StopsWith stop.TooMany old new P = ⊥
 
--- What a call returns: it succeeds or it stops. P says what the result means for the states before and after.
+-- The effect of a call, which succeeds or stops. P says what the result means for the states before and after.
 abbrev pub GoesOrStops : {A : Type 0} → (A → Bool) → Result A Stop → Stream → Stream → (CertificateState → CertificateState → Result A Why → Type 0) → Type 0
 GoesOrStops fed (Ok x) old new P = GoesOnWith (fed x) old new (λ a b. P a b (Ok x))
 GoesOrStops fed (Err e) old new P = StopsWith e old new (λ a b why. P a b (Err why))
 
--- the same if the checker is fed every step that is read
+-- the effect of a call that feeds the checker every step that it reads
 abbrev pub Confirms : {A : Type 0} → Result A Stop → Stream → Stream → (CertificateState → CertificateState → Result A Why → Type 0) → Type 0
 Confirms r old new P = GoesOrStops (λ x. true) r old new P
 
--- the result of a call that reads nothing: P says what it means
+-- the result of a call that reads nothing; P says what the result means
 abbrev pub SaysAlone : {A : Type 0} → Result A Stop → (Result A Why → Type 0) → Type 0
 SaysAlone (Ok x) P = P (Ok x)
 SaysAlone (Err (stop.No why)) P = P (Err why)

@@ -1,4 +1,4 @@
--- How far a checker was fed the steps of a certificate: with how many looks, and where a number got past 64 bits.
+-- How far a checker was fed the steps of a certificate, with how many looks, and where a number no longer fits into 64 bits.
 use Rattle.std.specs.Prelude.{ℕ, ◌≡◌, ◌+◌, ◌≤◌, Bool, true, false, List, ◌∷◌, ◌++◌}
 use Rattle.sat_base.specs.steps.Steps.{Step}
 use Rattle.sat_base.specs.steps.StepText.{SpellsStep}
@@ -10,8 +10,8 @@ use Rattle.sat_checker.specs.declared.kernel.Kernel.{Kernel}
 use Rattle.certify.specs.confirm.Feeding.{HasTaken}
 use Rattle.certify.specs.confirm.CertificateStates.{CertificateState}
 
--- One count of looks leads to another by steps from the beginning of the bytes: every one is accepted after the earlier ones, the last
--- perhaps not.
+-- That steps from the beginning of the bytes account for the rise from one number of looks to another. Every step is accepted after the earlier
+-- steps, except possibly the last.
 pub data LooksReach : List Step → List ℕ → ℕ → ℕ → Type 0 where
   same_looks : {earlier : List Step} {bytes : List ℕ} {looks : ℕ} → LooksReach earlier bytes looks looks
   looks_tried : {earlier : List Step} {bytes : List ℕ} {from to : ℕ} (step : Step) (text rest : List ℕ)
@@ -22,8 +22,8 @@ pub data LooksReach : List Step → List ℕ → ℕ → ℕ → Type 0 where
       → between ≤ from + most_looks (ready_after earlier) step → LooksReach (step ∷ earlier) rest between to
       → LooksReach earlier bytes from to
 
--- After steps from the beginning of the bytes, each accepted after the earlier ones, a number does not fit into 64 bits: when a pending unit
--- conflict is settled, or at the next step.
+-- That steps from the beginning of the bytes are accepted one by one, and then a number does not fit into 64 bits: when a pending unit conflict
+-- is settled, or at the next step.
 pub data ReachesCounterEnd : List Step → List ℕ → Type 0 where
   spent_settling : {earlier : List Step} {bytes : List ℕ} → IsSpent (ready_after earlier) → ReachesCounterEnd earlier bytes
   spent_trying : {earlier : List Step} {bytes : List ℕ} (step : Step) (text rest : List ℕ)
@@ -32,7 +32,7 @@ pub data ReachesCounterEnd : List Step → List ℕ → Type 0 where
       → bytes ≡ text ++ rest → SpellsStep step text → Accepts (ready_after earlier) step → ReachesCounterEnd (step ∷ earlier) rest
       → ReachesCounterEnd earlier bytes
 
--- The checker was fed steps from the beginning of the bytes, and these are left: what can be reached from there can be reached from the
+-- That the checker was fed steps from the beginning of the bytes, and `rest` remains. So what can be reached from there can be reached from the
 -- beginning.
 pub record IsFedFront (old : Kernel) (bytes : List ℕ) (new : Kernel) (rest : List ℕ) (earlier : List Step) : Type 0 where
   pub later : List Step
@@ -40,24 +40,24 @@ pub record IsFedFront (old : Kernel) (bytes : List ℕ) (new : Kernel) (rest : L
   pub reaches : (looks : ℕ) → LooksReach later rest (kernel_looks new) looks → LooksReach earlier bytes (kernel_looks old) looks
   pub spends : ReachesCounterEnd later rest → ReachesCounterEnd earlier bytes
 
--- it was fed all steps between two states
+-- that the checker was fed all steps between two states
 abbrev pub FeedsAllSteps : CertificateState → CertificateState → Type 0
 FeedsAllSteps old new = (earlier : List Step) → HasTaken old.checker earlier → IsFedFront old.checker old.rest new.checker new.rest earlier
 
--- it was fed all but the last one
+-- that the checker was fed all steps between two states except the last
 abbrev pub WalksBefore : CertificateState → CertificateState → Type 0
 WalksBefore old new = (text : List ℕ) × SpellsStep new.step text
     × ((earlier : List Step) → HasTaken old.checker earlier → IsFedFront old.checker old.rest new.checker (text ++ new.rest) earlier)
 
--- it was fed the last one too, or not
+-- that the checker was fed all steps between two states, or, if the flag is false, all except the last
 abbrev pub walks_if : Bool → CertificateState → CertificateState → Type 0
 walks_if true old new = FeedsAllSteps old new
 walks_if false old new = WalksBefore old new
 
--- it was fed some steps, the last of which it perhaps didn't accept
+-- that the checker was fed some steps, and possibly did not accept the last of them
 abbrev pub FeedsSomeSteps : CertificateState → CertificateState → Type 0
 FeedsSomeSteps old new = (earlier : List Step) → HasTaken old.checker earlier → LooksReach earlier old.rest (kernel_looks old.checker) (kernel_looks new.checker)
 
--- a number was at its end
+-- that a number no longer fits into 64 bits
 abbrev pub RunsOut : CertificateState → CertificateState → Type 0
 RunsOut old new = (earlier : List Step) → HasTaken old.checker earlier → ReachesCounterEnd earlier old.rest

@@ -16,35 +16,35 @@ use Rattle.certify.specs.declared.judge.Refusal.{Refusal as CodeRefusal}
 use Rattle.certify.specs.declared.judge.Refusal.TheVariants as code
 use Rattle.certify.specs.declared.judge.names.Names.{Names}
 
--- of a name, by a list that begins with name 1
+-- the state of a name, in a list that begins with name 1
 abbrev pub state_in : List NameState → ℕ → NameState
 state_in states zero = state.Hidden
 state_in states (suc index) = get_or states index state.Hidden
 
--- of a name in use, by its mode
+-- the state of a name in use, given its mode
 abbrev pub state_of_mode : NameMode → NameState
 state_of_mode Sampled = state.Sampled
 state_of_mode Witnessed = state.Witnessed
 
--- of an identity, or of a name that isn't in use
+-- the state of the name with this identity, or of a name that is not in use (`None`)
 abbrev pub state_of_identity : List NameMode → Option ℕ → NameState
 state_of_identity modes None = state.Hidden
 state_of_identity modes (Some identity) = state_of_mode (get_or modes identity Sampled)
 
--- the states of the first names, from name 1 on
+-- the states of the first `n` names, starting with name 1
 abbrev pub first_states : Table NameState → ℕ → List NameState
 first_states states zero = []
 first_states states (suc n) = first_states states n ++ value_at state.Sampled states n ∷ []
 
--- the states of the names that were ever used
+-- the states of all names that were ever used
 abbrev pub states_of : Names → List NameState
 states_of names = first_states names.states names.used
 
--- names that weren't are in no table
+-- that the table has only the default state for names that were never used
 abbrev pub UnusedAreUnlisted : Names → Type 0
 UnusedAreUnlisted names = (v : ℕ) → names.used ≤ v → value_at state.Sampled names.states v ≡ state.Sampled
 
--- names and modes are those of the script state; all names are within the limit
+-- that names and modes are those of the script state, and all names are within the limit
 pub record NamesHaveState (names : Names) (j : ScriptState) : Type 0 where
   pub first : j.first_unused ≡ names.used + 1
   pub limit : j.first_unused ≤ var_limit + 1
@@ -61,34 +61,34 @@ is_hidden state.Hidden = true
 is_hidden state.Sampled = false
 is_hidden state.Witnessed = false
 
--- the names in use, in order, by the states from this name on
+-- the names in use, in order, given the states from this name on
 abbrev pub used_from : ℕ → List NameState → List ℕ
 used_from name [] = []
 used_from name (s ∷ ss) = if is_hidden s then used_from (name + 1) ss else name ∷ used_from (name + 1) ss
 
--- the names in use, by the states from name 1 on
+-- the names in use, in order, given the states from name 1 on
 abbrev pub used_in : List NameState → List ℕ
 used_in states = used_from 1 states
 
--- the literals of these codes are those of the names in use, in order
+-- that the literals with these codes are those of the names in use, in order
 abbrev pub ListsUsed : Names → List ℕ → Type 0
 ListsUsed names codes = names_of (named_literals codes) ≡ used_in (states_of names)
 
--- the refusal, with names counted from 1
+-- the refusal that the code represents, with names counted from 1
 abbrev pub refusal_in : CodeRefusal → Refusal
 refusal_in code.Limit = PastLimit
 refusal_in (code.Witness v) = WitnessName (v + 1)
 
--- the same, if there is a refusal
+-- the refusal that the code represents, or `None`
 abbrev pub refusal_said : Option CodeRefusal → Option Refusal
 refusal_said None = None
 refusal_said (Some refusal) = Some (refusal_in refusal)
 
--- why a command is refused, if it is
+-- that `refusal` says why the command is refused, or is `None` if it is accepted
 abbrev pub ReportsRefusal : Option CodeRefusal → Names → Lent → Type 0
 ReportsRefusal refusal names lent = (j : ScriptState) (c : Command) → NamesHaveState names j → IsLent lent c → refusal_said refusal ≡ refusal_of j c
 
--- a command is refused for the limit if a name of it is past that
+-- the refusal of a command, given whether one of its names is past the limit
 abbrev pub limit_refusal : Bool → Option CodeRefusal
 limit_refusal false = None
 limit_refusal true = Some code.Limit
@@ -99,21 +99,21 @@ is_witnessed state.Hidden = false
 is_witnessed state.Sampled = false
 is_witnessed state.Witnessed = true
 
--- the name stands for a variable now
+-- that the name is in use
 abbrev pub IsInUse : Names → ℕ → Type 0
 IsInUse names name = state_in (states_of names) name ≡ state.Hidden → ⊥
 
--- a name that a command introduces then refers to a variable, if the names are those of a judge
+-- that the name is in use after a command that introduces it, if the names before are those of a script state
 abbrev pub ComesInUse : (old new : Names) → ℕ → Type 0
 ComesInUse old new name = (j : ScriptState) → NamesHaveState old j → IsInUse new name
 
--- a name in use gets another state
+-- the script state after a name in use gets another state
 abbrev pub changed_to : NameState → ℕ → ScriptState → ScriptState
 changed_to state.Hidden name j = without_name name j
 changed_to state.Sampled name j = with_mode Sampled name j
 changed_to state.Witnessed name j = with_mode Witnessed name j
 
--- what a command of a kind makes of one of its names, which is in use
+-- the script state after a command of this kind has processed one of its names, which is in use
 abbrev pub changed_state : Kind → ℕ → ScriptState → ScriptState
 changed_state OfClause name j = j
 changed_state OfAsk name j = j
@@ -121,11 +121,11 @@ changed_state OfHide name j = without_name name j
 changed_state OfWitness name j = with_mode Witnessed name j
 changed_state OfSample name j = with_mode Sampled name j
 
--- the same after the name was introduced
+-- the script state after a command of this kind has introduced and processed one of its names
 abbrev pub taken : Kind → ℕ → ScriptState → ScriptState
 taken kind name j = changed_state kind name (bring_in name j)
 
--- a change of the script state
+-- that the names change as `change` changes the script state
 abbrev pub Changes : Names → Names → (ScriptState → ScriptState) → Type 0
 Changes old new change = (j : ScriptState) → NamesHaveState old j → NamesHaveState new (change j)
 
@@ -137,7 +137,7 @@ is_of_literals OfHide = false
 is_of_literals OfWitness = false
 is_of_literals OfSample = false
 
--- none of these names is introduced, and a command of this kind does no more with them
+-- that none of these names is introduced, and a command of this kind does nothing else with names
 pub record BringsNothing (kind : Kind) (list : List ℕ) (names : Names) : Type 0 where
   pub of_literals : is_of_literals kind ≡ true
   pub known : (j : ScriptState) → NamesHaveState names j → AllByRecursion (λ name. new_names name j ≡ []) list

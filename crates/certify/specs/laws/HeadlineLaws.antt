@@ -1,4 +1,5 @@
--- What the headline rests on: short definitions say the same as those that code is proved against, and what `certify_over` promises gives it.
+-- Why the headline holds: the short definitions agree with those that code is proved against, and the guarantee of `certify_over` implies the
+-- headline.
 use Rattle.std.specs.Prelude.{ℕ, ◌≡◌, ◌↔◌, List}
 use Rattle.sat_base.specs.script.Script.{Command, ScriptEnding}
 use Rattle.sat_base.specs.script.ScriptState.{start}
@@ -18,36 +19,36 @@ use Rattle.certify.specs.laws.Headline.{Headline}
 use Rattle.certify.specs.declared.summary.Summary.{Summary}
 use Rattle.certify.specs.declared.verdict.Verdict.{Verdict}
 
--- a text says the same
+-- that both definitions give a text the same meaning
 abbrev pub SaysTheSame : Type 0
 SaysTheSame = (text : List ℕ) → script_in text ≡ reading text
 
--- answers have the same text
+-- that both definitions give outcomes the same text
 abbrev pub SameAnswers : Type 0
 SameAnswers = (commands : List Command) (ending : ScriptEnding) (outcomes : List Outcome)
     → lines_from 1 start commands ending outcomes ≡ answers_text commands ending outcomes
 
--- outcomes are right of the asks that aren't refused just where they are of the commands that aren't
+-- that outcomes are correct for the accepted asks exactly if they are correct for the accepted commands
 abbrev pub RightByAsks : Type 0
 RightByAsks = (commands : List Command) (outcomes : List Outcome)
     → AnswersAreRight commands outcomes ↔ EachIsRight (asks_of start commands) outcomes
 
--- so right answers are the text of right outcomes
+-- that answers are correct exactly if they are the text of correct outcomes
 abbrev pub RightByOutcomes : Type 0
 RightByOutcomes = (script answers : List ℕ)
     → AreRightAnswers script answers
     ↔ ((outcomes : List Outcome) × (answers ≡ answers_text (reading script).0 (reading script).1 outcomes) × AnswersAreRight (reading script).0 outcomes)
 
--- three texts match by the short definitions exactly if they match by those that code is proved against
+-- that three texts match by the short definitions exactly if they match by the definitions that code is proved against
 abbrev pub SameMatches : Type 0
 SameMatches = (script answers certificate : List ℕ) → TextsMatch script answers certificate ↔ Matches checker_rules reading script answers certificate
 
--- a run's answers and summary are right by the short definitions exactly if they are by those that code is proved against
+-- that both definitions agree on whether the answers and the summary of a run are correct
 abbrev pub SameReports : Type 0
 SameReports = (text : List ℕ) (budget : ℕ) (summary : Summary) (answered : List ℕ)
     → ReportsRightly text budget summary answered ↔ AnswersRightly text budget summary answered
 
--- what `certify_over` promises gives the headline
+-- that the guarantee of `certify_over` implies the headline
 abbrev pub CertifiedIsHeadline : Type 0
 CertifiedIsHeadline =
     (script : List ℕ) (budget : ℕ) (claimed shown : List ℕ) (summary : Summary) (answers certificate : List ℕ)

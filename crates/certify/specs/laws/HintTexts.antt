@@ -10,14 +10,14 @@ use Rattle.sat_hints.specs.declared.error.HintError.TheVariants.{Refused, HasDel
 use Rattle.certify.specs.run.FinishedRun.{CertificateGuarantee}
 use Rattle.certify.specs.declared.summary.Summary.{Summary}
 
--- a text is a derivation, with some fields
+-- that the text is a proof, for some values of its fields
 pub record IsProved (text : List ℕ) : Type 0 where
   pub empty : Bool
   pub cores : ℕ
   pub lines : ℕ
   pub proof : IsProof text empty cores lines
 
--- The hint text of these steps was written, which is proved; or there was a fault.
+-- That the hint text of these steps was written, which is a proof; or a read, a write or an allocation failed.
 abbrev pub HasHints : Result (Unit {0}) HintError → List Step → Writer → Writer → Type 0
 HasHints (Ok x) steps old new = WriterTakes old new (hint_text steps) × IsProved (hint_text steps)
 HasHints (Err HasDeleteVar) steps old new = ⊥
@@ -26,7 +26,7 @@ HasHints (Err Read) steps old new = Unit {0}
 HasHints (Err Write) steps old new = Unit {0}
 HasHints (Err OutOfMemory) steps old new = Unit {0}
 
--- that is what `convert` returns for the certificate of any finished run, if the bytes are known, whatever follows them
+-- that `HasHints` holds for what `convert` returns for the certificate of any finished run, if the bytes are known, whatever follows them
 abbrev pub RunsHaveHints : Type 0
 RunsHaveHints = (budget : ℕ) (summary : Summary) (text answered certified more : List ℕ) (result : Result (Unit {0}) HintError) (from to : Reader) (old new : Writer)
     → (b : CertificateGuarantee text budget summary answered certified) → from.to_come ≡ Some (certified ++ more)

@@ -1,4 +1,4 @@
--- What holds of the definitions.
+-- Laws about the definitions.
 use Rattle.std.specs.Prelude.{ℕ, ◌≤◌, ◌≡◌, ◌↔◌, true, false, List}
 use Rattle.std.specs.List.{AllByRecursion}
 use Rattle.sat_base.specs.values.Literals.{var_limit}
@@ -12,39 +12,39 @@ use Rattle.certify.specs.answers.RightAnswers.{AnswersAreRight}
 use Rattle.certify.specs.confirm.Matches.{OneEach, StepsMatch, Matches}
 use Rattle.sat_checker.specs.matching.ProofChecking.{checker_rules}
 
--- no ask has both a right model and a right core
+-- that no ask has both a correct model and a correct core
 abbrev pub NotBoth : Type 0
 NotBoth = (j : ScriptState) (ask line core : List Literal) → IsRightModel j ask line → IsRightCore j ask core → ⊥
 
--- clauses of the same literals, in whatever order and however often, hold under the same valuations
+-- that clauses with the same literals, in any order and with any repeats, hold under the same valuations
 abbrev pub RepeatChangesNothing : Type 0
 RepeatChangesNothing =
     (j : ScriptState) (ls ks : List Literal) (a : Valuation)
     → AllByRecursion (λ l. Among l ks) ls → AllByRecursion (λ l. Among l ls) ks
     → EachHolds a (with_clause ls j).clauses ↔ EachHolds a (with_clause ks j).clauses
 
--- a clause with both signs of a name changes nothing
+-- that a clause that contains both literals of a name changes nothing
 abbrev pub TautologyChangesNothing : Type 0
 TautologyChangesNothing =
     (j : ScriptState) (name : ℕ) (ls : List Literal) (a : Valuation)
     → Among (record { name = name; positive = true }) ls → Among (record { name = name; positive = false }) ls
     → EachHolds a (with_clause ls j).clauses ↔ EachHolds a j.clauses
 
--- an ask leaves the clauses as they were
+-- that an ask does not change the clauses
 abbrev pub AskBindsNothing : Type 0
 AskBindsNothing = (j : ScriptState) (ls : List Literal) → (accepted (Ask ls) j).clauses ≡ j.clauses
 
--- of an ask, only the names that it introduces count for what follows
+-- that the state after an ask depends only on the names in the ask, not on their signs
 abbrev pub AskLeavesNames : Type 0
 AskLeavesNames = (j : ScriptState) (ls ks : List Literal) → names_of ls ≡ names_of ks → accepted (Ask ls) j ≡ accepted (Ask ks) j
 
--- no name past the limit
+-- that no name of an outcome is past the limit
 abbrev pub HasPrintableNames : Outcome → Type 0
 HasPrintableNames (Sat line) = AllByRecursion (λ l. l.name ≤ var_limit) line
 HasPrintableNames (Unsat core) = AllByRecursion (λ l. l.name ≤ var_limit) core
 HasPrintableNames Unknown = Unit {0}
 
--- different outcomes give different texts
+-- that different lists of outcomes give different answers, if each has one outcome for every accepted ask
 abbrev pub TextsDetermineOutcomes : Type 0
 TextsDetermineOutcomes =
     (commands : List Command) (ending : ScriptEnding) (vs ws : List Outcome)
@@ -53,12 +53,12 @@ TextsDetermineOutcomes =
     → answers_text commands ending vs ≡ answers_text commands ending ws
     → vs ≡ ws
 
--- steps that the checker accepts and that match show right outcomes
+-- that outcomes are correct if they match steps that the checker accepts
 abbrev pub MatchingIsRight : Type 0
 MatchingIsRight = (commands : List Command) (outcomes : List Outcome) (steps : List Step)
     → StepsMatch checker_rules commands outcomes steps → AnswersAreRight commands outcomes
 
--- the same of three texts, however a script is read: the answers are the text of right outcomes
+-- that the answers of three matching texts are the text of correct outcomes, however a script is read
 abbrev pub TextsThatMatchAreRight : Type 0
 TextsThatMatchAreRight =
     (reading : List ℕ → List Command × ScriptEnding) (script answers certificate : List ℕ)

@@ -1,4 +1,4 @@
--- What the words of a call ask for, and the status of what it did.
+-- What the arguments of a call ask for, and the status of a call.
 use Rattle.std.specs.Prelude.{ℕ, ◌≡◌, ◌≤◌, ◌<◌, ◌⊎◌, true, Option, MatchOption, List, [], ◌∷◌, length, codes, Result, IfOk}
 use Rattle.std.specs.Str.{all_ascii_digits}
 use Rattle.std.specs.Str.Parse.{digits_value}
@@ -7,21 +7,21 @@ use Rattle.certify.specs.declared.program.call.Call.{Call}
 use Rattle.certify.specs.declared.program.call.Call.TheVariants as call
 use Rattle.certify.specs.declared.program.call.RunFiles.{RunFiles}
 
--- What is asked for over files, each of them by its word.
+-- What a call over files asks for. Each file is given by its argument.
 pub data Request : Type 0 where
   Run : (script answers certificate : List ℕ) (budget : ℕ) → Request
   Confirm : (script answers certificate : List ℕ) → Request
   Hints : (certificate hints : List ℕ) → Request
   Check : (hints : List ℕ) → Request
 
--- a word is the digits of a number of rounds
+-- that an argument is a number of rounds in decimal digits
 pub record IsRoundCount (word : List ℕ) (steps : ℕ) : Type 0 where
   pub digits : all_ascii_digits word ≡ true
   pub some : 0 < length word
   pub value : steps ≡ digits_value 10 word
   pub fits : steps ≤ most_rounds
 
--- the usage: `run S A C [STEPS]`, `confirm S A C`, `hints C H` or `check H`
+-- that the arguments are `run S A C [STEPS]`, `confirm S A C`, `hints C H` or `check H`
 abbrev pub IsUsage : List (List ℕ) → Request → Type 0
 IsUsage words (Run s a c budget) = ((words ≡ codes "run" ∷ s ∷ a ∷ c ∷ []) × (budget ≡ most_rounds))
     ⊎ ((steps : List ℕ) × (words ≡ codes "run" ∷ s ∷ a ∷ c ∷ steps ∷ []) × IsRoundCount steps budget)
@@ -29,60 +29,60 @@ IsUsage words (Confirm s a c) = words ≡ codes "confirm" ∷ s ∷ a ∷ c ∷ 
 IsUsage words (Hints c h) = words ≡ codes "hints" ∷ c ∷ h ∷ []
 IsUsage words (Check h) = words ≡ codes "check" ∷ h ∷ []
 
--- no file that is read is written over: no output has the word of the input
+-- that no output has the same argument as the input, so the input is not overwritten
 abbrev pub KeepsInput : Request → Type 0
 KeepsInput (Run s a c budget) = (a ≡ s → ⊥) × (c ≡ s → ⊥)
 KeepsInput (Confirm s a c) = Unit {0}
 KeepsInput (Hints c h) = h ≡ c → ⊥
 KeepsInput (Check h) = Unit {0}
 
--- the words are a call that writes over no file that it reads
+-- that the arguments are a call whose outputs differ from its input
 abbrev pub AsksFor : List (List ℕ) → Request → Type 0
 AsksFor words request = IsUsage words request × KeepsInput request
 
--- they are no such call
+-- that the arguments are not such a call
 abbrev pub AsksNothing : List (List ℕ) → Type 0
 AsksNothing words = (request : Request) → AsksFor words request → ⊥
 
--- words that are no call: there are some, and they ask for nothing
+-- that there are arguments, and they are not a call
 abbrev pub IsMisuse : List (List ℕ) → Type 0
 IsMisuse words = (words ≡ [] → ⊥) × AsksNothing words
 
--- a call that writes files
+-- that the call writes files
 abbrev pub WritesFiles : Request → Type 0
 WritesFiles (Run s a c budget) = Unit {0}
 WritesFiles (Confirm s a c) = ⊥
 WritesFiles (Hints c h) = Unit {0}
 WritesFiles (Check h) = ⊥
 
--- The words are a call that writes files: other words may lead to one file.
+-- That the arguments are a call that writes files: different arguments may lead to the same file.
 abbrev pub MayOverlap : List (List ℕ) → Type 0
 MayOverlap words = (request : Request) × AsksFor words request × WritesFiles request
 
--- Words that are no call have status 2. Others have it only if the call writes files.
+-- That the status is 2 if the arguments are not a call. For other arguments it is 2 only if the call writes files.
 pub record ReportsUsage (words : List (List ℕ)) (status : ℕ) : Type 0 where
   pub misused : IsMisuse words → status ≡ 2
   pub only : status ≡ 2 → IsMisuse words ⊎ MayOverlap words
 
--- a run over these files, with at most `budget` rounds for each ask
+-- the request for a run over these files, with at most `budget` rounds for each ask
 abbrev pub running : RunFiles → ℕ → Request
 running files budget = Run files.script.now files.answers.now files.certificate.now budget
 
--- what a call that was read asks for
+-- the request of a parsed call
 abbrev pub request_of : Call → Request
 request_of (call.Run files budget) = running files budget
 request_of (call.Confirm files) = Confirm files.script.now files.answers.now files.certificate.now
 request_of (call.Hints certificate hints) = Hints certificate.now hints.now
 request_of (call.Check hints) = Check hints.now
 
--- the call is what the words ask for, or there is none and they ask for nothing
+-- that the call is what the arguments ask for, or there is no call and they ask for nothing
 abbrev pub IsCallOf : List (List ℕ) → Option Call → Type 0
 IsCallOf words answer = MatchOption answer (AsksNothing words) (λ c. AsksFor words (request_of c))
 
--- the call is this request, which preserves its input, or there is none and it doesn't
+-- that the call is this request, which preserves its input, or there is no call and the request does not preserve its input
 abbrev pub AllowsRequest : Option Call → Request → Type 0
 AllowsRequest answer request = MatchOption answer (KeepsInput request → ⊥) (λ c. (request_of c ≡ request) × KeepsInput request)
 
--- the status of what was done or refused
+-- that the status is 0 or 1 unless there was an error
 abbrev pub HasStatus : {E : Type 0} → Result ℕ E → Type 0
 HasStatus r = IfOk r (λ status. status ≤ 1)

@@ -11,7 +11,7 @@ use Rattle.sat_hints.specs.declared.answer.HintWhy.{HintWhy}
 use Rattle.sat_hints.specs.declared.answer.HintWhy.TheVariants as why
 use Rattle.certify.specs.program.Printing.{PrintsLine}
 
--- the word of each cause
+-- the word for each reason
 abbrev pub hint_why_text : HintWhy → List ℕ
 hint_why_text why.Syntax = codes "Syntax"
 hint_why_text why.IdOrder = codes "IdOrder"
@@ -20,37 +20,38 @@ hint_why_text why.NotUnit = codes "NotUnit"
 hint_why_text why.NotFalsified = codes "NotFalsified"
 hint_why_text why.VarInUse = codes "VarInUse"
 
--- whether the empty clause was derived, as one digit
+-- a digit that says whether the empty clause was derived
 abbrev pub digit_of : Bool → List ℕ
 digit_of true = codes "1"
 digit_of false = codes "0"
 
--- `proved empty=E cores=K lines=L`, with LF
+-- the line `proved empty=E cores=K lines=L`, with LF
 abbrev pub proved_text : Bool → ℕ → ℕ → List ℕ
 proved_text empty cores lines =
     codes "proved empty=" ++ digit_of empty ++ codes " cores=" ++ decimal cores ++ codes " lines=" ++ decimal lines ++ 10 ∷ []
 
--- `bad LINE WHY`, with LF
+-- the line `bad LINE WHY`, with LF
 abbrev pub bad_text : ℕ → HintWhy → List ℕ
 bad_text line cause = codes "bad " ++ decimal line ++ 32 ∷ [] ++ hint_why_text cause ++ 10 ∷ []
 
--- the line for a hint text: what it derives, or its first line at fault and why
+-- the line for a hint text: what it derives, or its first faulty line and why
 abbrev pub hint_verdict_text : HintVerdict → List ℕ
 hint_verdict_text (Proved empty cores lines) = proved_text empty cores lines
 hint_verdict_text (Bad line cause) = bad_text line cause
 
--- whether the hint text is a derivation
+-- whether the verdict says that the hint text is a proof
 abbrev pub is_proved : HintVerdict → Bool
 is_proved (Proved empty cores lines) = true
 is_proved (Bad line cause) = false
 
--- The verdict on the text that a reader gave was printed, whatever would follow. The status is 0 exactly if it is proved.
+-- That the verdict on the text that a reader gave was printed, whatever bytes could follow. The status is 0 exactly if the verdict is that the
+-- text is a proof.
 pub record PrintsHintVerdict (status : ℕ) (input : Reader × Reader) (output : Writer × Writer) : Type 0 where
   pub verdict : HintVerdict
   pub judges : GaveEnough input.0 input.1 (Judges verdict)
   pub printed : PrintsLine status (hint_verdict_text verdict) (is_proved verdict ≡ true) output.0 output.1
 
--- the status for a result of `convert`: faults have another one
+-- the status for a result of `convert`, or `None` for a device or allocation failure
 abbrev pub status_behind : Result (Unit {0}) HintError → Option ℕ
 status_behind (Ok x) = Some 0
 status_behind (Err (error.Refused e)) = Some 1
@@ -59,7 +60,7 @@ status_behind (Err error.Read) = None
 status_behind (Err error.Write) = None
 status_behind (Err error.OutOfMemory) = None
 
--- A certificate was read and its hint text written and flushed, or it has none.
+-- That a certificate was read and its hint text was written and flushed, or there is none.
 pub record WritesHints (status : ℕ) (certificate : Reader × Reader) (hints : Writer × Writer) : Type 0 where
   pub answer : Result (Unit {0}) HintError
   pub converts : Converts answer certificate.0 certificate.1 hints.0 hints.1

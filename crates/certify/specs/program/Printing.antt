@@ -22,7 +22,7 @@ use Rattle.certify.specs.declared.program.fault.Fault.TheVariants as fault
 use Rattle.certify.specs.declared.program.fault.HintsFault.{HintsFault}
 use Rattle.certify.specs.declared.program.fault.HintsFault.TheVariants as hints_fault
 
--- the word of each cause
+-- the word for each reason
 abbrev pub why_text : Why → List ℕ
 why_text why.AnswerMissing = codes "AnswerMissing"
 why_text why.AnswerExtra = codes "AnswerExtra"
@@ -36,7 +36,7 @@ why_text why.StepRefused = codes "StepRefused"
 why_text why.CertificateEnds = codes "CertificateEnds"
 why_text why.StepOutOfPlace = codes "StepOutOfPlace"
 
--- the word of each fault of `run`
+-- the word for each fault of `run`
 abbrev pub run_fault_text : RunFault → List ℕ
 run_fault_text run_fault.ScriptRead = codes "ScriptRead"
 run_fault_text run_fault.AnswersWrite = codes "AnswersWrite"
@@ -45,7 +45,7 @@ run_fault_text run_fault.OutOfMemory = codes "OutOfMemory"
 run_fault_text run_fault.StoreFull = codes "StoreFull"
 run_fault_text run_fault.CounterEnd = codes "CounterEnd"
 
--- the word of each fault of `confirm`
+-- the word for each fault of `confirm`
 abbrev pub confirm_fault_text : ConfirmFault → List ℕ
 confirm_fault_text confirm_fault.ScriptRead = codes "ScriptRead"
 confirm_fault_text confirm_fault.AnswersRead = codes "AnswersRead"
@@ -53,28 +53,28 @@ confirm_fault_text confirm_fault.CertificateRead = codes "CertificateRead"
 confirm_fault_text confirm_fault.OutOfMemory = codes "OutOfMemory"
 confirm_fault_text confirm_fault.CounterEnd = codes "CounterEnd"
 
--- the word of each fault of writing or checking hints
+-- the word for each fault of writing or checking hints
 abbrev pub hints_fault_text : HintsFault → List ℕ
 hints_fault_text hints_fault.Read = codes "Read"
 hints_fault_text hints_fault.Write = codes "Write"
 hints_fault_text hints_fault.OutOfMemory = codes "OutOfMemory"
 
--- the word of each fault of the program
+-- the word for each fault of the program
 abbrev pub fault_text : Fault → List ℕ
 fault_text (fault.Run f) = run_fault_text f
 fault_text (fault.Confirm f) = confirm_fault_text f
 fault_text (fault.Hints f) = hints_fault_text f
 
--- the ask and the cause of a `No`, with LF
+-- the ask and the reason of a `No`, with LF
 abbrev pub no_text : ℕ → Why → List ℕ
 no_text ask why = decimal ask ++ 32 ∷ [] ++ why_text why ++ 10 ∷ []
 
--- `c confirmed`, or `c not confirmed ASK WHY`, with LF
+-- the line `c confirmed` or `c not confirmed ASK WHY`, with LF
 abbrev pub verdict_text : Verdict → List ℕ
 verdict_text Yes = codes "c confirmed" ++ 10 ∷ []
 verdict_text (No ask why) = codes "c not confirmed " ++ no_text ask why
 
--- `yes`, or `no ASK WHY`, with LF
+-- the line `yes` or `no ASK WHY`, with LF
 abbrev pub yes_or_no_text : Verdict → List ℕ
 yes_or_no_text Yes = codes "yes" ++ 10 ∷ []
 yes_or_no_text (No ask why) = codes "no " ++ no_text ask why
@@ -84,15 +84,15 @@ abbrev pub is_malformed : ScriptEnding → Bool
 is_malformed Clean = false
 is_malformed Malformed = true
 
--- the answers of a run with all rounds allowed: each is right, and none is unknown unless all rounds were exhausted
+-- that the answers are those of a run with the largest budget: each is correct, and none is unknown unless all rounds were exhausted
 abbrev pub IsAnswered : List ℕ → List ℕ → Type 0
 IsAnswered text answers = (summary : Summary) × AnswersRightly text most_rounds summary answers
 
--- what a run with all rounds allowed wrote for a text in memory: right answers, and their certificate
+-- that a run with the largest budget wrote correct answers to a text in memory, and their certificate
 abbrev pub IsWritten : List ℕ → Written → Type 0
 IsWritten text w = CertificateGuarantee text most_rounds w.summary w.answers.items w.certificate.items
 
--- Right answers to a text were printed, and after them `c confirmed`. The status is 0 exactly if the text isn't malformed.
+-- That correct answers to a text were printed, and then `c confirmed`. The status is 0 exactly if the text is not malformed.
 pub record Prints (status : ℕ) (text : List ℕ) (old new : Writer) : Type 0 where
   pub answers : List ℕ
   pub answered : IsAnswered text answers
@@ -100,11 +100,11 @@ pub record Prints (status : ℕ) (text : List ℕ) (old new : Writer) : Type 0 w
   pub flushed : new.flushed ≡ true
   pub done : (status ≡ 0) ↔ (is_malformed (reading text).1 ≡ false)
 
--- the same of the text that a reader gave, whatever would follow
+-- that `Prints` holds for the text that a reader gave, whatever bytes could follow
 abbrev pub PrintsVerdict : ℕ → Reader × Reader → Writer × Writer → Type 0
 PrintsVerdict status input output = GaveEnough input.0 input.1 (λ text. Prints status text output.0 output.1)
 
--- A prefix of right answers to a text was printed, and of `c confirmed` after them.
+-- That a prefix of correct answers to a text, followed by `c confirmed`, was printed.
 pub record PrintsPrefix (text : List ℕ) (old new : Writer) : Type 0 where
   pub answers : List ℕ
   pub answered : IsAnswered text answers
@@ -113,23 +113,23 @@ pub record PrintsPrefix (text : List ℕ) (old new : Writer) : Type 0 where
   pub whole : answers ++ verdict_text Yes ≡ bytes ++ behind
   pub took : TookBytes old new bytes
 
--- nothing was printed, or such a prefix, for the text that a reader gave, whatever would follow
+-- that nothing was printed, or `PrintsPrefix` holds for the text that a reader gave, whatever bytes could follow
 abbrev pub PrintsAtMost : Reader × Reader → Writer × Writer → Type 0
 PrintsAtMost input output = TookBytes output.0 output.1 [] ⊎ GaveEnough input.0 input.1 (λ text. PrintsPrefix text output.0 output.1)
 
--- A line was printed. The status is 0 exactly if IsSo holds.
+-- That a line was printed. The status is 0 exactly if `IsSo` holds.
 pub record PrintsLine (status : ℕ) (line : List ℕ) (IsSo : Type 0) (old new : Writer) : Type 0 where
   pub printed : WriterTakes old new line
   pub flushed : new.flushed ≡ true
   pub done : (status ≡ 0) ↔ IsSo
 
--- Whether the texts that three readers gave match, whatever would follow, was printed.
+-- That it was printed whether the texts that three readers gave match, whatever bytes could follow.
 pub record PrintsYesOrNo (status : ℕ) (script answers certificate : Reader × Reader) (output : Writer × Writer) : Type 0 where
   pub verdict : Verdict
   pub exact : Exact script answers certificate verdict
   pub printed : PrintsLine status (yes_or_no_text verdict) (verdict ≡ Yes) output.0 output.1
 
--- The answers to the text that a reader gave were written, and their certificate. The status is 0 exactly if it isn't malformed.
+-- That the answers to the text that a reader gave were written, and their certificate. The status is 0 exactly if the text is not malformed.
 pub record Ran (status budget : ℕ) (script : Reader × Reader) (answers certificate : Writer × Writer) : Type 0 where
   pub summary : Summary
   pub backed : TookCertificate budget summary script answers certificate

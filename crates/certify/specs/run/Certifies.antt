@@ -7,18 +7,19 @@ use Rattle.sat_checker.specs.Fold.{Holds}
 use Rattle.sat_checker.specs.matching.Checking.{CheckerRules, is_ordered}
 use Rattle.sat_checker.specs.matching.Expected.{Outcome, Unsat, Expected, Opens, Adds, Shows, Fails, Closes, Fits}
 
--- a checker that was fed these steps has recorded unsat, and no valuation satisfies their clauses
+-- that a checker that was fed these steps has recorded unsat, and no valuation satisfies their clauses
 pub record IsRecorded (k : CheckerRules) (earlier : List Step) : Type 0 where
   pub recorded : k.unsat earlier ≡ true
   pub none : (a : Valuation) → Holds earlier a → ⊥
 
--- what is left out then: a clause, or the empty core
+-- that the expected step may be left out once unsat is recorded: a clause, or the empty core
 abbrev pub MayLack : Expected → Type 0
 MayLack (Adds ls) = Unit {0}
 MayLack (Fails ask core) = core ≡ []
 MayLack e = ⊥
 
--- Once unsat is recorded, there is no step for a model or a core. How an ask is opened and closed is stated apart.
+-- That the expected step may be written. Once unsat is recorded, there is no step for a model or a core. How an ask is opened and closed is
+-- stated separately.
 abbrev pub MayStand : Bool → Expected → Type 0
 MayStand unsat (Shows names ask line) = unsat ≡ false
 MayStand unsat (Fails ask core) = unsat ≡ false
@@ -26,13 +27,13 @@ MayStand unsat (Opens ask outcome) = ⊥
 MayStand unsat Closes = ⊥
 MayStand unsat e = Unit {0}
 
--- what an ask is answered once unsat is recorded, without a round of search
+-- that an ask is answered with the empty core, without a round of search
 pub record IsKnown (o : Outcome) (n : ℕ) : Type 0 where
   pub outcome : o ≡ Unsat []
   pub rounds : n ≡ 0
 
--- From the earlier steps up to all, these are what is expected, in order and content, among others. Behind the last that is expected
--- there is none. `counts` are the rounds of the asks. At first the ask of this outcome is open, or none is.
+-- That the steps after `earlier`, up to `all`, contain what is expected, in order and content, among other steps. No step follows the last
+-- expected step. `counts` are the rounds of the asks. The `Option` is the outcome of the ask that is open at first, if any.
 pub data Certifies (k : CheckerRules) (all : List Step) : Option Outcome → List Step → List Expected → List ℕ → Type 0 where
   complete : Certifies k all None all [] []
   left_out : {current : Option Outcome} {earlier : List Step} {e : Expected} {es : List Expected} {counts : List ℕ}

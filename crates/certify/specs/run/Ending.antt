@@ -19,37 +19,36 @@ use Rattle.sat_solver.specs.solver.View.{proof_in}
 use Rattle.certify.specs.run.SolverCalls.{FaultSays, IsCaused}
 use Rattle.certify.specs.run.Quiet.{Proof, Solver}
 
--- a target is there, open or broken
+-- that the proof has a target, open or broken
 abbrev pub HasTarget : {C : Type 0} → (C → Writer) → Solver C → Type 0
 HasTarget seen s = target_of seen (proof_in s) ≡ Closed → ⊥
 
--- it's open
+-- that the target of the proof is open
 abbrev pub HasOpenTarget : {C : Type 0} → (C → Writer) → Solver C → Type 0
 HasOpenTarget seen s = is_open (target_of seen (proof_in s)) ≡ true
 
--- the last step was written, and the writer is given back
+-- that the last step was written, and the writer is returned
 pub record ClosedBy {C : Type 0} (seen : C → Writer) (s : Solver C) (given : C) : Type 0 where
   pub takes : TakesAll (target_of seen (proof_in s)) (End ∷ []) (seen given)
   pub may : MayAll (End ∷ steps_in s)
 
--- after more steps, the writer is returned as it is
+-- that the writer is returned as it is after further steps
 pub record GivenBack {C : Type 0} (seen : C → Writer) (Goes : (C → Writer) → Proof C → Proof C → Type 0) (s : Solver C) (given : C) : Type 0 where
   pub proof : Proof C
   pub goes : Goes seen (proof_in s) proof
   pub gives : GivesWriter (target_of seen proof) (Some (seen given))
 
--- Where its certificate was opened before any step, and it has come from there, also to a fault: the writer that is returned took a prefix
--- of the text of accepted steps.
+-- If the certificate was opened before any step, the returned writer received a prefix of the text of accepted steps, even after a fault.
 pub record GivesFront {C : Type 0} (seen : C → Writer) (s : Solver C) (given : C) : Type 0 where
   pub front : (opened : Solver C) (from : Writer) → target_of seen (proof_in opened) ≡ Open Varisat uncounted (empty_sink from)
       → steps_in opened ≡ [] → ReachesBySteps seen opened s → TookSteps (from, seen given)
 
--- the certificate was ended, or not, for which no store is to blame and no counter
+-- that the certificate was ended or, with an error, was not; a full store and the end of a counter are never the reason
 abbrev pub EndsCertificate : {C : Type 0} → (C → Writer) → Result (Unit {0}) RunFault → Solver C → C → Type 0
 EndsCertificate seen (Ok x) s given = ClosedBy seen s given
 EndsCertificate seen (Err e) s given = FaultSays e ⊥ (GivenBack seen BreaksEmitting s given) (GivenBack seen ComesBySteps s given) × IsCaused e ⊥ ⊥
 
--- and then the answers, whose writer was flushed, and took nothing
+-- that the certificate was ended, and then the answers' writer was flushed without receiving more bytes
 abbrev pub FinishesRun : {C : Type 0} → (C → Writer) → Result (Unit {0}) RunFault → Solver C → C → Writer → Writer → Type 0
 FinishesRun seen (Ok x) s given before after = ClosedBy seen s given × WriterTakes before after [] × (after.flushed ≡ true)
 FinishesRun seen (Err e) s given before after = FaultSays e
@@ -59,14 +58,14 @@ FinishesRun seen (Err e) s given before after = FaultSays e
     × TookBytes before after []
     × IsCaused e ⊥ ⊥
 
--- what a session says of itself
+-- that the summary agrees with the state of the run
 pub record SumsUp {C : Type 0} (at : Option ℕ) (s : RunState C) (summary : Summary) : Type 0 where
   pub commands : summary.commands ≡ s.commands
   pub refused : summary.refused ≡ s.refused
   pub ends : summary.malformed ≡ at
   pub asks : summary.asks ≡ s.asks
 
--- A run whose script was served so ends so: after a fault nothing more is written.
+-- How a run ends whose script was served. After a fault nothing more is written.
 abbrev pub EndsRun : {C : Type 0} → (C → Writer) → Result (Option ℕ) RunFault → Result Summary RunFault → RunState C → C → Writer → Writer → Type 0
 EndsRun seen (Ok at) (Ok summary) s given before after = FinishesRun seen (Ok tt) s.solver given before after × SumsUp at s summary
 EndsRun seen (Ok at) (Err e) s given before after = FinishesRun seen (Err e) s.solver given before after

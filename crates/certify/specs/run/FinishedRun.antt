@@ -1,4 +1,4 @@
--- What a finished run has done, and why one wasn't finished.
+-- What a finished run guarantees, and when a device failed.
 use Rattle.std.specs.Prelude.{ℕ, ◌+◌, ◌*◌, ◌^◌, ◌<◌, ◌≡◌, ◌≤◌, true, false, Option, Some, None, is_some, List, [], ◌∷◌, map, length, reverse, Result, IfOk, if◌then◌else◌}
 use Rattle.std.specs.List.{AllByRecursion}
 use Rattle.sat_base.specs.device.Device.{Reader, Writer, GaveEnough, WriterTakes}
@@ -31,34 +31,35 @@ use Rattle.certify.specs.declared.summary.Answer.TheVariants as kind
 use Rattle.certify.specs.declared.summary.AskReport.{AskReport}
 use Rattle.certify.specs.declared.summary.Summary.{Summary}
 
--- how many commands are refused
+-- the number of refused commands
 abbrev pub refused_count : ScriptState → List Command → ℕ
 refused_count j [] = 0
 refused_count j (command ∷ commands) =
     (if is_some (refusal_of j command) then 1 else 0) + refused_count (after_command command j) commands
 
--- the number of the command at which the text is malformed
+-- the number of the command at which the text is malformed, or `None`
 abbrev pub malformed_at : ℕ → ScriptEnding → Option ℕ
 malformed_at number Clean = None
 malformed_at number Malformed = Some number
 
--- an outcome without its literals
+-- the kind of an outcome, without its literals
 abbrev pub answer_kind : Outcome → Answer
 answer_kind (Sat line) = kind.Sat
 answer_kind (Unsat core) = kind.Unsat
 answer_kind Unknown = kind.Unknown
 
--- An ask takes no more rounds than are left, and has no answer only if it took all of them.
+-- That an ask takes at most the allowed rounds, and its answer is unknown only if it took all of them.
 pub record SpendsWithinBudget (budget before : ℕ) (report : AskReport) : Type 0 where
   pub within : report.steps ≤ rounds_allowed budget before
   pub unknown : report.answer ≡ kind.Unknown → report.steps ≡ rounds_allowed budget before
 
--- If n identities were given out once its names were introduced, it takes fewer than 2^(2n+3) rounds, so it has an answer if as many are left.
+-- That an ask takes fewer than 2^(2n+3) rounds, and its answer is not unknown if that many were allowed. `n` is the number of identities once
+-- its names were introduced.
 pub record IsBounded (n budget before : ℕ) (report : AskReport) : Type 0 where
   pub few : report.steps < 2 ^ (2 * n + 3)
   pub answered : 2 ^ (2 * n + 3) ≤ rounds_allowed budget before → report.answer ≡ kind.Unknown → ⊥
 
--- how many identities were given out as each ask began, of commands that aren't refused
+-- the number of identities at the start of each ask, once its names were introduced; the commands are not refused
 abbrev pub identities_given : ScriptState → List Command → List ℕ
 identities_given j [] = []
 identities_given j (Ask ls ∷ commands) = (accepted (Ask ls) j).identity_count ∷ identities_given (accepted (Ask ls) j) commands
@@ -67,15 +68,15 @@ identities_given j (Hide names ∷ commands) = identities_given (accepted (Hide 
 identities_given j (Witness names ∷ commands) = identities_given (accepted (Witness names) j) commands
 identities_given j (Sample names ∷ commands) = identities_given (accepted (Sample names) j) commands
 
--- how many variables there are as each of these asks begins
+-- the number of variables at the start of each of these asks
 abbrev pub variables_at : List Asked → List ℕ
 variables_at asks = map (λ a. a.state.identity_count) asks
 
--- the rounds of each ask
+-- the number of rounds that each ask took
 abbrev pub rounds_of_asks : List AskReport → List ℕ
 rounds_of_asks reports = map (λ r. r.steps) reports
 
--- the rounds of every ask, given the number of identities at each, and the rounds of the asks before these
+-- that the rounds of every ask are within its bounds, given the number of identities at each ask and the rounds of the asks before these
 abbrev pub AreWithinBudget : (budget before : ℕ) → (given : List ℕ) → List AskReport → Type 0
 AreWithinBudget budget before [] [] = Unit {0}
 AreWithinBudget budget before [] (report ∷ reports) = ⊥
@@ -83,7 +84,8 @@ AreWithinBudget budget before (n ∷ ns) [] = ⊥
 AreWithinBudget budget before (n ∷ ns) (report ∷ reports) =
     SpendsWithinBudget budget before report × IsBounded n budget before report × AreWithinBudget budget (before + report.steps) ns reports
 
--- What a finished run says of a text, and answered to it: one outcome for each accepted ask, each right, and their text.
+-- That the summary and the answers of a finished run are correct for a text. There is one correct outcome for each accepted ask, and the
+-- answers are the text of these outcomes.
 pub record AnswersRightly (text : List ℕ) (budget : ℕ) (summary : Summary) (answered : List ℕ) : Type 0 where
   pub outcomes : List Outcome
   pub right : AnswersAreRight (reading text).0 outcomes
@@ -95,7 +97,7 @@ pub record AnswersRightly (text : List ℕ) (budget : ℕ) (summary : Summary) (
   pub kinds : map (λ r. r.answer) summary.asks.items ≡ map answer_kind outcomes
   pub spent : AreWithinBudget budget 0 (identities_given start (accepted_of start (reading text).0)) summary.asks.items
 
--- The same in the short words, in which the asks are a list of their own.
+-- That the summary and the answers of a finished run are correct, by the short definitions, in which the asks are a list of their own.
 pub record ReportsRightly (text : List ℕ) (budget : ℕ) (summary : Summary) (answered : List ℕ) : Type 0 where
   pub outcomes : List Outcome
   pub right : EachIsRight (asks_of start (script_in text).0) outcomes
@@ -107,9 +109,10 @@ pub record ReportsRightly (text : List ℕ) (budget : ℕ) (summary : Summary) (
   pub kinds : map (λ r. r.answer) summary.asks.items ≡ map answer_kind outcomes
   pub spent : AreWithinBudget budget 0 (variables_at (asks_of start (script_in text).0)) summary.asks.items
 
--- What its certificate is to the answers: it spells steps, the oldest first, which are, in order, those of the accepted commands and of
--- these outcomes, which took the rounds that the summary reports. Each is accepted in its turn. The list has the newest first.
--- Besides them it has those that the solver makes for commands and asks, in their places, and widths for their hashes.
+-- What the certificate of a finished run guarantees. It spells steps, the oldest first, of which a checker accepts each after the earlier ones.
+-- In order, they contain the steps of the accepted commands and of these outcomes, with the rounds that the summary reports. Besides these
+-- there are only the steps that the solver makes for commands and asks, at their places, and widths for their hashes. The list `steps` has the
+-- newest first.
 pub record CertificateGuarantee (text : List ℕ) (budget : ℕ) (summary : Summary) (answered certified : List ℕ) : Type 0 where
   pub is_answered : AnswersRightly text budget summary answered
   pub steps : List Step
@@ -117,39 +120,39 @@ pub record CertificateGuarantee (text : List ℕ) (budget : ℕ) (summary : Summ
   pub accepted : AcceptsAll steps
   pub certifies : Certifies checker_rules steps None []
       (expected start (accepted_of start (reading text).0) is_answered.outcomes) (rounds_of_asks summary.asks.items)
-  -- what the solver made, up to the end, and how it was written
+  -- the steps that the solver made, up to the end, and how they were written
   pub made : List Step
   pub follows : ServesCommands start [] made (accepted_of start (reading text).0) is_answered.outcomes (rounds_of_asks summary.asks.items)
   pub counting : Counting
   pub cuts : TruncatesHashes uncounted (End ∷ made) steps counting
-  -- every round of an ask derived a clause that advances, except the one that answered, and no other clause of the ask advances
+  -- every round of an ask derived a clause that advances, except the round that answered, and no other clause of the ask advances
   pub learns : EachLearns steps 0 is_answered.outcomes (rounds_of_asks summary.asks.items)
   -- if no accepted command hides a name, no variable is deleted
   pub keeps : AllByRecursion HidesNothing (accepted_of start (reading text).0) → has_delete_var steps ≡ false
 
 -- WHAT THREE DEVICES SHOW OF IT
 
--- the answers' writer took the answers to the text that was given, whatever would follow
+-- that the answers' writer received the answers to the text that the reader gave, whatever bytes could follow
 abbrev pub WritesAnswers : ℕ → Summary → Reader × Reader → Writer × Writer → Type 0
 WritesAnswers budget summary script answers =
     GaveEnough script.0 script.1 (λ text. (answered : List ℕ)
     × WriterTakes answers.0 answers.1 answered × ReportsRightly text budget summary answered)
 
--- and the certificate's writer took the certificate
+-- that the answers' writer received the answers, and the certificate's writer the certificate
 abbrev pub TookCertificate : ℕ → Summary → Reader × Reader → Writer × Writer → Writer × Writer → Type 0
 TookCertificate budget summary script answers certificate = GaveEnough script.0 script.1 (λ text. (answered : List ℕ) × (certified : List ℕ)
     × WriterTakes answers.0 answers.1 answered × WriterTakes certificate.0 certificate.1 certified × CertificateGuarantee text budget summary answered certified)
 
--- the same of what three devices were and are
+-- that `TookCertificate` holds for three devices before and after a run, unless the run failed
 abbrev pub CertificateIsGuaranteed : {S A C : Type 0} → Result Summary RunFault → ℕ → (S → Reader) → (A → Writer) → (C → Writer)
     → S × A × C → S × A × C → Type 0
 CertificateIsGuaranteed r budget script answers certificate old new =
     IfOk r (λ s. TookCertificate budget s (gave script old.0 new.0) (took answers old.1 new.1) (took certificate old.2 new.2))
 
--- no further call of the writer failed
+-- that no further call of the writer failed
 abbrev pub WritesKept : {W : Type 0} → (W → Writer) → W → W → Type 0
 WritesKept seen old new = (seen new).failures ≡ (seen old).failures
 
--- exactly one call failed, the last
+-- that exactly one call of the writer failed, and it was the last
 abbrev pub WriteFails : Writer → Writer → Type 0
 WriteFails old new = (new.failures ≡ old.failures + 1) × (new.failed ≡ true)

@@ -1,4 +1,4 @@
--- When no variable is left for a name, by the steps that were made. Lists of steps have the newest first.
+-- When no variable is left for a name, given the steps that were made. Lists of steps have the newest first.
 use Rattle.std.specs.Prelude.{ℕ, ◌+◌, ◌-◌, ◌<◌, ◌≡◌, true, None, List, [], ◌∷◌, ◌++◌, length}
 use Rattle.std.specs.List.{AllByRecursion}
 use Rattle.sat_base.specs.script.Script.{Command, Clause, Ask, Hide, Witness, Sample, names_of}
@@ -8,19 +8,19 @@ use Rattle.sat_base.specs.values.Literals.{var_limit}
 use Rattle.sat_checker.specs.SortedSets.{NoRepeats}
 use Rattle.sat_checker.specs.matching.ProofChecking.{checker_rules}
 
--- The proof variables in use after these steps, as a checker knows them, and the names that are introduced are together more than the
--- limit.
+-- That there are not enough proof variables for the names that are introduced: together with the variables in use after these steps, they would
+-- exceed the limit.
 pub record LacksVariables (steps : List Step) (introduced : ℕ) : Type 0 where
   pub in_use : List ℕ
   pub once : NoRepeats in_use
   pub known : AllByRecursion (λ v. checker_rules.knows steps v ≡ true) in_use
   pub more : var_limit < length in_use + introduced
 
--- how many names are introduced for these
+-- the number of names that are introduced for these names
 abbrev pub introduced_for : List ℕ → ScriptState → ℕ
 introduced_for names j = (bring_all names j).identity_count - j.identity_count
 
--- of a command over names, which has its effect name by name: the next name lacks a variable
+-- that a command that processes its names one by one reaches a name that lacks a variable
 pub record NextLacks (command : List ℕ → Command) (names : List ℕ) (j : ScriptState) (steps : List Step) : Type 0 where
   pub first : List ℕ
   pub name : ℕ
@@ -28,7 +28,7 @@ pub record NextLacks (command : List ℕ → Command) (names : List ℕ) (j : Sc
   pub whole : names ≡ first ++ (name ∷ behind)
   pub lacks : LacksVariables steps (introduced_for (name ∷ []) (accepted (command first) j))
 
--- the command lacks variables for its names
+-- that the command lacks variables for its names
 abbrev pub CommandLacks : ScriptState → Command → List Step → Type 0
 CommandLacks j (Clause ls) steps = LacksVariables steps (introduced_for (names_of ls) j)
 CommandLacks j (Ask ls) steps = LacksVariables steps (introduced_for (names_of ls) j)
@@ -36,7 +36,7 @@ CommandLacks j (Hide names) steps = NextLacks Hide names j steps
 CommandLacks j (Witness names) steps = NextLacks Witness names j steps
 CommandLacks j (Sample names) steps = NextLacks Sample names j steps
 
--- so does one of these commands, after those before it; it is not refused
+-- that one of these commands lacks variables for its names, after the commands before it; it is not refused
 pub record OneLacks (j : ScriptState) (commands : List Command) (steps : List Step) : Type 0 where
   pub before : List Command
   pub command : Command

@@ -6,14 +6,14 @@ use Rattle.sat_checker.specs.matching.ProofChecking.{checker_rules}
 use Rattle.certify.specs.run.Advancing.{AdvanceTimesStored, AreUnordered}
 use Rattle.certify.specs.run.Stretches.{LearnsEachRound}
 
--- how often something is assumed: twice for each ask, its literals and, at its end, none
+-- how often assumptions were set: twice for each ask, to its literals and, at its end, to none
 abbrev pub assumed_times : List Step → ℕ
 assumed_times [] = 0
 assumed_times (Assumptions ls ∷ earlier) = assumed_times earlier + 1
 assumed_times (step ∷ earlier) = assumed_times earlier
 
--- Between the assumptions of the ask that has so many before it and the next ones, which are none, exactly as many derived clauses advance
--- as its rounds have learned. Of an unknown one there is no ordered step between.
+-- That the steps of ask number `asks`, counted from 0, contain as many clauses that advance as its rounds have learned. These steps are those
+-- between its assumptions and the next assumptions, which are empty. If its outcome is unknown, none of them is an ordered step.
 pub record LearnsIn (steps : List Step) (asks : ℕ) (o : Outcome) (rounds : ℕ) : Type 0 where
   pub before : List Step
   pub ask : List ℕ
@@ -27,7 +27,7 @@ pub record LearnsIn (steps : List Step) (asks : ℕ) (o : Outcome) (rounds : ℕ
   pub counts : LearnsEachRound (checker_rules.unsat (Assumptions ask ∷ before)) o rounds learned
   pub unordered : o ≡ Unknown → AreUnordered middle
 
--- the same of each ask, which took so many rounds; so many stand before all of these
+-- that `LearnsIn` holds for each ask, with these outcomes and rounds; `asks` is the number of asks before them
 abbrev pub EachLearns : (steps : List Step) (asks : ℕ) → List Outcome → List ℕ → Type 0
 EachLearns steps asks [] [] = Unit {0}
 EachLearns steps asks [] (n ∷ ns) = ⊥

@@ -20,30 +20,30 @@ use Rattle.certify.specs.run.SolverCalls.{IsReadySolver}
 use Rattle.certify.specs.run.Stretches.{MayFor, Stretch, due_for}
 use Rattle.certify.specs.run.Quiet.{Solver}
 
--- the command by which names get this state
+-- the command that gives names this state
 abbrev pub command_to : NameState → List ℕ → Command
 command_to state.Hidden names = Hide names
 command_to state.Sampled names = Sample names
 command_to state.Witnessed names = Witness names
 
--- what a solver makes for it
+-- the steps that are expected of a solver for a command that gives names this state
 abbrev pub due_to : NameState → List ℕ → ScriptState → List Expected
 due_to state.Hidden names = hiding names
 due_to state.Sampled names = setting Sampled names
 due_to state.Witnessed names = setting Witnessed names
 
--- which steps may come for one name of it
+-- which steps are allowed for one name that gets this state
 abbrev pub may_to : NameState → ℕ → List Step → Step → Type 0
 may_to state.Hidden name = MayHide
 may_to state.Sampled name = MaySet name true
 may_to state.Witnessed name = MaySet name false
 
--- what came of a call that brings a name in, which gets this state
+-- the effect of a call that introduces a name and gives it this state
 abbrev pub ChangesName : {C : Type 0} → (C → Writer) → Result (Unit {0}) SolverError → Solver C → Solver C → ℕ → NameState → Type 0
 ChangesName seen r old new user st =
     ChangesMode seen r old new user (accepted (command_to st ((user + 1) ∷ []))) (due_to st ((user + 1) ∷ [])) (may_to st (user + 1))
 
--- a command that is no ask was carried out
+-- that a command that is not an ask was carried out
 pub record Obeyed {C : Type 0} (seen : C → Writer) (c : Command) (old new : Solver C) : Type 0 where
   pub ready : IsReadySolver new
   pub took : ComesBySteps seen (proof_in old) (proof_in new)

@@ -8,13 +8,13 @@ use Rattle.certify.specs.declared.summary.Answer.{Answer}
 use Rattle.certify.specs.declared.summary.Answer.TheVariants as kind
 use Rattle.certify.specs.run.Quiet.{Solver}
 
--- the outcome, by what the solver found: a model over the names in use, or a core, whose literals are sorted
+-- the outcome for what the solver found: a model of the names in use, or a core, whose literals are sorted
 abbrev pub outcome_for : {C : Type 0} → Answer → Solver C → Outcome
 outcome_for kind.Sat s = Sat (named_literals (line_in s))
 outcome_for kind.Unsat s = Unsat (named_literals (canonical (core_for s.state s)))
 outcome_for kind.Unknown s = Unknown
 
--- and it is right, in every script state that the solver agrees with
+-- that the outcome is correct in every script state that the solver agrees with
 abbrev pub IsReportedRight : {C : Type 0} → Answer → Solver C → Type 0
 IsReportedRight kind.Sat s = IsRightLine s (line_in s)
 IsReportedRight kind.Unsat s = IsRightCoreOf s (core_for s.state s)

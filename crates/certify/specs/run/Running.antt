@@ -1,4 +1,4 @@
--- What a run does to its three devices.
+-- The effect of a run on its three devices.
 use Rattle.std.specs.Prelude.{ℕ, ◌+◌, ◌≡◌, ◌≤◌, true, List, Result, Ok, Err}
 use Rattle.sat_base.specs.device.Device.{Reader, Writer, GaveEnough, ReadFails, WriterTakes, most_reads}
 use Rattle.certify.specs.Devices.{NoneFailed, OneFailed}
@@ -7,7 +7,7 @@ use Rattle.certify.specs.declared.summary.Summary.{Summary}
 use Rattle.certify.specs.run.FinishedRun.{CertificateGuarantee}
 use Rattle.certify.specs.run.ServedScript.{RunFaultSays}
 
--- what was written to a text, with its certificate
+-- what a run wrote for a text: the answers, and the certificate
 pub record WritesRun (text : List ℕ) (budget : ℕ) (summary : Summary) (answers certificate : Writer × Writer) : Type 0 where
   pub answered : List ℕ
   pub certified : List ℕ
@@ -15,11 +15,11 @@ pub record WritesRun (text : List ℕ) (budget : ℕ) (summary : Summary) (answe
   pub certifies : WriterTakes certificate.0 certificate.1 certified
   pub is_backed : CertificateGuarantee text budget summary answered certified
 
--- no read failed
+-- that no read of the script failed
 abbrev pub NoneUnread : Reader × Reader → Type 0
 NoneUnread script = script.1.failures ≡ script.0.failures
 
--- A run was finished, and its writers were flushed.
+-- That a run was finished, and its writers were flushed.
 pub record Finished (budget : ℕ) (summary : Summary) (script : Reader × Reader) (answers certificate : Writer × Writer) : Type 0 where
   pub wrote : GaveEnough script.0 script.1 (λ text. WritesRun text budget summary answers certificate)
   pub read : NoneUnread script
@@ -28,7 +28,7 @@ pub record Finished (budget : ℕ) (summary : Summary) (script : Reader × Reade
   pub answers_flushed : answers.1.flushed ≡ true
   pub certificate_flushed : certificate.1.flushed ≡ true
 
--- the same, or a fault: if it names a device, one call of that device failed
+-- that a run was finished or, with an error, failed; if the error names a device, one call of that device failed
 abbrev pub FinishesOrFaults : Result Summary RunFault → ℕ → Reader × Reader → Writer × Writer → Writer × Writer → Type 0
 FinishesOrFaults (Ok summary) budget script answers certificate = Finished budget summary script answers certificate
 FinishesOrFaults (Err e) budget script answers certificate = RunFaultSays e
@@ -37,6 +37,6 @@ FinishesOrFaults (Err e) budget script answers certificate = RunFaultSays e
     (NoneUnread script × NoneFailed answers.0 answers.1 × OneFailed certificate.0 certificate.1)
     (NoneUnread script × NoneFailed answers.0 answers.1 × NoneFailed certificate.0 certificate.1)
 
--- the reader is read at most 2^48 times
+-- that the script is read at most 2^48 times
 abbrev pub ReadsFew : Reader × Reader → Type 0
 ReadsFew script = script.1.calls ≤ script.0.calls + most_reads

@@ -1,4 +1,4 @@
--- How a script is served that is read as its commands are wanted, whatever would follow in it. Lists of steps have the newest first.
+-- How a script is served whose commands are read as they are needed, whatever bytes could follow. Lists of steps have the newest first.
 use Rattle.std.specs.Prelude.{ℕ, ◌+◌, ◌≡◌, true, false, Option, List, ◌++◌, map, length, Result, Ok, Err}
 use Rattle.sat_base.specs.declared.device.whole.ReadError.{ReadError}
 use Rattle.sat_base.specs.declared.device.whole.ReadError.TheVariants as errors
@@ -31,7 +31,7 @@ use Rattle.certify.specs.run.Standing.{RunGoesOn, HasStateBetweenCommands, place
 use Rattle.certify.specs.run.Stretches.{ServesCommands}
 use Rattle.certify.specs.run.Quiet.{Solver}
 
--- These commands were served, one after another.
+-- That these commands were served, one after another.
 pub record ServedAll {C : Type 0} (seen : C → Writer) (j : ScriptState) (commands : List Command)
     (old new : RunState C) (before after : Writer) : Type 0 where
   pub judge : ScriptState
@@ -48,8 +48,8 @@ pub record ServedAll {C : Type 0} (seen : C → Writer) (j : ScriptState) (comma
   pub refusals : new.refused ≡ old.refused + refused
   pub serves : Serves old.budget (place_in old j) (place_in new judge) commands text reports refused
 
--- The complete script was served from this place on, which made these steps. `text` was answered, `reports` are those of the asks, and
--- `refused` commands were refused.
+-- That the complete script was served from this place on, which led to these steps. `answered` is the text of the answers, `reports` are those
+-- of the asks, and `refused` is the number of refused commands.
 pub record ServesTo (budget : ℕ) (a : RunPlace) (script : Reading) (to : List Step)
     (answered : List ℕ) (reports : List AskReport) (refused : ℕ) : Type 0 where
   pub outcomes : List Outcome
@@ -60,7 +60,7 @@ pub record ServesTo (budget : ℕ) (a : RunPlace) (script : Reading) (to : List 
   pub spent : AreWithinBudget budget a.rounds (identities_given a.judge (accepted_of a.judge script.0)) reports
   pub follows : ServesCommands a.judge a.steps to (accepted_of a.judge script.0) outcomes (rounds_of_asks reports)
 
--- The complete script was served, with this number of commands. It is malformed at this command, if it is.
+-- That the complete script was served, with this number of commands. `at` is the command at which it is malformed, or `None`.
 pub record ServesWhole {C : Type 0} (seen : C → Writer) (j : ScriptState) (script : Reading) (count : ℕ) (at : Option ℕ)
     (old new : RunState C) (before after : Writer) : Type 0 where
   pub took : ComesBySteps seen (proof_in old.solver) (proof_in new.solver)
@@ -74,8 +74,8 @@ pub record ServesWhole {C : Type 0} (seen : C → Writer) (j : ScriptState) (scr
   pub refusals : new.refused ≡ old.refused + refused
   pub serves : ServesTo old.budget (place_in old j) script (steps_in new.solver) text reports refused
 
--- These commands were served between two places. After them, `left` says what the reader of scripts has still to read, and `plain` which
--- commands of the text are left.
+-- That these commands were served between two places. After them, `left` gives the reading of the rest of the script, and `plain` gives the
+-- commands of the rest of the text.
 pub record ServesThrough {C : Type 0} (seen : C → Writer) (j : ScriptState) (text counted : List ℕ → Reading) (a b : Source)
     (reader : ScriptReader) (old new : RunState C) (before after : Writer) : Type 0 where
   pub commands : List Command
@@ -90,12 +90,12 @@ pub record ServesThrough {C : Type 0} (seen : C → Writer) (j : ScriptState) (t
   pub goes_on : RunGoesOn new
   pub served : ServedAll seen j commands old new before after
 
--- a run's fault where its script can't be read
+-- the fault of a run whose script cannot be read
 abbrev pub run_fault : ReadError → RunFault
 run_fault errors.Failed = fault.ScriptRead
 run_fault errors.OutOfMemory = fault.OutOfMemory
 
--- what each fault says, where the script can't be read, the answers not written or the certificate, and otherwise
+-- the statement that belongs to a fault: `script`, `answers` or `certificate` if that device failed, otherwise `rest`
 abbrev pub RunFaultSays : RunFault → Type 0 → Type 0 → Type 0 → Type 0 → Type 0
 RunFaultSays fault.ScriptRead script answers certificate rest = script
 RunFaultSays fault.AnswersWrite script answers certificate rest = answers
@@ -104,7 +104,7 @@ RunFaultSays fault.OutOfMemory script answers certificate rest = rest
 RunFaultSays fault.StoreFull script answers certificate rest = rest
 RunFaultSays fault.CounterEnd script answers certificate rest = rest
 
--- one call of one device failed, perhaps, which the fault names
+-- the effect of a run that fails: if the fault names a device, one call of that device failed
 abbrev pub FailsWhole : {C : Type 0} → (C → Writer) → RunFault → Source → Source → Solver C → Solver C → Writer → Writer → Type 0
 FailsWhole seen e a b old new before after = RunFaultSays e
     (FaultsAhead a b × NoneFailed before after × ComesBySteps seen (proof_in old) (proof_in new))
@@ -112,8 +112,8 @@ FailsWhole seen e a b old new before after = RunFaultSays e
     (TakesSomeOrEnds a b × NoneFailed before after × BreaksEmitting seen (proof_in old) (proof_in new))
     (TakesSomeOrEnds a b × NoneFailed before after × ComesBySteps seen (proof_in old) (proof_in new))
 
--- The script is served to its end; or there's a fault, and a prefix of right answers was written. It is none of store or counter without
--- a cause.
+-- That the script is served to its end or, with an error, that a prefix of correct answers was written. A full store or the end of a counter is
+-- only reported if `IsCaused` holds.
 abbrev pub ServesScript : {C : Type 0} → (C → Writer) → ScriptState → (List ℕ → Reading) → (List ℕ → Reading) → Result (Option ℕ) RunFault
     → Source → Source → RunState C → RunState C → Writer → Writer → Type 0
 ServesScript seen j text counted (Ok at) a b old new before after = TookOf false a b × IsReadySolver new.solver × ((total : List ℕ) → Covers b total

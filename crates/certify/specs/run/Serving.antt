@@ -1,4 +1,4 @@
--- What a run makes of commands, one after another. Lists of steps have the newest first.
+-- The effect of serving commands one after another. Lists of steps have the newest first.
 use Rattle.std.specs.Prelude.{ℕ, ◌+◌, ◌≡◌, List, ◌++◌, map}
 use Rattle.sat_base.specs.script.Script.{Command, ScriptEnding}
 use Rattle.sat_base.specs.script.ScriptState.{ScriptState, accepted, accepted_of}
@@ -10,15 +10,15 @@ use Rattle.certify.specs.run.FinishedRun.{refused_count, answer_kind, AreWithinB
 use Rattle.certify.specs.run.Stretches.{ServesCommands}
 use Rattle.certify.specs.declared.summary.AskReport.{AskReport}
 
--- the place of a run: the script state, the number of the next command, the steps made so far and the rounds
+-- the place of a run: the script state, the number of the next command, the steps made so far, and the rounds
 pub record RunPlace : Type 0 where
   pub judge : ScriptState
   pub number : ℕ
   pub steps : List Step
   pub rounds : ℕ
 
--- These commands brought a run from one place to another. This was answered, these are the reports of the asks, and so many were
--- refused; whatever commands are left, and whatever is answered to them.
+-- That these commands led a run from place `a` to place `b`. `answered` is the text of their answers, `reports` are those of the asks, and
+-- `refused` is the number of refused commands. This holds whatever commands are left, and whatever their answers are.
 pub record Serves (budget : ℕ) (a b : RunPlace) (commands : List Command)
     (answered : List ℕ) (reports : List AskReport) (refused : ℕ) : Type 0 where
   pub outcomes : List Outcome
@@ -36,6 +36,6 @@ pub record Serves (budget : ℕ) (a b : RunPlace) (commands : List Command)
       → ServesCommands b.judge b.steps to (accepted_of b.judge left) rest counts
       → ServesCommands a.judge a.steps to (accepted_of a.judge (commands ++ left)) (outcomes ++ rest) (rounds_of_asks reports ++ counts)
 
--- after a command that isn't refused
+-- the place after an accepted command
 abbrev pub place_after : RunPlace → Command → List Step → ℕ → RunPlace
 place_after a c steps rounds = record { judge = accepted c a.judge; number = a.number + 1; steps = steps; rounds = rounds }

@@ -1,4 +1,4 @@
--- What a run's calls of its solver leave, and which faults they give.
+-- The effect of a run's calls to its solver, and which faults these calls return.
 use Rattle.std.specs.Prelude.{ℕ, ◌+◌, ◌<◌, ◌≡◌, Bool, true, false, None, Result, IfErr, List}
 use Rattle.sat_base.specs.device.Device.{Writer}
 use Rattle.sat_base.specs.script.ScriptState.{ScriptState, accepted, refused_literal}
@@ -27,23 +27,24 @@ use Rattle.certify.specs.run.FinishedRun.{SpendsWithinBudget}
 use Rattle.certify.specs.run.Lacking.{CommandLacks}
 use Rattle.certify.specs.run.Quiet.{Proof, Solver}
 
--- the errors of a solver that has not failed before, and refuses nothing
+-- that the error can be returned by a solver that has not failed before, for a call that it does not refuse
 abbrev pub IsSolverFault : SolverError → Type 0
 IsSolverFault = IsNameFaultOr (Unit {0})
 
--- the same as a run's fault
+-- the fault of a run for this error of its solver
 abbrev pub fault_for : SolverError → RunFault
 fault_for (errors.ProofIoError cause) = fault.CertificateWrite
 fault_for errors.OutOfMemory = fault.OutOfMemory
 fault_for errors.StoreFull = fault.StoreFull
 fault_for e = fault.CounterEnd
 
--- whether the rounds are exhausted
+-- whether the error says that the rounds are exhausted
 abbrev pub is_interrupted : SolverError → Bool
 is_interrupted errors.Interrupted = true
 is_interrupted e = false
 
--- what each fault says: of a failed write of answers, of one of the certificate, and of the rest; the script is not read here
+-- the statement that belongs to a fault: `answers` or `certificate` if a write of that text failed, otherwise `rest`; the script is not read
+-- here
 abbrev pub FaultSays : RunFault → Type 0 → Type 0 → Type 0 → Type 0
 FaultSays fault.ScriptRead answers certificate rest = ⊥
 FaultSays fault.AnswersWrite answers certificate rest = answers
@@ -52,7 +53,7 @@ FaultSays fault.OutOfMemory answers certificate rest = rest
 FaultSays fault.StoreFull answers certificate rest = rest
 FaultSays fault.CounterEnd answers certificate rest = rest
 
--- the cause of a fault that is neither a device's nor an allocation failure: the clause buffer is full, or a name lacks a variable
+-- the reason for a fault that is neither a device's nor an allocation failure: the clause buffer is full, or a name lacks a variable
 abbrev pub IsCaused : RunFault → (full lacks : Type 0) → Type 0
 IsCaused fault.ScriptRead full lacks = Unit {0}
 IsCaused fault.AnswersWrite full lacks = Unit {0}
@@ -61,44 +62,44 @@ IsCaused fault.OutOfMemory full lacks = Unit {0}
 IsCaused fault.StoreFull full lacks = full
 IsCaused fault.CounterEnd full lacks = lacks
 
--- a call of the solver failed, perhaps since one of the certificate's writer did, the last
+-- that a call of the solver failed; if the fault is that of the certificate's writer, the last call of that writer failed
 abbrev pub FailsSolver : {C : Type 0} → (C → Writer) → RunFault → Solver C → Solver C → Type 0
 FailsSolver seen e old new = FaultSays e ⊥ (BreaksEmitting seen (proof_in old) (proof_in new)) (ComesBySteps seen (proof_in old) (proof_in new))
 
--- so, where there was a fault
+-- that `FailsSolver` holds if the result is a fault
 abbrev pub FailsIf : {T C : Type 0} → Result T RunFault → (C → Writer) → Solver C → Solver C → Type 0
 FailsIf r seen old new = IfErr r (λ e. FailsSolver seen e old new)
 
--- no lines of DRAT are written
+-- that no lines of DRAT are written
 abbrev pub HasNoLines : {C : Type 0} → Proof C → Type 0
 HasNoLines {C} p = (seen : C → Writer) → is_drat (target_of seen p) ≡ false
 
--- a solver that has not failed, whose asks may have assumptions, with no checker of its own
+-- that a solver has not failed, and has no checker of its own; its asks may have assumptions
 pub record IsReadySolver {C : Type 0} (s : Solver C) : Type 0 where
   pub solver : IsSolver s
   pub going : s.failed ≡ false
   pub no_lines : HasNoLines (proof_in s)
   pub unchecked : is_checked (proof_in s) ≡ false
 
--- none of the names is refused, in a script state that the solver agrees with
+-- that none of the names is refused, in a script state that the solver agrees with
 abbrev pub IsAllowed : {C : Type 0} → Solver C → List ℕ → Type 0
 IsAllowed s user = (j : ScriptState) × (live : Live) × NamesAgree s.names (steps_in s) j live × (refused_literal j (names_in user) ≡ None)
 
--- a variable is lacking for a name that would be introduced with these
+-- that there are not enough variables for the names that would be introduced for these
 abbrev pub LacksRoom : {C : Type 0} → Solver C → (users : List ℕ) → Type 0
 LacksRoom s users = HasVariablesFor s.names users → ⊥
 
--- so it was refused
+-- that the names were refused because there are not enough variables for them
 abbrev pub RefusedForRoom : {C : Type 0} → Solver C → Solver C → (users : List ℕ) → Type 0
 RefusedForRoom old new users = LacksRoom old users × (new ≡ old)
 
--- The command lacks variables for its names, after the steps that were made for it. With it, the judge would have given out more identities
--- than there are variables.
+-- That the command lacks variables for its names, after the steps that were made for it. After it, there would be more identities than there
+-- can be variables.
 abbrev pub LacksFor : {C : Type 0} → Solver C → Solver C → Command → Type 0
 LacksFor old new c = (j : ScriptState) (live : Live) → NamesAgree old.names (steps_in old) j live
     → (var_limit < (accepted c j).identity_count) × CommandLacks j c (steps_in new)
 
--- from now on a search makes at most `budget` rounds
+-- that a search makes at most `budget` rounds from now on
 pub record Limited {C : Type 0} (budget : ℕ) (old new : Solver C) : Type 0 where
   pub ready : IsReadySolver new
   pub limit : new.core.config.max_steps ≡ budget
@@ -108,19 +109,19 @@ pub record Limited {C : Type 0} (budget : ℕ) (old new : Solver C) : Type 0 whe
   pub assumed : new.assumed ≡ old.assumed
   pub rounds : new.clock.rounds ≡ old.clock.rounds
 
--- what is known, as an answer
+-- that the answer is what the solver's state says
 abbrev pub AnswerIs : State → Answer → Type 0
 AnswerIs states.Unknown answer = answer ≡ kind.Unknown
 AnswerIs states.Sat answer = answer ≡ kind.Sat
 AnswerIs states.UnsatUnderAssumptions answer = answer ≡ kind.Unsat
 AnswerIs states.Unsat answer = answer ≡ kind.Unsat
 
--- a search came to this answer
+-- that a search led to this answer
 pub record Solved {C : Type 0} (seen : C → Writer) (answer : Answer) (old new : Solver C) : Type 0 where
   pub answered : Answered seen old new
   pub answer_is : AnswerIs new.state answer
 
--- with at most `budget` rounds, of which it made some
+-- that a search with at most `budget` rounds led to the reported answer, in the reported number of rounds
 pub record Searched {C : Type 0} (seen : C → Writer) (budget : ℕ) (report : AskReport) (old new : Solver C) : Type 0 where
   pub mid : Solver C
   pub limited : Limited budget old mid

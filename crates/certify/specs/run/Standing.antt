@@ -25,18 +25,18 @@ use Rattle.certify.specs.run.SolverCalls.{FaultSays, IsCaused, IsReadySolver, La
 use Rattle.certify.specs.run.Serving.{RunPlace, Serves}
 use Rattle.certify.specs.run.Quiet.{Solver}
 
--- the script state is this, whatever names say of it
+-- that the script state of the solver is `j`, which satisfies the invariant
 pub record AgreesWithState {C : Type 0} (s : Solver C) (j : ScriptState) (live : Live) : Type 0 where
   pub agree : NamesAgree s.names (steps_in s) j live
   pub kept : ScriptStateInvariant j
 
--- a run between commands, in this script state
+-- that a run is between commands, in this script state
 pub record HasStateBetweenCommands {C : Type 0} (s : RunState C) (j : ScriptState) : Type 0 where
   pub live : Live
   pub means : AgreesWithState s.solver j live
   pub names : NamesHaveState s.names j
 
--- a run between commands, with nothing assumed
+-- that a run is between commands, without assumptions
 pub record RunGoesOn {C : Type 0} (s : RunState C) : Type 0 where
   pub ready : IsReadySolver s.solver
   pub free : s.solver.assumed.items ≡ []
@@ -44,23 +44,23 @@ pub record RunGoesOn {C : Type 0} (s : RunState C) : Type 0 where
   pub judge : ScriptState
   pub at : HasStateBetweenCommands s judge
 
--- the place of a run, by the script state
+-- the place of a run in this script state
 abbrev pub place_in : {C : Type 0} → RunState C → ScriptState → RunPlace
 place_in s j = record { judge = j; number = s.commands + 1; steps = steps_in s.solver; rounds = s.solver.clock.rounds }
 
--- where it stood before the last command that came, of which nothing was done yet but counting it
+-- the place of a run before the latest command, which was counted but not processed yet
 abbrev pub last_place : {C : Type 0} → RunState C → ScriptState → RunPlace
 last_place s j = record { judge = j; number = s.commands; steps = steps_in s.solver; rounds = s.solver.clock.rounds }
 
--- the command that is lent, where no name is past the limit
+-- the command that is passed, if no name is past the limit
 abbrev pub spelled_by : Lent → Command
 spelled_by lent = command_of (kind_of lent.kind) (named_literals lent.literals.now)
 
--- it is not refused in any script state that has these names
+-- that the command is not refused in any script state that has these names
 abbrev pub NamesAllow : Names → Command → Type 0
 NamesAllow names c = (j : ScriptState) → NamesHaveState names j → refusal_of j c ≡ None
 
--- solver and answers carried out the last command; what it does to the names is stated apart
+-- that solver and answers carried out the latest command; its effect on the names is stated separately
 pub record CarriedOut {C : Type 0} (seen : C → Writer) (old new : RunState C) (c : Command) (before after : Writer) : Type 0 where
   pub ready : IsReadySolver new.solver
   pub free : new.solver.assumed.items ≡ []
@@ -76,7 +76,7 @@ pub record CarriedOut {C : Type 0} (seen : C → Writer) (old new : RunState C) 
       → (then : Live) × NamesAgree new.solver.names (steps_in new.solver) (accepted c j) then
       × Serves old.budget (last_place old j) (place_in new (accepted c j)) (c ∷ []) text reports 0
 
--- a command was refused, the last that came
+-- that the latest command was refused
 pub record Refused {C : Type 0} (old new : RunState C) (why : Refusal) (before after : Writer) : Type 0 where
   pub told : WriterTakes before after (refused_line old.commands why)
   pub solver : new.solver ≡ old.solver
@@ -86,7 +86,7 @@ pub record Refused {C : Type 0} (old new : RunState C) (why : Refusal) (before a
   pub budget : new.budget ≡ old.budget
   pub asks : new.asks ≡ old.asks
 
--- the next command was served: refused, or taken
+-- that the next command was served: it was refused or carried out
 pub record ServedNext {C : Type 0} (seen : C → Writer) (old new : RunState C) (c : Command) (before after : Writer) : Type 0 where
   pub goes_on : RunGoesOn new
   pub took : ComesBySteps seen (proof_in old.solver) (proof_in new.solver)
@@ -101,27 +101,27 @@ pub record ServedNext {C : Type 0} (seen : C → Writer) (old new : RunState C) 
   pub serves : (j : ScriptState) → HasStateBetweenCommands old j
       → HasStateBetweenCommands new (after_command c j) × Serves old.budget (place_in old j) (place_in new (after_command c j)) (c ∷ []) text reports refused
 
--- If the last command, which isn't refused, wasn't carried out, a prefix of right answers to it and to the rest was written.
+-- That if the latest command, which is not refused, was not carried out, a prefix of correct answers to it and to the rest was written.
 abbrev pub StopsCarrying : {T C : Type 0} → Result T RunFault → RunState C → Command → Reading → Writer → Writer → Type 0
 StopsCarrying r old c left before after =
     OnErr r ((j : ScriptState) (live : Live) → AgreesWithState old.solver j live → refusal_of j c ≡ None
     → TookAnswersFront old.budget old.solver.clock.rounds old.commands j (onto_commands (c ∷ []) left) before after)
 
--- the same of a script that wasn't served from here on
+-- that if a script was not served from here on, a prefix of correct answers to it was written
 abbrev pub StopsOver : {T C : Type 0} → Result T RunFault → RunState C → Reading → Writer → Writer → Type 0
 StopsOver r old script before after =
     OnErr r ((j : ScriptState) → HasStateBetweenCommands old j → TookAnswersFront old.budget old.solver.clock.rounds (old.commands + 1) j script before after)
 
--- why the last command, which isn't refused, wasn't carried out, but for devices and memory
+-- why the latest command, which is not refused, was not carried out, except for device and allocation failures
 abbrev pub CausedBy : {T C : Type 0} → Result T RunFault → RunState C → RunState C → Command → Type 0
 CausedBy r old new c = IfErr r (λ e. IsCaused e (HasFullStore new.solver) (LacksFor old.solver new.solver c))
 
--- the same of a script that wasn't served from here on
+-- why a script was not served from here on, except for device and allocation failures
 abbrev pub CausedOver : {T C : Type 0} → Result T RunFault → RunState C → RunState C → Reading → Type 0
 CausedOver r old new script =
     IfErr r (λ e. IsCaused e (HasFullStore new.solver) ((j : ScriptState) → HasStateBetweenCommands old j → Exceeds old.commands j script (steps_in new.solver)))
 
--- what a part of a run did to the answers' writer and to the certificate: one call of one of them may have failed
+-- the effect of a part of a run on the answers' writer and on the certificate: one call of one of these writers may have failed
 abbrev pub WritesBoth : {T C : Type 0} → Result T RunFault → (C → Writer) → Writer → Writer → Solver C → Solver C → Type 0
 WritesBoth r seen before after old new = MatchResult r
     (λ _. NoneFailed before after × ComesBySteps seen (proof_in old) (proof_in new))

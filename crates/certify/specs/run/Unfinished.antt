@@ -1,4 +1,4 @@
--- What a run that wasn't finished has written of the answers, and what any run has written of its certificate.
+-- What an unfinished run has written of the answers, and what any run has written of its certificate.
 use Rattle.std.specs.Prelude.{ℕ, ◌+◌, ◌-◌, ◌^◌, ◌<◌, ◌≤◌, ◌≡◌, ◌⊎◌, List, [], ◌∷◌, ◌++◌, map, length}
 use Rattle.std.specs.Io.KnownBytes.{Appends}
 use Rattle.sat_base.specs.device.Device.{Reader, Writer, CanFollow, GaveFront}
@@ -18,49 +18,49 @@ use Rattle.certify.specs.declared.summary.AskReport.{AskReport}
 use Rattle.certify.specs.run.FinishedRun.{IsBounded, SpendsWithinBudget, answer_kind, identities_given}
 use Rattle.certify.specs.run.Lacking.{OneLacks}
 
--- the writer took these bytes, whether or not a call failed then
+-- that the writer received these bytes, whether or not a call then failed
 pub record TookBytes (old new : Writer) (bytes : List ℕ) : Type 0 where
   pub taken : new.taken ≡ old.taken ++ bytes
   pub told : Appends old.contents new.contents bytes
 
--- `AreSpent` of the first asks: what is said of the rounds of each ask that was answered
+-- that the rounds of the first asks are within their bounds, as in `AreWithinBudget`
 abbrev pub AreSpentSoFar : (budget before : ℕ) → (given : List ℕ) → List AskReport → Type 0
 AreSpentSoFar budget before given [] = Unit {0}
 AreSpentSoFar budget before [] (report ∷ reports) = ⊥
 AreSpentSoFar budget before (n ∷ ns) (report ∷ reports) =
     SpendsWithinBudget budget before report × IsBounded n budget before report × AreSpentSoFar budget (before + report.steps) ns reports
 
--- Right answers to a script begin with these bytes, if its first command has this number and this many rounds were made before. They are the
--- answers to the first asks, in the rounds that are reported: an answer is unknown only if these are exhausted.
+-- That correct answers to a script begin with these bytes. Its first command has number `number`, and `before` rounds were made earlier. The
+-- bytes answer the first asks, in the rounds that are reported. An answer is unknown only if its rounds are exhausted.
 pub record BeginAnswers (budget before number : ℕ) (j : ScriptState) (script : Reading) (bytes : List ℕ) : Type 0 where
   pub told : List Outcome
-  pub later : List Outcome  -- of the other asks, as they might be
+  pub later : List Outcome  -- possible outcomes of the other asks
   pub right : AreRight j (accepted_of j script.0) (told ++ later)
-  -- whatever they are
+  -- whatever the outcomes of the other asks are
   pub begins : (others : List Outcome) → length others ≡ length later
       → (behind : List ℕ) × (answers_from number j script.0 script.1 (told ++ others) ≡ bytes ++ behind)
   pub reports : List AskReport
   pub kinds : map (λ r. r.answer) reports ≡ map answer_kind told
   pub spent : AreSpentSoFar budget before (identities_given j (accepted_of j script.0)) reports
 
--- the writer took a prefix of them, and nothing else
+-- that the writer received a prefix of correct answers, and nothing else
 pub record TookAnswersFront (budget before number : ℕ) (j : ScriptState) (script : Reading) (old new : Writer) : Type 0 where
   pub bytes : List ℕ
   pub took : TookBytes old new bytes
   pub front : BeginAnswers budget before number j script bytes
 
--- a reader gave a prefix of a text of which this is so, whatever follows
+-- that a reader gave a prefix of a text that satisfies P, whatever bytes could follow
 pub record GaveFrontOf (old new : Reader) (P : List ℕ → Type 0) : Type 0 where
   pub text : List ℕ
   pub front : GaveFront old new text
   pub holds : (rest : List ℕ) → CanFollow old new rest → P (text ++ rest)
 
--- the writer took a prefix of right answers to the text that the reader gave, whatever follows in it
+-- that the writer received a prefix of correct answers to the text that the reader gave, whatever bytes could follow
 abbrev pub Unfinished : ℕ → Reader × Reader → Writer × Writer → Type 0
 Unfinished budget script answers = GaveFrontOf script.0 script.1 (λ text. TookAnswersFront budget 0 1 start (reading text) answers.0 answers.1)
 
--- The writer took a prefix of the text of these steps, and nothing else. A checker accepts each of them in its turn. They are what is written
--- for those that were made, with widths for their hashes. Lists have the newest first.
+-- That the writer received a prefix of the text of `steps`, and nothing else. A checker accepts each of them after the earlier ones. They are
+-- what is written for the steps in `made`, with widths for their hashes. Both lists have the newest first.
 pub record StepsFront (old new : Writer) : Type 0 where
   pub made : List Step
   pub steps : List Step
@@ -72,21 +72,21 @@ pub record StepsFront (old new : Writer) : Type 0 where
   pub whole : text_in Varisat steps ≡ bytes ++ behind
   pub took : TookBytes old new bytes
 
--- there are such steps
+-- that `StepsFront` holds for some steps
 abbrev pub TookSteps : Writer × Writer → Type 0
 TookSteps certificate = ∥ StepsFront certificate.0 certificate.1 ∥₁
 
--- After so many commands, these are more than are counted; or one of them lacks variables for its names, after these steps. The judge gives
--- out more identities then than there are variables.
+-- That after `count` commands, there are more commands than can be counted, or one of them lacks variables for its names after these steps. In
+-- the latter case there are more identities than there can be variables.
 abbrev pub Exceeds : (count : ℕ) → ScriptState → Reading → List Step → Type 0
 Exceeds count j script steps =
     (2 ^ 64 - 1 ≤ count + length script.0) ⊎ ((var_limit < (after_script script.0 j).identity_count) × OneLacks j script.0 steps)
 
--- the same of a script, after the steps of whose text the writer took a prefix
+-- that `Exceeds` holds for a script from its start, after steps of whose text the writer received a prefix
 abbrev pub ExceedsWritten : Reading → Writer × Writer → Type 0
 ExceedsWritten script certificate = (2 ^ 64 - 1 ≤ length script.0)
     ⊎ ∥ ((k : StepsFront certificate.0 certificate.1) × (var_limit < (after_script script.0 start).identity_count) × OneLacks start script.0 k.made) ∥₁
 
--- so, whatever follows what the reader gave of the script
+-- that `ExceedsWritten` holds, whatever bytes could follow what the reader gave
 abbrev pub CounterEnds : Reader × Reader → Writer × Writer → Type 0
 CounterEnds script certificate = GaveFrontOf script.0 script.1 (λ text. ExceedsWritten (reading text) certificate)

@@ -1,4 +1,4 @@
--- Readers whose bytes are read ahead of need.
+-- Readers whose bytes are read ahead.
 use Rattle.std.specs.Prelude.{ℕ, ◌+◌, ◌-◌, ◌≡◌, Bool, true, false, List, [], take, drop, Result, Ok, Err}
 use Rattle.std.specs.Io.KnownBytes.{IsAtEnd}
 use Rattle.sat_base.specs.device.Device.{Reader}
@@ -7,37 +7,37 @@ use Rattle.sat_base.specs.declared.device.whole.ReadError.{ReadError}
 use Rattle.sat_base.specs.declared.device.whole.ReadError.TheVariants as errors
 use Rattle.certify.specs.declared.script.ahead.LastPiece.{LastPiece}
 
--- the bytes read and not yet taken
+-- the bytes that were read but not consumed yet
 abbrev pub waiting_bytes : LastPiece → List ℕ
 waiting_bytes a = take (a.end - a.at) (drop a.at a.piece)
 
--- a reader, and what was read of it
+-- a reader, and the bytes read ahead from it
 abbrev pub source_in : {R : Type 0} → (R → Reader) → R → LastPiece → Source
 source_in seen r a = record { reader = seen r; waiting = waiting_bytes a; reads = a.reads; names = [] }
 
--- another chunk was read, and its length was returned: 0 only at the end
+-- that another chunk was read, and its length was returned: 0 only at the end
 abbrev pub RefillsAhead : Result ℕ ReadError → Source → Source → Type 0
 RefillsAhead (Ok n) old new = ConsumesWithReads (none_given n) old new [] × (n ≡ 0 → AllTaken new)
 RefillsAhead (Err errors.Failed) old new = ConsumesAndFails old new []
 RefillsAhead (Err errors.OutOfMemory) old new = ⊥
 
--- it isn't at its end
+-- that the reader is not at its end
 abbrev pub IsNotAtEnd : Source → Type 0
 IsNotAtEnd s = AtEnd s → ⊥
 
--- Some bytes were taken. Where the reader isn't to go on, the end was perhaps found.
+-- That some bytes were consumed. If the flag is false, the end may have been found.
 abbrev pub TakesSome : Bool → Source → Source → Type 0
 TakesSome true old new = (text : List ℕ) × ConsumesBytes old new text
 TakesSome false old new = ((text : List ℕ) × ConsumesWithReads 1 old new text) × (AtEnd new → IsAtEnd new.reader.to_come)
 
--- some bytes were taken, and then perhaps the end was found, or looked for
+-- that some bytes were consumed, and then the reader may have been read once more
 abbrev pub TakesSomeOrEnds : Source → Source → Type 0
 TakesSomeOrEnds old new = (text : List ℕ) × ConsumesWithReads 1 old new text
 
--- no read failed, and there were no more than it counts
+-- that no read failed, and every call is counted
 abbrev pub NoReadFailedAhead : Source → Source → Type 0
 NoReadFailedAhead old new = (new.reader.failures ≡ old.reader.failures) × (new.reader.calls + old.reads ≡ old.reader.calls + new.reads)
 
--- one did, or there were 2^48
+-- that a read failed, or there were already 2^48 reads
 abbrev pub FaultsAhead : Source → Source → Type 0
 FaultsAhead old new = (text : List ℕ) × ConsumesAndFails old new text

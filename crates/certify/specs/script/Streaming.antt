@@ -1,4 +1,4 @@
--- How a script is read command by command, whatever would follow.
+-- How a script is read command by command, whatever bytes could follow.
 use Rattle.std.specs.Prelude.{ℕ, ◌+◌, ◌-◌, ◌*◌, ◌<◌, ◌≡◌, Bool, true, false, Option, Some, None, List, [], ◌++◌, length, Result, Ok, Err}
 use Rattle.sat_base.specs.device.Device.{most_reads, piece_size}
 use Rattle.sat_base.specs.device.Reading.{Source, ConsumesBytes, ConsumesToEnd}
@@ -17,19 +17,19 @@ use Rattle.certify.specs.declared.script.stream.CommandStream.{CommandStream}
 use Rattle.certify.specs.declared.script.stream.Next.{Next}
 use Rattle.certify.specs.declared.script.stream.Next.TheVariants as next
 
--- bytes that were read ahead were consumed, at least one if there were any; this is what they led to
+-- That bytes that were read ahead were consumed, at least one if there were any. The result is the effect of these bytes.
 abbrev pub TakesWaiting : {E : Type 0} → Result Reached E → CommandStream → CommandStream → Type 0
 TakesWaiting (Ok r) old new = (text : List ℕ) × (waiting_bytes old.ahead ≡ text ++ waiting_bytes new.ahead) × (new.ahead.reads ≡ old.ahead.reads)
     × (0 < length (waiting_bytes old.ahead) → 0 < length text) × TakesBytes r old.reader text new.reader
 TakesWaiting (Err e) old new = new.ahead ≡ old.ahead
 
--- the text has ended
+-- the effect of the end of the text
 abbrev pub FinishesText : Next → ScriptReader → ScriptReader → Type 0
 FinishesText next.Command old new = ⊥
 FinishesText (next.Last e) old new = (asks : Bool) (before : List ℕ → Reading) → MeansIf asks old before → EndsLast asks true e new (before [])
 FinishesText (next.End e) old new = (asks : Bool) (before : List ℕ → Reading) → MeansIf asks old before → EndsLast asks false e new (before [])
 
--- A command was read, and the text goes on; or the last command was read; or none is left, and the text ends so.
+-- That a command was read and the text continues, or the last command was read, or no command is left and the text has this end.
 abbrev pub Arrives : Next → Source → Source → ScriptReader → ScriptReader → Type 0
 Arrives next.Command a b old new = (text : List ℕ) × ConsumesBytes a b text × (0 < length text) × TakesBytes reached.Command old text new
 Arrives (next.Last e) a b old new =
@@ -39,24 +39,24 @@ Arrives (next.End e) a b old new =
     TakesSome false a b × ((asks : Bool) (before : List ℕ → Reading) → MeansIf asks old before
     → (total : List ℕ) → Covers b total → before (rest_in total a) ≡ end_if asks e)
 
--- so, or nothing came of the bytes yet
+-- that `Arrives` holds, or the bytes read so far have not completed a command
 abbrev pub Brings : Result (Option Next) ReadError → Source → Source → ScriptReader → ScriptReader → Type 0
 Brings (Ok None) a b old new = (text : List ℕ) × ConsumesBytes a b text × ((asks : Bool) → Follows (MeansIf asks) old text new)
 Brings (Ok (Some n)) a b old new = Arrives n a b old new
 Brings (Err errors.Failed) a b old new = FaultsAhead a b
 Brings (Err errors.OutOfMemory) a b old new = TakesSome true a b
 
--- the same once something came of the bytes
+-- that `Arrives` holds or, with an error, that reading failed or memory ran out
 abbrev pub NextComes : Result Next ReadError → Source → Source → ScriptReader → ScriptReader → Type 0
 NextComes (Ok n) a b old new = Arrives n a b old new
 NextComes (Err errors.Failed) a b old new = FaultsAhead a b
 NextComes (Err errors.OutOfMemory) a b old new = TakesSome true a b
 
--- how many more times something can come of its bytes at most
+-- the largest number of further calls that can consume bytes
 abbrev pub turns_left : LastPiece → ℕ
 turns_left a = (piece_size + 1) * (most_reads - a.reads) + length (waiting_bytes a)
 
--- where nothing came of them, fewer are left
+-- that `turns_left` decreases if no command was completed
 abbrev pub LeavesFewerTurns : {A E : Type 0} → Result (Option A) E → LastPiece → LastPiece → Type 0
 LeavesFewerTurns (Ok None) old new = turns_left new < turns_left old
 LeavesFewerTurns (Ok (Some x)) old new = Unit {0}

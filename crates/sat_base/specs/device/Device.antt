@@ -2,15 +2,15 @@
 use Rattle.std.specs.Prelude.{Bool, true, false, Option, ◌≡◌, ℕ, ◌+◌, ◌^◌, ◌≤◌, ◌<◌, ◌⊎◌, List, [], ◌∷◌, length, ◌++◌, take, Result, MatchResult, if◌then◌else◌, ◌&&◌, nat_eq, nat_lt, is_ok}
 use Rattle.std.specs.Io.KnownBytes.{Consumes, IsAtEnd, ReadConsumes, Appends, WriteAppends, Keeps}
 
--- what contracts see of a reader
+-- the state of a reader, as contracts describe it
 pub record Reader : Type 0 where
   pub to_come : Option (List ℕ)  -- the bytes still to come, if they are known
-  pub given : List ℕ  -- all bytes that it has given, to any caller
-  pub ended : Bool  -- the last read gave nothing though there was room
-  pub failed : Bool  -- the last call failed
+  pub given : List ℕ  -- all bytes that the reader has given, to any caller
+  pub ended : Bool  -- whether the last read gave nothing although there was room
+  pub failed : Bool  -- whether the last call failed
   pub failures : ℕ
   pub calls : ℕ
-  pub loans : List ℕ  -- the borrows through which it is lent, the latest first
+  pub loans : List ℕ  -- the chain of borrows through which the reader was passed, latest first
 
 -- what contracts see of a writer
 pub record Writer : Type 0 where
@@ -33,7 +33,7 @@ lent_writer name w = record w { loans = name ∷ w.loans }
 
 -- ONE CALL
 
--- every `Err` is one failed call
+-- that the number of failed calls rises by 1 exactly if the result is an `Err`; `failed` says whether it is
 abbrev pub CountsErr : {T E : Type 0} → Result T E → ℕ → ℕ → Bool → Type 0
 CountsErr r old new failed = MatchResult r (λ _. (new ≡ old) × (failed ≡ false)) (λ _. (new ≡ old + 1) × (failed ≡ true))
 
@@ -47,15 +47,16 @@ CountsWrite r piece old new failed = MatchResult r
     (λ n. (new ≡ (if takes_none n piece then old + 1 else old)) × (failed ≡ takes_none n piece))
     (λ _. (new ≡ old + 1) × (failed ≡ true))
 
--- a call appends the first bytes of the piece to those before it; a failed call appends none
+-- that a call appends the first n bytes of `piece` to `old` if it returns `Ok n`, and nothing if it fails
 abbrev pub AppendsFront : {E : Type 0} → Result ℕ E → List ℕ → List ℕ → List ℕ → Type 0
 AppendsFront r piece old new = MatchResult r (λ n. new ≡ old ++ take n piece) (λ _. new ≡ old)
 
--- a reader is at its end if the last read gave nothing though there was room
+-- that `ended` is true exactly if the call succeeds and gives nothing although there was room
 abbrev pub EndsIfNone : {E : Type 0} → Result ℕ E → List ℕ → Bool → Type 0
 EndsIfNone r piece ended = MatchResult r (λ n. ended ≡ (nat_eq n 0 && nat_lt 0 (length piece))) (λ _. ended ≡ false)
 
--- One read. `room` is the complete buffer after it. If the result is `Ok n`, its first n bytes are those given.
+-- The effect of one read. `room` is the complete buffer after the read. If the result is `Ok n`, the first n bytes of `room` are those that
+-- were read.
 pub record ReadsOnce {E : Type 0} (r : Result ℕ E) (room : List ℕ) (old new : Reader) : Type 0 where
   pub told : ReadConsumes old.to_come new.to_come r room
   pub given : AppendsFront r room old.given new.given
@@ -90,13 +91,13 @@ pub record FlushesOnce {E : Type 0} (r : Result (Unit {0}) E) (old new : Writer)
 
 -- WHAT A READER GAVE
 
--- Between two moments a reader gave this text, and if its bytes are known they were the next ones.
+-- That the reader gave `text` between `old` and `new`. If its bytes still to come were known, they began with `text`.
 pub record GaveFront (old new : Reader) (text : List ℕ) : Type 0 where
   pub gave : new.given ≡ old.given ++ text
   pub told : Consumes old.to_come new.to_come text
   pub loans : new.loans ≡ old.loans
 
--- The number of reads is at most one more than the number of bytes given.
+-- that the number of reads between `old` and `new` is at most one more than the number of bytes given between them
 abbrev pub FewReads : Reader → Reader → Type 0
 FewReads old new = new.calls + length old.given ≤ old.calls + length new.given + 1
 
@@ -115,13 +116,13 @@ pub record GaveAll (old new : Reader) (text : List ℕ) : Type 0 where
   pub few : FewReads old new
   pub loans : new.loans ≡ old.loans
 
--- These bytes could still come. If a read was made since `old`, and the last one found the end, there are none; otherwise they are
--- any bytes.
+-- That the reader could still give the bytes `rest`. If a read was made since `old`, and the last read found the end, `rest` is empty.
+-- Otherwise `rest` can be any bytes.
 abbrev pub CanFollow : Reader → Reader → List ℕ → Type 0
 CanFollow old new rest = old.calls < new.calls → new.ended ≡ true → rest ≡ []
 
--- Between `old` and `new` the reader gave `text`, and P holds of `text` with any bytes that could still come after it. So what was read settles
--- P. If the last read found the end, P holds of `text` itself.
+-- That between `old` and `new` the reader gave a text of which P holds, whatever bytes it could still give. So the bytes read are enough to
+-- establish P. If the last read found the end, P holds of `text` itself.
 pub record GaveEnough (old new : Reader) (P : List ℕ → Type 0) : Type 0 where
   pub text : List ℕ
   pub front : GaveFront old new text

@@ -23,50 +23,50 @@ abbrev pub hand_of : List ℕ → Hand
 hand_of [] = None
 hand_of (l ∷ ls) = Some (l ∷ ls)
 
--- the unfinished clause
+-- the unfinished clause, or `None` if it has no literals
 abbrev pub hand_in : Clauses → Hand
 hand_in clauses = hand_of clauses.hand.items
 
--- the header, if this token is one
+-- the header after a token: the token's numbers if it is a header, otherwise the header so far
 abbrev pub header_behind : Token → Option (ℕ × ℕ) → Option (ℕ × ℕ)
 header_behind (Number negative value) header = header
 header_behind (Letter b) header = header
 header_behind (Header v c) header = Some (v, c)
 header_behind Wrong header = header
 
--- the clauses did not change
+-- that the clauses and their count did not change
 abbrev pub SameClausesAndCount : Clauses → Clauses → Type 0
 SameClausesAndCount old new = (new.formula ≡ old.formula) × (new.count ≡ old.count)
 
--- neither the clauses nor the header changed
+-- that neither the clauses nor their count nor the header changed
 abbrev pub SameClausesAndHeader : Clauses → Clauses → Type 0
 SameClausesAndHeader old new = SameClausesAndCount old new × (new.header ≡ old.header)
 
--- the effect of a turn that is not a fault
+-- the change of the clauses for the effect of a token, which is not a fault
 abbrev pub TakesTokenTurn : Turn → Clauses → Clauses → Type 0
 TakesTokenTurn (GoesOn hand) old new = SameClausesAndCount old new × (hand_in new ≡ hand)
 TakesTokenTurn (Ends clause) old new = (new.formula ≡ with_formula_clause clause old.formula) × (new.count ≡ held (old.count + 1)) × (hand_in new ≡ None)
 TakesTokenTurn (Fails ending) old new = ⊥
 
--- a number that is a literal
+-- whether the token is a literal: a number from 1 up to the limit, of either sign
 abbrev pub is_literal : Token → Bool
 is_literal (Number negative value) = not (nat_eq value 0) && not (nat_lt var_limit value)
 is_literal (Letter b) = false
 is_literal (Header v c) = false
 is_literal Wrong = false
 
--- the token may need memory: it is a literal, or it ends a clause
+-- that the token may need memory: it is a literal, or it ends a clause
 abbrev pub NeedsRoom : Token → Type 0
 NeedsRoom t = (is_literal t ≡ true) ⊎ ((hand : Hand) (n : ℕ) → turn hand n t ≡ Ends (literals_in hand))
 
--- the result for a token, whatever its line
+-- the result of collecting a token, regardless of its line
 abbrev pub CollectsToken : Result (Unit {0}) Refusal → Clauses → Token → Clauses → Type 0
 CollectsToken (Ok u) old t new = ((n : ℕ) → TakesTokenTurn (turn (hand_in old) n t) old new) × (new.header ≡ header_behind t old.header)
 CollectsToken (Err refusal.Malformed) old t new = SameClausesAndHeader old new × ((n : ℕ) → turn (hand_in old) n t ≡ Fails (Malformed n))
 CollectsToken (Err refusal.Limit) old t new = SameClausesAndHeader old new × ((n : ℕ) → turn (hand_in old) n t ≡ Fails (Limit n))
 CollectsToken (Err refusal.OutOfMemory) old t new = SameClausesAndHeader old new × NeedsRoom t
 
--- the flag says whether a clause is unfinished
+-- that the flag is true exactly if a clause is unfinished
 abbrev pub IsInside : Bool → Hand → Type 0
 IsInside false hand = hand ≡ None
 IsInside true hand = (ls : List ℕ) × (hand ≡ Some ls)

@@ -3,7 +3,7 @@ use Rattle.std.specs.Prelude.{ℕ, ◌-◌, ◌≡◌, Bool, false, not, ◌||�
 use Rattle.sat_base.specs.values.Literals.{coded, var_limit}
 use Rattle.sat_base.specs.text.Text.{Token, Number, Letter, Header, Wrong, Scan, scan, is_blank}
 
--- how a formula's text ends: cleanly; at a word that is wrong, or inside a clause; or at a number past the limit. Lines count from 1.
+-- how a formula's text ends: cleanly, at a wrong word or inside a clause, or at a number past the limit; faults have a line, counted from 1
 pub data Ending : Type 0 where
   Clean : Ending
   Malformed : ℕ → Ending
@@ -11,7 +11,7 @@ pub data Ending : Type 0 where
 
 -- the meaning of a formula's text
 pub record Dimacs : Type 0 where
-  pub clauses : List (List ℕ)  -- in order, over codes of literals
+  pub clauses : List (List ℕ)  -- in order; literals are codes
   pub ending : Ending
 
 -- the literals so far of the unfinished clause, or `None` between clauses
@@ -24,29 +24,29 @@ pub data Turn : Type 0 where
   Ends : List ℕ → Turn
   Fails : Ending → Turn
 
--- a single zero is the empty clause
+-- the literals of the unfinished clause, none between clauses
 abbrev pub literals_in : Hand → List ℕ
 literals_in None = []
 literals_in (Some ls) = ls
 
--- a number that is not 0 is a literal, unless it is past the limit
+-- the effect of a number other than 0: a literal, or a fault if it is past the limit
 abbrev pub with_number : Hand → ℕ → Bool → ℕ → Turn
 with_number hand line negative value =
     if nat_lt var_limit value then Fails (Limit line) else GoesOn (Some (literals_in hand ++ coded (value - 1) (not negative) ∷ []))
 
--- a token on this line
+-- the effect of a token on this line
 abbrev pub turn : Hand → ℕ → Token → Turn
 turn hand line (Number negative value) = if nat_eq value 0 then Ends (literals_in hand) else with_number hand line negative value
 turn hand line (Header v c) = GoesOn hand
 turn hand line (Letter b) = Fails (Malformed line)
 turn hand line Wrong = Fails (Malformed line)
 
--- an end inside a clause is malformed, on the last line
+-- the ending if the text ends here: within a clause it is malformed, on the last line
 abbrev pub at_end : Hand → ℕ → Ending
 at_end None last = Clean
 at_end (Some ls) last = Malformed last
 
--- a turn, and then `more` for the tokens after it
+-- the meaning of a text after the effect of a token; `more` gives the meaning of the later tokens
 abbrev pub behind_turn : Turn → (Hand → Dimacs) → Dimacs
 behind_turn (GoesOn hand) more = more hand
 behind_turn (Ends clause) more = record { clauses = clause ∷ (more None).clauses; ending = (more None).ending }
@@ -75,6 +75,6 @@ abbrev pub up_to_last_blank : List ℕ → List ℕ
 up_to_last_blank [] = []
 up_to_last_blank (b ∷ bs) = if has_blank (b ∷ bs) then b ∷ up_to_last_blank bs else []
 
--- the text has these clauses and this ending
+-- that the text has these clauses and this ending
 abbrev pub IsDimacs : List ℕ → List (List ℕ) → Ending → Type 0
 IsDimacs text clauses end = dimacs text ≡ record { clauses = clauses; ending = end }

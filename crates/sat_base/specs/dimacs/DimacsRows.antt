@@ -5,15 +5,15 @@ use Rattle.sat_base.specs.text.Text.{dimacs_header}
 use Rattle.sat_base.specs.dimacs.Dimacs.{Clean, Malformed, Limit, up_to_last_blank, IsDimacs}
 use Rattle.sat_base.specs.dimacs.Parsing.{whole_lines}
 
--- the literals that have these numbers
+-- the positive literal whose variable has this number
 abbrev pub positive_lits : ℕ → ℕ
 positive_lits n = coded (n - 1) true
 
--- the negation of the literal that has this number
+-- the negative literal whose variable has this number
 abbrev pub negative_lit : ℕ → ℕ
 negative_lit n = coded (n - 1) false
 
--- the text's header says these numbers of variables and clauses
+-- that the header of the text gives these numbers of variables and clauses
 abbrev pub HasHeader : List ℕ → ℕ → ℕ → Type 0
 HasHeader text v c = dimacs_header text ≡ Some (v, c)
 

@@ -1,4 +1,4 @@
--- How the clauses of a formula are spelled: a second definition of the texts that read cleanly.
+-- How the clauses of a formula are spelled: a second definition of the texts that end cleanly.
 use Rattle.std.specs.Prelude.{◌≡◌, ℕ, ◌+◌, ◌<◌, ◌↔◌, ◌⊎◌, List, [], ◌∷◌, ◌++◌, map, not}
 use Rattle.std.specs.List.{AllByRecursion}
 use Rattle.sat_base.specs.values.Literals.{var_limit, variable, is_positive}
@@ -7,35 +7,35 @@ use Rattle.sat_base.specs.dimacs.Dimacs.{Ending, Clean, IsDimacs}
 use Rattle.sat_base.specs.script.Language.{spoken}
 use Rattle.sat_base.specs.script.ScriptSpelling.{IsZero}
 
--- the number of a literal's variable, from 1, negative if the literal is
+-- the token of a literal: the number of its variable, counted from 1, negative if the literal is
 abbrev pub signed_number : ℕ → Token
 signed_number l = Number (not (is_positive l)) (variable l + 1)
 
--- their numbers are at most 2^28
+-- that the numbers of all literals are at most 2^28
 abbrev pub AreWithinLimit : List ℕ → Type 0
 AreWithinLimit ls = AllByRecursion (λ l. variable l < var_limit) ls
 
--- a clause is the numbers of its literals and a zero
+-- that the tokens spell the clause: the numbers of its literals, then a zero
 abbrev pub SpellsClause : List ℕ → List Token → Type 0
 SpellsClause ls ts = (last : Token) × IsZero last × AreWithinLimit ls × (ts ≡ map signed_number ls ++ last ∷ [])
 
--- clauses are spelled one after another
+-- that the tokens spell the clauses, one after another
 abbrev pub SpellsClauses : List (List ℕ) → List Token → Type 0
 SpellsClauses [] ts = ts ≡ []
 SpellsClauses (ls ∷ cs) ts = (front : List Token) × (rest : List Token) × SpellsClause ls front × SpellsClauses cs rest
     × (ts ≡ front ++ rest)
 
--- a formula is clauses, and a header may precede them
+-- that the tokens spell the clauses, possibly after a header
 abbrev pub SpellsFormula : List (List ℕ) → List Token → Type 0
 SpellsFormula cs ts = SpellsClauses cs ts
     ⊎ ((vars : ℕ) × (clauses : ℕ) × (rest : List Token) × (ts ≡ Header vars clauses ∷ rest) × SpellsClauses cs rest)
 
--- every text has one list of clauses and one ending
+-- that every text has exactly one list of clauses and one ending
 pub record OneFormula : Type 0 where
   pub some : (text : List ℕ) → (cs : List (List ℕ)) × (end : Ending) × IsDimacs text cs end
   pub one : (text : List ℕ) (cs ds : List (List ℕ)) (d e : Ending)
       → IsDimacs text cs d → IsDimacs text ds e → (cs ≡ ds) × (d ≡ e)
 
--- a text reads cleanly as these clauses exactly if its tokens spell a formula of them
+-- that a text has these clauses and ends cleanly exactly if its tokens spell a formula of these clauses
 abbrev pub CleanIfSpelled : Type 0
 CleanIfSpelled = (text : List ℕ) (cs : List (List ℕ)) → IsDimacs text cs Clean ↔ SpellsFormula cs (spoken (tokens text))

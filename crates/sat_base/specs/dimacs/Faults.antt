@@ -12,40 +12,40 @@ use Rattle.sat_base.specs.dimacs.Dimacs.{Hand, Malformed, Limit, Fails, turn}
 use Rattle.sat_base.specs.dimacs.Parsing.{NoFault, unless_fault, whole_lines, IsSoundText, HasFaultOn}
 use Rattle.sat_base.specs.dimacs.ParserPlaces.{HaveTakenTokens}
 
--- a tokenizer that has received this text, which has no fault so far
+-- the invariant of a tokenizer that has received this text, which has no fault so far
 pub record HasTakenSoundly (text : List ℕ) (machine : Tokenizer) : Type 0 where
   pub before : List (ℕ × Token)  -- the tokens so far
   pub all : List (List ℕ)  -- their clauses
   pub hand : Hand
-  pub left_of : List ℕ → Scan  -- what is still to be read, whatever bytes come
+  pub left_of : List ℕ → Scan  -- how the bytes that follow will be read, for any such bytes
   pub stands : StandsBefore machine left_of
   pub scans : (rest : List ℕ) → scan (text ++ rest) ≡ onto before (left_of rest)
   pub turned : HaveTakenTokens before all hand
   pub sound : NoFault None (tokens (whole_lines text))
   pub right : RightAhead left_of
 
--- a token is not a fault, or is one on this line, whatever clause is unfinished
+-- that a token is not a fault, or is the reported fault on this line, whatever clause is unfinished
 abbrev pub JudgesToken : Result (Unit {0}) DimacsError → ℕ → Token → Type 0
 JudgesToken (Ok u) line t = (hand : Hand) (n : ℕ) → unless_fault (turn hand n t) (λ h. Unit {0})
 JudgesToken (Err (errors.Malformed l)) line t = (l ≡ line) × ((hand : Hand) (n : ℕ) → turn hand n t ≡ Fails (Malformed n))
 JudgesToken (Err (errors.Limit l)) line t = (l ≡ line) × ((hand : Hand) (n : ℕ) → turn hand n t ≡ Fails (Limit n))
 JudgesToken (Err e) line t = ⊥
 
--- a text has no fault so far, or has this one however it continues
+-- that a text has no fault so far, or has the reported fault however the text continues
 abbrev pub FindsFault : Result (Unit {0}) DimacsError → List ℕ → Tokenizer → Type 0
 FindsFault (Ok u) text machine = HasTakenSoundly text machine
 FindsFault (Err (errors.Malformed line)) text machine = HasFaultOn line Malformed text
 FindsFault (Err (errors.Limit line)) text machine = HasFaultOn line Limit text
 FindsFault (Err e) text machine = ⊥
 
--- the error that is returned if memory runs out at the end of this text
+-- the error that is returned if memory runs out at the end of this text: a fault of the text comes first
 abbrev pub OutOfMemoryOrFault : DimacsError → List ℕ → Type 0
 OutOfMemoryOrFault errors.OutOfMemory text = IsSoundText text
 OutOfMemoryOrFault (errors.Malformed line) text = HasFaultOn line Malformed text
 OutOfMemoryOrFault (errors.Limit line) text = HasFaultOn line Limit text
 OutOfMemoryOrFault e text = ⊥
 
--- the next bytes of a text were read, or none since it has ended
+-- that the next bytes of a text were read, or none because the text has ended
 abbrev pub ReadsNext : {E : Type 0} → Result ℕ E → List ℕ → List ℕ → Reader → Reader → Type 0
 ReadsNext {E} (Ok n) room text old new = ReadsOnce {E = E} (Ok n) room old new ⊎ ((n ≡ 0) × (new ≡ old) × HasEnded text)
 ReadsNext {E} (Err e) room text old new = ReadsOnce {E = E} (Err e) room old new

@@ -12,33 +12,33 @@ use Rattle.sat_base.specs.dimacs.Dimacs.{Hand, Dimacs, clauses_of}
 use Rattle.sat_base.specs.dimacs.Collecting.{hand_in}
 use Rattle.sat_base.specs.dimacs.Parsing.{Progress, NoFault, clauses_read, lines_read, whole_lines, held_numbers, last_byte}
 
--- what a caller knows about this parser
+-- what a caller knows about a parser
 abbrev pub progress_of : Parser → Progress
 progress_of p = record { fed = p.history.fed; taken = p.history.taken; stopped = p.stopped; ended = p.ended }
 
--- the result of a call that a parser is lent to, with the parser after the call
+-- the result of a call that borrows a parser, with the parser after the call
 abbrev pub with_parser : {E : Type 0} → Progress → Result (Unit {0}) E → Result Progress E
 with_parser p (Ok u) = Ok p
 with_parser p (Err e) = Err e
 
--- the clauses taken and those not yet taken
+-- all clauses of a parser: those taken, then those not yet taken
 abbrev pub all_in : Parser → List (List ℕ)
 all_in p = p.history.taken ++ p.clauses.formula.clauses
 
--- these clauses before the others
+-- the reading of a formula with the clauses `cs` before its own
 abbrev pub onto_clauses : List (List ℕ) → Dimacs → Dimacs
 onto_clauses cs d = record { clauses = cs ++ d.clauses; ending = d.ending }
 
--- The tokens so far have these clauses, and leave this clause unfinished or none. So the clauses of any continuation come after them.
+-- That the tokens `before` complete the clauses `all` and leave `hand` unfinished. So the clauses of any continuation come after `all`.
 pub record HaveTakenTokens (before : List (ℕ × Token)) (all : List (List ℕ)) (hand : Hand) : Type 0 where
   pub says : (last : ℕ) (ts : List (ℕ × Token)) → clauses_of None last (before ++ ts) ≡ onto_clauses all (clauses_of hand last ts)
   pub sound : (ts : List (ℕ × Token)) → NoFault hand ts → NoFault None (before ++ ts)
 
--- a parser that has not stopped
+-- the invariant of a parser that has not stopped
 pub record IsGoingParser (p : Parser) : Type 0 where
   pub ended : p.ended ≡ false
   pub before : List (ℕ × Token)  -- the tokens so far
-  pub left_of : List ℕ → Scan  -- what is still to be read, whatever bytes come
+  pub left_of : List ℕ → Scan  -- how the bytes that follow will be read, for any such bytes
   pub stands : StandsBefore p.tokenizer left_of
   pub scans : (rest : List ℕ) → scan (p.history.fed ++ rest) ≡ onto before (left_of rest)
   pub turned : HaveTakenTokens before (all_in p) (hand_in p.clauses)
@@ -55,7 +55,7 @@ pub record IsParser (p : Parser) : Type 0 where
   pub header : p.clauses.header ≡ held_numbers (dimacs_header (lines_read (progress_of p)))
   pub goes : p.stopped ≡ false → IsGoingParser p
 
--- the result of the end of the text after its last word: within a clause it is malformed
+-- the effect of the end of the text after its last word: within a clause, the text is malformed
 abbrev pub EndsClean : Result (Unit {0}) DimacsError → Parser → Type 0
 EndsClean (Ok u) p = hand_in p.clauses ≡ None
 EndsClean (Err (errors.Malformed line)) p =

@@ -1,4 +1,4 @@
--- What a parser of formulas' texts does with the bytes that it is fed.
+-- The effect of the bytes that a parser of formulas is fed.
 use Rattle.std.specs.Borrow.{MutBor}
 use Rattle.std.specs.Io.KnownBytes.{IsAtEnd}
 use Rattle.std.specs.List.{FoldsTo, concat}
@@ -16,40 +16,40 @@ use Rattle.sat_base.specs.declared.dimacs.error.DimacsError.TheVariants as error
 
 -- what a caller knows about a parser
 pub record Progress : Type 0 where
-  pub fed : List ℕ  -- the bytes that it accepted
-  pub taken : List (List ℕ)  -- the clauses that were taken from it
-  pub stopped : Bool  -- it accepts no more bytes
-  pub ended : Bool  -- the text has ended: it was finished, or has a fault
+  pub fed : List ℕ  -- the bytes that the parser accepted
+  pub taken : List (List ℕ)  -- the clauses that were taken from the parser
+  pub stopped : Bool  -- whether the parser accepts no more bytes
+  pub ended : Bool  -- whether the text has ended: it was finished, or has a fault
 
--- a new parser's: no byte was accepted
+-- the progress of a new parser, which has accepted no byte
 abbrev pub no_progress : Progress
 no_progress = record { fed = []; taken = []; stopped = false; ended = false }
 
--- with more bytes accepted
+-- the progress after more bytes were accepted
 abbrev pub with_fed : List ℕ → Progress → Progress
 with_fed bytes p = record p { fed = p.fed ++ bytes }
 
--- stopped since memory ran out
+-- the progress after the parser stopped because memory ran out
 abbrev pub cut_short : Progress → Progress
 cut_short p = record p { stopped = true }
 
--- stopped since the text has ended
+-- the progress after the parser stopped because the text has ended
 abbrev pub at_its_end : Progress → Progress
 at_its_end p = record p { stopped = true; ended = true }
 
--- the bytes whose words have ended: up to the last blank, or all if the text has ended
+-- the bytes whose words have ended: up to the last blank, or all bytes if the text has ended
 abbrev pub words_read : Progress → List ℕ
 words_read p = if p.ended then p.fed else up_to_last_blank p.fed
 
--- the clauses read
+-- the clauses read so far
 abbrev pub clauses_read : Progress → List (List ℕ)
 clauses_read p = (dimacs (words_read p)).clauses
 
--- with every clause that was read so far taken
+-- the progress after every clause read so far was taken
 abbrev pub all_taken : Progress → Progress
 all_taken p = record p { taken = clauses_read p }
 
--- whether LF is among these bytes
+-- whether any of these bytes is LF
 abbrev pub has_LF : List ℕ → Bool
 has_LF [] = false
 has_LF (b ∷ bs) = nat_eq b 10 || has_LF bs
@@ -59,7 +59,7 @@ abbrev pub whole_lines : List ℕ → List ℕ
 whole_lines [] = []
 whole_lines (b ∷ bs) = if has_LF (b ∷ bs) then b ∷ whole_lines bs else []
 
--- the bytes whose lines have ended, or all if the text has ended
+-- the bytes whose lines have ended, or all bytes if the text has ended
 abbrev pub lines_read : Progress → List ℕ
 lines_read p = if p.ended then p.fed else whole_lines p.fed
 
@@ -68,44 +68,44 @@ abbrev pub held_numbers : Option (ℕ × ℕ) → Option (ℕ × ℕ)
 held_numbers None = None
 held_numbers (Some h) = Some (held h.0, held h.1)
 
--- however the text continues, its clauses are those already read, and it has this ending
+-- that, however the text continues, its clauses are those already read, and it has this ending
 abbrev pub EndsAt : Ending → Progress → Type 0
 EndsAt ending p = (rest : List ℕ) → dimacs (p.fed ++ rest) ≡ record { clauses = clauses_read p; ending = ending }
 
--- the turn is not a fault, and `more` holds for the unfinished clause after it, or for none
+-- that the effect of a token is not a fault, and `more` holds for the unfinished clause after the token
 abbrev pub unless_fault : Turn → (Hand → Type 0) → Type 0
 unless_fault (GoesOn hand) more = more hand
 unless_fault (Ends clause) more = more None
 unless_fault (Fails ending) more = ⊥
 
--- no token is a fault after this unfinished clause, or after none
+-- that none of the tokens is a fault, starting from this unfinished clause or none
 abbrev pub NoFault : Hand → List (ℕ × Token) → Type 0
 NoFault hand [] = Unit {0}
 NoFault hand (t ∷ ts) = unless_fault (turn hand t.0 t.1) (λ h. NoFault h ts)
 
--- no complete line of a text has a fault, and the text can continue without a wrong word
+-- that no complete line of a text has a fault, and the text can continue without a wrong word
 pub record IsSoundText (text : List ℕ) : Type 0 where
   pub lines : NoFault None (tokens (whole_lines text))
   pub words : RightAhead (λ rest. scan (text ++ rest))
 
--- the same for the bytes that a parser has accepted
+-- that `IsSoundText` holds for the bytes that a parser has accepted
 abbrev pub IsSoundSoFar : Progress → Type 0
 IsSoundSoFar p = IsSoundText p.fed
 
--- the same for what a reader gave, which also ends cleanly if its end was found
+-- that `IsSoundText` holds for what a reader gave, and the text ends cleanly if the reader found its end
 abbrev pub GaveSound : Reader → Reader → Type 0
 GaveSound old new = (text : List ℕ) × GaveFront old new text × IsSoundText text
     × (old.calls < new.calls → new.ended ≡ true → (dimacs text).ending ≡ Clean)
 
--- after a line that ends the text, there are fewer bytes than one read can give
+-- that after a line that ends the text, there are fewer bytes than one read can give
 abbrev pub EndsInLastPiece : List ℕ → Type 0
 EndsInLastPiece text = (front rest : List ℕ) → text ≡ front ++ rest → HasEnded front → length rest < piece_size
 
--- the same for the bytes given: nothing was read after that line
+-- that `EndsInLastPiece` holds for what a reader gave: nothing was read after the line that ends the text
 abbrev pub StopsReading : Reader → Reader → Type 0
 StopsReading old new = (text : List ℕ) × GaveFront old new text × EndsInLastPiece text
 
--- a prefix of the piece was accepted, up to and including a fault
+-- that a prefix of the piece was accepted, up to and including a fault
 pub record EndsAtFault (ending : Ending) (piece : List ℕ) (old new : Progress) : Type 0 where
   pub front : List ℕ
   pub behind : List ℕ
@@ -113,11 +113,11 @@ pub record EndsAtFault (ending : Ending) (piece : List ℕ) (old new : Progress)
   pub progress : new ≡ at_its_end (with_fed front old)
   pub ends : EndsAt ending new
 
--- the last byte of a text, LF if there is none
+-- the last byte of a text, or LF if the text is empty
 abbrev pub last_byte : List ℕ → ℕ
 last_byte text = get_or text (length text - 1) 10
 
--- the last word of the complete text is a number, and this text ends with the last byte of it
+-- that the last word of the complete text `whole` is a number, and `text` ends with the last byte of that number
 pub record EndsNumber (text whole : List ℕ) : Type 0 where
   pub in_word : is_blank (last_byte text) ≡ false
   pub before : List (ℕ × Token)
@@ -125,19 +125,19 @@ pub record EndsNumber (text whole : List ℕ) : Type 0 where
   pub value : ℕ
   pub number : tokens whole ≡ before ++ ((scan whole).last, Number negative value) ∷ []
 
--- after this text the byte is a blank that ends a number, and no word up to there is a fault
+-- that `byte` is a blank that ends a number after this text, and no word so far is a fault
 pub record GoesWell (text : List ℕ) (byte : ℕ) : Type 0 where
   pub blank : is_blank byte ≡ true
   pub number : EndsNumber text (text ++ byte ∷ [])
   pub sound : NoFault None (tokens (text ++ byte ∷ []))
 
--- the text ends cleanly, with a number, which is then a zero, and no line that begins with `%` has ended it before
+-- that the text ends cleanly with a number, which is then a zero, and no line that begins with `%` has ended it earlier
 pub record EndsWell (text : List ℕ) : Type 0 where
   pub number : EndsNumber text text
   pub clean : (dimacs text).ending ≡ Clean
   pub goes_on : HasEnded text → ⊥
 
--- a prefix of the piece was accepted, and memory ran out at the next byte
+-- that a prefix of the piece was accepted, and memory ran out at the next byte
 pub record FallsShort (piece : List ℕ) (old new : Progress) : Type 0 where
   pub front : List ℕ
   pub byte : ℕ
@@ -146,16 +146,16 @@ pub record FallsShort (piece : List ℕ) (old new : Progress) : Type 0 where
   pub progress : new ≡ cut_short (with_fed front old)
   pub well : GoesWell (old.fed ++ front) byte
 
--- a text has a fault on this line, however it continues
+-- that a text has a fault on this line, however the text continues
 abbrev pub HasFaultOn : ℕ → (ℕ → Ending) → List ℕ → Type 0
 HasFaultOn line ending text = (n : ℕ) × (line ≡ held n) × ((rest : List ℕ) → (dimacs (text ++ rest)).ending ≡ ending n)
 
--- whether a line that begins with `%` has ended the text of a parser that has not stopped
+-- that the flag says whether the parser has not stopped and a line that begins with `%` has ended its text
 abbrev pub SaysEnded : Bool → Progress → Type 0
 SaysEnded true p = (p.stopped ≡ false) × HasEnded p.fed
 SaysEnded false p = (p.stopped ≡ true) ⊎ (HasEnded p.fed → ⊥)
 
--- the result of `feed` for a piece
+-- the effect of `feed` for a piece
 abbrev pub FeedsPiece : Result (Unit {0}) DimacsError → List ℕ → Progress → Progress → Type 0
 FeedsPiece (Ok u) piece old new = (old.stopped ≡ false) × (new ≡ with_fed piece old)
 FeedsPiece (Err (errors.Malformed line)) piece old new =
@@ -165,7 +165,7 @@ FeedsPiece (Err errors.OutOfMemory) piece old new = (old.stopped ≡ false) × F
 FeedsPiece (Err errors.HasFailed) piece old new = (old.stopped ≡ true) × (new ≡ old)
 FeedsPiece (Err errors.Read) piece old new = ⊥
 
--- the result of `finish`
+-- the effect of `finish`
 abbrev pub Finishes : Result (Unit {0}) DimacsError → Progress → Progress → Type 0
 Finishes (Ok u) old new = (old.stopped ≡ false) × (new ≡ at_its_end old) × ((dimacs old.fed).ending ≡ Clean)
 Finishes (Err (errors.Malformed line)) old new = (old.stopped ≡ false) × (new ≡ at_its_end old) × (n : ℕ) × (line ≡ held n)
@@ -176,7 +176,7 @@ Finishes (Err errors.OutOfMemory) old new = (old.stopped ≡ false) × (new ≡ 
 Finishes (Err errors.HasFailed) old new = (old.stopped ≡ true) × (new ≡ old)
 Finishes (Err errors.Read) old new = ⊥
 
--- The piece is refused: it has a fault, however the text continues; or memory ran out within it, and it has no fault.
+-- Why a piece is refused: it has a fault, however the text continues; memory ran out within it, and it has no fault; or the parser has stopped.
 abbrev pub RefusesPiece : DimacsError → List ℕ → Progress → Type 0
 RefusesPiece (errors.Malformed line) piece old = HasFaultOn line Malformed (old.fed ++ piece)
 RefusesPiece (errors.Limit line) piece old = HasFaultOn line Limit (old.fed ++ piece)
@@ -184,7 +184,7 @@ RefusesPiece errors.OutOfMemory piece old = ((new : Progress) × FallsShort piec
 RefusesPiece errors.HasFailed piece old = old.stopped ≡ true
 RefusesPiece errors.Read piece old = ⊥
 
--- memory ran out where a number of the text ends, and no word up to there is a fault
+-- that memory ran out where a number of the text ends, and no word up to that number is a fault
 abbrev pub ParsesShort : List ℕ → Type 0
 ParsesShort text = ((front : List ℕ) × (byte : ℕ) × (behind : List ℕ) × (text ≡ front ++ byte ∷ behind) × GoesWell front byte)
     ⊎ EndsWell text
@@ -198,26 +198,26 @@ Parses (Err errors.OutOfMemory) text = ParsesShort text
 Parses (Err errors.Read) text = Unit {0}
 Parses (Err errors.HasFailed) text = ⊥
 
--- the calls of a closure that is lent a parser
+-- the calls of a closure that borrows a parser
 abbrev pub Calls : Type 0 → Type 0 → Type 1
 Calls F E = F → MutBor Progress → Result (Unit {0}) E → MutBor Progress → F → Type 0
 
--- calls with these parsers, one after another, change only which clauses were taken
+-- that successive calls with these parsers change only which clauses were taken
 abbrev pub KeepsEach : {F E : Type 0} → Calls F E → F → List (MutBor Progress) → Type 0
 KeepsEach calls f [] = Unit {0}
 KeepsEach {F} {E} calls f (p ∷ ps) =
     (answer : Result (Unit {0}) E) (q : MutBor Progress) (g : F) → calls f p answer q g
     → (q.now ≡ record p.now { taken = q.now.taken }) × KeepsEach calls g ps
 
--- every call of the closure, now and later, changes only which clauses were taken, as `take_formula` does
+-- that every call of the closure, now and later, changes only which clauses were taken, as `take_formula` does
 abbrev pub KeepsText : {F E : Type 0} → Calls F E → F → Type 0
 KeepsText calls f = (ps : List (MutBor Progress)) → KeepsEach calls f ps
 
--- the parser has read a text that ends cleanly
+-- that the parser has read a text that ends cleanly
 abbrev pub HasReadCleanly : Progress → List ℕ → Type 0
 HasReadCleanly p text = (p.fed ≡ text) × (p.stopped ≡ true) × (p.ended ≡ true) × ((dimacs text).ending ≡ Clean)
 
--- Nothing after this text can change its meaning: it ends where its reader does, or at a line that begins with `%`.
+-- That no bytes that could follow this text change its meaning: it ends where its reader does, or at a line that begins with `%`.
 abbrev pub IsWholeText : Reader → Reader → List ℕ → Type 0
 IsWholeText old new text = (rest : List ℕ) → CanFollow old new rest
     → (dimacs (text ++ rest) ≡ dimacs text) × (dimacs_header (text ++ rest) ≡ dimacs_header text)
@@ -228,11 +228,11 @@ ParsesInParts old new (Ok p) = (text : List ℕ) × GaveFront old new text × Ha
 ParsesInParts old new (Err (parts.Dimacs e)) = GaveEnough old new (Parses (Err e))
 ParsesInParts old new (Err (parts.Caller e)) = Unit {0}
 
--- the closure is called with the parser, and returns this result; both may change
+-- that the closure is called with the parser and returns this result; closure and parser may change
 abbrev pub Visits : {F E : Type 0} → Calls F E → F × Progress → Result (Unit {0}) E → F × Progress → Type 0
 Visits calls s answer t = (p : MutBor Progress) × (q : MutBor Progress) × (p.now ≡ s.1) × (q.now ≡ t.1) × calls s.0 p answer q t.0
 
--- a piece is accepted, and then the closure is called
+-- that a piece is accepted, and then the closure is called
 abbrev pub FeedsAndVisits : {F E : Type 0} → Calls F E → F × Progress → List ℕ → F × Progress → Type 0
 FeedsAndVisits calls s piece t = (0 < length piece) × (fed : Progress) × FeedsPiece (Ok tt) piece s.1 fed × IsSoundSoFar fed
     × Visits calls (s.0, fed) (Ok tt) t
@@ -242,7 +242,7 @@ abbrev pub AnswersLastPiece : Result (Unit {0}) DimacsError → List ℕ → Rea
 AnswersLastPiece answer piece reader old new =
     ((0 < length piece) × FeedsPiece answer piece old new) ⊎ ((piece ≡ []) × IsWholeText reader.0 reader.1 old.fed × Finishes answer old new)
 
--- what follows the pieces after which the closure returned `Ok`: the closure is called once more, unless a read failed
+-- What follows the pieces after which the closure returned `Ok`. The closure is called once more, unless a read failed.
 abbrev pub LastVisit : {F E : Type 0} → Calls F E → List ℕ → Reader × Reader → Result Progress (IncrementalError E) → F × Progress
     → Type 0
 LastVisit {F} calls piece reader (Ok p) s = (piece ≡ []) × IsWholeText reader.0 reader.1 s.1.fed × (mid : Progress) × (f : F)
@@ -252,8 +252,8 @@ LastVisit {F} calls piece reader (Err (parts.Dimacs e)) s = ((e ≡ errors.Read)
 LastVisit {F} calls piece reader (Err (parts.Caller e)) s = (answer : Result (Unit {0}) DimacsError) × (mid : Progress)
     × (t : F × Progress) × AnswersLastPiece answer piece reader s.1 mid × Visits calls (s.0, mid) (Err e) t
 
--- The closure was called after every piece that the reader gave, and after the end of the text. Every read gave one of `pieces`, except at
--- most one.
+-- That the closure was called after every piece that the reader gave, and after the end of the text. Every read, except at most one, gave one
+-- of `pieces`.
 pub record VisitsAll {F E : Type 0} (calls : Calls F E) (f : F) (old new : Reader) (result : Result Progress (IncrementalError E)) : Type 0 where
   pub pieces : List (List ℕ)
   pub last : List ℕ

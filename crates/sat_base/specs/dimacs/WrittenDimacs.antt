@@ -1,4 +1,4 @@
--- A formula's written text reads as that formula.
+-- The written text of a formula has the meaning of that formula.
 use Rattle.std.specs.Prelude.{◌≡◌, ◌≤◌, ◌<◌, ◌^◌, length, Some}
 use Rattle.sat_base.specs.values.Literals.{var_limit}
 use Rattle.sat_base.specs.values.Formulas.{Formula, vars_of}
@@ -6,8 +6,8 @@ use Rattle.sat_base.specs.text.Text.{dimacs_header}
 use Rattle.sat_base.specs.dimacs.Dimacs.{IsDimacs, Clean}
 use Rattle.sat_base.specs.dimacs.DimacsText.{dimacs_text}
 
--- The text of a formula has its clauses, ends cleanly, and has a header with its two counts, if its variables are within the limit
--- and it has fewer than 2^64 clauses.
+-- That the text of a formula has its clauses, ends cleanly, and has a header with its two counts. The variables must be within the limit, and
+-- the formula must have fewer than 2^64 clauses.
 abbrev pub WrittenIsRead : Type 0
 WrittenIsRead = (f : Formula) → vars_of f.clauses ≤ var_limit → f.var_count ≤ var_limit → length f.clauses < 2 ^ 64
     → IsDimacs (dimacs_text f) f.clauses Clean × (dimacs_header (dimacs_text f) ≡ Some (f.var_count, length f.clauses))

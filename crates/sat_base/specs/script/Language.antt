@@ -1,9 +1,9 @@
--- The language of scripts: what a text reads as, token by token.
+-- The language of scripts: what a text means, token by token.
 use Rattle.std.specs.Prelude.{ℕ, ◌≡◌, Bool, true, not, ◌&&◌, Option, Some, None, List, [], ◌∷◌, ◌++◌, map, nat_eq, is_some, if◌then◌else◌}
 use Rattle.sat_base.specs.text.Text.{Token, Number, Letter, Header, Wrong, tokens, dimacs_header}
 use Rattle.sat_base.specs.script.Script.{Literal, Command, Clause, Ask, Hide, Witness, Sample, ScriptEnding, Clean, Malformed, names_of, has_ask, is_clean}
 
--- the kinds of command; a clause is one, which no letter begins
+-- the kinds of command, including clauses, which no letter begins
 pub data Kind : Type 0 where
   OfClause : Kind
   OfAsk : Kind
@@ -11,7 +11,7 @@ pub data Kind : Type 0 where
   OfWitness : Kind
   OfSample : Kind
 
--- the command of a kind, with these literals or the names of these
+-- the command of a kind with these literals, or with their names
 abbrev pub command_of : Kind → List Literal → Command
 command_of OfClause ls = Clause ls
 command_of OfAsk ls = Ask ls
@@ -30,12 +30,12 @@ pub data CommandTurn : Type 0 where
   Ends : Command → CommandTurn
   Fails : CommandTurn
 
--- the command that a zero ends; a single zero is the empty clause
+-- the command that a zero ends; without an unfinished command, the empty clause
 abbrev pub command_in : CommandHand → Command
 command_in Nothing = Clause []
 command_in (Within kind ls) = command_of kind ls
 
--- a literal of this sign is allowed there: a name has no minus sign
+-- whether a literal of this sign is allowed in a command of this kind: a name has no minus sign
 abbrev pub may_stand : Kind → Bool → Bool
 may_stand OfClause positive = true
 may_stand OfAsk positive = true
@@ -43,12 +43,12 @@ may_stand OfHide positive = positive
 may_stand OfWitness positive = positive
 may_stand OfSample positive = positive
 
--- a literal begins a clause or is in a command
+-- the effect of a literal, which begins a clause or is added to the unfinished command
 abbrev pub turn_with_literal : CommandHand → Literal → CommandTurn
 turn_with_literal Nothing l = GoesOn (Within OfClause (l ∷ []))
 turn_with_literal (Within kind ls) l = if may_stand kind l.positive then GoesOn (Within kind (ls ++ l ∷ [])) else Fails
 
--- `a`, `h`, `w` and `s` begin a command
+-- the kind of command that a letter begins, or `None` if the letter is not `a`, `h`, `w` or `s`
 abbrev pub kind_of_letter : ℕ → Option Kind
 kind_of_letter b =
     if nat_eq b 97 then Some OfAsk
@@ -56,17 +56,17 @@ kind_of_letter b =
     else (if nat_eq b 119 then Some OfWitness
     else (if nat_eq b 115 then Some OfSample else None)))
 
--- a letter begins a command of this kind, or is none of the four
+-- the effect of a letter that begins a command of this kind; without a kind, the text is malformed
 abbrev pub beginning : Option Kind → CommandTurn
 beginning None = Fails
 beginning (Some kind) = GoesOn (Within kind [])
 
--- other letters, and letters at another place, are malformed
+-- the effect of a letter: it begins a command, and within a command it is malformed
 abbrev pub with_letter : CommandHand → ℕ → CommandTurn
 with_letter Nothing b = beginning (kind_of_letter b)
 with_letter (Within kind ls) b = Fails
 
--- the effect of a token, whatever its line
+-- the effect of a token, regardless of its line
 abbrev pub command_turn : CommandHand → Token → CommandTurn
 command_turn hand (Number negative value) =
     if nat_eq value 0 then Ends (command_in hand) else turn_with_literal hand (record { name = value; positive = not negative })
@@ -74,20 +74,20 @@ command_turn hand (Letter b) = with_letter hand b
 command_turn hand (Header v c) = GoesOn hand
 command_turn hand Wrong = Fails
 
--- the commands of a text, and its end
+-- the commands of a text, and how the text ends
 abbrev pub Reading : Type 0
 Reading = List Command × ScriptEnding
 
--- these commands, and then those of the reading, with its end
+-- the reading with these commands before its own
 abbrev pub onto_commands : List Command → Reading → Reading
 onto_commands commands reading = (commands ++ reading.0, reading.1)
 
--- an end inside a command is malformed
+-- the ending if the text ends here: malformed within a command, otherwise clean
 abbrev pub command_at_end : CommandHand → ScriptEnding
 command_at_end Nothing = Clean
 command_at_end (Within kind ls) = Malformed
 
--- a turn, and then `more` for the tokens after it; malformed text ends the reading
+-- the reading after the effect of a token; `more` gives the reading of the later tokens, and malformed text ends it
 abbrev pub behind_command_turn : CommandTurn → (CommandHand → Reading) → Reading
 behind_command_turn (GoesOn hand) more = more hand
 behind_command_turn (Ends command) more = onto_commands (command ∷ []) (more Nothing)
@@ -102,18 +102,19 @@ commands_of hand (t ∷ ts) = behind_command_turn (command_turn hand t) (λ h. c
 abbrev pub spoken : List (ℕ × Token) → List Token
 spoken ts = map (λ t. t.1) ts
 
--- the commands of a text, which are counted, and its end
+-- the commands written in a text, and how the text ends
 unfoldable pub written : List ℕ → Reading
 written text = commands_of Nothing (spoken (tokens text))
 
--- Adds an ask under no literals at the end, if it is due, the end is clean, and no command is an ask. A refused ask counts as one.
+-- The reading with an ask without literals appended, if `due` is true, the text ended cleanly, and no command is an ask. An ask that will be
+-- refused counts as an ask here.
 abbrev pub with_ask : Bool → Reading → Reading
 with_ask due r = if due && (is_clean r.1 && not (has_ask r.0)) then (r.0 ++ Ask [] ∷ [], Clean) else r
 
--- what a text means: its commands, and after a header that ask
+-- the commands of a text and how it ends; after a header, `with_ask` may append an ask
 unfoldable pub reading : List ℕ → Reading
 reading text = with_ask (is_some (dimacs_header text)) (written text)
 
--- the text has these commands and this ending
+-- that the text has these commands and this ending
 abbrev pub IsScript : List ℕ → List Command → ScriptEnding → Type 0
 IsScript text commands end = reading text ≡ (commands, end)

@@ -3,11 +3,11 @@ use Rattle.std.specs.Prelude.{ℕ, [], ◌∷◌, true, false, codes}
 use Rattle.sat_base.specs.script.Script.{Literal, Clause, Ask, Hide, Witness, Sample, Clean, Malformed}
 use Rattle.sat_base.specs.script.Language.{IsScript}
 
--- the positive literal of this name
+-- the positive literal of a name
 abbrev pub positive_literal : ℕ → Literal
 positive_literal name = record { name = name; positive = true }
 
--- and the negative one
+-- the negative literal of a name
 abbrev pub negative_literal : ℕ → Literal
 negative_literal name = record { name = name; positive = false }
 

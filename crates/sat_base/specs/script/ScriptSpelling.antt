@@ -1,26 +1,26 @@
--- How the commands of a script are spelled: a second definition of what a text reads as.
+-- How the commands of a script are spelled: a second definition of what a text means.
 use Rattle.std.specs.Prelude.{◌≡◌, ℕ, ◌<◌, ◌↔◌, ◌⊎◌, true, List, [], ◌∷◌, ◌++◌, map, not, if◌then◌else◌}
 use Rattle.std.specs.List.{AllByRecursion}
 use Rattle.sat_base.specs.text.Text.{Token, Number, Letter, Header, Wrong, tokens}
 use Rattle.sat_base.specs.script.Script.{Literal, Command, Ask, ScriptEnding, Clean, Malformed, has_ask}
 use Rattle.sat_base.specs.script.Language.{Kind, OfClause, OfAsk, OfHide, OfWitness, OfSample, command_of, may_stand, spoken, IsScript}
 
--- the number of a literal, negative if the literal is
+-- the token of a literal: its name, negative if the literal is
 abbrev pub number_of : Literal → Token
 number_of l = Number (not l.positive) l.name
 
--- names count from 1, and those of names that are hidden or get a mode have no sign
+-- that all names are at least 1, and all literals are positive unless `kind` is a clause or an ask
 abbrev pub AreNamesOfKind : Kind → List Literal → Type 0
 AreNamesOfKind kind ls = AllByRecursion (λ l. (0 < l.name) × (may_stand kind l.positive ≡ true)) ls
 
--- a zero ends a clause or command (no text has the token of a negative one)
+-- that the token is a zero, which ends a clause or command (no text has the token of a negative zero)
 abbrev pub IsZero : Token → Type 0
 IsZero (Number negative value) = value ≡ 0
 IsZero (Letter b) = ⊥
 IsZero (Header v c) = ⊥
 IsZero Wrong = ⊥
 
--- what a command begins with
+-- the letter that a command of this kind begins with, or no token for a clause
 abbrev pub letter_of : Kind → List Token
 letter_of OfClause = []
 letter_of OfAsk = Letter 97 ∷ []
@@ -28,7 +28,7 @@ letter_of OfHide = Letter 104 ∷ []
 letter_of OfWitness = Letter 119 ∷ []
 letter_of OfSample = Letter 115 ∷ []
 
--- a command is its letter, its literals or names, and a zero
+-- that the tokens spell the command: its letter, its literals or names, and a zero
 pub record SpellsCommand (c : Command) (ts : List Token) : Type 0 where
   pub kind : Kind
   pub literals : List Literal
@@ -38,39 +38,40 @@ pub record SpellsCommand (c : Command) (ts : List Token) : Type 0 where
   pub is : c ≡ command_of kind literals
   pub whole : ts ≡ letter_of kind ++ (map number_of literals ++ last ∷ [])
 
--- commands are spelled one after another
+-- that the tokens spell the commands, one after another
 abbrev pub SpellsCommands : List Command → List Token → Type 0
 SpellsCommands [] ts = ts ≡ []
 SpellsCommands (c ∷ cs) ts = (front : List Token) × (rest : List Token) × SpellsCommand c front × SpellsCommands cs rest
     × (ts ≡ front ++ rest)
 
--- there are tokens, and none of their prefixes is a command
+-- that there are tokens, and no prefix of them spells a command
 pub record BeginsNone (ts : List Token) : Type 0 where
   pub some : ts ≡ [] → ⊥
   pub none : (c : Command) (front rest : List Token) → SpellsCommand c front → ts ≡ front ++ rest → ⊥
 
--- commands, and then the end or tokens that begin with no command
+-- that the tokens spell the commands and then end, or, if malformed, continue with tokens of which no prefix spells a command
 abbrev pub SpellsTo : List Command → ScriptEnding → List Token → Type 0
 SpellsTo cs Clean ts = SpellsCommands cs ts
 SpellsTo cs Malformed ts = (front : List Token) × (rest : List Token) × SpellsCommands cs front × BeginsNone rest × (ts ≡ front ++ rest)
 
--- with an ask under no literals at the end, if the ending is clean and there is no ask
+-- the commands with an ask without literals appended, if the ending is clean and no command is an ask
 abbrev pub asked : List Command → ScriptEnding → List Command
 asked cs Clean = if has_ask cs then cs else cs ++ Ask [] ∷ []
 asked cs Malformed = cs
 
--- A script is commands and an ending. A header may precede them, and then it counts as an ask if there is no other.
+-- That the tokens spell these commands and this ending. A header may precede the commands. It counts as an ask at the end if the ending is
+-- clean and no command is an ask.
 abbrev pub SpellsScript : List Command → ScriptEnding → List Token → Type 0
 SpellsScript cs end ts = (((vars : ℕ) (clauses : ℕ) (rest : List Token) → ts ≡ Header vars clauses ∷ rest → ⊥) × SpellsTo cs end ts)
     ⊎ ((vars : ℕ) × (clauses : ℕ) × (rest : List Token) × (spelled : List Command)
     × (ts ≡ Header vars clauses ∷ rest) × SpellsTo spelled end rest × (cs ≡ asked spelled end))
 
--- every text has one list of commands and one ending
+-- that every text has exactly one list of commands and one ending
 pub record OneReading : Type 0 where
   pub some : (text : List ℕ) → (cs : List Command) × (end : ScriptEnding) × IsScript text cs end
   pub one : (text : List ℕ) (cs ds : List Command) (d e : ScriptEnding)
       → IsScript text cs d → IsScript text ds e → (cs ≡ ds) × (d ≡ e)
 
--- a text reads as these commands and this end exactly if its tokens spell them
+-- that a text means these commands and this ending exactly if its tokens spell them
 abbrev pub ReadIfSpelled : Type 0
 ReadIfSpelled = (text : List ℕ) (cs : List Command) (end : ScriptEnding) → IsScript text cs end ↔ SpellsScript cs end (spoken (tokens text))

@@ -1,4 +1,4 @@
--- What every script preserves of the judge's state.
+-- Laws about the state of scripts.
 use Rattle.std.specs.Prelude.{ℕ, ◌+◌, ◌≤◌, ◌<◌, ◌≡◌, ◌↔◌, false, Some, List, [], ◌∷◌, length, map, nat_lt, unwrap_or, if◌then◌else◌}
 use Rattle.std.specs.List.{AllByRecursion}
 use Rattle.sat_base.specs.values.Literals.{coded, var_limit, variable}
@@ -6,13 +6,13 @@ use Rattle.sat_base.specs.values.Clauses.{Valuation, literal_true, EachHolds}
 use Rattle.sat_base.specs.script.Script.{Literal, Command, Among, names_of}
 use Rattle.sat_base.specs.script.ScriptState.{ScriptState, Named, identity_of, over, for_each, bring_in, after_script, start, IsRightModel, IsRightCore}
 
--- the names strictly increase
+-- that the names strictly increase
 abbrev pub NamesIncrease : List Named → Type 0
 NamesIncrease [] = Unit {0}
 NamesIncrease (n ∷ ns) = AllByRecursion (λ m. n.name < m.name) ns × NamesIncrease ns
 
--- Names in use increase and are below the first name never used, which is at most one past the limit. Exactly the identities given out have
--- modes, and no others occur.
+-- The invariant of script states. Names in use increase and are below `first_unused`, which is at most one past the limit. Every identity below
+-- `identity_count` has a mode, and no other identity occurs.
 pub record ScriptStateInvariant (j : ScriptState) : Type 0 where
   pub limit : j.first_unused ≤ var_limit + 1
   pub order : NamesIncrease j.in_use
@@ -21,15 +21,15 @@ pub record ScriptStateInvariant (j : ScriptState) : Type 0 where
   pub modes : length j.modes ≡ j.identity_count
   pub clauses : AllByRecursion (AllByRecursion (λ l. variable l < j.identity_count)) j.clauses
 
--- the invariant holds after every script
+-- that the invariant holds after every script
 abbrev pub ScriptStateInvariantHolds : Type 0
 ScriptStateInvariantHolds = (commands : List Command) → ScriptStateInvariant (after_script commands start)
 
--- the valuation, false from this variable on
+-- the valuation that agrees with `a` below variable `n` and is false from `n` on
 abbrev pub only_below : ℕ → Valuation → Valuation
 only_below n a = λ v. if nat_lt v n then a v else false
 
--- The values of identities that are not given out do not matter, so finitely many true ones suffice.
+-- That the values of unused identities do not matter: making all of them false changes neither the clauses nor the literals of names in use.
 abbrev pub GivenIdentitiesSuffice : Type 0
 GivenIdentitiesSuffice =
     (commands : List Command) (a : Valuation)
@@ -37,30 +37,30 @@ GivenIdentitiesSuffice =
     (EachHolds a j.clauses ↔ EachHolds (only_below j.identity_count a) j.clauses)
     × ((l : Literal) (i : ℕ) → identity_of j l.name ≡ Some i → literal_true (only_below j.identity_count a) (over j l) ≡ literal_true a (over j l))
 
--- every number is below those after it
+-- that every number is less than all numbers after it
 abbrev pub Increase : List ℕ → Type 0
 Increase [] = Unit {0}
 Increase (x ∷ xs) = AllByRecursion (λ y. x < y) xs × Increase xs
 
--- these names are in use
+-- that all of these names are in use
 abbrev pub AreInUse : ScriptState → List ℕ → Type 0
 AreInUse j names = AllByRecursion (λ name. (i : ℕ) × (identity_of j name ≡ Some i)) names
 
--- names that increase, and are all that are in use, are these in their order
+-- that an increasing list of exactly the names in use is the list that the state has
 abbrev pub NamesAreListed : Type 0
 NamesAreListed = (j : ScriptState) (names : List ℕ) → NamesIncrease j.in_use → Increase names
     → ((name i : ℕ) → identity_of j name ≡ Some i → Among name names)
     → AreInUse j names → names ≡ map (λ n. n.name) j.in_use
 
--- Why the identity 0, which `over` and `with_mode` have for a name that is not in use, never counts: both are only used for names in use.
--- This holds in every state, even if no script leaves it.
+-- Why the default identity 0 in `over` and `with_mode` is never needed: both are only used for names in use. This holds in every state, even in
+-- one that no script reaches.
 pub record NamesAreInUse : Type 0 where
   -- Names are in use once they are introduced. `accepted` introduces the names of a clause or an ask before it uses `over`, and every other
   -- name before it sets the mode.
   pub introduced : (j : ScriptState) (names : List ℕ) → AreInUse (for_each bring_in names j) names
-  -- A right model has names in use, and so has a right core of an ask whose names were introduced.
+  -- All names of a correct model are in use. So are those of a correct core, if the names of its ask are in use.
   pub model : (j : ScriptState) (ask line : List Literal) → IsRightModel j ask line → AreInUse j (names_of line)
   pub core : (j : ScriptState) (ask core : List Literal) → AreInUse j (names_of ask) → IsRightCore j ask core → AreInUse j (names_of core)
-  -- For names in use, any other number instead of 0 gives the same literals.
+  -- For names in use, any other default than 0 gives the same literals.
   pub zero_never_counts : (j : ScriptState) (ls : List Literal) (other : ℕ) → AreInUse j (names_of ls)
       → map (over j) ls ≡ map (λ l. coded (unwrap_or (identity_of j l.name) other) l.positive) ls

@@ -3,7 +3,7 @@ use Rattle.std.specs.Prelude.{ℕ, ◌==◌, ◌≡◌, Bool, true, false, not, 
 use Rattle.std.specs.List.{AllByRecursion}
 use Rattle.sat_base.specs.values.Literals.{is_positive, variable}
 
--- which variables are true; all others are false
+-- a truth value for each variable
 abbrev pub Valuation : Type 0
 Valuation = ℕ → Bool
 
@@ -11,7 +11,7 @@ Valuation = ℕ → Bool
 abbrev pub literal_true : Valuation → ℕ → Bool
 literal_true a l = if is_positive l then a (variable l) else not (a (variable l))
 
--- a clause holds if one of its literals is true
+-- whether at least one literal of the clause is true in the valuation
 abbrev pub clause_true : Valuation → List ℕ → Bool
 clause_true a [] = false
 clause_true a (l ∷ ls) = literal_true a l || clause_true a ls
@@ -20,10 +20,10 @@ clause_true a (l ∷ ls) = literal_true a l || clause_true a ls
 abbrev pub flipped : ℕ → Valuation → Valuation
 flipped v a = λ x. if x == v then not (a x) else a x
 
--- all of these literals are true in the valuation
+-- that all literals of a list are true in the valuation
 abbrev pub EachTrue : Valuation → List ℕ → Type 0
 EachTrue a = AllByRecursion (λ l. literal_true a l ≡ true)
 
--- the valuation satisfies all of these clauses
+-- that the valuation satisfies all clauses of a list
 abbrev pub EachHolds : Valuation → List (List ℕ) → Type 0
 EachHolds a = AllByRecursion (λ c. clause_true a c ≡ true)

@@ -20,12 +20,12 @@ pub data Announcement : Type 0 where
   UserVar : ℕ → Option UserVariable → Announcement  -- a variable, and its name or none
   DeleteVar : ℕ → Announcement  -- its unit is forgotten
   AddClause : ℕ → List ℕ → Announcement
-  DuplicatedClause : ℕ → ℕ → List ℕ → Announcement  -- its id, and that of the clause that it is the same as
+  DuplicatedClause : ℕ → ℕ → List ℕ → Announcement  -- its id, the id of the equal clause, the clause
   TautologicalClause : ℕ → List ℕ → Announcement
-  AtClause : ℕ → Bool → List ℕ → List ℕ → Announcement  -- id, whether it is redundant, the clause, propagations
+  AtClause : ℕ → Bool → List ℕ → List ℕ → Announcement  -- its id, whether it is redundant, the clause, propagations
   MakeIrredundant : ℕ → List ℕ → Announcement
   DeleteClause : ℕ → List ℕ → Announcement
-  DeleteAtClause : ℕ → Bool → List ℕ → List ℕ → Announcement  -- id, whether it is kept as redundant, the clause, propagations
+  DeleteAtClause : ℕ → Bool → List ℕ → List ℕ → Announcement  -- its id, whether it is kept as redundant, the clause, propagations
   DeleteRatClause : ℕ → Bool → List ℕ → Announcement  -- never made
   Model : List ℕ → Announcement
   Assumptions : List ℕ → Announcement
@@ -37,22 +37,22 @@ is_sample Sample = true
 is_sample Witness = false
 is_sample Hide = false
 
--- whether a variable of this mode is a witness; a hidden one isn't
+-- whether this mode is witness; the mode of a hidden variable is not
 abbrev pub has_witness_mode : Mode → Bool
 has_witness_mode Sample = false
 has_witness_mode Witness = true
 has_witness_mode Hide = false
 
--- a variable gets a name
+-- the announcement that a variable gets a name
 abbrev pub naming : ℕ → ℕ → Variable → List Announcement
 naming v name x = UserVar v (Some (record { name = name; sampling = is_sample x.mode; is_new = not x.known })) ∷ []
 
--- a variable gets a name, or loses it
+-- the announcement that a variable gets a name or that its name is removed
 abbrev pub renaming : ℕ → Option ℕ → Variable → List Announcement
 renaming v (Some name) x = naming v name x
 renaming v None x = UserVar v None ∷ []
 
--- a variable that has a name gets another mode
+-- the announcement that a variable that has a name gets another mode
 abbrev pub mode_change : ℕ → Bool → Mode → Option ℕ → List Announcement
 mode_change v sampling mode None = []
 mode_change v sampling mode (Some name) =
@@ -63,65 +63,65 @@ abbrev pub id_of : Option StoredClause → Option ℕ
 id_of None = None
 id_of (Some c) = Some c.id
 
--- the id under which a sorted set is stored, if it is; every empty clause is new
+-- the id under which a sorted set is stored, or `None`; every empty clause is new
 abbrev pub id_of_set : List ℕ → Stored → Option ℕ
 id_of_set [] f = None
 id_of_set (l ∷ []) f = unit_id l f.units
 id_of_set (l ∷ m ∷ ls) f = id_of (clause_with (l ∷ m ∷ ls) f.clauses)
 
--- an input clause that is new or was stored before
+-- the announcement of an input clause that is new or was stored before
 abbrev pub input_set : ℕ → List ℕ → Option ℕ → List Announcement
 input_set id literals None = AddClause id literals ∷ []
 input_set id literals (Some same) = DuplicatedClause id same literals ∷ []
 
--- an input clause, which may be a tautology
+-- the announcement of an input clause, which may be a tautology
 abbrev pub input : List ℕ → Stored → List Announcement
 input clause f =
     let literals : List ℕ = canonical clause in if is_tautology clause then TautologicalClause f.next_id literals ∷ [] else input_set f.next_id literals (id_of_set literals f)
 
--- whether it is stored only as redundant
+-- whether the clause is stored only as redundant
 abbrev pub redundant_alone : Option StoredClause → Bool
 redundant_alone None = false
 redundant_alone (Some c) = c.irredundant == 0
 
--- a derived clause that is newly stored, or that becomes irredundant
+-- the announcement of a derived clause that is newly stored, or that becomes irredundant
 abbrev pub derived_set : Bool → List ℕ → List ℕ → Stored → Option ℕ → List Announcement
 derived_set redundant literals ids f None = AtClause f.next_id redundant literals ids ∷ []
 derived_set redundant literals ids f (Some id) = if not redundant && redundant_alone (clause_with literals f.clauses) then MakeIrredundant id literals ∷ [] else []
 
--- a tautology isn't stored
+-- the announcement of a derived clause; a tautology is not stored
 abbrev pub derived : Bool → List ℕ → List ℕ → Stored → List Announcement
 derived redundant clause hashes f =
     let literals : List ℕ = canonical clause in if is_tautology clause then [] else derived_set redundant literals (propagations f clause hashes) f (id_of_set literals f)
 
--- all of them in turn, while those before are units
+-- the announcements of derived units, one by one, with the earlier ones stored
 abbrev pub derived_units : List (ℕ × ℕ) → Stored → List Announcement
 derived_units [] f = []
 derived_units (u ∷ us) f = derived false (u.0 ∷ []) (u.1 ∷ []) f ++ derived_units us (with_unit u.0 f)
 
--- one redundant count is removed, and so is the clause if that was its last one
+-- the announcement that one redundant count is removed, if the clause is then removed
 abbrev pub redundant_deleted : Option StoredClause → List Announcement
 redundant_deleted None = []
 redundant_deleted (Some c) = if c.irredundant == 0 && c.redundant == 1 then DeleteClause c.id c.literals ∷ [] else []
 
--- one irredundant count is removed, and it was the last one
+-- the announcement that one irredundant count is removed, if it was the last one
 abbrev pub irredundant_deleted : List ℕ → Option StoredClause → List Announcement
 irredundant_deleted ids None = []
 irredundant_deleted ids (Some c) = if c.irredundant == 1 then DeleteAtClause c.id (nat_lt 0 c.redundant) c.literals ids ∷ [] else []
 
--- only this id, or none
+-- the list of only this id, or no id
 abbrev pub one : Option ℕ → List ℕ
 one None = []
 one (Some id) = id ∷ []
 
--- the last irredundant clause stored
+-- the id of the last irredundant clause stored, or `None`
 abbrev pub last_id : Last → Option ℕ
 last_id NoneYet = None
 last_id (Empty id) = Some id
 last_id (UnitClause id) = Some id
 last_id (LongClause id) = Some id
 
--- what an accepted step announces, if no unit conflict was pending
+-- the announcements of an accepted step, if no unit conflict was pending
 abbrev pub announced : Stored → Step → List Announcement
 announced f (steps.SolverVarName v name) = []
 announced f (steps.UserVarName v user) = renaming v user (f.variables v)
@@ -163,6 +163,6 @@ abbrev pub notices_after : List Step → List Notice
 notices_after [] = []
 notices_after (step ∷ earlier) = notices_after earlier ++ notices_over (stored_after earlier) (delayed (stored_after earlier)) ++ notices_over (ready_after earlier) (announced (ready_after earlier) step)
 
--- what is announced once nothing is delayed any more, which is all that a refused step announces
+-- all announcements once nothing is delayed any more; a refused step announces nothing else
 abbrev pub all_notices_after : List Step → List Notice
 all_notices_after steps = notices_after steps ++ notices_over (stored_after steps) (delayed (stored_after steps))

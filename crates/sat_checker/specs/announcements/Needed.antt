@@ -6,12 +6,12 @@ use Rattle.sat_checker.specs.Stored.{StoredClause, StoredUnit, Stored, unit_lite
 use Rattle.sat_checker.specs.Storing.{unit_id}
 use Rattle.sat_checker.specs.inner.Walk.{Verdict, falsified, opens, rests, verdict}
 
--- What a conflict rests on, followed backwards: true literals, and the clauses needed, in the order passed, the falsified one last.
+-- What a conflict rests on, followed backwards: true literals, and the clauses needed, in the order visited, the falsified clause last.
 pub record ConflictCauses : Type 0 where
   pub literals : List ℕ
   pub clauses : List StoredClause
 
--- the negations of the clause's literals other than this one
+-- the negations of all literals of the clause except `l`
 abbrev pub others_denied : ℕ → List ℕ → List ℕ
 others_denied l clause = map negated (filter (λ m. not (m == l)) clause)
 
@@ -20,23 +20,24 @@ abbrev pub with_cause : ℕ → StoredClause → ConflictCauses → ConflictCaus
 with_cause l c g =
     if is_among g.literals l then record { literals = others_denied l c.literals ++ g.literals; clauses = c ∷ g.clauses } else g
 
--- the causes, by what a clause is: if it is falsified, it is the conflict; if it is unit, its open literal is true for the clauses after it
+-- the causes, given the verdict on a clause: a falsified clause is the conflict, and the open literal of a unit clause is true for the clauses
+-- after it
 abbrev pub causes_by : Verdict → StoredClause → List ℕ → (List ℕ → ConflictCauses) → ConflictCauses
 causes_by falsified c assumed behind = record { literals = map negated c.literals; clauses = c ∷ [] }
 causes_by (opens l) c assumed behind = with_cause l c (behind (l ∷ assumed))
 causes_by rests c assumed behind = behind assumed
 
--- what the first conflict of these clauses rests on, if every clause that is unit in its turn is used
+-- what the first conflict of these clauses rests on, if every clause that is unit when it is visited is used
 abbrev pub conflict_causes : List ℕ → List StoredClause → ConflictCauses
 conflict_causes assumed [] = record { literals = []; clauses = [] }
 conflict_causes assumed (c ∷ cs) = causes_by (verdict assumed c.literals) c assumed (λ more. conflict_causes more cs)
 
--- the stored clauses of the named buckets, in the order in which they are named, and by id within each bucket
+-- the stored clauses of the buckets with these hashes, in the order of the hashes, and by id within each bucket
 abbrev pub clauses_named : List ℕ → Stored → List StoredClause
 clauses_named [] f = []
 clauses_named (hash ∷ hashes) f = filter (λ c. hash_by f.solver_names f.width c.literals == hash) f.clauses ++ clauses_named hashes f
 
--- the units needed, by increasing id: not those that the negated clause holds
+-- the units needed, by increasing id, without the literals of the negated clause
 abbrev pub needed_units : List ℕ → ConflictCauses → List StoredUnit → List StoredUnit
 needed_units denied g = filter (λ u. is_among g.literals u.literal && not (is_among denied u.literal))
 
@@ -44,7 +45,7 @@ needed_units denied g = filter (λ u. is_among g.literals u.literal && not (is_a
 abbrev pub conflict_ids : List ℕ → ConflictCauses → List StoredUnit → List ℕ
 conflict_ids denied g units = map (λ u. u.id) (needed_units denied g units) ++ map (λ c. c.id) g.clauses
 
--- this one, or the other if this is none
+-- the first option, or the second if the first is `None`
 abbrev pub or_else : {A : Type 0} → Option A → Option A → Option A
 or_else None y = y
 or_else (Some x) y = Some x

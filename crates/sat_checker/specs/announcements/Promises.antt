@@ -1,4 +1,4 @@
--- What is promised of announcements.
+-- Guarantees about announcements.
 use Rattle.std.specs.Prelude.{ℕ, ◌≡◌, ◌≢◌, ◌⊎◌, ◌↔◌, true, false, Some, List, [], ◌∷◌, ◌++◌, map, filter}
 use Rattle.std.specs.List.{AllByRecursion, list_any}
 use Rattle.sat_base.specs.values.Literals.{negated}
@@ -12,12 +12,13 @@ use Rattle.sat_checker.specs.Accepts.{PassesByHashes, Accepts, AcceptsAll, store
 use Rattle.sat_checker.specs.announcements.Needed.{ConflictCauses, conflict_causes, clauses_named, conflict_ids, true_unit, propagations}
 use Rattle.sat_checker.specs.announcements.Announcements.{Announcement, AddClause, AtClause, one, last_id, announced, delayed, Notice, notices_over, notices_after, all_notices_after}
 
--- it's in the list
+-- that `x` is in the list
 abbrev pub IsOneOf : {A : Type 0} → A → List A → Type 0
 IsOneOf x [] = ⊥
 IsOneOf x (y ∷ ys) = (x ≡ y) ⊎ IsOneOf x ys
 
--- The ids are those of stored units, increasing, and then those of stored clauses; the units and the clauses are unit in turn under the negated clause, the last falsified.
+-- The ids are those of stored units, increasing, and then those of stored clauses. Under the negated clause, these units and clauses are unit
+-- in turn, and the last is falsified.
 pub record RestsOn (f : Stored) (clause ids : List ℕ) : Type 0 where
   pub units : List StoredUnit
   pub clauses : List StoredClause
@@ -27,7 +28,7 @@ pub record RestsOn (f : Stored) (clause ids : List ℕ) : Type 0 where
   pub increasing : IsIncreasing (map (λ u. u.id) units)
   pub conflict : UnitInTurn (map negated clause) (map (λ u. u.literal ∷ []) units ++ map (λ c. c.literals) clauses)
 
--- a clause that passes after accepted steps, and after the first units of one more, rests on its propagations
+-- that a clause that passes after accepted steps, and after the first units of another step, rests on its propagations
 abbrev pub PropagationsInTurn : Type 0
 PropagationsInTurn = (steps : List Step) (front clause hashes : List ℕ) → AcceptsAll steps → PassesByHashes (with_units front (ready_after steps)) clause hashes → is_tautology clause ≡ false →
     RestsOn (with_units front (ready_after steps)) clause (propagations (with_units front (ready_after steps)) clause hashes)
@@ -37,7 +38,8 @@ pub record Reason : Type 0 where
   pub clause : StoredClause
   pub literal : ℕ
 
--- Clauses are passed in order, under assumed literals, up to a conflict: the first that is falsified is the conflict, a clause that is unit in its turn implies its literal from then on, and any other is passed over.
+-- Clauses are visited in order, under assumed literals, up to a conflict. The first falsified clause is the conflict. A unit clause implies its
+-- literal for the clauses after it, and any other clause is skipped.
 pub data ClauseWalk : List ℕ → List StoredClause → List Reason → StoredClause → Type 0 where
   is_conflict : (assumed : List ℕ) (c : StoredClause) (cs : List StoredClause) → IsFalsified assumed c.literals → ClauseWalk assumed (c ∷ cs) [] c
   is_unit : (assumed : List ℕ) (c : StoredClause) (cs : List StoredClause) (l : ℕ) (reasons : List Reason) (last : StoredClause) →
@@ -45,12 +47,13 @@ pub data ClauseWalk : List ℕ → List StoredClause → List Reason → StoredC
   is_neither : (assumed : List ℕ) (c : StoredClause) (cs : List StoredClause) (reasons : List Reason) (last : StoredClause) →
       (IsFalsified assumed c.literals → ⊥) → ((l : ℕ) → IsUnit assumed c.literals l → ⊥) → ClauseWalk assumed cs reasons last → ClauseWalk assumed (c ∷ cs) reasons last
 
--- The literals that a conflict rests on, followed backwards: the negations of the falsified clause's literals, and if a clause implied one of them, those of its other literals.
+-- The literals that a conflict rests on, followed backwards. They are the negations of the falsified clause's literals, and those of the other
+-- literals of a clause that implied a needed literal.
 pub data IsNeededLiteral (reasons : List Reason) (last : StoredClause) : ℕ → Type 0 where
   of_last : (l : ℕ) → is_among last.literals l ≡ true → IsNeededLiteral reasons last (negated l)
   of_reason : (r : Reason) (l : ℕ) → IsOneOf r reasons → IsNeededLiteral reasons last r.literal → is_among r.clause.literals l ≡ true → l ≢ r.literal → IsNeededLiteral reasons last (negated l)
 
--- exactly those literals, and exactly the clauses that implied one of them, in the order passed, the falsified one last
+-- that these are exactly the needed literals, and exactly the clauses that implied one of them, in the order visited, the falsified clause last
 pub record IsConflictCauses (assumed : List ℕ) (cs : List StoredClause) (g : ConflictCauses) : Type 0 where
   pub reasons : List Reason
   pub last : StoredClause
@@ -58,7 +61,7 @@ pub record IsConflictCauses (assumed : List ℕ) (cs : List StoredClause) (g : C
   pub literals : (m : ℕ) → (is_among g.literals m ≡ true) ↔ IsNeededLiteral reasons last m
   pub clauses : g.clauses ≡ map (λ r. r.clause) (filter (λ r. is_among g.literals r.literal) reasons) ++ last ∷ []
 
--- what a clause that passes by a conflict rests on: no unit is true in it, and it has no variable with both signs
+-- what a clause that passes because of a conflict rests on: no unit satisfies it, and it has no variable with both signs
 abbrev pub ConflictIsFollowedBackwards : Type 0
 ConflictIsFollowedBackwards = (steps : List Step) (front clause hashes : List ℕ) → AcceptsAll steps → PassesByHashes (with_units front (ready_after steps)) clause hashes →
     is_tautology clause ≡ false → list_any (is_among (unit_literals (with_units front (ready_after steps)))) clause ≡ false →
@@ -66,32 +69,32 @@ ConflictIsFollowedBackwards = (steps : List Step) (front clause hashes : List �
     let assumed : List ℕ = map negated clause ++ unit_literals f in
     (propagations f clause hashes ≡ conflict_ids (map negated clause) (conflict_causes assumed (clauses_named hashes f)) f.units) × IsConflictCauses assumed (clauses_named hashes f) (conflict_causes assumed (clauses_named hashes f)))
 
--- a clause with both signs of a variable rests on nothing
+-- that a clause with both signs of a variable rests on nothing
 abbrev pub TautologiesRestOnNothing : Type 0
 TautologiesRestOnNothing = (f : Stored) (clause hashes : List ℕ) → is_tautology clause ≡ true → propagations f clause hashes ≡ []
 
--- no id is that of an empty clause, which no step names: neither a unit nor a clause of two literals or more
+-- that the last irredundant clause stored is not an empty clause, which is neither a unit nor a clause of two or more literals
 abbrev pub IsNoEmpty : Last → Type 0
 IsNoEmpty last = (id : ℕ) → last ≢ Empty id
 
--- a deleted clause rests on the unit that satisfies it, or on the last irredundant clause stored, unless that is an empty one
+-- that a deleted clause rests on the unit that satisfies it, or on the last irredundant clause stored, unless that is an empty clause
 abbrev pub DeletionsRest : Type 0
 DeletionsRest = (steps : List Step) (clause : List ℕ) → AcceptsAll steps →
     (Accepts (ready_after steps) (DeleteClause clause Satisfied) → RestsOn (ready_after steps) clause (one (true_unit (canonical clause) (ready_after steps).units)))
     × (Accepts (ready_after steps) (DeleteClause clause Simplified) → IsNoEmpty (ready_after steps).last → RestsOn (ready_after steps) clause (one (last_id (ready_after steps).last)))
 
--- what a step announces comes after all that was announced or delayed before it, and what was delayed is announced once
+-- that a step's announcements come after everything that was announced or delayed earlier, and what was delayed is announced once
 abbrev pub NoticesInOrder : Type 0
 NoticesInOrder = (steps : List Step) (step : Step) →
     (notices_after (step ∷ steps) ≡ all_notices_after steps ++ notices_over (ready_after steps) (announced (ready_after steps) step)) × (delayed (ready_after steps) ≡ [])
 
--- the clause was announced under this id: as one of the formula, or as a derived one
+-- that the clause was announced under this id: as a clause of the formula, or as a derived clause
 abbrev pub IsAnnouncedAs : ℕ → List ℕ → Announcement → Type 0
 IsAnnouncedAs id clause (AddClause i ls) = (i ≡ id) × (ls ≡ clause)
 IsAnnouncedAs id clause (AtClause i redundant ls ids) = (i ≡ id) × (ls ≡ clause)
 IsAnnouncedAs id clause other = ⊥
 
--- one of these announcements is of the clause, under this id
+-- that one of these announcements is of the clause, under this id
 abbrev pub IsAnnounced : ℕ → List ℕ → List Notice → Type 0
 IsAnnounced id clause reported = (t : Notice) × IsOneOf t reported × IsAnnouncedAs id clause t.announcement
 
@@ -102,16 +105,16 @@ pub record AreAnnounced (f : Stored) (reported : List Notice) : Type 0 where
   pub last : (id : ℕ) → f.last ≡ Empty id → IsAnnounced id [] reported
   pub conflict : (ids : ℕ × ℕ) → f.conflict ≡ Some ids → (u : StoredUnit) × IsOneOf u f.units × (u.id ≡ ids.0) × IsAnnounced ids.1 (negated u.literal ∷ []) reported
 
--- this holds after all steps, accepted or not
+-- that `AreAnnounced` holds after all steps, accepted or not
 abbrev pub IdsAreAnnounced : Type 0
 IdsAreAnnounced = (steps : List Step) → AreAnnounced (stored_after steps) (notices_after steps)
 
--- the empty clause of a unit conflict names two units that were announced, one the negation of the other
+-- that the empty clause of a unit conflict lists the ids of two announced units, one the negation of the other
 abbrev pub ConflictIsAnnounced : Type 0
 ConflictIsAnnounced = (steps : List Step) (id i j : ℕ) → delayed (stored_after steps) ≡ AtClause id false [] (i ∷ j ∷ []) ∷ [] →
     (l : ℕ) × IsAnnounced i (l ∷ []) (notices_after steps) × IsAnnounced j (negated l ∷ []) (notices_after steps)
 
--- a clause that is deleted as simplified names one that was announced, an empty one too, and that is a part of it
+-- that a clause that is deleted as simplified rests on an announced clause that is a part of it, possibly an empty clause
 abbrev pub SimplifiedIsAnnounced : Type 0
 SimplifiedIsAnnounced = (steps : List Step) (clause : List ℕ) → Accepts (ready_after steps) (DeleteClause clause Simplified) →
     (id : ℕ) × (part : List ℕ) × (one (last_id (ready_after steps).last) ≡ id ∷ []) × (is_part part clause ≡ true) × IsAnnounced id part (all_notices_after steps)

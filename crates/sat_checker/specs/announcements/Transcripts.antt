@@ -1,11 +1,11 @@
--- What a transcript says about an announcement, in user's names.
+-- What a transcript reports about an announcement, with the user's names.
 use Rattle.std.specs.Prelude.{ℕ, ◌+◌, ◌*◌, ◌%◌, List, [], ◌∷◌, Option, None, Some, if◌then◌else◌}
 use Rattle.sat_base.specs.values.Literals.{variable}
 use Rattle.sat_checker.specs.Stored.{Mode, Variable}
 use Rattle.sat_checker.specs.announcements.Announcements.{UserVariable, Announcement, UserVar, DeleteVar, DuplicatedClause, TautologicalClause, AtClause, MakeIrredundant, DeleteClause, DeleteAtClause, DeleteRatClause, Assumptions, is_sample, Notice}
 use Rattle.sat_checker.specs.announcements.Announcements as announcements
 
--- a step of a transcript, over user's names
+-- a step of a transcript, with the user's names
 pub data Transcribed : Type 0 where
   WitnessVar : ℕ → Transcribed
   SampleVar : ℕ → Transcribed
@@ -26,17 +26,17 @@ name_or_itself v mode None = if is_sample mode then Some v else None
 abbrev pub user_from_proof_var : (ℕ → Variable) → ℕ → Option ℕ
 user_from_proof_var variables v = name_or_itself v (variables v).mode (variables v).name
 
--- the literal of a name, with the sign of this one
+-- the literals with the literal of `name` before them, with the sign of literal `l`, if there is a name
 abbrev pub onto_named : ℕ → Option ℕ → List ℕ → List ℕ
 onto_named l None ls = ls
 onto_named l (Some name) ls = (2 * name + l % 2) ∷ ls
 
--- literals in user's names; those of variables without one are dropped
+-- the literals with the user's names; literals of variables without a name are dropped
 abbrev pub in_user_names : (ℕ → Variable) → List ℕ → List ℕ
 in_user_names variables [] = []
 in_user_names variables (l ∷ ls) = onto_named l (user_from_proof_var variables (variable l)) (in_user_names variables ls)
 
--- a name was removed, which the variable had until then
+-- the transcript of the removal of the name that the variable had, if any
 abbrev pub name_was_removed : Option ℕ → Option Transcribed
 name_was_removed None = None
 name_was_removed (Some name) = Some (HideVar name)
@@ -51,7 +51,7 @@ abbrev pub deriving_of : List ℕ → Option Transcribed
 deriving_of [] = Some Unsat
 deriving_of (l ∷ ls) = None
 
--- the transcript of an announcement, by the variables from before the step
+-- the transcript of an announcement, given the variables before the step
 abbrev pub transcript : (ℕ → Variable) → Announcement → Option Transcribed
 transcript variables (UserVar v None) = name_was_removed (variables v).name
 transcript variables (UserVar v (Some u)) = naming_transcript u (variables v).name
@@ -68,7 +68,7 @@ transcript variables (announcements.Model ls) = Some (Model (in_user_names varia
 transcript variables (Assumptions ls) = Some (Assume (in_user_names variables ls))
 transcript variables (announcements.FailedAssumptions core ids) = Some (FailedAssumptions (in_user_names variables core))
 
--- one step of a transcript before these, if there is one
+-- the steps of a transcript with one step before them, if there is one
 abbrev pub with_transcript : Option Transcribed → List Transcribed → List Transcribed
 with_transcript None ts = ts
 with_transcript (Some t) ts = t ∷ ts

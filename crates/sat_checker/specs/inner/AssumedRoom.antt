@@ -5,44 +5,44 @@ use Rattle.sat_base.specs.values.Literals.{negated}
 use Rattle.sat_checker.specs.LiteralSets.{is_among, is_tautology}
 use Rattle.sat_checker.specs.Stored.{StoredClause}
 
--- the assumed literals, the newest first, and those that there is room for
+-- the assumed literals, the newest first, and the literals that there is room for
 pub record LiteralsAndRoom : Type 0 where
   pub literals : List ℕ
   pub room : List ℕ
 
--- the room with one more literal, and its negation
+-- the room after one more literal and its negation are added
 abbrev pub with_room : ℕ → List ℕ → List ℕ
 with_room l room = if is_among room l then room else l ∷ negated l ∷ room
 
--- the literal is assumed, unless it was
+-- that the literal is assumed, unless it already was
 abbrev pub AssumesOnce : ℕ → LiteralsAndRoom → LiteralsAndRoom → Type 0
 AssumesOnce l old new = MatchBool (is_among old.literals l) (new ≡ old) (new ≡ record { literals = l ∷ old.literals; room = with_room l old.room })
 
--- there is still room for what there was room for
+-- that no literal has lost its room
 abbrev pub RoomStays : List ℕ → List ℕ → Type 0
 RoomStays old new = (l : ℕ) → is_among old l ≡ true → is_among new l ≡ true
 
--- there is room for every literal of a clause, and for its negation
+-- that there is room for every literal of a clause, and for its negation
 abbrev pub HasClauseRoom : List ℕ → List ℕ → Type 0
 HasClauseRoom room = AllByRecursion (λ l. (is_among room l ≡ true) × (is_among room (negated l) ≡ true))
 
--- there is room for those of all these clauses
+-- that `HasClauseRoom` holds for all of these clauses
 abbrev pub HasClausesRoom : List ℕ → List (List ℕ) → Type 0
 HasClausesRoom room = AllByRecursion (HasClauseRoom room)
 
--- there is room for those of all stored clauses
+-- that `HasClauseRoom` holds for all stored clauses
 abbrev pub HasStoredRoom : List ℕ → List StoredClause → Type 0
 HasStoredRoom room = AllByRecursion (λ c. HasClauseRoom room c.literals)
 
--- as far as there is room, the lists have the same literals
+-- that both lists contain the same literals among those that there is room for
 abbrev pub AgreesOn : List ℕ → List ℕ → List ℕ → Type 0
 AgreesOn room xs ys = (l : ℕ) → is_among room l ≡ true → is_among xs l ≡ is_among ys l
 
--- the clause of these literals, or of their negations
+-- the clause of these literals or, if the flag is false, of their negations
 abbrev pub signed : Bool → List ℕ → List ℕ
 signed negate literals = if negate then map negated literals else literals
 
--- the negations of a clause's literals are assumed as far as there is room for them, and the clause doesn't pass by itself
+-- that the negations of a clause's literals are assumed as far as there is room for them, and the clause does not pass by itself
 pub record DeniedInRoom (old : LiteralsAndRoom) (clause : List ℕ) (new : LiteralsAndRoom) : Type 0 where
   pub agrees : AgreesOn old.room new.literals (map negated clause ++ old.literals)
   pub no_unit : list_any (is_among old.literals) clause ≡ false

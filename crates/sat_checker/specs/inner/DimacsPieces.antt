@@ -10,7 +10,7 @@ use Rattle.sat_checker.specs.declared.processing.ProcessingError.{ProcessingErro
 use Rattle.sat_checker.specs.declared.error.CheckerDimacsError.{CheckerDimacsError}
 use Rattle.sat_checker.specs.declared.error.CheckerDimacsError.TheVariants as refused
 
--- the checker has failed then if memory ran out
+-- whether the error is an allocation failure, after which the checker has failed
 abbrev pub is_out_of_memory : DimacsError → Bool
 is_out_of_memory (texts.Malformed line) = false
 is_out_of_memory (texts.Limit line) = false
@@ -18,7 +18,7 @@ is_out_of_memory texts.Read = false
 is_out_of_memory texts.OutOfMemory = true
 is_out_of_memory texts.HasFailed = false
 
--- the checker with this value of whether it has failed
+-- the checker, marked as failed or not
 abbrev pub with_flag : {L : Type 0} → Bool → CheckerView L → CheckerView L
 with_flag b c = record c { kernel = record c.kernel { failed = b } }
 

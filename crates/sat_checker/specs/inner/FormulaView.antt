@@ -41,7 +41,7 @@ last_in (code.Long id) = LongClause id
 abbrev pub standing_in : Status → RestOfStored
 standing_in s = record { unsat = s.unsat; conflict = s.conflict; last = last_in s.last; next_id = s.next_id; ended = s.ended; var_deleted = s.var_deleted }
 
--- No other literal's unit has this id, and a unit of this literal that was stored later has a higher one.
+-- That no unit of another literal has this id, and a unit of this literal that was stored later has a higher id.
 abbrev pub IsIdOfUnit : ℕ → ℕ → StoredUnit → Type 0
 IsIdOfUnit id l u = (u.id ≡ id → u.literal ≡ l) × (u.literal ≡ l → id ≤ u.id)
 
@@ -67,37 +67,37 @@ pub record KeepsParts (formula : Formula) (kept : List StoredClause) (solver_nam
   pub room : HasStoredRoom formula.units.room kept
   pub marks : HasStoredRoom formula.marks.room kept
 
--- it has what is stored, except for the variables and what is assumed
+-- that the formula represents what is stored, except for the variables and the assumptions
 abbrev pub KeepsFormula : Formula → Stored → Type 0
 KeepsFormula formula f = KeepsParts formula f.clauses f.solver_names f.width f.units (standing_of f)
 
--- the formula with all clauses filed by the current hashes
+-- the formula with all clauses filed by their current hashes
 abbrev pub refiled_in : Formula → Formula
 refiled_in formula = record formula { store = refiled formula.store }
 
--- `Ok` means that this is stored; `CounterEnd` means that a number would not fit in 64 bits in what the definition stores
+-- the result of a change: `Ok` means that the changed formula is stored, and `CounterEnd` that a number does not fit in 64 bits
 abbrev pub KeepsOrSpends : {T : Type 0} → Result T StoreError → Type 0 → Stored → Type 0
 KeepsOrSpends (Ok x) kept g = kept
 KeepsOrSpends (Err OutOfMemory) kept g = Unit {0}
 KeepsOrSpends (Err CounterEnd) kept g = IsSpent g
 
--- the formula is changed in this way
+-- that the formula is changed as the function says
 abbrev pub FormulaEffect : {T : Type 0} → Result T StoreError → Formula → (Stored → Stored) → Formula → Type 0
 FormulaEffect result old change new = (f : Stored) → KeepsFormula old f → KeepsOrSpends result (KeepsFormula new (change f)) (change f)
 
--- It is accepted, and changed in this way, or it isn't; an error is returned only if it would be accepted.
+-- That the change is accepted and made, or is refused. An error is returned only if the change would be accepted.
 abbrev pub FormulaEffectIf : Result Bool StoreError → Type 0 → Type 0 → Stored → Type 0
 FormulaEffectIf (Ok accepted) accepts kept g = MatchBool accepted (accepts × kept) (accepts → ⊥)
 FormulaEffectIf (Err OutOfMemory) accepts kept g = accepts
 FormulaEffectIf (Err CounterEnd) accepts kept g = accepts × IsSpent g
 
--- It has these clauses and units, whatever their ids, and room for the clauses' literals: all that a propagation check needs.
+-- That the formula has these clauses and units, with any ids, and room for the clauses' literals. A propagation check needs nothing else.
 pub record ChecksAs (formula : Formula) (f : Stored) : Type 0 where
   pub clauses : KeepsClauses formula.store f
   pub units : map (λ u. u.literal) formula.units.units ≡ unit_literals f
   pub room : HasStoredRoom formula.units.room f.clauses
 
--- only notes, marks and room differ
+-- that only notes, marks and room differ
 pub record ChecksBeside (old new : Formula) : Type 0 where
   pub store : new.store ≡ old.store
   pub status : new.status ≡ old.status
@@ -105,10 +105,10 @@ pub record ChecksBeside (old new : Formula) : Type 0 where
   pub room : RoomStays old.units.room new.units.room
   pub marks : RoomStays old.marks.room new.marks.room
 
--- a deletion is accepted, and what it leaves is stored, or it is refused
+-- that a deletion is accepted and made, or is refused
 abbrev pub DeletionEffect : Bool → Formula → Step → Formula → Type 0
 DeletionEffect accepted old step new = (f : Stored) → KeepsFormula old f → MatchBool accepted (Accepts f step × KeepsFormula new (effect step f)) (Accepts f step → ⊥)
 
--- what the last propagation check noted explains why the clause passes under these hashes
+-- that the notes of the last propagation check explain why the clause passes under these hashes
 abbrev pub Explained : Formula → List ℕ → List ℕ → Type 0
 Explained formula clause hashes = ExplainsCheck formula.store.clauses formula.passed (map (λ u. u.literal) formula.units.units) clause hashes

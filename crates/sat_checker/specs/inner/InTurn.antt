@@ -1,4 +1,4 @@
--- Units that are judged in turn without memory for those before them.
+-- Units that are judged one after another, without allocating for the earlier ones.
 use Rattle.std.specs.Prelude.{ℕ, ◌==◌, ◌≡◌, Bool, true, false, not, ◌&&◌, List, [], ◌∷◌, if◌then◌else◌}
 use Rattle.sat_base.specs.values.Literals.{negated}
 use Rattle.sat_checker.specs.LiteralSets.{is_among}
@@ -7,11 +7,11 @@ use Rattle.sat_checker.specs.Storing.{with_unit}
 use Rattle.sat_checker.specs.Accepts.{PassInTurn}
 use Rattle.sat_checker.specs.inner.AssumedRoom.{LiteralsAndRoom, AgreesOn}
 
--- a unit is assumed if there is room for it, and neither it nor its negation is assumed
+-- the assumed literals after a unit: it is assumed if there is room for it, and neither it nor its negation is assumed
 abbrev pub with_supposed : ℕ → LiteralsAndRoom → List ℕ
 with_supposed l t = if is_among t.room l && not (is_among t.literals l) && not (is_among t.literals (negated l)) then l ∷ t.literals else t.literals
 
--- the first of the literals that has this one's variable is this one
+-- whether the first of the literals that has the variable of `l` is `l` itself
 abbrev pub stands_first : List ℕ → ℕ → Bool
 stands_first [] l = false
 stands_first (m ∷ ms) l = if m == l then true else if m == negated l then false else stands_first ms l
@@ -22,7 +22,7 @@ pub record AssumesUnits (trail : LiteralsAndRoom) (before : List ℕ) (f : Store
   pub agrees : AgreesOn trail.room trail.literals (unit_literals f)
   pub others : (l : ℕ) → is_among trail.room l ≡ false → is_unit f l ≡ stands_first before l
 
--- the units after the first one pass in turn, once that was added
+-- that the units after the first unit pass one after another, once the first is added
 abbrev pub PassBehind : Stored → List (ℕ × ℕ) → Type 0
 PassBehind f [] = Unit {0}
 PassBehind f (u ∷ us) = PassInTurn (with_unit u.0 f) us

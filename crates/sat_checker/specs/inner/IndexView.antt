@@ -5,7 +5,7 @@ use Rattle.sat_checker.specs.inner.PairView.{Indexed, AreInOrder, places_in, mix
 use Rattle.sat_checker.specs.inner.SlotView.{Slot, is_gone, places_of}
 use Rattle.sat_checker.specs.declared.store.links.Pair.{Pair}
 
--- places without this one
+-- the places without this place
 abbrev pub without_place : ℕ → List ℕ → List ℕ
 without_place place = filter (λ p. not (p == place))
 
@@ -18,7 +18,7 @@ pairs_from place (s ∷ ss) = if is_gone s then pairs_from (place + 1) ss else (
 abbrev pub pairs_of : List Slot → List Pair
 pairs_of slots = pairs_from 0 slots
 
--- the clauses that aren't removed are found by their mixed hashes, and every slot has its place
+-- that the clauses that are not removed are found by their mixed hashes, and every slot has its place
 pub record IndexesSlots (index : Indexed) (slots : List Slot) : Type 0 where
   pub filed : (hash : ℕ) → places_in (mixed hash) index.pairs ≡ places_of hash slots
   pub places : index.places ≡ length slots

@@ -3,14 +3,14 @@ use Rattle.std.specs.Prelude.{ℕ, ◌≡◌, ◌<◌, ◌==◌, ◌-◌, ◌^�
 use Rattle.sat_base.specs.values.Tables.{value_at}
 use Rattle.sat_checker.specs.declared.units.lit_numbers.LitNumbers.{LitNumbers}
 
--- the largest number of 64 bits is none
+-- the number, or `None` if it is the largest number of 64 bits
 abbrev pub unless_largest : ℕ → Option ℕ
 unless_largest n = if n == 2 ^ 64 - 1 then None else Some n
 
--- the number of a literal
+-- the number of a literal, or `None`
 abbrev pub number_at : LitNumbers → ℕ → Option ℕ
 number_at numbers l = unless_largest (value_at (2 ^ 64 - 1) numbers.numbers l)
 
--- every literal of a trail has its place there as its number
+-- that the number of every literal on a trail is its place there
 abbrev pub AreTrailPlaces : LitNumbers → List ℕ → Type 0
 AreTrailPlaces places trail = (i : ℕ) → i < length trail → number_at places (get_or trail i 0) ≡ Some i

@@ -6,7 +6,7 @@ pub use Rattle.sat_checker.specs.Verdicts.{verdict_of}
 use Rattle.sat_checker.specs.declared.rup.Walked.{Walked}
 use Rattle.sat_checker.specs.declared.rup.Walked.TheVariants.{Empty, Conflict, Open}
 
--- literals were assumed on top of the old ones, and there is room for those that there was room for
+-- that literals were assumed in addition to the old ones, and no literal has lost its room
 pub record AssumesMore (old new : LiteralsAndRoom) : Type 0 where
   pub longer : length old.literals ≤ length new.literals
   pub below : drop (length new.literals - length old.literals) new.literals ≡ old.literals

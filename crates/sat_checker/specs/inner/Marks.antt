@@ -8,7 +8,7 @@ use Rattle.sat_checker.specs.declared.units.assigned.Mark.{Mark}
 use Rattle.sat_checker.specs.declared.units.assigned.Mark.TheVariants as mark
 pub use Rattle.sat_checker.specs.SortedSets.{NoRepeats, IsIncreasing}
 
--- all of these literals are among those
+-- that all of the first literals are among the second
 abbrev pub AreAmong : List ℕ → List ℕ → Type 0
 AreAmong part whole = (l : ℕ) → is_among part l ≡ true → is_among whole l ≡ true
 
@@ -16,7 +16,7 @@ AreAmong part whole = (l : ℕ) → is_among part l ≡ true → is_among whole 
 abbrev pub mark_at : Table Mark → ℕ → Mark
 mark_at = value_at mark.NoRoom
 
--- the mark of a literal, by whether it's assumed and whether there is room for it
+-- the mark of a literal, given whether it is assumed and whether there is room for it
 abbrev pub mark_for : Bool → Bool → Mark
 mark_for assumed roomy = if assumed then mark.Assumed else if roomy then mark.Room else mark.NoRoom
 
@@ -26,7 +26,7 @@ is_assumed mark.Assumed = true
 is_assumed mark.Room = false
 is_assumed mark.NoRoom = false
 
--- these are the marks of the literals with small codes, by code
+-- that these are the marks of the literals with small codes, in order of codes
 abbrev pub AreNear : List Mark → List ℕ → Type 0
 AreNear near literals = (l : ℕ) → l < length near → is_assumed (slice_index_or near l mark.NoRoom) ≡ is_among literals l
 
@@ -36,13 +36,13 @@ pub record AreMarks (marks : Table Mark) (literals room : List ℕ) : Type 0 whe
   pub once : NoRepeats literals
   pub within : (l : ℕ) → is_among literals l ≡ true → is_among room l ≡ true
 
--- This many literals have room, and as many can be held. If a literal has room, so has its negation.
+-- That this number of literals have room, and as many can be stored. If a literal has room, so has its negation.
 pub record HoldsRoom (count capacity : ℕ) (room : List ℕ) : Type 0 where
   pub exact : count ≡ length room
   pub enough : count ≤ capacity
   pub paired : (l : ℕ) → is_among room l ≡ is_among room (negated l)
 
--- The item at a place was removed from the list, and the last one moved to its place.
+-- That the item at a place was removed from the list, and the last item moved to that place.
 pub record LosesAt (place : ℕ) (old new : List ℕ) : Type 0 where
   pub count : length new + 1 ≡ length old
   pub each : (i : ℕ) → i < length new → get_or new i 0 ≡ (if i == place then get_or old (length old - 1) 0 else get_or old i 0)

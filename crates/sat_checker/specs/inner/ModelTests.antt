@@ -9,7 +9,7 @@ abbrev pub are_all_true : List ℕ → List StoredClause → Bool
 are_all_true ls [] = true
 are_all_true ls (c ∷ cs) = (c.irredundant == 0 || list_any (is_among ls) c.literals) && are_all_true ls cs
 
--- the number of their literals
+-- the number of literals of clauses that are stored as irredundant
 abbrev pub irredundant_length : List StoredClause → ℕ
 irredundant_length [] = 0
 irredundant_length (c ∷ cs) = (if c.irredundant == 0 then 0 else length c.literals) + irredundant_length cs

@@ -16,7 +16,7 @@ use Rattle.sat_checker.specs.declared.store.StoreError.{StoreError}
 use Rattle.sat_checker.specs.declared.store.StoreError.TheVariants as stores
 use Rattle.sat_checker.specs.declared.announce.announcement.Was.{Was}
 
--- announcements while these variables may be looked up
+-- announcements during which these variables may be looked up
 abbrev pub announced_by : (ℕ → Variable) → List Announcement → List Notice
 announced_by variables = map (λ a. record { announcement = a; variables = variables })
 
@@ -25,7 +25,7 @@ abbrev pub was_of : Option Was → Option (ℕ × Variable)
 was_of None = None
 was_of (Some was) = Some (was.var, variable_of_data was.data)
 
--- the variables, with the earlier data of one of them
+-- the variables, with the earlier data of the given variable, if any
 abbrev pub put_back : Option (ℕ × Variable) → (ℕ → Variable) → ℕ → Variable
 put_back None variables = variables
 put_back (Some was) variables = λ v. if v == was.0 then was.1 else variables v
@@ -42,7 +42,7 @@ abbrev pub fault_of : ProcessingError → CheckerError
 fault_of faults.OutOfMemory = errors.OutOfMemory
 fault_of (faults.ProofProcessorError cause) = errors.ProofProcessorError cause
 
--- the error if a step couldn't be stored
+-- the error if a step could not be stored
 abbrev pub failure_of : StoreError → CheckerError
 failure_of stores.OutOfMemory = errors.OutOfMemory
 failure_of stores.CounterEnd = errors.CounterEnd

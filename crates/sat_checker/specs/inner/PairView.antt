@@ -7,12 +7,12 @@ use Rattle.sat_checker.specs.declared.store.links.Pair.{Pair}
 unfoldable pub mixed : ℕ → ℕ
 mixed hash = hash * 0xBF58476D1CE4E5B9 % 2 ^ 64 + hash / 2 ^ 64 * 2 ^ 64
 
--- the order of pairs: by hash, then by place
+-- that pair `p` is before pair `q`: by hash, then by place
 pub record IsPairBefore (p q : Pair) : Type 0 where
   pub hash : p.hash ≤ q.hash
   pub place : p.hash ≡ q.hash → p.place < q.place
 
--- every pair is before all later ones
+-- that every pair is before all later pairs
 abbrev pub AreInOrder : List Pair → Type 0
 AreInOrder [] = Unit {0}
 AreInOrder (p ∷ ps) = AllByRecursion (IsPairBefore p) ps × AreInOrder ps
@@ -21,39 +21,39 @@ AreInOrder (p ∷ ps) = AllByRecursion (IsPairBefore p) ps × AreInOrder ps
 abbrev pub is_before : Pair → Pair → Bool
 is_before p q = nat_lt p.hash q.hash || (p.hash == q.hash && nat_lt p.place q.place)
 
--- a pair inserted before the first one that it precedes
+-- the pairs with a pair inserted before the first one that it precedes
 abbrev pub inserted : Pair → List Pair → List Pair
 inserted p [] = p ∷ []
 inserted p (q ∷ qs) = if is_before p q then p ∷ q ∷ qs else q ∷ inserted p qs
 
--- all pairs inserted, from the last to the first
+-- all pairs, inserted one by one from the last to the first
 abbrev pub inserted_all : List Pair → List Pair
 inserted_all [] = []
 inserted_all (p ∷ ps) = inserted p (inserted_all ps)
 
--- the pairs without that of this place
+-- the pairs except those with this place
 abbrev pub without_pair : ℕ → List Pair → List Pair
 without_pair place = filter (λ p. not (p.place == place))
 
--- the places of a hash
+-- the places of the pairs with this hash
 abbrev pub places_in : ℕ → List Pair → List ℕ
 places_in hash pairs = map (λ p. p.place) (filter (λ p. p.hash == hash) pairs)
 
--- the first of these places, if there is one
+-- the first of these places, or `None`
 abbrev pub first_of : List ℕ → Option ℕ
 first_of [] = None
 first_of (p ∷ ps) = Some p
 
--- the places after this one
+-- the places after the given place
 abbrev pub places_behind : ℕ → List ℕ → List ℕ
 places_behind place = filter (nat_lt place)
 
--- the places that are at least this one
+-- the places from the given place on, or none
 abbrev pub from_on : Option ℕ → List ℕ → List ℕ
 from_on None places = []
 from_on (Some place) places = filter (nat_le place) places
 
--- whether two pairs have the same place
+-- whether two pairs have equal places
 abbrev pub same_place : Pair → Pair → Bool
 same_place p q = p.place == q.place
 

@@ -29,7 +29,7 @@ read_error unread.Read = errors.IoError
 read_error unread.OutOfMemory = errors.OutOfMemory
 read_error unread.HasFailed = errors.HasFailed
 
--- the checker has failed then if memory ran out
+-- whether the error is an allocation failure, after which the checker has failed
 abbrev pub is_final : StepError → Bool
 is_final unread.Ends = false
 is_final unread.Cut = false
@@ -38,11 +38,11 @@ is_final unread.Read = false
 is_final unread.OutOfMemory = true
 is_final unread.HasFailed = false
 
--- the most bytes that can still be read
+-- the largest number of bytes that can still be read
 abbrev pub bytes_left : Source → ℕ
 bytes_left s = piece_size * (most_reads - s.reads) + length s.waiting
 
--- the calls of the reader are the reads of the source
+-- that the calls of the reader are the reads of the source
 abbrev pub CountsReads : Source → Source → Type 0
 CountsReads old new = new.reader.calls + old.reads ≡ old.reader.calls + new.reads
 
@@ -51,18 +51,18 @@ pub record CheckerAtSource (L : Type 0) : Type 0 where
   pub checker : CheckerView L
   pub source : Source
 
--- this checker, and this source of its steps
+-- the checker at this source of its steps
 abbrev pub at_source : {L : Type 0} → CheckerView L → Source → CheckerAtSource L
 at_source c s = record { checker = c; source = s }
 
--- this step was read and checked
+-- that this step was read and checked
 pub record TriesStep {L : Type 0} (a b : CheckerAtSource L) (earlier : List Step) (step : Step) : Type 0 where
   pub text : List ℕ
   pub passes : ConsumesBytes a.source b.source text
   pub spelt : SpellsStep step text
   pub looks : looks_of b.checker ≤ looks_of a.checker + most_looks (ready_after earlier) step
 
--- none was, since memory ran out
+-- that no step was read because memory ran out
 pub record Starves {L : Type 0} (a b : CheckerAtSource L) : Type 0 where
   pub tag : ℕ
   pub more : List ℕ

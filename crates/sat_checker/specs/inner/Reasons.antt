@@ -18,11 +18,11 @@ use Rattle.sat_checker.specs.declared.rup.Walked.TheVariants.{Empty, Conflict, O
 abbrev pub clause_at : List Slot → ℕ → StoredClause
 clause_at slots place = (slot_at slots place).clause
 
--- the clauses of a hash
+-- the clauses with this hash
 abbrev pub filed : ℕ → List Slot → List StoredClause
 filed hash slots = map (λ s. s.clause) (filter (is_filed hash) slots)
 
--- the clauses of the hashes, in the order named
+-- the clauses with these hashes, in the order of the hashes
 abbrev pub named : List ℕ → List Slot → List StoredClause
 named [] slots = []
 named (hash ∷ hashes) slots = filed hash slots ++ named hashes slots
@@ -31,25 +31,25 @@ named (hash ∷ hashes) slots = filed hash slots ++ named hashes slots
 abbrev pub reason_in : List Slot → noted.Reason → Reason
 reason_in slots r = record { clause = clause_at slots r.place; literal = r.lit }
 
--- the clauses that implied a literal, in the order passed
+-- the clauses that implied a literal, in the order visited
 abbrev pub reasons_in : List Slot → WalkNotes → List Reason
 reasons_in slots passed = map (reason_in slots) passed.reasons
 
--- what the falsified clause rests on by itself
+-- what the falsified clause by itself rests on
 abbrev pub conflict_at : List Slot → Option ℕ → ConflictCauses
 conflict_at slots None = record { literals = []; clauses = [] }
 conflict_at slots (Some place) = record { literals = map negated (clause_at slots place).literals; clauses = clause_at slots place ∷ [] }
 
--- every place that was noted is there
+-- that every place that was noted exists
 abbrev pub AreNotedPlaces : List Slot → WalkNotes → Type 0
 AreNotedPlaces slots passed = AllByRecursion (λ r. r.place < length slots) passed.reasons
 
--- the falsified clause was noted, and is there
+-- that the falsified clause was noted, and its place exists
 abbrev pub IsConflictPlace : List Slot → Option ℕ → Type 0
 IsConflictPlace slots None = ⊥
 IsConflictPlace slots (Some place) = place < length slots
 
--- the number of literals of the falsified clause, 0 if none was noted
+-- the number of literals of the falsified clause, or 0 if none was noted
 abbrev pub conflict_length : List Slot → Option ℕ → ℕ
 conflict_length slots None = 0
 conflict_length slots (Some place) = length (literals_at slots place)
@@ -64,34 +64,34 @@ pub record KeepsGround (slots : List Slot) (old : WalkNotes) (assumed : List ℕ
       followed_back (reasons_in slots old) (conflict_causes assumed (clauses ++ rest)) ≡ followed_back (reasons_in slots new) (conflict_causes more (left ++ rest))
   pub there : AreNotedPlaces slots old → AreNotedPlaces slots new
 
--- The walk met its conflict in these clauses, and the notes explain it.
+-- That the walk met its conflict in these clauses, and the notes explain it.
 pub record MeetsConflict (slots : List Slot) (old : WalkNotes) (assumed : List ℕ) (clauses : List StoredClause) (new : WalkNotes) : Type 0 where
   pub same : (rest : List StoredClause) →
       followed_back (reasons_in slots old) (conflict_causes assumed (clauses ++ rest)) ≡ followed_back (reasons_in slots new) (conflict_at slots new.conflict)
   pub there : AreNotedPlaces slots old → AreNotedPlaces slots new
   pub met : IsConflictPlace slots new.conflict
 
--- what the notes explain, by whether the walk met its conflict
+-- what the notes explain, given whether the walk met its conflict
 abbrev pub NotesReasons : List Slot → Bool → WalkNotes → List ℕ → List StoredClause → WalkNotes → List ℕ → Type 0
 NotesReasons slots true old assumed clauses new more = MeetsConflict slots old assumed clauses new
 NotesReasons slots false old assumed clauses new more = KeepsGround slots old assumed clauses new more []
 
--- what the notes explain, by how the walk over a bucket ended
+-- what the notes explain, given how the walk over a bucket ended
 abbrev pub RecordsWalk : List Slot → Walked → WalkNotes → List ℕ → List StoredClause → WalkNotes → List ℕ → Type 0
 RecordsWalk slots Empty old assumed clauses new more = Unit {0}
 RecordsWalk slots Conflict old assumed clauses new more = MeetsConflict slots old assumed clauses new
 RecordsWalk slots Open old assumed clauses new more = KeepsGround slots old assumed clauses new more []
 
--- The notes explain what the conflict of these clauses rests on, under the assumed literals.
+-- That the notes explain what the conflict of these clauses rests on, under the assumed literals.
 pub record Explains (slots : List Slot) (passed : WalkNotes) (whole : ConflictCauses) : Type 0 where
   pub same : whole ≡ followed_back (reasons_in slots passed) (conflict_at slots passed.conflict)
   pub there : AreNotedPlaces slots passed
   pub met : IsConflictPlace slots passed.conflict
 
--- The notes explain the conflict, unless the clause has both signs of a variable or a unit satisfies it.
+-- That the notes explain the conflict, unless the clause has both signs of a variable or a unit satisfies it.
 abbrev pub ExplainsUnless : List Slot → WalkNotes → List ℕ → List ℕ → ConflictCauses → Type 0
 ExplainsUnless slots passed units clause whole = list_any (is_among units) clause ≡ false → is_tautology clause ≡ false → Explains slots passed whole
 
--- The notes explain the check of a clause by these hashes, under the assumed literals.
+-- That the notes explain the check of a clause by these hashes, under the assumed literals.
 abbrev pub ExplainsCheck : List Slot → WalkNotes → List ℕ → List ℕ → List ℕ → Type 0
 ExplainsCheck slots passed assumed clause hashes = ExplainsUnless slots passed assumed clause (conflict_causes (map negated clause ++ assumed) (named hashes slots))

@@ -1,4 +1,4 @@
--- What the store has at each place.
+-- The contents of the store at each place.
 use Rattle.std.specs.Prelude.{ℕ, ◌+◌, ◌<◌, ◌≤◌, ◌==◌, ◌≡◌, ◌⊎◌, Bool, false, not, ◌&&◌, List, [], ◌∷◌, ◌++◌, map, filter, find, Option, length, take, nat_le, slice_range, slice_index_or, slice_set, if◌then◌else◌}
 use Rattle.sat_checker.specs.LiteralSets.{same_literals}
 use Rattle.sat_checker.specs.Looks.{total_length}
@@ -8,15 +8,15 @@ use Rattle.sat_checker.specs.HasherView.{solver_name_of, width_of}
 use Rattle.sat_checker.specs.declared.hash.ClauseHasher.{ClauseHasher}
 use Rattle.sat_checker.specs.declared.store.slots.ClauseLits.{ClauseLits}
 
--- the literals that are stored inline, or in the buffer
+-- the literals, which are stored inline or in the buffer
 abbrev pub lits_in : List ℕ → ClauseLits → List ℕ
 lits_in buffer c = if nat_le c.len 4 then take c.len c.inline else slice_range buffer c.start (c.start + c.len)
 
--- literals that are stored in the buffer are there
+-- that literals that are stored in the buffer are within it
 abbrev pub LitsWithin : List ℕ → ClauseLits → Type 0
 LitsWithin buffer c = 4 < c.len → c.start + c.len ≤ length buffer
 
--- a clause at its place, with its hash; it is removed if it has no count
+-- a clause at its place, with its hash; a clause without a count is removed
 pub record Slot : Type 0 where
   pub clause : StoredClause
   pub hash : ℕ
@@ -45,15 +45,15 @@ all_lits = map (λ s. s.clause.literals)
 abbrev pub slot_count : Bool → Slot → ℕ
 slot_count redundant s = if redundant then s.clause.redundant else s.clause.irredundant
 
--- the clause at a place has one more count
+-- the slots after the clause at a place gets one more count
 abbrev pub with_count_at : Bool → ℕ → List Slot → List Slot
 with_count_at redundant place slots = slice_set slots place (record (slot_at slots place) { clause = with_count redundant (slot_at slots place).clause })
 
--- the clause at a place has one fewer count, and is removed if that was its last
+-- the slots after the clause at a place loses one count; without a count, it is removed
 abbrev pub without_count_at : Bool → ℕ → List Slot → List Slot
 without_count_at redundant place slots = slice_set slots place (record (slot_at slots place) { clause = without_count redundant (slot_at slots place).clause })
 
--- the clause at a place has this hash
+-- the slots after the clause at a place gets this hash
 abbrev pub with_hash_at : ℕ → ℕ → List Slot → List Slot
 with_hash_at hash place slots = slice_set slots place (record (slot_at slots place) { hash = hash })
 
@@ -75,21 +75,21 @@ abbrev pub gone_count : List Slot → ℕ
 gone_count [] = 0
 gone_count (s ∷ ss) = (if is_gone s then 1 else 0) + gone_count ss
 
--- without the removed clauses
+-- the slots without those of removed clauses
 abbrev pub slots_present : List Slot → List Slot
 slots_present = filter (λ s. not (is_gone s))
 
--- the removed clauses were dropped, or nothing changed
+-- that the removed clauses were dropped, or nothing changed
 abbrev pub MayDrop : List Slot → List Slot → Type 0
 MayDrop old new = (new ≡ old) ⊎ (new ≡ slots_present old)
 
--- a clause with this id at this place, which is not removed
+-- that a clause with this id is at this place, and is not removed
 pub record IsPresentAt (slots : List Slot) (id place : ℕ) : Type 0 where
   pub inside : place < length slots
   pub id_is : (slot_at slots place).clause.id ≡ id
   pub there : is_gone (slot_at slots place) ≡ false
 
--- a clause that was stored once
+-- the slot of a clause that was stored once
 abbrev pub stored_slot : Bool → ℕ → ℕ → List ℕ → Slot
 stored_slot redundant id hash literals = record { clause = new_clause redundant id literals; hash = hash }
 
@@ -97,11 +97,11 @@ stored_slot redundant id hash literals = record { clause = new_clause redundant 
 abbrev pub is_filed : ℕ → Slot → Bool
 is_filed hash s = not (is_gone s) && s.hash == hash
 
--- the literals of the clauses of a hash
+-- the literals of the clauses with this hash
 abbrev pub bucket_in : ℕ → List Slot → List (List ℕ)
 bucket_in hash slots = all_lits (filter (is_filed hash) slots)
 
--- the literals of the clauses of a hash, as a function of the hash
+-- the literals of the clauses with a hash, as a function of the hash
 abbrev pub bucket_of : List Slot → ℕ → List (List ℕ)
 bucket_of slots hash = bucket_in hash slots
 
@@ -109,31 +109,31 @@ bucket_of slots hash = bucket_in hash slots
 abbrev pub live_length : List Slot → ℕ
 live_length slots = total_length (map (λ c. c.literals) (live slots))
 
--- the places of a hash, if the first slot is at this place
+-- the places of the clauses with this hash, if the first slot is at this place
 abbrev pub places_from : ℕ → ℕ → List Slot → List ℕ
 places_from place hash [] = []
 places_from place hash (s ∷ ss) = if is_filed hash s then place ∷ places_from (place + 1) hash ss else places_from (place + 1) hash ss
 
--- the places of a hash
+-- the places of the clauses with this hash
 abbrev pub places_of : ℕ → List Slot → List ℕ
 places_of hash slots = places_from 0 hash slots
 
--- whether these are the literals at the place
+-- whether the clause at the place has these literals
 abbrev pub is_same_at : List Slot → List ℕ → ℕ → Bool
 is_same_at slots literals place = same_literals (literals_at slots place) literals
 
--- the first of these places that has the literals
+-- the first of these places whose clause has the literals, or `None`
 abbrev pub found_among : List Slot → List ℕ → List ℕ → Option ℕ
 found_among slots literals = find (is_same_at slots literals)
 
--- a clause with its hash by these names and of this width, unless it is removed
+-- the slot with its hash by these solver names, at this width, unless its clause is removed
 abbrev pub hashed_by : (ℕ → Option ℕ) → ℕ → Slot → Slot
 hashed_by names width s = if is_gone s then s else record s { hash = hash_by names width s.clause.literals }
 
--- the clauses with their hashes by these names and of this width, unless they are removed
+-- the slots with their hashes by these solver names, at this width, except those of removed clauses
 abbrev pub all_hashed_by : (ℕ → Option ℕ) → ℕ → List Slot → List Slot
 all_hashed_by names width = map (hashed_by names width)
 
--- the clauses with their hashes by this hasher, unless they are removed
+-- the slots with their hashes by this hasher, except those of removed clauses
 abbrev pub hashed_anew : ClauseHasher → List Slot → List Slot
 hashed_anew h slots = all_hashed_by (solver_name_of h) (width_of h) slots

@@ -1,4 +1,4 @@
--- How the checker's state represents the definition's, and when its result for a step is right.
+-- How the checker's state represents that of the definition, and when its result for a step is correct.
 use Rattle.std.specs.Prelude.{ℕ, ◌≡◌, Bool, List, Result}
 use Rattle.sat_checker.specs.Storing.{with_stored, with_input, with_literals_known}
 use Rattle.sat_base.specs.steps.Steps.{Step}
@@ -12,13 +12,13 @@ use Rattle.sat_checker.specs.inner.VariablesView.{KeepsVariables}
 use Rattle.sat_checker.specs.declared.state.State.{State}
 use Rattle.sat_checker.specs.declared.store.StoreError.{StoreError}
 
--- it stores this, once all clauses are filed by the current hashes
+-- that the state represents this, once all clauses are filed by their current hashes
 pub record KeepsStored (state : State) (f : Stored) : Type 0 where
   pub formula : KeepsFormula (refiled_in state.formula) f
   pub variables : KeepsVariables state.variables f.variables
   pub assumed : state.assumed ≡ canonical f.assumed
 
--- it stores this, and all clauses are filed by the current hashes
+-- that the state represents this, and all clauses are filed by their current hashes
 pub record KeepsFiled (state : State) (f : Stored) : Type 0 where
   pub formula : KeepsFormula state.formula f
   pub variables : KeepsVariables state.variables f.variables
@@ -28,18 +28,18 @@ pub record KeepsFiled (state : State) (f : Stored) : Type 0 where
 abbrev pub DecidesStep : Result Bool StoreError → State → Step → State → Type 0
 DecidesStep result old step new = (f : Stored) → KeepsStored old f → FormulaEffectIf result (Accepts f step) (KeepsStored new (effect step f)) (effect step f)
 
--- what the result says if the state, all of whose clauses are filed, is changed in this way
+-- the result of changing the state in this way, if all its clauses are filed
 abbrev pub ChangesStored : {T : Type 0} → Result T StoreError → State → (Stored → Stored) → State → Type 0
 ChangesStored result old change new = (f : Stored) → KeepsFiled old f → KeepsOrSpends result (KeepsStored new (change f)) (change f)
 
--- a derived clause is stored, and its variables are known
+-- what is stored after a derived clause; its variables are then known
 abbrev pub with_derived : Bool → List ℕ → Stored → Stored
 with_derived redundant clause f = with_stored redundant clause (with_literals_known clause f)
 
--- a clause of the formula is stored, and its variables are known
+-- what is stored after a clause of the formula; its variables are then known
 abbrev pub with_added_clause : List ℕ → Stored → Stored
 with_added_clause clause f = with_input clause (with_literals_known clause f)
 
--- no more looks than the step may take, and none are lost
+-- that the number of looks did not decrease, and rose at most by the bound of the step
 abbrev pub LooksWithin : State → Step → ℕ → ℕ → Type 0
 LooksWithin state step old new = LooksOver (KeepsStored state) (λ f. most_looks f step) old new

@@ -12,7 +12,7 @@ pub record UnitsAndRoom : Type 0 where
   pub units : List StoredUnit
   pub room : List ℕ
 
--- exactly the units are assumed, in any order; every literal has its unit's id and, if it is assumed, its place on the trail
+-- that exactly the units are assumed, in any order; every literal has its unit's id and, if it is assumed, its place on the trail
 pub record UnitsInvariant (units : List StoredUnit) (ids places : LitNumbers) (assigned : List ℕ) : Type 0 where
   pub assumed : (l : ℕ) → is_among assigned l ≡ is_among (map (λ u. u.literal) units) l
   pub once : NoRepeats (map (λ u. u.literal) units)

@@ -27,32 +27,32 @@ variable_of_data d = record { known = d.known; mode = mode_in d.mode; name = d.n
 abbrev pub unknown_data : VarData
 unknown_data = record { known = stored.unknown.known; mode = code.Sample; name = None }
 
--- what is stored for a variable, or an unknown one if nothing is
+-- what is stored for a variable, or the data of an unknown variable if nothing is
 abbrev pub variable_at : Variables → ℕ → Variable
 variable_at vs v = variable_of_data (value_at unknown_data vs.data v)
 
--- the variable that has this name, if one has
+-- the variable that has this name, or `None`
 abbrev pub holder_at : Variables → ℕ → Option ℕ
 holder_at vs name = value_at None vs.holders name
 
--- the variable made known, if that is asked
+-- the variable, made known if the flag is true
 abbrev pub known_if : Bool → Variable → Variable
 known_if b x = if b then record x { known = true } else x
 
--- it stores these variables, and the names that they have
+-- that the code stores these variables, and the names that they have
 pub record KeepsVariables (vs : Variables) (variables : ℕ → Variable) : Type 0 where
   pub each : (v : ℕ) → variable_at vs v ≡ variables v
   pub holders : (name v : ℕ) → (holder_at vs name ≡ Some v) ↔ ((variables v).name ≡ Some name)
 
--- the step is accepted, and its variables are stored, or it is refused
+-- that the step is accepted and its variables are stored, or that the step is refused
 abbrev pub VariablesAnswer : Variables → Step → Variables → Bool → Type 0
 VariablesAnswer old step new accepted =
     (f : Stored) → KeepsVariables old f.variables → MatchBool accepted (Accepts f step × KeepsVariables new (effect step f).variables) (Accepts f step → ⊥)
 
--- the step is accepted
+-- that the step is accepted
 abbrev pub VariablesAllow : Variables → Step → Type 0
 VariablesAllow vs step = (f : Stored) → KeepsVariables vs f.variables → Accepts f step
 
--- no variable of the literals is hidden or a witness
+-- that no variable of the literals is hidden or a witness
 abbrev pub AreSampling : Variables → List ℕ → Type 0
 AreSampling vs = AllByRecursion (λ l. (variable_at vs (variable l)).mode ≡ stored.Sample)

@@ -4,23 +4,23 @@ use Rattle.sat_base.specs.values.Literals.{negated}
 use Rattle.sat_checker.specs.LiteralSets.{is_among}
 pub use Rattle.sat_checker.specs.Verdicts.{Verdict, falsified, opens, rests, not_false, verdict_of_open, verdict}
 
--- The walk uses every clause that is unit in its turn. None: a clause was falsified.
+-- The assumed literals after a clause, or `None` if it is falsified. The walk uses every clause that is unit when it is visited.
 abbrev pub walk_on : Verdict → List ℕ → Option (List ℕ)
 walk_on falsified assumed = None
 walk_on (opens l) assumed = Some (l ∷ assumed)
 walk_on rests assumed = Some assumed
 
--- the walk continues if no clause was falsified
+-- the rest of the walk, unless a clause was falsified
 abbrev pub and_then : Option (List ℕ) → (List ℕ → Option (List ℕ)) → Option (List ℕ)
 and_then None next = None
 and_then (Some assumed) next = next assumed
 
--- what is assumed after these clauses. None: one of them was falsified.
+-- The assumed literals after these clauses, or `None` if one of them was falsified.
 abbrev pub walk : List ℕ → List (List ℕ) → Option (List ℕ)
 walk assumed [] = Some assumed
 walk assumed (c ∷ cs) = and_then (walk_on (verdict assumed c) assumed) (λ more. walk more cs)
 
--- true if a conflict was met, otherwise what follows under what is assumed so far
+-- true if a conflict was met, otherwise the result for the literals assumed so far
 abbrev pub if_conflict : Option (List ℕ) → (List ℕ → Bool) → Bool
 if_conflict None next = true
 if_conflict (Some assumed) next = next assumed
@@ -31,7 +31,7 @@ walk_buckets assumed [] = false
 walk_buckets assumed ([] ∷ bs) = false
 walk_buckets assumed ((c ∷ cs) ∷ bs) = if_conflict (walk assumed (c ∷ cs)) (λ more. walk_buckets more bs)
 
--- The negations of the clause's literals are assumed in turn. None: a literal was true.
+-- The assumed literals after the negations of the clause's literals, one by one, or `None` if a literal was true.
 abbrev pub denied_in_turn : List ℕ → List ℕ → Option (List ℕ)
 denied_in_turn assumed [] = Some assumed
 denied_in_turn assumed (l ∷ ls) =

@@ -13,7 +13,7 @@ use Rattle.sat_checker.specs.declared.announce.announcement.CheckedProofStep.The
 use Rattle.sat_checker.specs.declared.announce.announcement.CheckerData.{CheckerData}
 use Rattle.sat_checker.specs.declared.announce.announcement.Was.{Was}
 
--- whether the mode that the code announces is sample; the other is witness
+-- whether the mode that the code announces is sample; otherwise it is witness
 abbrev pub is_sampling : CheckedSamplingMode → Bool
 is_sampling modes.Sample = true
 is_sampling modes.Witness = false
@@ -38,7 +38,7 @@ announcement_of (code.Model assignment) = Model assignment.now
 announcement_of (code.Assumptions assumptions) = Assumptions assumptions.now
 announcement_of (code.FailedAssumptions core ids) = FailedAssumptions core.now ids.now
 
--- the variables, with the earlier data of one of them
+-- the variables, with the earlier data of the given variable, if any
 abbrev pub looked_up : Option (Bor Was) → (ℕ → Variable) → ℕ → Variable
 looked_up None variables = variables
 looked_up (Some was) variables = λ v. if v == was.now.var then variable_of_data was.now.data else variables v

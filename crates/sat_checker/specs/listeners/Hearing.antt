@@ -1,4 +1,4 @@
--- What the listeners of a checker hear of what is announced, in order, up to the first fault.
+-- Which announcements the listeners of a checker receive, in order, up to the first fault.
 use Rattle.std.specs.Prelude.{ℕ, ◌≡◌, ◌⊎◌, List, [], ◌∷◌, ◌++◌, Option, None, Some, Result, Ok, Err}
 use Rattle.anyhow.specs.declared.error.Error.{Error}
 use Rattle.sat_base.specs.steps.Steps.{Step}
@@ -6,7 +6,7 @@ use Rattle.sat_checker.specs.announcements.Announcements.{Notice, notices_after,
 use Rattle.sat_checker.specs.listeners.Notifying.{NotifiesFirst}
 use Rattle.sat_checker.specs.declared.processing.ProcessingError.{ProcessingError}
 
--- The same is announced: the announcement, and of every variable the name and the mode that can be looked up.
+-- That both notices have the same announcement, and the same name and mode for every variable that can be looked up.
 pub record SameNotice (t u : Notice) : Type 0 where
   pub announcement : t.announcement ≡ u.announcement
   pub names : (v : ℕ) → (t.variables v).name ≡ (u.variables v).name
@@ -35,17 +35,17 @@ module _ {L : Type 0} (Hears : L → Notice → Result Unit ProcessingError → 
   abbrev pub HearsSinceUpTo : ProcessingError → List Notice → List Notice → L → L → Type 0
   HearsSinceUpTo e before reported old new = (since : List Notice) × (reported ≡ before ++ since) × HearsUpTo e since old new
 
--- what these steps announced, with the empty clause of a unit conflict that they left once it isn't pending any more
+-- the announcements of these steps, including the empty clause of their unit conflict once that is no longer pending
 abbrev pub notices_by : Option (ℕ × ℕ) → List Step → List Notice
 notices_by (Some conflict) steps = notices_after steps
 notices_by None steps = all_notices_after steps
 
--- one that is notified before all others, and these
+-- a listener that is notified before all others, and these others
 pub record Hearers (V L : Type 0) : Type 0 where
   pub own : V
   pub others : L
 
--- the listeners, with this one first
+-- the listener `own`, which is notified first, and the others
 abbrev pub hearers : {V L : Type 0} → V → L → Hearers V L
 hearers own others = record { own = own; others = others }
 

@@ -6,11 +6,11 @@ use Rattle.sat_checker.specs.announcements.Transcripts.{Transcribed}
 use Rattle.sat_checker.specs.declared.processing.ProcessingError.{ProcessingError}
 use Rattle.sat_checker.specs.declared.processing.ProcessingError.TheVariants.{OutOfMemory, ProofProcessorError}
 
--- all were called once, and none returned a fault
+-- that all listeners were called once, and none returned a fault
 pub record AllNotified {B : Type 0} (Called : Result Unit Error → B → B → Type 0) (before after : List B) : Type 0 where
   pub each : AllZip (Called (Ok tt)) before after
 
--- one returned this fault; those before it were called once, and those after it weren't called
+-- that one listener returned this fault; those before it were called once, and those after it were not called
 pub record SomeNotified {B : Type 0} (Called : Result Unit Error → B → B → Type 0) (cause : Error) (before after : List B) : Type 0 where
   pub notified_before : List B
   pub notified_after : List B
@@ -27,12 +27,12 @@ pub record Listeners (B C : Type 0) : Type 0 where
   pub processors : List B
   pub transcripts : List C
 
--- every transcript was called once, if there is a step for it
+-- that every transcript was called once, if there is a step for it
 abbrev pub AllRead : {C : Type 0} → (Transcribed → Result Unit Error → C → C → Type 0) → Option Transcribed → List C → List C → Type 0
 AllRead Reads None before after = after ≡ before
 AllRead Reads (Some step) before after = AllNotified (Reads step) before after
 
--- one of them returned this fault
+-- that one of the transcripts returned this fault
 abbrev pub SomeRead : {C : Type 0} → (Transcribed → Result Unit Error → C → C → Type 0) → Option Transcribed → Error → List C → List C → Type 0
 SomeRead Reads None cause before after = ⊥
 SomeRead Reads (Some step) cause before after = SomeNotified (Reads step) cause before after
@@ -55,6 +55,6 @@ pub record FailsFirst {V L : Type 0} (Called : Result Unit Error → V → Type 
   pub failed : Called (Err cause) own
   pub others : new ≡ old
 
--- one is notified first, and then the others
+-- that one listener is notified first, and then the others
 abbrev pub NotifiesFirst : {V L : Type 0} → (Result Unit Error → V → Type 0) → Type 0 → Result Unit ProcessingError → V → L → L → Type 0
 NotifiesFirst Called Others result own old new = (Called (Ok tt) own × Others) ⊎ FailsFirst Called result own old new

@@ -1,4 +1,4 @@
--- The bridge between the variables of a certificate and the judge's identities.
+-- The relation between the variables of a certificate and the identities of a script state.
 use Rattle.std.specs.Prelude.{ℕ, ◌<◌, ◌≡◌, true, Some, List, [], ◌∷◌}
 use Rattle.std.specs.List.{AllByRecursion}
 use Rattle.sat_base.specs.values.Literals.{variable}
@@ -9,24 +9,24 @@ use Rattle.sat_base.specs.steps.Steps.{Step}
 use Rattle.sat_checker.specs.Fold.{Holds}
 use Rattle.sat_checker.specs.matching.Checking.{variable_of, CheckerRules, Accepted}
 
--- live proof variables with their identities
+-- the live proof variables with their identities
 abbrev pub Live : Type 0
 Live = List (ℕ × ℕ)
 
--- the valuations of variables and of identities agree on the live ones
+-- that the valuations of variables and of identities agree on the live variables
 abbrev pub AgreesOnLive : Live → Valuation → Valuation → Type 0
 AgreesOnLive live a b = AllByRecursion (λ p. a p.0 ≡ b p.1) live
 
--- every proof variable once
+-- that every proof variable occurs once
 abbrev pub AreDistinctVariables : Live → Type 0
 AreDistinctVariables [] = Unit {0}
 AreDistinctVariables (p ∷ ps) = AllByRecursion (λ q. q.0 ≡ p.0 → ⊥) ps × AreDistinctVariables ps
 
--- some valuation of identities agrees with it and satisfies the accepted clauses
+-- that some valuation of identities agrees with this valuation and satisfies the accepted clauses
 abbrev pub HasAcceptedModel : ScriptState → Live → Valuation → Type 0
 HasAcceptedModel j live a = (b : Valuation) × AgreesOnLive live a b × EachHolds b j.clauses
 
--- the bridge between the names in use and what the steps mean
+-- the relation between the names in use and what the steps mean
 pub record IsBridge (k : CheckerRules) (j : ScriptState) (earlier : List Step) (live : Live) : Type 0 where
   pub accepted : Accepted k earlier
   pub once : AreDistinctVariables live

@@ -1,4 +1,4 @@
--- Ordered steps that a script's commands and their outcomes expect, by names.
+-- The ordered steps that are expected for a script's commands and their outcomes, in terms of names.
 use Rattle.std.specs.Prelude.{ℕ, ◌+◌, ◌≡◌, Bool, false, Option, Some, None, List, [], ◌∷◌, ◌++◌, map}
 use Rattle.std.specs.List.{AllByRecursion}
 use Rattle.sat_base.specs.values.Literals.{coded}
@@ -7,20 +7,20 @@ use Rattle.sat_base.specs.script.ScriptState.{ScriptState, NameMode, Sampled, Wi
 use Rattle.sat_base.specs.steps.Steps.{Step, UserVarName, AddClause, Model, Assumptions, FailedAssumptions, End}
 use Rattle.sat_checker.specs.matching.Checking.{variable_of}
 
--- the outcomes: one for every accepted ask
+-- the outcome of an ask; every accepted ask has one
 pub data Outcome : Type 0 where
-  Sat : List Literal → Outcome  -- with a model's line
-  Unsat : List Literal → Outcome  -- with a core
+  Sat : List Literal → Outcome  -- with the literals of a model
+  Unsat : List Literal → Outcome  -- with the literals of a core
   Unknown : Outcome
 
--- an ordered step that is expected, by names
+-- an ordered step that is expected, in terms of names
 pub data Expected : Type 0 where
-  NewName : ℕ → Expected  -- the name goes to an unknown variable
-  NoName : ℕ → Expected  -- the name's variable loses it
+  NewName : ℕ → Expected  -- a variable that is not known gets the name
+  NoName : ℕ → Expected  -- the name is removed from its variable
   Adds : List Literal → Expected  -- a clause
-  Opens : List Literal → Outcome → Expected  -- an ask, and what will be answered
+  Opens : List Literal → Outcome → Expected  -- an ask, with its outcome
   Shows : List ℕ → List Literal → List Literal → Expected  -- a model: the names in use, the ask, the line
-  Fails : List Literal → List Literal → Expected  -- a core: the ask, the core
+  Fails : List Literal → List Literal → Expected  -- a core: the literals of the ask, then those of the core
   Closes : Expected  -- the end of an ask
   Finish : Expected
 
@@ -39,7 +39,7 @@ abbrev pub setting : NameMode → List ℕ → ScriptState → List Expected
 setting mode [] j = []
 setting mode (name ∷ names) j = map NewName (new_names name j) ++ setting mode names (with_mode mode name (bring_in name j))
 
--- the step that shows an outcome, if one does
+-- the step that shows an outcome, or none if it is unknown
 abbrev pub showing : ScriptState → List Literal → Outcome → List Expected
 showing j ask (Sat line) = Shows (map (λ n. n.name) j.in_use) ask line ∷ []
 showing j ask (Unsat core) = Fails ask core ∷ []
@@ -57,21 +57,21 @@ expected j (Hide names ∷ commands) outcomes = hiding names j ++ expected (acce
 expected j (Witness names ∷ commands) outcomes = setting Witnessed names j ++ expected (accepted (Witness names) j) commands outcomes
 expected j (Sample names ∷ commands) outcomes = setting Sampled names j ++ expected (accepted (Sample names) j) commands outcomes
 
--- the literal of a proof variable that corresponds to this one: variables are read only through explicit names
+-- that `code` is the literal of the proof variable for `l`; variables are found only through explicit names
 pub record Spells (variable_of : ℕ → Option ℕ) (l : Literal) (code : ℕ) : Type 0 where
   pub variable : ℕ
   pub named : variable_of l.name ≡ Some variable
   pub is : code ≡ coded variable l.positive
 
--- every literal of the list is there
+-- that for every literal of the list, its code is among the codes
 abbrev pub EachSpelt : (ℕ → Option ℕ) → List Literal → List ℕ → Type 0
 EachSpelt names ls codes = AllByRecursion (λ l. (code : ℕ) × Spells names l code × Among code codes) ls
 
--- both lists have the same literals
+-- that the literals and the codes are the same set
 abbrev pub SameSet : (ℕ → Option ℕ) → List Literal → List ℕ → Type 0
 SameSet names ls codes = EachSpelt names ls codes × AllByRecursion (λ code. (l : Literal) × Spells names l code × Among l ls) codes
 
--- after these steps, if these variables are known, the step is what is expected
+-- that after these steps, with these variables known, the step is what is expected
 pub data Fits (knows : ℕ → Bool) (earlier : List Step) : Expected → Step → Type 0 where
   new_name : {name v index : ℕ} → index + 1 ≡ name → knows v ≡ false
       → Fits knows earlier (NewName name) (UserVarName v (Some index))
@@ -79,7 +79,7 @@ pub data Fits (knows : ℕ → Bool) (earlier : List Step) : Expected → Step �
   adds : {ls : List Literal} {c : List ℕ} → SameSet (variable_of earlier) ls c → Fits knows earlier (Adds ls) (AddClause c)
   opens : {ls : List Literal} {o : Outcome} {c : List ℕ} → SameSet (variable_of earlier) ls c
       → Fits knows earlier (Opens ls o) (Assumptions c)
-  -- the line lists exactly the names in use, the model has its literals, and the ask's are among them
+  -- the line lists exactly the names in use, the model has its literals, and the literals of the ask are among them
   shows : {names : List ℕ} {ask line : List Literal} {c : List ℕ}
       → names_of line ≡ names → EachSpelt (variable_of earlier) line c → AllByRecursion (λ l. Among l line) ask
       → Fits knows earlier (Shows names ask line) (Model c)

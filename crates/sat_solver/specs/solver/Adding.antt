@@ -25,20 +25,20 @@ use Rattle.sat_solver.specs.solver.Taking.{BreaksNamesOff, BreaksNamesOr}
 use Rattle.sat_solver.specs.solver.Whole.{HasFullStore, SolverInvariant, steps_in}
 use Rattle.sat_solver.specs.solver.View.{IsInState, answer_in, assumed_in, assumptions_in, has_failed, inside, is_used, known_names, parameters_in, proof_in, schedule_in, target_in}
 
--- introduces the names of the literals, and then adds the clause
+-- the state after the names of the literals are introduced and then the clause is added
 abbrev pub with_added : List ℕ → ScriptState → ScriptState
 with_added user j = with_clause (map user_literal user) (bring_all (names_in user) j)
 
--- the ordered steps of a clause; once the clauses are known to be unsatisfiable, only those of its names
+-- the ordered steps of a clause; once the clauses are known to be unsatisfiable, only the steps of its names
 abbrev pub due_for_clause : State → List ℕ → ScriptState → List Expected
 due_for_clause states.Unsat user j = bringing (names_in user) j
 due_for_clause before user j = bringing (names_in user) j ++ (Adds (map user_literal user) ∷ [])
 
--- the ordered steps of assumptions; the ask will have this outcome
+-- the ordered steps of assumptions for an ask with this outcome
 abbrev pub due_for_asked : Outcome → List ℕ → ScriptState → List Expected
 due_for_asked o user j = bringing (names_in user) j ++ (Opens (map user_literal user) o ∷ [])
 
--- the answer is forgotten, unless the clauses alone are known to be unsatisfiable
+-- that the answer is forgotten, unless the clauses without assumptions are known to be unsatisfiable
 abbrev pub ForgetsAnswer : State → State → Type 0
 ForgetsAnswer states.Unsat now = now ≡ states.Unsat
 ForgetsAnswer before states.Unknown = Unit {0}
@@ -46,15 +46,15 @@ ForgetsAnswer before states.Unsat = Unit {0}
 ForgetsAnswer before states.Sat = ⊥
 ForgetsAnswer before states.UnsatUnderAssumptions = ⊥
 
--- the leftmost name of mode witness
+-- that one of the names has mode witness; the leftmost of them determines the refusal
 abbrev pub HasWitness : {W L : Type 0} {G : Ghosts L} → Solver W L G → List ℕ → Type 0
 HasWitness s user = (j : ScriptState) (live : Live) → IsInState s j live → (name : ℕ) × (refused_literal j (names_in user) ≡ Some (WitnessName name))
 
--- no name is of mode witness
+-- that the mode of no name is witness
 abbrev pub AreSampled : {W L : Type 0} {G : Ghosts L} → Solver W L G → List ℕ → Type 0
 AreSampled s user = (j : ScriptState) (live : Live) → IsInState s j live → refused_literal j (names_in user) ≡ None
 
--- a call over names failed, and so does every later call; `StoreFull` only if `full` holds
+-- that a call over names failed, and so does every later call; `StoreFull` is returned only if `full` holds
 pub record EndsNamesOr {W L : Type 0} {G : Ghosts L} (full : Type 0) (seen : W → Writer) (e : SolverError) (old new : Solver W L G) : Type 0 where
   pub going : has_failed old ≡ false
   pub failed : has_failed new ≡ true
@@ -62,23 +62,23 @@ pub record EndsNamesOr {W L : Type 0} {G : Ghosts L} (full : Type 0) (seen : W �
   pub breaks : BreaksNamesOr full seen e (inside old) (inside new)
   pub clock : schedule_in new ≡ schedule_in old
 
--- the same if no clause is stored
+-- that `EndsNamesOr` holds for a call that stores no clause
 abbrev pub EndsNames : {W L : Type 0} {G : Ghosts L} → (W → Writer) → SolverError → Solver W L G → Solver W L G → Type 0
 EndsNames seen e old new = EndsNamesOr ⊥ seen e old new
 
--- DRAT lines are written; DRAT has no assumptions
+-- that DRAT lines are written; DRAT has no assumptions
 abbrev pub IsDrat : {W L : Type 0} {G : Ghosts L} → (W → Writer) → Solver W L G → Type 0
 IsDrat seen s = is_drat (target_in seen s) ≡ true
 
--- DRAT lines are written, and an ask has begun; then no clause may be added
+-- that DRAT lines are written and an ask has begun; then no clause may be added
 abbrev pub IsPastDrat : {W L : Type 0} {G : Ghosts L} → (W → Writer) → Solver W L G → Type 0
 IsPastDrat seen s = IsDrat seen s × (has_asked (proof_in s) ≡ true)
 
--- a clause may be added
+-- that a clause may be added
 abbrev pub IsBeforeDrat : {W L : Type 0} {G : Ghosts L} → (W → Writer) → Solver W L G → Type 0
 IsBeforeDrat seen s = IsPastDrat seen s → ⊥
 
--- no name is of mode witness, but there is no variable left for a name that would be introduced
+-- that the mode of no name is witness, but no variable is left for a name that would be introduced
 abbrev pub LacksRoomForNames : {W L : Type 0} {G : Ghosts L} → Solver W L G → List ℕ → Type 0
 LacksRoomForNames s user = (has_failed s ≡ false) × AreSampled s user × (HasVariablesFor (known_names s) (users_in user) → ⊥)
 
@@ -90,7 +90,7 @@ pub record StepsOfClause {W L : Type 0} {G : Ghosts L} (old new : Solver W L G) 
   pub left_out : answer_in old ≡ states.Unsat → OnlyAllowedSteps IsDue (steps_in old) (steps_in new)
   pub asked : has_asked (proof_in new) ≡ has_asked (proof_in old)
 
--- a clause was added
+-- that a clause was added
 pub record Added {W L : Type 0} {G : Ghosts L} (seen : W → Writer) (old new : Solver W L G) (user : List ℕ) : Type 0 where
   pub before_drat : IsBeforeDrat seen old
   pub sampled : AreSampled old user
@@ -111,7 +111,7 @@ AddsClause seen (Err errors.VariableLimit) old new user = Refuses old new (IsBef
 AddsClause seen (Err errors.HasFailed) old new user = Refuses old new (has_failed old ≡ true)
 AddsClause seen (Err e) old new user = (IsBeforeDrat seen old × AreSampled old user) × HasVariablesFor (known_names old) (users_in user) × EndsNamesOr (HasFullStore new) seen e old new
 
--- other assumptions were accepted, whatever the ask answers
+-- that these assumptions replaced the earlier ones, whatever the answer to the ask will be
 pub record ReplacesAssumptions {W L : Type 0} {G : Ghosts L} (seen : W → Writer) (old new : Solver W L G) (user : List ℕ) : Type 0 where
   pub sampled : AreSampled old user
   pub room : HasVariablesFor (known_names old) (users_in user)
@@ -122,7 +122,7 @@ pub record ReplacesAssumptions {W L : Type 0} {G : Ghosts L} (seen : W → Write
   pub clock : schedule_in new ≡ schedule_in old
   pub state : ForgetsAnswer (answer_in old) (answer_in new)
 
--- the result of assumptions: they replace the earlier ones, or are refused, or the call fails
+-- the result of setting assumptions: they replace the earlier ones, or are refused, or the call fails
 abbrev pub AssumesOrRefuses : {W L : Type 0} {G : Ghosts L} → (W → Writer) → Result (Unit {0}) SolverError → Solver W L G → Solver W L G → List ℕ → Type 0
 AssumesOrRefuses seen (Ok x) old new user = ReplacesAssumptions seen old new user
 AssumesOrRefuses seen (Err errors.WitnessVariable) old new user = Refuses old new ((has_failed old ≡ false) × HasWitness old user)
@@ -133,7 +133,7 @@ AssumesOrRefuses seen (Err e) old new user = AreSampled old user × HasVariables
 
 -- INSIDE
 
--- what a clause leaves, before the solver is marked as failed or not
+-- the effect of adding a clause, before the solver is marked as failed or not
 pub record AddClauseEffect {W L : Type 0} {G : Ghosts L} (seen : W → Writer) (old new : Solver W L G) (user : List ℕ) : Type 0 where
   pub whole : SolverInvariant new
   pub does : NamesEffect (known_names old) (known_names new) (steps_in old) (steps_in new) (with_added user) (due_for_clause (answer_in old) user)
@@ -148,7 +148,7 @@ pub record AddClauseEffect {W L : Type 0} {G : Ghosts L} (seen : W → Writer) (
   pub config : parameters_in new ≡ parameters_in old
   pub state : ForgetsAnswer (answer_in old) (answer_in new)
 
--- the result of a clause before the solver is marked: it was added, or the call failed
+-- the result of adding a clause before the solver is marked: the clause was added, or the call failed
 abbrev pub TakesInOrBreaks : {W L : Type 0} {G : Ghosts L} → (W → Writer) → Result (Unit {0}) SolverError → Solver W L G → Solver W L G → List ℕ → Type 0
 TakesInOrBreaks seen (Ok x) old new user = AddClauseEffect seen old new user
 TakesInOrBreaks seen (Err e) old new user = BreaksNamesOff (HasFullStore new) seen e (inside old) (inside new)

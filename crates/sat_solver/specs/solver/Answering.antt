@@ -18,26 +18,26 @@ use Rattle.sat_solver.specs.declared.proof.made.CheckFault.TheVariants as checks
 use Rattle.sat_solver.specs.declared.proof.Proof.{Proof}
 use Rattle.sat_solver.specs.solver.Joined.{IsJoined, lit_over_names}
 
--- the model over all variables of the proof, by the values of the search
+-- the model of all variables of the proof, given the values of the search
 abbrev pub model_of : {W L : Type 0} {G : Ghosts L} → Variables → Core W L G → List ℕ
 model_of n c = model_to n c.search.parts.assignment.current (variables_used n)
 
--- the model over all names
+-- the model of all names
 abbrev pub line_of_names : {W L : Type 0} {G : Ghosts L} → Variables → Core W L G → List ℕ
 line_of_names n c = named_to n c.search.parts.assignment.current (names_used n)
 
--- a call failed for a reason that the input does not determine; `StoreFull` only if the buffer is full
+-- that a call failed for a reason that the input does not determine; `StoreFull` is returned only if the buffer is full
 pub record BreaksCall {W L : Type 0} {G : Ghosts L} (seen : W → Writer) (e : SolverError) (a b : Core W L G) : Type 0 where
   pub fault : IsFaultOr (IsFull b.search.parts) e
   pub steps : List Step
   pub went : EmitsUpToFault {A = Unit {0}} seen (Err e) steps a.proof b.proof
   pub loss : NamesLoss e a.proof b.proof
 
--- the same, and the proof stores the underlying error until it is reported
+-- that `BreaksCall` holds, and the proof stores the underlying error until it is reported
 abbrev pub BreaksOff : {W L : Type 0} {G : Ghosts L} → (W → Writer) → SolverError → Core W L G → Core W L G → Type 0
 BreaksOff seen e a b = BreaksCall seen e a b × IsKept e b.proof
 
--- no step was made: a call of the target failed at pending bytes, or the solver's own checker failed at a pending announcement
+-- that a call failed without a step: writing pending bytes failed, or the solver's own checker failed at a pending unit conflict
 abbrev pub FlushFails : {W L : Type 0} {G : Ghosts L} → (W → Writer) → SolverError → Proof W L G → Proof W L G → Type 0
 FlushFails seen (errors.ProofIoError cause) old new = FailsToEmit seen [] old new
 FlushFails seen errors.OutOfMemory old new = FailsCheck seen checks.OutOfMemory [] old new
@@ -45,18 +45,18 @@ FlushFails seen errors.CounterEnd old new = FailsCheck seen checks.CounterEnd []
 FlushFails seen (errors.ProofProcessorError cause) old new = FailsCheck seen (checks.Processor cause) [] old new
 FlushFails seen e old new = ⊥
 
--- the model of all variables was written
+-- that the model of all variables was written
 pub record Shown {W L : Type 0} {G : Ghosts L} (seen : W → Writer) (n : Variables) (a b : Core W L G) : Type 0 where
   pub adds : EmitsChecked seen (Model (model_of n a) ∷ []) a.proof b.proof
   pub joined : IsJoined n b
   pub search : b.search ≡ a.search
   pub config : b.config ≡ a.config
 
--- the model was written, or the call failed
+-- that the model was written or, with an error, that the call failed
 abbrev pub ShowsModel : {W L : Type 0} {G : Ghosts L} → (W → Writer) → Result (Unit {0}) SolverError → Variables → Core W L G → Core W L G → Type 0
 ShowsModel seen r n a b = MatchResult r (λ _. Shown seen n a b) (λ e. BreaksOff seen e a b)
 
--- a failed core was written, and these are its literals over names
+-- that a failed core was written; `core` has its literals over names
 pub record WritesFailedCore {W L : Type 0} {G : Ghosts L} (seen : W → Writer) (n : Variables) (a b : Core W L G) (core : List ℕ) : Type 0 where
   pub steps : List Step
   pub adds : EmitsChecked seen steps a.proof b.proof
@@ -65,6 +65,6 @@ pub record WritesFailedCore {W L : Type 0} {G : Ghosts L} (seen : W → Writer) 
   pub config : b.config ≡ a.config
   pub named : core ≡ map (lit_over_names n) b.search.analysis.core
 
--- a failed core was written, or the call failed
+-- that a failed core was written or, with an error, that the call failed
 abbrev pub FailsCore : {W L : Type 0} {G : Ghosts L} → (W → Writer) → Result (Unit {0}) SolverError → Variables → Core W L G → Core W L G → List ℕ → Type 0
 FailsCore seen r n a b core = MatchResult r (λ _. WritesFailedCore seen n a b core) (λ e. BreaksOff seen e a b)

@@ -16,7 +16,7 @@ use Rattle.sat_solver.specs.solver.Adding.{ForgetsAnswer, due_for_asked}
 use Rattle.sat_solver.specs.solver.Taking.{BreaksNamesOff}
 use Rattle.sat_solver.specs.solver.Whole.{IsWholeOf, steps_in}
 
--- these assumptions were accepted, but the list over names is not stored yet
+-- that these assumptions were accepted, but the list over names is not stored yet
 pub record AskedIn {W L : Type 0} {G : Ghosts L} (seen : W → Writer) (old new : Solver W L G) (user : List ℕ) : Type 0 where
   pub whole : IsWholeOf new.core new.names new.asked user new.reported.failed_core.items new.clock.restarts.scale new.state
   pub does : (o : Outcome) → NamesEffect old.names new.names (steps_in old) (steps_in new) (bring_all (names_in user)) (due_for_asked o user)
@@ -29,7 +29,7 @@ pub record AskedIn {W L : Type 0} {G : Ghosts L} (seen : W → Writer) (old new 
   pub config : new.core.config ≡ old.core.config
   pub state : ForgetsAnswer old.state new.state
 
--- the result of assumptions before the list over names is stored: they were accepted, or the call failed
+-- the result of setting assumptions before the list over names is stored: they were accepted, or the call failed
 abbrev pub Asks : {W L : Type 0} {G : Ghosts L} → (W → Writer) → Result (Unit {0}) SolverError → Solver W L G → Solver W L G → List ℕ → Type 0
 Asks seen (Ok x) old new user = AskedIn seen old new user
 Asks seen (Err e) old new user = BreaksNamesOff ⊥ seen e old.core new.core

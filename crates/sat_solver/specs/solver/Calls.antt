@@ -26,7 +26,7 @@ use Rattle.sat_solver.specs.solver.Found.{SearchedBy}
 use Rattle.sat_solver.specs.solver.Whole.{SolverInvariant, steps_in, line_in}
 use Rattle.sat_solver.specs.solver.View.{IsInState, OnlyProofDiffers, answer_in, assumed_in, assumptions_in, reported_core, has_failed, inside, is_used, known_names, parameters_in, proof_in, rounds_in, schedule_in, target_in, used_now}
 
--- the effect of a call: how it changes the judge's state, and which ordered steps it has made; other steps may be in between
+-- the effect of a call: how it changes the script state, and which ordered steps it has made; other steps may be in between
 pub record CallEffect {W L : Type 0} {G : Ghosts L} (seen : W → Writer) (old new : Solver W L G) (judge : ScriptState → ScriptState) (due : ScriptState → List Expected) : Type 0 where
   pub whole : SolverInvariant new
   pub going : has_failed old ≡ false
@@ -38,18 +38,18 @@ pub record CallEffect {W L : Type 0} {G : Ghosts L} (seen : W → Writer) (old n
   -- after a step, the solver's own checker, if there is one, is at the width of the target's text
   pub width : (steps_in new ≡ steps_in old → ⊥) → IsAtWidth (proof_in new)
 
--- the rounds that a call may make
+-- the number of rounds that a call may make
 abbrev pub rounds_left : {W L : Type 0} {G : Ghosts L} → Solver W L G → ℕ
 rounds_left s = round_allowance (parameters_in s).max_steps (rounds_in s)
 
--- more rounds were made, but no more than the call may make, and fewer than 2^(2n+3), where n is the number of identities of any judge's
--- state that names and steps agree with
+-- that the number of rounds rose by at most the rounds that the call may make, and by fewer than 2^(2n+3), where n is the number of identities
+-- of any script state that names and steps agree with
 pub record RoundsOn (n : Variables) (steps : List Step) (budget before now : ℕ) : Type 0 where
   pub more : before ≤ now
   pub within : now ≤ before + round_allowance budget before
   pub few : (j : ScriptState) (live : Live) → NamesAgree n steps j live → now < before + 2 ^ (2 * j.identity_count + 3)
 
--- the same for a call of a solver
+-- that `RoundsOn` holds for a call of a solver
 abbrev pub CountsRounds : {W L : Type 0} {G : Ghosts L} → Solver W L G → Solver W L G → Type 0
 CountsRounds old new = RoundsOn (known_names old) (steps_in old) (parameters_in old).max_steps (rounds_in old) (rounds_in new)
 
@@ -62,20 +62,20 @@ pub record EndsInFailure {W L : Type 0} {G : Ghosts L} (seen : W → Writer) (e 
   pub counts : CountsRounds old new
   pub known : (answer_in old ≡ states.Unknown → ⊥) → FlushFails seen e (proof_in old) (proof_in new)
 
--- the call was refused for this reason, and changed nothing
+-- that the call was refused for this reason, and changed nothing
 pub record Refuses {W L : Type 0} {G : Ghosts L} (old new : Solver W L G) (why : Type 0) : Type 0 where
   pub same : new ≡ old
   pub cause : why
 
 -- ANSWERS
 
--- the ordered steps of an answer; an answer that was known needs none
+-- the ordered steps of an answer; an answer that was already known needs none
 abbrev pub due_between_states : (before now : State) → (line asked core : List ℕ) → List Expected
 due_between_states states.Unknown states.Sat line asked core = Shows (names_of (map user_literal line)) (map user_literal asked) (map user_literal line) ∷ []
 due_between_states states.Unknown states.UnsatUnderAssumptions line asked core = Fails (map user_literal asked) (map user_literal core) ∷ []
 due_between_states before now line asked core = []
 
--- the same for the solver after its answer
+-- the ordered steps of the answer that the solver now has
 abbrev pub due_for_answer : {W L : Type 0} {G : Ghosts L} → State → Solver W L G → List Expected
 due_for_answer before s = due_between_states before (answer_in s) (line_in s) (assumptions_in s) (reported_core s)
 
@@ -88,24 +88,24 @@ pub record Counts {W L : Type 0} {G : Ghosts L} (old new : Solver W L G) : Type 
   pub answered : (j : ScriptState) (live : Live) → IsInState old j live → 2 ^ (2 * j.identity_count + 3) ≤ rounds_left old →
       answer_in new ≡ states.Unknown → ⊥
 
--- the rounds of an ask that learn a clause: all but the one that answers
+-- the number of rounds of an ask that learn a clause: all except the round that answers
 abbrev pub learned_of : State → (rounds : ℕ) → ℕ
 learned_of states.Unknown rounds = rounds
 learned_of states.Sat rounds = rounds - 1
 learned_of states.UnsatUnderAssumptions rounds = rounds - 1
 learned_of states.Unsat rounds = rounds - 1
 
--- nothing is pending for an open target, whose last call was a flush
+-- that an open target has no pending bytes, and its last call was a flush
 abbrev pub IsFlushed : Target → Type 0
 IsFlushed Closed = Unit {0}
 IsFlushed (Open f c s) = (s.waiting ≡ []) × (s.writer.flushed ≡ true)
 IsFlushed (Broken w) = Unit {0}
 
--- if steps are written, it is recorded that an ask has begun
+-- that it is recorded that an ask has begun, if steps are written
 abbrev pub NotesAsk : {W L : Type 0} {G : Ghosts L} → (W → Writer) → Proof W L G → Type 0
 NotesAsk seen p = is_open (target_of seen p) ≡ true → has_asked p ≡ true
 
--- a known answer is given again: nothing has changed except that pending bytes were written to the target
+-- that a known answer is given again: nothing has changed except that pending bytes were written to the target
 pub record AnswersAgain {W L : Type 0} {G : Ghosts L} (old new : Solver W L G) : Type 0 where
   pub steps : steps_in new ≡ steps_in old
   pub same : OnlyProofDiffers (used_now old) new
@@ -136,14 +136,14 @@ pub record Answered {W L : Type 0} {G : Ghosts L} (seen : W → Writer) (old new
   pub reported : AllStepsReported (proof_in new)
   pub steps : StepsOfAsk seen old new
 
--- the answer that a state represents; `Unknown` represents none
+-- that the state represents this answer; `Unknown` represents none
 abbrev pub is_answer : State → Bool → Type 0
 is_answer states.Unknown sat = ⊥
 is_answer states.Sat sat = sat ≡ true
 is_answer states.UnsatUnderAssumptions sat = sat ≡ false
 is_answer states.Unsat sat = sat ≡ false
 
--- the result of an ask: an answer, or the rounds are exhausted, or a refusal, or a failure
+-- the result of an ask: an answer, exhausted rounds, a refusal or a failure
 abbrev pub Solves : {W L : Type 0} {G : Ghosts L} → (W → Writer) → Result Bool SolverError → Solver W L G → Solver W L G → Type 0
 Solves seen (Ok sat) old new = Answered seen old new × is_answer (answer_in new) sat
 Solves seen (Err errors.Interrupted) old new = Answered seen old new × (answer_in new ≡ states.Unknown)

@@ -16,23 +16,23 @@ use Rattle.sat_solver.specs.declared.state.State.TheVariants as states
 use Rattle.sat_solver.specs.solver.Calls.{Refuses}
 use Rattle.sat_solver.specs.solver.View.{answer_in, assumed_in, has_failed, inside, is_used, known_names, parameters_in, proof_in, schedule_in, reported_in}
 
--- the search has the decays of the parameters, and nothing else changed
+-- that the search has the decays of the parameters, and nothing else changed
 pub record SetsDecays {W L : Type 0} {G : Ghosts L} (a b : Core W L G) : Type 0 where
   pub bumped : (s : Session) → IsSearch s a.search → BumpEffect s a.search b.search
   pub parts : b.search.parts ≡ record a.search.parts { vsids = record a.search.parts.vsids { decay = a.config.vsids_decay } }
   pub search : b.search ≡ record a.search { parts = b.search.parts; activity = b.search.activity }
   pub same : b ≡ record a { search = b.search }
 
--- a schedule at another scale, if there is one
+-- the schedule at another scale, if one is given
 abbrev pub at_scale : Option ℕ → Clock → Clock
 at_scale scale clock = record clock { restarts = record clock.restarts { scale = unwrap_or scale clock.restarts.scale } }
 
--- unless the search has ended
+-- that the parameters were passed to the search, unless the search has ended
 abbrev pub PassesToSearch : {W L : Type 0} {G : Ghosts L} → State → Core W L G → Core W L G → Type 0
 PassesToSearch states.Unsat a b = b ≡ a
 PassesToSearch st a b = SetsDecays a b
 
--- names, steps, assumptions and answer are unchanged
+-- that names, steps, assumptions and answer are unchanged
 pub record KeepsAllElse {W L : Type 0} {G : Ghosts L} (old new : Solver W L G) : Type 0 where
   pub proof : proof_in new ≡ proof_in old
   pub names : known_names new ≡ known_names old
@@ -41,7 +41,7 @@ pub record KeepsAllElse {W L : Type 0} {G : Ghosts L} (old new : Solver W L G) :
   pub reported : reported_in new ≡ reported_in old
   pub used : is_used new ≡ is_used old
 
--- the parameters were updated, and nothing else that callers can observe
+-- that the parameters were updated, and nothing else that callers can observe
 pub record Configured {W L : Type 0} {G : Ghosts L} (u : SolverConfigUpdate) (old new : Solver W L G) : Type 0 where
   pub going : has_failed old ≡ false
   pub range : in_range u ≡ true

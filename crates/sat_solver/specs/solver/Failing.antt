@@ -1,9 +1,9 @@
--- What a failed call leaves of a solver.
+-- The state of a solver after a failed call.
 use Rattle.std.specs.Prelude.{true}
 use Rattle.sat_checker.specs.declared.processing.ProofProcessor.{Ghosts}
 use Rattle.sat_solver.specs.proof.ProofView.{without_complaint}
 use Rattle.sat_solver.specs.declared.solver.Solver.{Solver}
 
--- the solver is marked as failed
+-- the solver, marked as failed
 abbrev pub failed_with : {W L : Type 0} {G : Ghosts L} → Solver W L G → Solver W L G
 failed_with s = record s { failed = true; core = record s.core { proof = without_complaint s.core.proof } }

@@ -15,12 +15,12 @@ use Rattle.sat_solver.specs.solver.Adding.{Added, AddsClause}
 use Rattle.sat_solver.specs.solver.Calls.{Refuses}
 use Rattle.sat_solver.specs.solver.View.{has_failed}
 
--- clauses were added, as if by one call for each
+-- that the clauses were added, as if by one call for each
 abbrev pub AddsAll : {W L : Type 0} {G : Ghosts L} → (W → Writer) → Solver W L G → List (List ℕ) → Solver W L G → Type 0
 AddsAll seen old [] new = new ≡ old
 AddsAll {W} {L} {G} seen old (c ∷ cs) new = (mid : Solver W L G) × Added seen old mid c × AddsAll seen mid cs new
 
--- the clauses before one were added, and this one was refused, or the call failed
+-- that the clauses before one of them were added, and for that clause the call was refused or failed
 pub record StopsAtClause {W L : Type 0} {G : Ghosts L} (seen : W → Writer) (e : SolverError) (old new : Solver W L G) (clauses : List (List ℕ)) : Type 0 where
   pub going : has_failed old ≡ false
   pub before : List (List ℕ)
@@ -31,7 +31,7 @@ pub record StopsAtClause {W L : Type 0} {G : Ghosts L} (seen : W → Writer) (e 
   pub added : AddsAll seen old before mid
   pub stops : AddsClause seen (Err e) mid new clause
 
--- the result of a formula: all its clauses were added, or those before the one that stopped it
+-- the result of adding a formula: all its clauses were added, or those before the clause that was refused or failed
 abbrev pub AddsFormula : {W L : Type 0} {G : Ghosts L} → (W → Writer) → Result (Unit {0}) SolverError → Solver W L G → Solver W L G → List (List ℕ) → Type 0
 AddsFormula seen (Ok x) old new clauses = (has_failed old ≡ false) × AddsAll seen old clauses new
 AddsFormula seen (Err errors.HasFailed) old new clauses = Refuses old new (has_failed old ≡ true)
@@ -59,7 +59,7 @@ is_solver_out_of_memory texts.HasFailed = false
 abbrev pub with_failed : {W L : Type 0} {G : Ghosts L} → Bool → Solver W L G → Solver W L G
 with_failed b s = record s { failed = b }
 
--- the text is malformed, or a read failed: the clauses before were added
+-- that the text is malformed or a read failed, and the clauses before the fault were added
 pub record TextFails {W L : Type 0} {G : Ghosts L} (seen : W → Writer) (e : SolverError) (old new : Solver W L G) (from to : Reader) : Type 0 where
   pub going : has_failed old ≡ false
   pub fault : DimacsError
@@ -70,14 +70,14 @@ pub record TextFails {W L : Type 0} {G : Ghosts L} (seen : W → Writer) (e : So
   pub added : AddsAll seen old clauses mid
   pub new_is : new ≡ with_failed (is_solver_out_of_memory fault) mid
 
--- one of the clauses read so far was refused, or the call failed
+-- that one of the clauses read so far was refused, or adding it failed
 pub record ClauseFails {W L : Type 0} {G : Ghosts L} (seen : W → Writer) (e : SolverError) (old new : Solver W L G) (from to : Reader) : Type 0 where
   pub quiet : NoReadFailed from to
   pub clauses : List (List ℕ)
   pub read : GaveEnough from to (λ text. AreRead text clauses)
   pub stops : StopsAtClause seen e old new clauses
 
--- all clauses of a well-formed text were added
+-- that all clauses of a well-formed text were added
 pub record TextAdded {W L : Type 0} {G : Ghosts L} (seen : W → Writer) (old new : Solver W L G) (from to : Reader) : Type 0 where
   pub going : has_failed old ≡ false
   pub quiet : NoReadFailed from to
@@ -85,7 +85,7 @@ pub record TextAdded {W L : Type 0} {G : Ghosts L} (seen : W → Writer) (old ne
   pub read : GaveEnough from to (λ text. IsDimacs text clauses Clean)
   pub added : AddsAll seen old clauses new
 
--- the result of a text: all its clauses were added, or those before an error of the text or of a clause
+-- the result of adding a text: all its clauses were added, or those before a fault of the text or of a clause
 abbrev pub AddsText : {W L : Type 0} {G : Ghosts L} → (W → Writer) → Result (Unit {0}) SolverError → Solver W L G → Solver W L G → Reader → Reader → Type 0
 AddsText seen (Ok x) old new from to = TextAdded seen old new from to
 AddsText seen (Err errors.HasFailed) old new from to = Refuses old new (has_failed old ≡ true) × (to ≡ from)
@@ -93,7 +93,7 @@ AddsText seen (Err e) old new from to = TextFails seen e old new from to ⊎ Cla
 
 -- INSIDE
 
--- the completed clauses were added, and the parser's answer is returned
+-- that the completed clauses were added, and the parser's error is returned
 pub record ReadStops {W L : Type 0} {G : Ghosts L} (seen : W → Writer) (e : SolverError) (answer : Result (Unit {0}) DimacsError) (old new : Solver W L G) (clauses : List (List ℕ)) : Type 0 where
   pub fault : DimacsError
   pub answered : answer ≡ Err fault
@@ -102,11 +102,11 @@ pub record ReadStops {W L : Type 0} {G : Ghosts L} (seen : W → Writer) (e : So
   pub added : AddsAll seen old clauses mid
   pub new_is : new ≡ with_failed (is_solver_out_of_memory fault) mid
 
--- the result of adding completed clauses: all were added and the parser reported no error, or something stopped it
+-- the result of adding completed clauses: all were added and the parser reported no error, or an error stopped the call
 abbrev pub AnswersFormulaRead : {W L : Type 0} {G : Ghosts L} → (W → Writer) → Result (Unit {0}) SolverError → Result (Unit {0}) DimacsError → Solver W L G → Solver W L G → List (List ℕ) → Type 0
 AnswersFormulaRead seen (Ok x) answer old new clauses = (answer ≡ Ok tt) × AddsAll seen old clauses new
 AnswersFormulaRead seen (Err e) answer old new clauses = ReadStops seen e answer old new clauses ⊎ StopsAtClause seen e old new clauses
 
--- the same for the clauses that the parser has read and not yet passed on
+-- that `AnswersFormulaRead` holds for the clauses that the parser has read but not passed on yet
 abbrev pub AddsFormulaRead : {W L : Type 0} {G : Ghosts L} → (W → Writer) → Result (Unit {0}) SolverError → Result (Unit {0}) DimacsError → Progress → Solver W L G → Solver W L G → Type 0
 AddsFormulaRead seen result answer parser old new = (clauses : List (List ℕ)) × (clauses_read parser ≡ parser.taken ++ clauses) × AnswersFormulaRead seen result answer old new clauses

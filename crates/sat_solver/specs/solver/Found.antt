@@ -17,54 +17,54 @@ use Rattle.sat_solver.specs.solver.Answering.{BreaksOff, Shown, WritesFailedCore
 use Rattle.sat_solver.specs.declared.solver.find.Clock.{Clock}
 use Rattle.sat_solver.specs.declared.solver.find.LastAnswers.{LastAnswers}
 
--- a model was found in the last of these rounds, and written
+-- that a model was found in the last of these rounds, and written
 pub record FoundModel {W L : Type 0} {G : Ghosts L} (seen : W → Writer) (rounds : ℕ) (n m : Variables) (a b : Core W L G) : Type 0 where
   pub mid : Core W L G
   pub ended : Ended seen a n (rounds - 1) outcomes.Model mid m
   pub shown : Shown seen m mid b
 
--- assumptions that contradict the clauses were found and written
+-- that assumptions that contradict the clauses were found and written
 pub record FoundCore {W L : Type 0} {G : Ghosts L} (seen : W → Writer) (rounds : ℕ) (n m : Variables) (a b : Core W L G) (core : List ℕ) : Type 0 where
   pub mid : Core W L G
   pub ended : Ended seen a n (rounds - 1) outcomes.Failed mid m
   pub failed : WritesFailedCore seen m mid b core
 
--- what was found in these rounds, by the state that represents it
+-- what was found in these rounds, given the state that represents it
 abbrev pub FoundSays : {W L : Type 0} {G : Ghosts L} → (W → Writer) → State → (rounds : ℕ) → Variables → Variables → Core W L G → Core W L G → List ℕ → Type 0
 FoundSays seen states.Unknown rounds n m a b core = ⊥
 FoundSays seen states.Sat rounds n m a b core = FoundModel seen rounds n m a b
 FoundSays seen states.UnsatUnderAssumptions rounds n m a b core = FoundCore seen rounds n m a b core
 FoundSays seen states.Unsat rounds n m a b core = Ended seen a n (rounds - 1) outcomes.Unsat b m
 
--- no answer so far
+-- that no answer was found so far
 pub record FoundNone {W L : Type 0} {G : Ghosts L} (seen : W → Writer) (rounds : ℕ) (n m : Variables) (a b : Core W L G) : Type 0 where
   pub joined : IsJoined m b
   pub gone : ComesByRounds seen a n rounds b m
 
--- an answer was found in these rounds, or none so far
+-- that an answer was found in these rounds or, with `None`, that none was found so far
 abbrev pub FindsAnswer : {W L : Type 0} {G : Ghosts L} → (W → Writer) → Option State → (rounds : ℕ) → Variables → Variables → Core W L G → Core W L G → List ℕ → Type 0
 FindsAnswer seen None rounds n m a b core = FoundNone seen rounds n m a b
 FindsAnswer seen (Some state) rounds n m a b core = FoundSays seen state rounds n m a b core
 
--- the same, by the counts of rounds before and now, and by the reported core
+-- that `FindsAnswer` holds for the rounds between these two clocks, with the reported core
 abbrev pub FindsBy : {W L : Type 0} {G : Ghosts L} → (W → Writer) → Option State → Clock → Clock → Variables → Variables → Core W L G → Core W L G → LastAnswers → Type 0
 FindsBy seen o before now n m a b reported = FindsAnswer seen o (now.rounds - before.rounds) n m a b reported.failed_core.items
 
--- the outcome of a search, before it is reported
+-- what the outcome of a search says, before it is reported
 abbrev pub OutcomeHolds : {W L : Type 0} {G : Ghosts L} → Outcome → Variables → Core W L G → Type 0
 OutcomeHolds outcomes.Learned n c = ⊥
 OutcomeHolds outcomes.Model n c = IsJoined n c × IsComplete c.search.assumptions.lits.items c.search.parts
 OutcomeHolds outcomes.Failed n c = IsJoined n c × IsFailing c.search.assumptions.lits.items c.search.parts c.search.failed
 OutcomeHolds outcomes.Unsat n c = Unit {0}
 
--- what reporting an outcome leaves, with the state that represents it; no step is made for `Unsat`
+-- the effect of reporting an outcome as this state; no step is made for `Unsat`
 abbrev pub ReportSays : {W L : Type 0} {G : Ghosts L} → (W → Writer) → Option State → Outcome → Variables → Core W L G → Core W L G → List ℕ → Type 0
 ReportSays seen (Some states.Sat) outcomes.Model n a b core = Shown seen n a b
 ReportSays seen (Some states.UnsatUnderAssumptions) outcomes.Failed n a b core = WritesFailedCore seen n a b core
 ReportSays seen (Some states.Unsat) outcomes.Unsat n a b core = b ≡ a
 ReportSays seen o outcome n a b core = ⊥
 
--- the outcome was reported, or the call failed
+-- that the outcome was reported or, with an error, that the call failed
 abbrev pub ReportsOutcome : {W L : Type 0} {G : Ghosts L} → (W → Writer) → Result (Option State) SolverError → Outcome → Variables → Core W L G → Core W L G → List ℕ → Type 0
 ReportsOutcome seen r outcome n a b core = MatchResult r (λ o. ReportSays seen o outcome n a b core) (λ e. BreaksOff seen e a b)
 
@@ -73,7 +73,7 @@ abbrev pub state_found : Option State → State
 state_found None = states.Unknown
 state_found (Some state) = state
 
--- the last round's outcome was reported as this state, which is `Unknown` only if a clause was learned
+-- that the last round's outcome was reported as this state, which is `Unknown` only if a clause was learned
 abbrev pub ReportsLast : {W L : Type 0} {G : Ghosts L} → (W → Writer) → Option Outcome → State → Variables → Core W L G → Core W L G → List ℕ → Type 0
 ReportsLast seen None states.Unknown n a b core = b ≡ a
 ReportsLast seen None state n a b core = ⊥

@@ -22,11 +22,11 @@ use Rattle.sat_solver.specs.declared.error.SolverError.{SolverError}
 use Rattle.sat_solver.specs.declared.proof.format.ProofFormat.{ProofFormat}
 use Rattle.sat_solver.specs.declared.solver.Solver.{Solver}
 
--- the solver made steps, and a call may have failed
+-- that the solver made steps, and a call may have failed
 abbrev pub ReachesBySteps : {W L : Type 0} {G : Ghosts L} → (W → Writer) → Solver W L G → Solver W L G → Type 0
 ReachesBySteps seen old new = GoesOnFrom seen (proof_in old) (proof_in new)
 
--- every call, whatever it answers, preserves this, except those that open a proof or return the target
+-- that `ReachesBySteps` holds for a call, whatever its result is; only calls that open a proof or return the target are excepted
 pub record CallsGoOn {W L : Type 0} {G : Ghosts L} (seen : W → Writer) (old new : Solver W L G) : Type 0 where
   pub adds : (r : Result (Unit {0}) SolverError) (user : List ℕ) → AddsClause seen r old new user → ReachesBySteps seen old new
   pub assumes : (r : Result (Unit {0}) SolverError) (user : List ℕ) → AssumesOrRefuses seen r old new user → ReachesBySteps seen old new
@@ -52,6 +52,6 @@ HandsFront {W} {L} {G} seen handed s = (opened : Solver W L G) (f : ProofFormat)
     → target_in seen opened ≡ Open f nothing_counted (empty_sink from) → has_begun (steps_in opened) ≡ false → ReachesBySteps seen opened s
     → ∥ FrontSince f from (seen given) (steps_in opened) (steps_in s) ∥₁
 
--- a target whose calls all succeeded, and whose last call was a flush, has received the complete text
+-- that a target has received the complete text if all its calls succeeded and the last one was a flush
 abbrev pub FlushedIsText : Type 0
 FlushedIsText = (f : ProofFormat) (from given : Writer) (steps : List Step) (now : Target) → TargetTakes (Open f nothing_counted (empty_sink from)) steps now → IsFlushed now → GivesWriter now (Some given) → TookText f from given steps

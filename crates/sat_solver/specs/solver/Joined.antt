@@ -12,24 +12,24 @@ use Rattle.sat_solver.specs.declared.variables.Variables.{Variables}
 use Rattle.sat_solver.specs.declared.load.literals.Taken.{Taken}
 use Rattle.sat_solver.specs.declared.context.Core.{Core}
 
--- the invariants of names and search hold, over the same indices
+-- that the invariants of names and search hold, over the same indices
 pub record IsJoined {W L : Type 0} {G : Ghosts L} (n : Variables) (c : Core W L G) : Type 0 where
   pub sound : CoreInvariant c
   pub stands : NamesInvariant n (steps_of c.proof)
   pub shares : SharesIndices n c.search
 
--- names that match the one match the other
+-- that names that match the first search also match the second
 abbrev pub KeepsJoined : {W L : Type 0} {G : Ghosts L} → Core W L G → Core W L G → Type 0
 KeepsJoined b c = (n : Variables) → IsJoined n b → IsJoined n c
 
--- these literals over names are the assumptions of the search and of the proof
+-- that these literals over names are the assumptions of the search and of the proof
 pub record AreNamedAssumptions {W L : Type 0} {G : Ghosts L} (n : Variables) (c : Core W L G) (user : List ℕ) (t : Taken) : Type 0 where
   pub images : Images n user t.order.items
   pub lits : c.search.assumptions.lits.items ≡ t.order.items
   pub spelt : GlobalImages n user t.globals.items
   pub globals : t.globals.items ≡ (session_of c.proof).assumed
 
--- a literal over this name, with the sign of that literal; unchanged if there is no name
+-- the literal over this name with the sign of `l`, or `l` itself if there is no name
 abbrev pub named_by : Option ℕ → ℕ → ℕ
 named_by None l = l
 named_by (Some u) l = coded u (is_positive l)

@@ -25,20 +25,20 @@ use Rattle.sat_solver.specs.solver.Calls.{CallEffect, Refuses}
 use Rattle.sat_solver.specs.solver.Whole.{SolverInvariant, steps_in}
 use Rattle.sat_solver.specs.solver.View.{IsInState, answer_in, assumed_in, assumptions_in, has_failed, is_used, known_names, parameters_in, proof_in, schedule_in, reported_in}
 
--- an assumption has the name
+-- that an assumption has the name
 abbrev pub IsAsked : {W L : Type 0} {G : Ghosts L} → Solver W L G → ℕ → Type 0
 IsAsked s user = (l : ℕ) × Among l (assumptions_in s) × (variable l ≡ user)
 
--- the value of a proof variable by the values of the search, or `None`
+-- the value of a proof variable in the search, or `None`
 abbrev pub variable_value : {W L : Type 0} {G : Ghosts L} → Solver W L G → Option ℕ → Option Bool
 variable_value s None = None
 variable_value s (Some v) = Some (value_in s.names s.core.search.parts.assignment.current v)
 
--- the value of a name by the values of the search, or `None` if it is not in use
+-- the value of a name in the search, or `None` if the name is not in use
 abbrev pub name_value : {W L : Type 0} {G : Ghosts L} → Solver W L G → ℕ → Option Bool
 name_value s user = variable_value s (global_of s.names user)
 
--- a new name is false, and an earlier one keeps its value
+-- that a new name is false, and an earlier name keeps its value
 abbrev pub IsKeptOrFalse : Option Bool → Option Bool → Type 0
 IsKeptOrFalse None None = Unit {0}
 IsKeptOrFalse (Some a) None = Unit {0}
@@ -56,7 +56,7 @@ pub record Renamed {W L : Type 0} {G : Ghosts L} (seen : W → Writer) (old new 
   pub state : answer_in new ≡ answer_in old
   pub values : (user : ℕ) → IsKeptOrFalse (name_value old user) (name_value new user)
 
--- the result of a call that changes the mode of a name, or hides it, and the steps that it may make
+-- the result of a call that changes the mode of a name or hides the name, given the steps that the call may make
 abbrev pub ChangesMode : {W L : Type 0} {G : Ghosts L} → (W → Writer) → Result (Unit {0}) SolverError → Solver W L G → Solver W L G → ℕ → (ScriptState → ScriptState) → (ScriptState → List Expected) → (List Step → Step → Type 0) → Type 0
 ChangesMode seen (Ok x) old new user judge due May = (IsAsked old user → ⊥) × Renamed seen old new judge due May × HasVariablesFor (known_names old) (user ∷ [])
 ChangesMode seen (Err errors.AssumedVariable) old new user judge due May = Refuses old new ((has_failed old ≡ false) × IsAsked old user)
@@ -64,7 +64,7 @@ ChangesMode seen (Err errors.VariableLimit) old new user judge due May = Refuses
 ChangesMode seen (Err errors.HasFailed) old new user judge due May = Refuses old new (has_failed old ≡ true)
 ChangesMode seen (Err e) old new user judge due May = (IsAsked old user → ⊥) × HasVariablesFor (known_names old) (user ∷ []) × EndsNames seen e old new
 
--- the result of hiding a name; the judge counts names from 1
+-- the result of hiding a name; script states count names from 1
 abbrev pub Hides : {W L : Type 0} {G : Ghosts L} → (W → Writer) → Result (Unit {0}) SolverError → Solver W L G → Solver W L G → ℕ → Type 0
 Hides seen r old new user = ChangesMode seen r old new user (accepted (Hide ((user + 1) ∷ []))) (hiding ((user + 1) ∷ [])) MayHide
 
@@ -76,7 +76,7 @@ Witnesses seen r old new user = ChangesMode seen r old new user (accepted (Witne
 abbrev pub Samples : {W L : Type 0} {G : Ghosts L} → (W → Writer) → Result (Unit {0}) SolverError → Solver W L G → Solver W L G → ℕ → Type 0
 Samples seen r old new user = ChangesMode seen r old new user (accepted (Sample ((user + 1) ∷ []))) (setting Sampled ((user + 1) ∷ [])) (MaySet (user + 1) true)
 
--- the name is next, for any judge's state that names and steps agree with
+-- that the name is next in every script state that names and steps agree with
 abbrev pub IsNextName : {W L : Type 0} {G : Ghosts L} → Solver W L G → ℕ → Type 0
 IsNextName s name = (j : ScriptState) (live : Live) → IsInState s j live → IsLowestUnused j name
 
@@ -86,7 +86,7 @@ NewFails seen errors.HasFailed old new = Refuses old new (has_failed old ≡ tru
 NewFails seen errors.VariableLimit old new = Refuses old new ((has_failed old ≡ false) × NoneLeft (known_names old))
 NewFails seen e old new = (NoneLeft (known_names old) → ⊥) × EndsNames seen e old new
 
--- why hidden variables were not given names; it is never `VariableLimit`
+-- why hidden variables were not given names; the reason is never `VariableLimit`
 abbrev pub NamesFail : {W L : Type 0} {G : Ghosts L} → (W → Writer) → SolverError → Solver W L G → Solver W L G → Type 0
 NamesFail seen errors.HasFailed old new = Refuses old new (has_failed old ≡ true)
 NamesFail seen errors.VariableLimit old new = ⊥
@@ -97,7 +97,7 @@ abbrev pub NamesNew : {W L : Type 0} {G : Ghosts L} → (W → Writer) → Resul
 NamesNew seen (Ok user) old new = IsNextName old (user + 1) × Renamed seen old new (bring_in (user + 1)) (λ j. map NewName (new_names (user + 1) j)) IsDue
 NamesNew seen (Err e) old new = NewFails seen e old new
 
--- what a call over names leaves unchanged: parameters, assumptions, the answer, and the schedule; no ask began
+-- that parameters, assumptions, the answer and the schedule are unchanged by a call over names; no ask began
 pub record KeepsRest {W L : Type 0} {G : Ghosts L} (old new : Solver W L G) : Type 0 where
   pub config : parameters_in new ≡ parameters_in old
   pub asked : has_asked (proof_in new) ≡ has_asked (proof_in old)
@@ -106,7 +106,7 @@ pub record KeepsRest {W L : Type 0} {G : Ghosts L} (old new : Solver W L G) : Ty
   pub clock : schedule_in new ≡ schedule_in old
   pub state : answer_in new ≡ answer_in old
 
--- the steps that it made, and what holds after them
+-- the steps of a call over names, and what holds after them
 pub record StepsOfNames {W L : Type 0} {G : Ghosts L} (seen : W → Writer) (old new : Solver W L G) : Type 0 where
   pub whole : SolverInvariant new
   pub took : ComesBySteps seen (proof_in old) (proof_in new)
@@ -126,6 +126,6 @@ pub record Observed {W L : Type 0} {G : Ghosts L} (seen : W → Writer) (old new
 
 -- INSIDE
 
--- the same for either mode
+-- the result of setting the mode of a name to witness or sample
 abbrev pub SetsMode : {W L : Type 0} {G : Ghosts L} → (W → Writer) → Result (Unit {0}) SolverError → Solver W L G → Solver W L G → ℕ → Bool → Type 0
 SetsMode seen r old new user sample = ChangesMode seen r old new user (set_all (script_mode sample) ((user + 1) ∷ [])) (setting (script_mode sample) ((user + 1) ∷ [])) (MaySet (user + 1) sample)

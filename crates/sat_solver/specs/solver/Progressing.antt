@@ -24,11 +24,11 @@ is_open_at n values x = is_some (global_at n x) && (nat_lt x (length values) && 
 abbrev pub open_vars : Variables → List (Option Bool) → ℕ
 open_vars n values = count_to (indices_used n) (is_open_at n values)
 
--- the same for a solver
+-- the number of search variables of a solver without a value
 abbrev pub open_in : {W L : Type 0} {G : Ghosts L} → Solver W L G → ℕ
 open_in s = open_vars s.names s.core.search.parts.assignment.current
 
--- no call failed, and the clauses are not known to be unsatisfiable
+-- that no call failed, and the clauses are not known to be unsatisfiable
 pub record GoesOnIn {W L : Type 0} {G : Ghosts L} (s : Solver W L G) : Type 0 where
   pub solver : IsSolver s
   pub going : has_failed s ≡ false
@@ -38,7 +38,7 @@ pub record GoesOnIn {W L : Type 0} {G : Ghosts L} (s : Solver W L G) : Type 0 wh
 abbrev pub live_count_of_tier : Parts → Tier → ℕ
 live_count_of_tier p tier = count_by (is_live_of p.clauses tier) p.db.refs
 
--- the clauses of the search, counted; a binary clause is two implications
+-- that the counts are those of the search's clauses; a binary clause is two implications
 pub record CountsClauses (r : Progress) (p : Parts) : Type 0 where
   pub binary : r.binary ≡ implications p.binary.implied / 2
   pub irred : r.irred ≡ live_count_of_tier p tiers.Irred
@@ -46,6 +46,6 @@ pub record CountsClauses (r : Progress) (p : Parts) : Type 0 where
   pub mid : r.mid ≡ live_count_of_tier p tiers.Mid
   pub local : r.local ≡ live_count_of_tier p tiers.Local
 
--- the same for a solver
+-- that `CountsClauses` holds for a solver
 abbrev pub CountsClausesIn : {W L : Type 0} {G : Ghosts L} → Progress → Solver W L G → Type 0
 CountsClausesIn r s = CountsClauses r s.core.search.parts

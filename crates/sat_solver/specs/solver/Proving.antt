@@ -24,12 +24,12 @@ use Rattle.sat_solver.specs.solver.Calls.{Refuses}
 use Rattle.sat_solver.specs.solver.Whole.{SolverInvariant, steps_in}
 use Rattle.sat_solver.specs.solver.View.{OnlyProofDiffers, answer_in, has_failed, is_used, known_names, proof_in, schedule_in, target_in}
 
--- the solver's own checker, if there is one, is unchanged
+-- that the solver's own checker, if any, is unchanged
 pub record KeepsChecker {W L : Type 0} {G : Ghosts L} (old new : Solver W L G) : Type 0 where
   pub listening : audience (proof_in new) ≡ audience (proof_in old)
   pub taking : is_lost (proof_in new) ≡ is_lost (proof_in old)
 
--- a target was opened, before anything else
+-- that a target was opened, before anything else
 pub record Opened {W L : Type 0} {G : Ghosts L} (seen : W → Writer) (format : ProofFormat) (target : W) (old new : Solver W L G) : Type 0 where
   pub going : has_failed old ≡ false
   pub first : is_used old ≡ false
@@ -47,7 +47,7 @@ OpensProof seen (Err errors.HasFailed) format target old new = Refuses old new (
 OpensProof seen (Err errors.TooLate) format target old new = Refuses old new ((has_failed old ≡ false) × ((is_used old ≡ true) ⊎ (is_open (target_in seen old) ≡ true)))
 OpensProof seen (Err e) format target old new = ⊥
 
--- the solver has a checker of its own, before any step other than ends of proofs
+-- that the solver now has a checker of its own, enabled before any step other than ends of proofs
 pub record StartsChecking {W L : Type 0} {G : Ghosts L} (seen : W → Writer) (old new : Solver W L G) : Type 0 where
   pub going : has_failed old ≡ false
   pub first : is_used old ≡ false
@@ -57,20 +57,20 @@ pub record StartsChecking {W L : Type 0} {G : Ghosts L} (seen : W → Writer) (o
   pub asked : has_asked (proof_in new) ≡ has_asked (proof_in old)
   pub same : OnlyProofDiffers old new
 
--- the result of asking for a checker: it starts, or it is too late for one
+-- the result of enabling a checker: it is enabled, or it is too late
 abbrev pub Enables : {W L : Type 0} {G : Ghosts L} → (W → Writer) → Result (Unit {0}) SolverError → Solver W L G → Solver W L G → Type 0
 Enables seen (Ok x) old new = StartsChecking seen old new
 Enables seen (Err errors.HasFailed) old new = Refuses old new (has_failed old ≡ true)
 Enables seen (Err errors.TooLate) old new = Refuses old new ((has_failed old ≡ false) × ((is_used old ≡ true) ⊎ (has_begun (steps_in old) ≡ true)))
 Enables seen (Err e) old new = ⊥
 
--- these listeners are added after the earlier ones; a checker that missed a step is restarted
+-- that these listeners were added after the earlier ones; a checker that missed a step is restarted
 pub record ListensBehind {W L : Type 0} {G : Ghosts L} (more : List L) (old new : Solver W L G) : Type 0 where
   pub before : List L
   pub listed : ListedAnew (proof_in old) before
   pub listening : audience (proof_in new) ≡ Some (before ++ more)
 
--- a listener is added to the solver's own checker, after the earlier ones, before any step other than ends of proofs
+-- that a listener was added to the solver's own checker, after the earlier listeners, before any step other than ends of proofs
 pub record GainsListener {W L : Type 0} {G : Ghosts L} (seen : W → Writer) (processor : L) (old new : Solver W L G) : Type 0 where
   pub going : has_failed old ≡ false
   pub first : is_used old ≡ false
@@ -81,7 +81,7 @@ pub record GainsListener {W L : Type 0} {G : Ghosts L} (seen : W → Writer) (pr
   pub asked : has_asked (proof_in new) ≡ has_asked (proof_in old)
   pub same : OnlyProofDiffers old new
 
--- memory ran out
+-- that memory ran out while a listener was added
 pub record Unheard {W L : Type 0} {G : Ghosts L} (seen : W → Writer) (old new : Solver W L G) : Type 0 where
   pub going : has_failed old ≡ false
   pub first : is_used old ≡ false
@@ -92,7 +92,7 @@ pub record Unheard {W L : Type 0} {G : Ghosts L} (seen : W → Writer) (old new 
   pub listens : ListensBehind [] old new
   pub clock : schedule_in new ≡ schedule_in old
 
--- the result of adding a listener: it was added, or it is too late, or memory ran out
+-- the result of adding a listener: the listener was added, or it is too late, or memory ran out
 abbrev pub AddsProcessor : {W L : Type 0} {G : Ghosts L} → (W → Writer) → Result (Unit {0}) SolverError → L → Solver W L G → Solver W L G → Type 0
 AddsProcessor seen (Ok x) processor old new = GainsListener seen processor old new
 AddsProcessor seen (Err errors.HasFailed) processor old new = Refuses old new (has_failed old ≡ true)
@@ -113,20 +113,20 @@ pub record ClosedOne {W L : Type 0} {G : Ghosts L} (seen : W → Writer) (given 
   pub refutes : answer_in old ≡ states.Unsat → RefutesByUnits (present (steps_in new)) []
   pub same : OnlyProofDiffers old new
 
--- no target was open
+-- that no target was open
 pub record ClosedNone {W L : Type 0} {G : Ghosts L} (seen : W → Writer) (old new : Solver W L G) : Type 0 where
   pub going : has_failed old ≡ false
   pub closes : ClosesNone seen (proof_in old) (proof_in new)
   pub same : OnlyProofDiffers old new
 
--- the target failed while the last step's text was written
+-- that the target failed while the last step's text was written
 pub record ClosedBroken {W L : Type 0} {G : Ghosts L} (seen : W → Writer) (old new : Solver W L G) : Type 0 where
   pub going : has_failed old ≡ false
   pub failed : has_failed new ≡ true
   pub fails : FailsToEmit seen (End ∷ []) (proof_in old) (proof_in new)
   pub clock : schedule_in new ≡ schedule_in old
 
--- memory ran out, and no step was made; or the solver's own checker ran out of memory after the last step
+-- that memory ran out before any step was made, or the solver's own checker ran out of memory after the last step
 pub record ClosedStarved {W L : Type 0} {G : Ghosts L} (seen : W → Writer) (old new : Solver W L G) : Type 0 where
   pub going : has_failed old ≡ false
   pub failed : has_failed new ≡ true
@@ -134,14 +134,14 @@ pub record ClosedStarved {W L : Type 0} {G : Ghosts L} (seen : W → Writer) (ol
   pub loss : NamesLoss errors.OutOfMemory (proof_in old) (proof_in new)
   pub clock : schedule_in new ≡ schedule_in old
 
--- the solver's own checker failed after the last step
+-- that the solver's own checker failed after the last step
 pub record ClosedUnchecked {W L : Type 0} {G : Ghosts L} (seen : W → Writer) (fault : CheckFault) (old new : Solver W L G) : Type 0 where
   pub going : has_failed old ≡ false
   pub failed : has_failed new ≡ true
   pub fails : FailsCheck seen fault (End ∷ []) (proof_in old) (proof_in new)
   pub clock : schedule_in new ≡ schedule_in old
 
--- the result of closing a proof: the target is returned, or none was open, or something failed
+-- the result of closing a proof: the target is returned, or none was open, or the call failed
 abbrev pub ClosesProof : {W L : Type 0} {G : Ghosts L} → (W → Writer) → Result (Option W) SolverError → Solver W L G → Solver W L G → Type 0
 ClosesProof seen (Ok None) old new = ClosedNone seen old new
 ClosesProof seen (Ok (Some given)) old new = ClosedOne seen given old new

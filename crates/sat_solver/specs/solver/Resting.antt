@@ -14,30 +14,30 @@ use Rattle.sat_solver.specs.solver.Lines.{IsCoreOf}
 use Rattle.sat_solver.specs.solver.Whole.{IsSolver, steps_in, asked_in, line_in}
 use Rattle.sat_solver.specs.solver.View.{IsInState, answer_in, reported_core, has_failed, known_names}
 
--- names and steps match some state of the judge
+-- that names and steps match some script state
 abbrev pub MatchesSomeState : {W L : Type 0} {G : Ghosts L} → Solver W L G → Type 0
 MatchesSomeState s = HasScriptState (known_names s) (steps_in s)
 
--- the same for a solver that may be called and has not failed
+-- that `MatchesSomeState` holds for a solver that may be called and has not failed
 abbrev pub SolverMatchesSomeState : {W L : Type 0} {G : Ghosts L} → Solver W L G → Type 0
 SolverMatchesSomeState s = IsSolver s → has_failed s ≡ false → MatchesSomeState s
 
--- a right line for the assumptions, for any judge's state that names and steps agree with
+-- that the line is a correct model for the assumptions, in every script state that names and steps agree with
 abbrev pub IsRightLine : {W L : Type 0} {G : Ghosts L} → Solver W L G → List ℕ → Type 0
 IsRightLine s line = (j : ScriptState) (live : Live) → IsInState s j live → IsRightModel j (asked_in s) (map user_literal line)
 
--- the same for a failed core, in any order
+-- that the core, in any order, is correct for the assumptions, in every script state that names and steps agree with
 abbrev pub IsRightCoreOf : {W L : Type 0} {G : Ghosts L} → Solver W L G → List ℕ → Type 0
 IsRightCoreOf s core = (j : ScriptState) (live : Live) → IsInState s j live → IsCoreOf j (asked_in s) (map user_literal core)
 
--- a model over names
+-- that the line is a model over names
 pub record IsModel {W L : Type 0} {G : Ghosts L} (s : Solver W L G) (line : List ℕ) : Type 0 where
   pub going : has_failed s ≡ false
   pub state : answer_in s ≡ states.Sat
   pub line_is : line ≡ line_in s
   pub right : IsRightLine s line
 
--- there is no model
+-- that there is no model
 abbrev pub HasNone : {W L : Type 0} {G : Ghosts L} → Solver W L G → Type 0
 HasNone s = (has_failed s ≡ false) × (answer_in s ≡ states.Sat → ⊥)
 
@@ -47,25 +47,25 @@ ModelFails errors.HasFailed s = has_failed s ≡ true
 ModelFails errors.OutOfMemory s = (has_failed s ≡ false) × (answer_in s ≡ states.Sat)
 ModelFails e s = ⊥
 
--- the state says that nothing satisfies the clauses, or the clauses and the assumptions
+-- that the state says that no valuation satisfies the clauses, or the clauses and the assumptions
 abbrev pub is_unsat : State → Type 0
 is_unsat states.Unknown = ⊥
 is_unsat states.Sat = ⊥
 is_unsat states.UnsatUnderAssumptions = Unit {0}
 is_unsat states.Unsat = Unit {0}
 
--- the failed core in this state: the reported one of an ask that failed under its assumptions, otherwise the empty list
+-- the failed core in this state: the reported core if an ask failed under its assumptions, otherwise the empty core
 abbrev pub core_for : {W L : Type 0} {G : Ghosts L} → State → Solver W L G → List ℕ
 core_for states.UnsatUnderAssumptions s = (reported_core s)
 core_for st s = []
 
--- a failed core over names
+-- that the core is a failed core over names
 pub record IsCore {W L : Type 0} {G : Ghosts L} (s : Solver W L G) (core : List ℕ) : Type 0 where
   pub going : has_failed s ≡ false
   pub unsat : is_unsat (answer_in s)
   pub core_is : core ≡ core_for (answer_in s) s
   pub right : IsRightCoreOf s core
 
--- there is no failed core
+-- that there is no failed core
 abbrev pub HasNoCore : {W L : Type 0} {G : Ghosts L} → Solver W L G → Type 0
 HasNoCore s = (has_failed s ≡ true) ⊎ (is_unsat (answer_in s) → ⊥)

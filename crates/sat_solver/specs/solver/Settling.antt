@@ -14,7 +14,7 @@ use Rattle.sat_solver.specs.solver.Answering.{BreaksOff, FlushFails}
 use Rattle.sat_solver.specs.solver.Calls.{Counts, CountsRounds, learned_of, due_for_answer}
 use Rattle.sat_solver.specs.solver.Whole.{SolverInvariant, steps_in}
 
--- an answer is known, or the rounds are exhausted
+-- that an answer is known, or the rounds are exhausted
 pub record Settled {W L : Type 0} {G : Ghosts L} (seen : W → Writer) (old new : Solver W L G) : Type 0 where
   pub whole : SolverInvariant new
   pub does : NamesEffect old.names new.names (steps_in old) (steps_in new) (λ j. j) (λ j. due_for_answer old.state new)
@@ -28,7 +28,7 @@ pub record Settled {W L : Type 0} {G : Ghosts L} (seen : W → Writer) (old new 
   pub times : AdvancesIn (steps_in old) (steps_in new) (learned_of new.state (new.clock.rounds - old.clock.rounds))
   pub known : (old.state ≡ states.Unknown → ⊥) → EmitsExactly seen [] old.core.proof new.core.proof × (new ≡ record old { core = record old.core { proof = new.core.proof } })
 
--- the same, or the call failed: if the answer was known, it failed at a flush or in the solver's own checker
+-- that `Settled` holds or, with an error, the call failed; if the answer was known, a flush or the solver's own checker failed
 abbrev pub AnswersOrBreaks : {W L : Type 0} {G : Ghosts L} → (W → Writer) → Result (Unit {0}) SolverError → Solver W L G → Solver W L G → Type 0
 AnswersOrBreaks seen (Ok x) old new = Settled seen old new
 AnswersOrBreaks seen (Err e) old new = BreaksOff seen e old.core new.core × CountsRounds old new × ((old.state ≡ states.Unknown → ⊥) → FlushFails seen e old.core.proof new.core.proof)

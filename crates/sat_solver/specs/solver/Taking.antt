@@ -24,16 +24,16 @@ use Rattle.sat_solver.specs.declared.load.literals.Taken.{Taken}
 use Rattle.sat_solver.specs.declared.context.Core.{Core}
 use Rattle.sat_solver.specs.solver.Joined.{IsJoined, AreNamedAssumptions}
 
--- names keep the search literals that represent them
+-- that names keep the search literals that represent them
 abbrev pub KeepImages : Variables → Variables → Type 0
 KeepImages n n' = (user order : List ℕ) → Images n user order → Images n' user order
 
--- the invariant of the search, or unsat is recorded
+-- that the invariant of the search holds or, if the flag is false, unsat is recorded
 abbrev pub GoesOnOr : Bool → {W L : Type 0} {G : Ghosts L} → Variables → Core W L G → Type 0
 GoesOnOr true n c = IsJoined n c
 GoesOnOr false n c = (session_of c.proof).unsat ≡ true
 
--- a clause was added; `left` says whether the formula may still be satisfiable
+-- that a clause was added; `left` says whether the formula may still be satisfiable
 pub record TookClause {W L : Type 0} {G : Ghosts L} (seen : W → Writer) (n n' : Variables) (a b : Core W L G) (user : List ℕ) (left : Bool) : Type 0 where
   pub does : NamesEffect n n' (steps_of a.proof) (steps_of b.proof) (λ j. with_clause (map user_literal user) (bring_all (names_in user) j)) (λ j. bringing (names_in user) j ++ (Adds (map user_literal user) ∷ []))
   pub took : ComesByCheckedSteps seen a.proof b.proof
@@ -46,22 +46,22 @@ pub record TookClause {W L : Type 0} {G : Ghosts L} (seen : W → Writer) (n n' 
   pub config : b.config ≡ a.config
   pub assumed : (session_of b.proof).assumed ≡ (session_of a.proof).assumed
 
--- the errors of a call over names after which the solver has failed
+-- that the error is one after which the solver has failed, in a call over names
 abbrev pub IsNameFaultOr : (full : Type 0) → SolverError → Type 0
 IsNameFaultOr full e = IsFaultOr full e ⊎ (e ≡ errors.VariableLimit)
 
--- a call over names failed after these steps; `StoreFull` only if `full` holds
+-- that a call over names failed after these steps; `StoreFull` is returned only if `full` holds
 pub record BreaksNamesOr {W L : Type 0} {G : Ghosts L} (full : Type 0) (seen : W → Writer) (e : SolverError) (a b : Core W L G) : Type 0 where
   pub fault : IsNameFaultOr full e
   pub steps : List Step
   pub went : EmitsUpToFault {A = Unit {0}} seen (Err e) steps a.proof b.proof
   pub loss : NamesLoss e a.proof b.proof
 
--- the same if no clause is stored
+-- that `BreaksNamesOr` holds for a call that stores no clause
 abbrev pub BreaksNames : {W L : Type 0} {G : Ghosts L} → (W → Writer) → SolverError → Core W L G → Core W L G → Type 0
 BreaksNames seen e a b = BreaksNamesOr ⊥ seen e a b
 
--- the same, and the proof stores the underlying error until it is reported
+-- that `BreaksNamesOr` holds, and the proof stores the underlying error until it is reported
 abbrev pub BreaksNamesOff : {W L : Type 0} {G : Ghosts L} → (full : Type 0) → (W → Writer) → SolverError → Core W L G → Core W L G → Type 0
 BreaksNamesOff full seen e a b = BreaksNamesOr full seen e a b × IsKept e b.proof
 
@@ -69,7 +69,7 @@ BreaksNamesOff full seen e a b = BreaksNamesOr full seen e a b × IsKept e b.pro
 abbrev pub TakesClause : {W L : Type 0} {G : Ghosts L} → (W → Writer) → Result Bool SolverError → Variables → Variables → Core W L G → Core W L G → List ℕ → Type 0
 TakesClause seen r n n' a b user = MatchResult r (TookClause seen n n' a b user) (λ e. BreaksNamesOff (IsFull b.search.parts) seen e a b)
 
--- assumptions replaced the earlier ones
+-- that assumptions replaced the earlier ones
 pub record TookAssumptions {W L : Type 0} {G : Ghosts L} (seen : W → Writer) (n n' : Variables) (a b : Core W L G) (user : List ℕ) (t : Taken) : Type 0 where
   pub does : (o : Outcome) → NamesEffect n n' (steps_of a.proof) (steps_of b.proof) (bring_all (names_in user)) (λ j. bringing (names_in user) j ++ (Opens (map user_literal user) o ∷ []))
   pub comes : OnlyAllowedSteps (MayTake (names_in user)) (steps_of a.proof) (steps_of b.proof)
@@ -78,6 +78,6 @@ pub record TookAssumptions {W L : Type 0} {G : Ghosts L} (seen : W → Writer) (
   pub config : b.config ≡ a.config
   pub asked : AreNamedAssumptions n' b user t
 
--- the result of assumptions: they replace the earlier ones, or an error
+-- the result of setting assumptions: they replace the earlier ones, or an error is returned
 abbrev pub TakesAssumptions : {W L : Type 0} {G : Ghosts L} → (W → Writer) → Result (Unit {0}) SolverError → Variables → Variables → Core W L G → Core W L G → List ℕ → Taken → Type 0
 TakesAssumptions seen r n n' a b user t = MatchResult r (λ _. TookAssumptions seen n n' a b user t) (λ e. BreaksNamesOff ⊥ seen e a b)

@@ -1,4 +1,4 @@
--- What callers know of a solver. Contracts of its calls are stated in these words and in terms of the judge's state.
+-- What callers know of a solver. Contracts of its calls are stated in terms of these definitions and of the script state.
 use Rattle.std.specs.Prelude.{◌≡◌, ℕ, Bool, true, false, Option, None, List, []}
 use Rattle.std.specs.Global.{Vec}
 use Rattle.sat_base.specs.device.Device.{Writer}
@@ -37,7 +37,7 @@ answer_in s = s.state
 abbrev pub assumptions_in : {W L : Type 0} {G : Ghosts L} → Solver W L G → List ℕ
 assumptions_in s = s.assumed.items
 
--- the same, as they are stored
+-- the assumptions as they are stored
 abbrev pub assumed_in : {W L : Type 0} {G : Ghosts L} → Solver W L G → Vec ℕ
 assumed_in s = s.assumed
 
@@ -57,11 +57,11 @@ reported_core s = s.reported.failed_core.items
 abbrev pub schedule_in : {W L : Type 0} {G : Ghosts L} → Solver W L G → Clock
 schedule_in s = s.clock
 
--- the rounds of all asks
+-- the number of rounds of all asks
 abbrev pub rounds_in : {W L : Type 0} {G : Ghosts L} → Solver W L G → ℕ
 rounds_in s = s.clock.rounds
 
--- the restarts of all asks
+-- the number of restarts of all asks
 abbrev pub restarts_in : {W L : Type 0} {G : Ghosts L} → Solver W L G → ℕ
 restarts_in s = s.clock.restarts.count
 
@@ -77,23 +77,23 @@ inside s = s.core
 abbrev pub proof_in : {W L : Type 0} {G : Ghosts L} → Solver W L G → Proof W L G
 proof_in s = s.core.proof
 
--- where the text of its steps is written
+-- where the text of the proof's steps is written
 abbrev pub target_in : {W L : Type 0} {G : Ghosts L} → (W → Writer) → Solver W L G → Target
 target_in seen s = target_of seen s.core.proof
 
--- only the proof has changed
+-- that only the proof has changed
 abbrev pub OnlyProofDiffers : {W L : Type 0} {G : Ghosts L} → Solver W L G → Solver W L G → Type 0
 OnlyProofDiffers old new = new ≡ record old { core = record old.core { proof = new.core.proof } }
 
--- the same solver, now used
+-- the solver, marked as used
 abbrev pub used_now : {W L : Type 0} {G : Ghosts L} → Solver W L G → Solver W L G
 used_now s = record s { used = true }
 
--- the judge's state is this one, with these variables
+-- that the script state is `j`, with these variables
 abbrev pub IsInState : {W L : Type 0} {G : Ghosts L} → Solver W L G → ScriptState → Live → Type 0
 IsInState s j live = NamesAgree s.names (steps_in s) j live
 
--- all of these words at once, as one value
+-- the observable state of a solver, as one value
 pub record View (L : Type 0) : Type 0 where
   pub failed : Bool
   pub used : Bool
@@ -139,7 +139,7 @@ empty_view = record {
   asked = false;
 }
 
--- no call was made yet
+-- that no call was made yet
 pub record IsEmpty {W L : Type 0} {G : Ghosts L} (seen : W → Writer) (s : Solver W L G) : Type 0 where
   pub view : view_of seen s ≡ empty_view
   pub state : IsInState s start []

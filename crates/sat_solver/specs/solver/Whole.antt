@@ -24,7 +24,7 @@ use Rattle.sat_solver.specs.declared.state.State.TheVariants as states
 use Rattle.sat_solver.specs.solver.Joined.{IsJoined}
 use Rattle.sat_solver.specs.solver.Answering.{line_of_names}
 
--- all steps that it has made, the newest first
+-- all steps that the solver has made, the newest first
 abbrev pub steps_in : {W L : Type 0} {G : Ghosts L} → Solver W L G → List Step
 steps_in s = steps_of s.core.proof
 
@@ -36,11 +36,11 @@ session_in s = session_of s.core.proof
 abbrev pub asked_in : {W L : Type 0} {G : Ghosts L} → Solver W L G → List Literal
 asked_in s = map user_literal s.assumed.items
 
--- the literals of all names, by the values of the search
+-- the literals of all names, given the values of the search
 abbrev pub line_in : {W L : Type 0} {G : Ghosts L} → Solver W L G → List ℕ
 line_in s = line_of_names s.names s.core
 
--- no variable of a clause is open, and the assumptions are true
+-- that every variable of a clause has a value, and the assumptions are true
 abbrev pub HasModel : {W L : Type 0} {G : Ghosts L} → Core W L G → Type 0
 HasModel c = IsComplete c.search.assumptions.lits.items c.search.parts
 
@@ -52,7 +52,7 @@ pub record HasCore {W L : Type 0} {G : Ghosts L} (c : Core W L G) (assumed core 
   pub same : SameSet (variable_of (steps_of c.proof)) (map user_literal core) codes
   pub among : AllByRecursion (λ l. Among l assumed) core
 
--- the search can continue, under the assumptions
+-- that the search can continue, under the assumptions
 pub record AskGoesOn {W L : Type 0} {G : Ghosts L} (c : Core W L G) (n : Variables) (asked : Taken) : Type 0 where
   pub joined : IsJoined n c
   pub lits : c.search.assumptions.lits.items ≡ asked.order.items
@@ -79,14 +79,14 @@ pub record IsWholeOf {W L : Type 0} {G : Ghosts L} (c : Core W L G) (n : Variabl
   pub judged : HasScriptState n (steps_of c.proof)
   pub says : StateSays state c n asked assumed core
 
--- the invariant, unless a call failed
+-- the invariant of a solver of which no call failed
 abbrev pub SolverInvariant : {W L : Type 0} {G : Ghosts L} → Solver W L G → Type 0
 SolverInvariant s = IsWholeOf s.core s.names s.asked s.assumed.items s.reported.failed_core.items s.clock.restarts.scale s.state
 
--- the clause buffer has more than 2^32-1 words, so that it can store no further clause
+-- that the clause buffer has more than 2^32-1 words, so that it can store no further clause
 abbrev pub HasFullStore : {W L : Type 0} {G : Ghosts L} → Solver W L G → Type 0
 HasFullStore s = IsFull s.core.search.parts
 
--- a solver on which a call may be made
+-- that a call may be made on the solver: the invariant holds unless a call failed
 abbrev pub IsSolver : {W L : Type 0} {G : Ghosts L} → Solver W L G → Type 0
 IsSolver s = s.failed ≡ false → SolverInvariant s
