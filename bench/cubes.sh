@@ -20,21 +20,21 @@ program=$(realpath "${3:-$here/../crates/certify_cli/out/certify_cli}")
 mkdir -p "$folder"
 export program folder
 
-clauses() { # the formula up to a line that begins with %, without comments and header
+clauses() { # prints the formula up to a line that begins with %, without comments and header
     awk '$1 ~ /^%/ { exit } $1 !~ /^[cp]/' "$formula"
 }
 
-cubes() { # eight lines: the signs of the three names that occur most often
+cubes() { # prints eight lines, each with the three names that occur most often and one combination of signs
     clauses | tr -s '[:space:]' '\n' | sed 's/^-//' | grep -v '^0*$' | sort | uniq -c | sort -k1,1nr -k2,2n | awk 'NR <= 3 { name[NR] = $2 }
         END { for (k = 0; k < 8; k++) print (int(k / 4) % 2 ? "-" : "") name[1], (int(k / 2) % 2 ? "-" : "") name[2], (k % 2 ? "-" : "") name[3] }'
 }
 
-script() { # NUMBER: the script of one cube
+script() { # NUMBER: prints the script of one cube
     clauses
     echo "a $(sed -n "$1p" "$folder/cubes") 0"
 }
 
-last() { # the script of the negated cores
+last() { # prints the script of the negated cores
     for number in {1..8}; do
         awk '$1 == "f" { for (i = 2; i < NF; i++) printf "%s ", -$i; print "0" }' "$folder/$number.answers"
     done
@@ -49,7 +49,7 @@ answer() { # NUMBER: answers a script and confirms the answers in the same proce
 }
 export -f answer
 
-confirmed() { # NUMBER SCRIPT: whether the script is SCRIPT, and its answers are confirmed
+confirmed() { # NUMBER SCRIPT: checks whether the script is SCRIPT, and its answers are confirmed
     cmp -s "$folder/$1.script" <(echo "$2") && [ "$("$program" confirm "$folder/$1.script" "$folder/$1.answers" "$folder/$1.certificate")" = yes ]
 }
 

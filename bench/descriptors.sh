@@ -1,5 +1,5 @@
 #!/usr/bin/env bash
-# Starts the program as a shell can and a test can't: bench/descriptors.sh PROGRAM
+# Starts the program in ways that a shell can and a test can't: bench/descriptors.sh PROGRAM
 #
 # PROGRAM is the path of the program, such as crates/certify_cli/out/certify_cli. First some of its standard streams are closed: what is
 # meant for them must not be written into a file. Then memory runs out in a run, after an answer: nothing may be printed. A line says what
@@ -11,7 +11,7 @@ trap 'rm -rf "$work"' EXIT
 cd "$work"
 checks=0 wrong=0
 
-# Whether two values are equal, of a check of this name.
+# Checks whether two values are equal, and prints them with the name of the check if they are not.
 is() { # NAME FOUND WANTED
     checks=$((checks + 1))
     if [ "$2" != "$3" ]; then
@@ -20,7 +20,7 @@ is() { # NAME FOUND WANTED
     fi
 }
 
-# Starts the program with the standard streams of these numbers closed, and prints its status.
+# Starts the program with the standard streams NUMBERS closed, and writes its status to a file.
 closed() { # NUMBERS WORD..
     local numbers=$1 status=0
     shift

@@ -32,7 +32,7 @@ def examples():
 
 
 def literal(text):
-    """Returns the text as a string of Rust, a line of it on each line."""
+    """Returns the text as a string literal of Rust, with a line of the text on each line."""
     lines = [line.replace("\\", "\\\\").replace('"', '\\"') + "\\n" for line in text.splitlines()]
     return '"\\\n' + "\\\n".join(lines) + '"'
 

@@ -24,7 +24,7 @@ PROVED = os.path.join(HERE, "../crates/certify_cli/out/certify_cli")
 
 
 class Refused(Exception):
-    """Why a text is not converted, or a proof is not accepted."""
+    """The reason why a text is not converted, or a proof is not accepted."""
 
 
 def lists(words):
@@ -50,7 +50,7 @@ def convert(hints):
     """Returns the lines of the CNF and those of the proof."""
     lines = [(text[0], lists(text.split()[1:])) for text in hints.splitlines()]
     clauses = [given[0] for kind, given in lines if kind == "i"]
-    numbers = {clause[0]: place for place, clause in enumerate(clauses, 1)}  # of the clauses that are present
+    numbers = {clause[0]: place for place, clause in enumerate(clauses, 1)}  # the numbers of the clauses that are present
     literals = [list(dict.fromkeys(clause[1:])) for clause in clauses]
     proof, last = [], len(clauses)
     for kind, given in lines:

@@ -2,9 +2,9 @@
 # Prints what each crate adds to the gate: bench/minutes.sh [CRATE..]
 #
 # In a copy of the repository, proves each crate from nothing, or each that is named, then its tests, and then tries the edits of its
-# must-fail/. A line has the processor minutes of each of the three, and the minutes by the clock; the last line has the sums. The crates below
-# are built first, and not counted. Nor is the extra proof of the crate that the gate makes before it tries edits. All crates together take as
-# long as the gate.
+# must-fail/. A line has the processor minutes of each of the three, and the minutes by the clock; the last line has the sums. The crates that
+# a crate depends on are built first, and not counted. Nor is the extra proof of the crate that the gate makes before it tries edits. All crates
+# together take as long as the gate.
 set -euo pipefail
 top=$(cd "$(dirname "$0")/.." && pwd)
 work=$(mktemp -d)
@@ -14,7 +14,7 @@ git -C "$top" ls-files -z | (cd "$top" && xargs -0 tar cf - --) | tar xf - -C "$
 git init -q "$work"
 cd "$work"
 
-took() { # FOLDER COMMAND..: its processor minutes
+took() { # FOLDER COMMAND..: prints the processor minutes of the command
     local TIMEFORMAT='%U %S'
     { time (cd "$1" && "${@:2}" > "$work/said" 2>&1 < /dev/null); } 2> "$work/took" || { tail -n 20 "$work/said" >&2; exit 1; }
     awk '{ printf "%.1f", ($1 + $2) / 60 }' "$work/took"

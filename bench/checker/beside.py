@@ -1,16 +1,16 @@
 #!/usr/bin/env python3
-"""Compares `confirm`, hint texts and `check_proof` with plain checkers in C++:
+"""Compares `confirm`, hint texts and `check_proof` with unverified checkers in C++:
 
     beside.py [-i] PROGRAM CHECKS FOLLOWER PLAIN FOLDER [NAME..]
 
-For each FOLDER/NAME.certificate, or those that are named, it runs in turn, nine times:
+For each FOLDER/NAME.certificate, or for those that are named, it makes these calls in turn, nine times:
 
     confirm      PROGRAM confirm NAME.cnf answers NAME.certificate
     hints        PROGRAM hints NAME.certificate, which writes its hint text
     check        PROGRAM check of that text
     check_proof  CHECKS < NAME.certificate, a program over checks.rt.txt, as run.sh builds it
     follower     FOLLOWER NAME.cnf NAME.trace, which checks the same derivation by ids
-    plain        PLAIN < NAME.certificate, an unproved checker of certificates
+    plain        PLAIN < NAME.certificate, an unverified checker of certificates
 
 It prints the least user and system seconds and the peak memory of each, and then ratios with their geometric means. With -i it counts
 millions of instructions by valgrind, once each, instead of seconds. Not part of the gate. Needs GNU time.
@@ -25,7 +25,7 @@ import sys
 import tempfile
 
 BESIDE = [
-    # the ratio of what, to what
+    # the calls whose costs are divided, first by second
     ("check", "follower"),
     ("hints", "check_proof"),
     ("hints", "plain"),
@@ -48,7 +48,7 @@ def called(command, stdin):
 
 
 def seconds(command, stdin):
-    """Returns the seconds of the call's own processor time."""
+    """Returns the processor seconds of a call."""
     before = resource.getrusage(resource.RUSAGE_CHILDREN)
     called(command, stdin)
     after = resource.getrusage(resource.RUSAGE_CHILDREN)

@@ -2,8 +2,8 @@
 # Compares confirm with check_proof on the same certificates: bench/checker/confirm.sh FOLDER [NAME..]
 #
 # FOLDER/NAME.cnf, FOLDER/answers and FOLDER/NAME.certificate match as script, answers and certificate. One program runs `confirm` on the
-# three files, the other `check_proof` on the certificate from standard input. Both run five times, in turn, on each certificate of the folder,
-# or on those that are named.
+# three files, the other runs `check_proof` on the certificate from standard input. Both run five times, in turn, on each certificate of the
+# folder, or on those that are named.
 #
 # Prints their results, the medians of seconds and of peak memory, with their ratios, and the geometric mean of the ratios of time. Fails if a
 # certificate is not confirmed. The program of `confirm` also runs scripts: `confirms run S A C`. Not part of the gate. Needs GNU time.

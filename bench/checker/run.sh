@@ -1,7 +1,7 @@
 #!/usr/bin/env bash
-# Compares the checker with a plain one: bench/checker/run.sh YARDSTICK FOLDER [NAME..]
+# Compares the checker with an unverified one: bench/checker/run.sh YARDSTICK FOLDER [NAME..]
 #
-# YARDSTICK is a program that is called as `YARDSTICK NAME.cnf NAME.trace`, and checks a proof whose steps name their clauses by ids. Ours
+# YARDSTICK is a program that is called as `YARDSTICK NAME.cnf NAME.trace`, and checks a proof whose steps name clauses by their ids. Ours
 # checks FOLDER/NAME.certificate, the same proof with hashes, by `check_proof` from standard input. Both run five times, in turn, on each
 # certificate of the folder, or on those that are named.
 #

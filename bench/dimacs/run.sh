@@ -1,7 +1,7 @@
 #!/usr/bin/env bash
-# Compares the parser of DIMACS CNF with a plain one in Rust: bench/dimacs/run.sh [BYTES]
+# Compares the parser of DIMACS CNF with an unverified one in Rust: bench/dimacs/run.sh [BYTES]
 #
-# Generates a formula of this size (100,000,000 bytes by default), and has both read it from standard input, five times in turn. Prints what
+# Generates a formula of BYTES bytes (100,000,000 by default), and has both read it from standard input, five times in turn. Prints what
 # each read, its times and its peak memory. Not part of the gate. Needs rustc and GNU time.
 set -eu
 here=$(cd "$(dirname "$0")" && pwd)

@@ -1,10 +1,10 @@
 #!/usr/bin/env bash
 # Tries edits that the prover has to refuse and that the gate leaves out: bench/edits/run.sh [CRATE [WORD]]
 #
-# Each file of bench/edits/CRATE changes that crate as an edit of its must-fail/ does. A line reports for each edit that it is refused, and at
-# which function, that the crate is still proved with it, or that it cannot be applied. With WORD it tries only the edits whose name or text
-# has that word, such as the name of a file or a function. The last line counts them, and the status is 1 if one is not refused. The first edit
-# of a crate costs a complete check, each further one 15 to 40 seconds.
+# Each file of bench/edits/CRATE changes that crate as an edit of its must-fail/ does. For each edit, a line reports that the prover refuses it,
+# and at which function; that the crate is still proved with it; or that it cannot be applied. With WORD, the script tries only the edits whose
+# name or text contains WORD, such as the name of a file or a function. The last line counts the results, and the status is 1 if an edit is not
+# refused. The first edit of a crate takes a complete check, each further one 15 to 40 seconds.
 set -euo pipefail
 here=$(cd "$(dirname "$0")" && pwd)
 top=$(cd "$here/../.." && pwd)
@@ -14,7 +14,7 @@ word=${2:-}
 
 crates=${1:-$(cd "$here" && for folder in */; do echo "${folder%/}"; done)}
 
-# The repository's sources, and in each crate's must-fail/ the edits to be tried.
+# Copies the repository's sources, with the edits to be tried in each crate's must-fail/.
 mkdir "$work/repo" "$work/repo/crates"
 git init -q "$work/repo"
 cp "$top/crates.txt" "$top/HANDLES" "$work/repo/"

@@ -1,12 +1,12 @@
 #!/usr/bin/env bash
-# Refuses each allocation in turn, and compares the results with those of a run with all memory: bench/faults/run.sh
+# Makes each allocation fail in turn, and compares the results with those of a run with all memory: bench/faults/run.sh
 #
 # Each program makes calls and prints the results. The run with all memory is the reference.
 #
 #   calls.rt.txt, over sat_base: the call whose allocation is refused reports it, and leaves what its documentation states. All other lines are
 #   those of the reference.
 #   feeds.rt.txt, over sat_checker: the call reports it, every later call reports that the checker has failed, and all listeners are returned,
-#   without having heard more than in the reference.
+#   without having been notified of more than in the reference.
 #   hints.rt.txt, over sat_hints: the call reports it, and what it wrote is a prefix of the reference. All other lines are the same.
 #   certify, on two scripts: it ends with `certify: OutOfMemory` and status 3, writes nothing else to standard error but a run's line of
 #   progress, and its output is a prefix of the reference.
@@ -27,7 +27,7 @@ work=$(mktemp -d)
 trap 'rm -rf "$work"' EXIT
 most=200
 
-# A repository of our crates, and the programs over them.
+# Creates a repository of our crates, and the programs over them.
 for program in calls feeds hints texts solves refusals; do
     mkdir -p "$work/repo/crates/$program/src"
     cp "$here/$program.rt.txt" "$work/repo/crates/$program/src/main.rt"
@@ -43,7 +43,7 @@ cp "$top/HANDLES" "$work/repo/"
 } > "$work/repo/crates.txt"
 git init -q "$work/repo"
 
-# The texts on standard input: none, and two scripts.
+# Writes the texts for standard input: an empty one, and two scripts.
 mkdir -p "$work/texts/calls" "$work/texts/feeds" "$work/texts/hints" "$work/texts/certify_cli"
 printf '' > "$work/texts/calls/none"
 printf '' > "$work/texts/feeds/none"
@@ -56,7 +56,7 @@ fail() {
     exit 1
 }
 
-# A text after the byte that asks for this many allocations.
+# Prints a text after the byte that requests COUNT allocations.
 behind() { # TEXT COUNT
     printf "\\$(printf %03o "$2")"
     cat "$1"
@@ -246,7 +246,7 @@ for text in sat unsat; do
     echo "certify $text: $(wc -l < "$work/$text.txt") of $count allocations"
 done
 
-# Bytes whose sum is a count.
+# Prints bytes whose sum is COUNT.
 summing() { # COUNT
     local left=$1
     while [ "$left" -gt 255 ]; do

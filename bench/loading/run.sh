@@ -1,5 +1,5 @@
 #!/usr/bin/env bash
-# Compares loading clauses and building their watch lists with plain Rust: bench/loading/run.sh [VARIABLES [LITERALS]]
+# Compares loading clauses and building their watch lists with unverified Rust: bench/loading/run.sh [VARIABLES [LITERALS]]
 #
 # Both load the same clauses of 3 to 10 literals, and then build the watch lists, five times in turn. By default these are 10,000,000 literals
 # over 1,000,000 variables. Prints the medians of both times and of peak memory, with their ratios. Fails if clauses, words or watches differ.
@@ -11,8 +11,8 @@ variables=${1:-1000000} literals=${2:-10000000}
 work=$(mktemp -d)
 trap 'rm -rf "$work"' EXIT
 
-# A repository of our crates, and a static library over them whose functions have a premise that nothing meets. So it is built without a
-# proof that a caller meets the conditions of its calls.
+# Creates a repository of our crates, and a static library over them. The functions of the library have an unsatisfiable precondition, so that
+# it can be built without a proof that callers meet the preconditions of its calls.
 mkdir -p "$work/repo/crates/loading/src" "$work/repo/crates/loading/proofs/measure"
 for crate in sat_base sat_store sat_parts; do
     cp -r "$top/crates/$crate" "$work/repo/crates/"

@@ -1,5 +1,5 @@
 #!/usr/bin/env bash
-# Compares unit propagation with a plain loop: bench/propagation/run.sh YARDSTICK FOLDER [ROUNDS]
+# Compares unit propagation with an unverified loop: bench/propagation/run.sh YARDSTICK FOLDER [ROUNDS]
 #
 # YARDSTICK is a program. Its arguments are a formula in DIMACS CNF and a number of rounds (100 by default). It prints a line
 # `decisions D conflicts C full F assigned A seconds S`; the seconds are those after loading. Round r decides open variables, beginning with
@@ -16,8 +16,8 @@ yardstick=$1 folder=$2 rounds=${3:-100}
 work=$(mktemp -d)
 trap 'rm -rf "$work"' EXIT
 
-# A repository of our crates, and a static library over them whose functions have a premise that nothing meets. So it is built without a
-# proof that a caller of `propagate` meets its conditions.
+# Creates a repository of our crates, and a static library over them. The functions of the library have an unsatisfiable precondition, so that
+# it can be built without a proof that callers of `propagate` meet its preconditions.
 mkdir -p "$work/repo/crates/rounds/src"
 for crate in sat_base sat_store sat_parts; do
     cp -r "$top/crates/$crate" "$work/repo/crates/"

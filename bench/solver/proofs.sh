@@ -30,7 +30,7 @@ program=$work/repo/crates/proofs/out/proofs
 
 . "$here/../checker/timing.sh"
 
-# Puts the lines of a proof in words into bytes.
+# Encodes the lines of a textual proof as bytes.
 cat > "$work/bytes.py" <<'PYTHON'
 import sys
 
@@ -48,7 +48,7 @@ for line in sys.stdin:
 sys.stdout.buffer.write(out)
 PYTHON
 
-solve() { # KIND ARGUMENT..: one run, whose proof is $work/KIND.proof
+solve() { # KIND ARGUMENT..: runs the solver once, which writes the proof to $work/KIND.proof
     local kind=$1 status=0
     shift
     "$(command -v time)" -f '%U %S' -o "$work/took" "$program" "$@" < "$formula" > "$work/$kind.proof" 2> "$work/said" || status=$?

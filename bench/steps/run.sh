@@ -1,5 +1,5 @@
 #!/usr/bin/env bash
-# Compares the reader and the writer of proof steps with plain ones in Rust: bench/steps/run.sh [CERTIFICATE]
+# Compares the reader and the writer of proof steps with unverified ones in Rust: bench/steps/run.sh [CERTIFICATE]
 #
 # Both read the certificate from standard input, and then both copy it step by step to standard output, five times each, in turn. By default
 # it generates one of 30,000,000 bytes. Prints what each read, its times and its peak memory. Not part of the gate. Needs rustc and GNU time.
@@ -14,7 +14,7 @@ rustc -O -C target-cpu=x86-64-v2 -o "$work/plain" "$here/plain.rs"
 certificate=${1:-$work/certificate}
 [ -e "$certificate" ] || "$work/generate" > "$certificate"
 
-# A repository of three crates: ours, and two programs over it.
+# Creates a repository of three crates: ours, and two programs over it.
 mkdir -p "$work/repo/crates/reads/src" "$work/repo/crates/copies/src"
 cp -r "$top/crates/sat_base" "$work/repo/crates/"
 cp "$top/HANDLES" "$work/repo/"

@@ -1,4 +1,4 @@
-//! Answers written and read.
+//! Tests of how answers are written and read.
 
 use certify::answers::read::{
     AnswerFault, AnswerKind, read_kind, read_line, read_outcome, take_text,
@@ -9,7 +9,8 @@ use certify::answers::write::{
 use sat_base::Lit;
 use std::alloc::{AllocError, Global};
 
-/// Adds the literals of these numbers, 0 and numbers past the limit left out. The answer is whether there was memory.
+/// Appends the literals with the given DIMACS numbers, except 0 and numbers past the limit. Returns `false` if memory
+/// runs out.
 fn push_lits(lits: &mut Vec<Lit>, numbers: &[i64]) -> bool {
     for number in numbers {
         let pushed = match Lit::from_dimacs(*number) {
@@ -51,14 +52,14 @@ fn push(out: &mut Vec<u8>, kind: AnswerKind, line: &[Lit]) -> Result<(), AllocEr
     }
 }
 
-/// Tests whether an answer of these literals is written so.
+/// Tests whether `text` is what is written for an answer with the literals `line`.
 fn is_written(alloc: Global, kind: AnswerKind, line: &[Lit], text: &[u8]) -> bool {
     let mut out = Vec::new(alloc);
     push(&mut out, kind, line).is_ok() && out.as_slice() == text
 }
 
-/// Tests whether an answer of these literals is read from the front of a text, and leaves this rest. A literal stands
-/// in the line before.
+/// Tests whether an answer of kind `kind` with the literals `line` is read from the start of `text`, and `rest` is
+/// left. The vector that receives the literals isn't empty before.
 fn is_read(alloc: Global, text: &[u8], kind: AnswerKind, line: &[Lit], rest: &[u8]) -> bool {
     let mut found = Vec::new(alloc);
     push_lits(&mut found, &[7])
@@ -66,7 +67,8 @@ fn is_read(alloc: Global, text: &[u8], kind: AnswerKind, line: &[Lit], rest: &[u
         && found.as_slice() == line
 }
 
-/// Tests whether an answer of these literals is written so, and read again, alone and with a line behind it.
+/// Tests whether `text` is written for an answer with the literals `line`, and is read as that answer, both on its own
+/// and when another answer follows.
 fn is_text_of(alloc: Global, kind: AnswerKind, line: &[Lit], text: &[u8]) -> bool {
     let mut longer = Vec::new(alloc);
     longer.extend_from_slice(text).is_ok()
@@ -88,7 +90,7 @@ fn answers_are_written_and_read(rt: HostRuntime) {
     }
 }
 
-/// Why an answer isn't read, if so.
+/// Returns the fault with which `bytes` are refused as an answer, or `None`.
 fn fault_of(alloc: Global, bytes: &[u8]) -> Option<AnswerFault> {
     let mut line = Vec::new(alloc);
     read_outcome(bytes, &mut line).err()
@@ -114,10 +116,10 @@ fn out_of_form() -> &'static [&'static [u8]] {
     &OUT_OF_FORM
 }
 
-/// Texts that end where a line is missing.
+/// Texts that end where a line is expected.
 static MISSING: [&[u8]; 3] = [b"", b"s SATISFIABLE\n", b"s UNSATISFIABLE\n"];
 
-/// Tests whether each of these texts is no answer, for this reason.
+/// Tests whether every text is refused with `fault`.
 fn are_refused(alloc: Global, texts: &[&[u8]], fault: AnswerFault) -> bool {
     for text in texts {
         if fault_of(alloc, *text) != Some(fault) {
@@ -133,7 +135,7 @@ fn other_texts_are_no_answers(rt: HostRuntime) {
     assert!(rt; are_refused(rt.alloc(), &MISSING, AnswerFault::Missing));
 }
 
-/// Tests whether the line of a core is read from the front of a text, and leaves this rest.
+/// Tests whether the literals `core` are read from the line of a core at the start of `text`, and `rest` is left.
 fn core_is_read(alloc: Global, text: &[u8], core: &[i64], rest: &[u8]) -> bool {
     let mut wanted = Vec::new(alloc);
     let mut line = Vec::new(alloc);

@@ -1,4 +1,4 @@
-//! A caller with a contract of its own, and calls of `headline_over`.
+//! A caller of `confirm` with a contract of its own, and calls of `headline_over`.
 ghost use Rattle.std.specs.Prelude.{◌≡◌, true};
 ghost use Rattle.certify.specs.Devices.{gave};
 ghost use Rattle.certify.specs.confirm.VerdictPromises.{AreRightAnswers, GaveTextWith};
@@ -27,7 +27,7 @@ fn are_right<S: CountedRead, A: CountedRead, C: CountedRead>(
     }
 }
 
-/// Tests whether this is shown of one clause of one literal and one ask.
+/// Tests whether the answers and the certificate are confirmed for a script of one unit clause and an ask.
 fn is_shown(alloc: Global, answers: &[u8], certificate: &[u8]) -> bool {
     are_right(
         alloc,
@@ -45,7 +45,8 @@ fn answers_are_shown_right(rt: HostRuntime) {
     assert!(rt; !is_shown(rt.alloc(), b"s UNKNOWN\n", &steps));
 }
 
-/// The verdicts on what is written for one clause of one literal and one ask, and on others.
+/// Returns two verdicts about a script of one unit clause and an ask: on what `run` writes, and on `claimed`
+/// and `shown`.
 fn said_of(alloc: Global, claimed: &[u8], shown: &[u8]) -> Option<(Verdict, Verdict)> {
     let script = b"1 0\na 0\n".as_slice();
     match headline_over(alloc, script, 1, claimed, shown, &mut Looks::new()) {

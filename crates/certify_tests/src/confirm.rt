@@ -1,4 +1,4 @@
-//! Verdicts of worked texts, each whole and read by one byte.
+//! Tests of verdicts. Each text is read both in one piece and byte by byte.
 
 use crate::devices::{append, fails_at};
 use crate::written::{AMPLE, run_on};
@@ -8,10 +8,10 @@ use sat_base::Counted;
 use sat_checker::{Checker, Looks};
 use std::alloc::Global;
 
-/// A script, answers and a certificate.
+/// The texts of a script, its answers and a certificate.
 pub(crate) type Texts<'a> = (&'a [u8], &'a [u8], &'a [u8]);
 
-/// What is said of texts that are read whole, and the looks are added to those of others.
+/// Returns the verdict on texts that are read in one piece, and adds the looks to `looks`.
 fn said_by(alloc: Global, texts: Texts<'_>, looks: &mut Looks) -> Result<Verdict, ConfirmFault> {
     confirm(
         alloc,
@@ -26,7 +26,8 @@ pub(crate) fn said_whole(alloc: Global, texts: Texts<'_>) -> Result<Verdict, Con
     said_by(alloc, texts, &mut Looks::new())
 }
 
-/// What is said of texts that are read by one byte, where one read of each fails; none where that is 0.
+/// Returns the verdict on texts that are read byte by byte. `failing` numbers the read that fails for each text; with
+/// 0, none fails.
 pub(crate) fn said_at(
     alloc: Global,
     texts: Texts<'_>,
@@ -41,7 +42,7 @@ pub(crate) fn said_at(
     )
 }
 
-/// Tests whether this is said of texts whole and read by one byte.
+/// Tests whether the verdict on texts is `verdict`, both in one piece and byte by byte.
 fn is_said(alloc: Global, texts: Texts<'_>, verdict: Verdict) -> bool {
     said_whole(alloc, texts) == Ok(verdict) && said_at(alloc, texts, (0, 0, 0)) == Ok(verdict)
 }
@@ -72,7 +73,7 @@ const NONE_LEFT: &[u8] = b"s UNSATISFIABLE\nf 0\n";
 static CONFIRMED: [Texts<'static>; 10] = [
     (UNITS, NONE_LEFT, &[2, 0, 1, 5, 1, 0, 5, 1, 1]),
     (ROW, ROW_ANSWERS, ROW_STEPS),
-    // Bytes behind the end.
+    // Bytes after the end.
     (
         ROW,
         ROW_ANSWERS,
@@ -83,7 +84,7 @@ static CONFIRMED: [Texts<'static>; 10] = [
     (b"", b"", &[13]),
     (b"268435457 0\n", b"c refused 1 limit\n", &[13]),
     (b"1 2", b"c malformed 1\n", &[13]),
-    // A header asks once at the end, and a text that ends at `%` is as one that ends there.
+    // With a header, there is one ask, at the end of the text. A `%` ends the text.
     (b"p cnf 2 1\n1 2 0\n%\n0\n", ROW_ANSWERS, ROW_STEPS),
     (b"c x\n p\tcnf 007 1 \r\n1 2 0", ROW_ANSWERS, ROW_STEPS),
     (b"p cnf 2 1\n1 2 0\na 0\n", ROW_ANSWERS, ROW_STEPS),
@@ -101,9 +102,9 @@ fn texts_that_match(rt: HostRuntime) {
     }
 }
 
-/// Texts, the ask, and what doesn't match there.
+/// Texts, the ask that isn't confirmed, and why.
 static NOT_CONFIRMED: [(Texts<'static>, u64, Why); 14] = [
-    // Of a script with another sign, and with another name.
+    // The certificate belongs to a script with another sign, or with another name.
     (
         (b"1 -2 0\na 0\n", ROW_ANSWERS, ROW_STEPS),
         1,
@@ -183,7 +184,8 @@ fn texts_that_do_not_match(rt: HostRuntime) {
     }
 }
 
-/// Tests whether this is said of the row where the certificate has this front, these steps, and this behind them.
+/// Tests whether the verdict on `ROW` with the given answers is `verdict`, when its certificate consists of `front`,
+/// `steps` and `behind`.
 fn is_said_of(
     alloc: Global,
     answers: &[u8],
@@ -195,13 +197,13 @@ fn is_said_of(
         && is_said(alloc, (ROW, answers, certificate.as_slice()), verdict)
 }
 
-/// Tests whether this is said of the row's certificate with a step behind so many bytes.
+/// Tests whether the verdict is `verdict` when `step` is inserted into the certificate of `ROW` at byte `place`.
 fn is_said_with(alloc: Global, place: usize, step: &[u8], verdict: Verdict) -> bool {
     let (front, behind) = ROW_STEPS.split_at(place.min(ROW_STEPS.len()));
     is_said_of(alloc, ROW_ANSWERS, (front, step, behind), verdict)
 }
 
-/// Tests whether the row's certificate ends where it is cut in a step there.
+/// Tests whether the certificate of `ROW`, cut inside a step that begins at byte `place`, is refused because it ends.
 fn is_cut_in(alloc: Global, place: usize, step: &[u8]) -> bool {
     let ends = Verdict::No {
         ask: 1,
@@ -217,10 +219,10 @@ const REFUSED: Verdict = Verdict::No {
     why: Why::StepRefused,
 };
 
-/// Before the clause.
+/// The position before the clause in the certificate of `ROW`.
 const BETWEEN: usize = 6;
 
-/// A place in the row's certificate, steps that come there, and what is said then.
+/// A position in the certificate of `ROW`, steps that are inserted there, and the verdict.
 static STEPS_BETWEEN: [(usize, &[u8], Verdict); 14] = [
     (
         BETWEEN,
@@ -236,16 +238,16 @@ static STEPS_BETWEEN: [(usize, &[u8], Verdict); 14] = [
     (BETWEEN, &[4, 0, 1], Verdict::Yes),
     (BETWEEN, &[9, 8], Verdict::Yes),
     (BETWEEN, &[9, 64], Verdict::Yes),
-    // A witness variable stands in no clause.
+    // A witness variable can't occur in a clause.
     (BETWEEN, &[4, 0, 0], REFUSED),
-    // A variable that a tautology mentions is known, and can be deleted; one with a name can't be.
+    // A variable that occurs in a tautology is known and can be deleted; one with a name can't be.
     (BETWEEN, &[6, 1, 2, 10, 11, 0, 3, 5], Verdict::Yes),
     (BETWEEN, &[3, 0], REFUSED),
     (BETWEEN, &[3, 5], REFUSED),
     // A unit that doesn't follow, and a clause that isn't stored.
     (BETWEEN, &[7, 1, 0, 9], REFUSED),
     (BETWEEN, &[8, 2, 0, 2, 1], REFUSED),
-    // A variable with a solver name is known, and one that was deleted isn't.
+    // A variable with a solver name is known; a deleted variable isn't.
     (
         0,
         &[1, 0, 1],
@@ -270,8 +272,8 @@ fn steps_may_stand_between(rt: HostRuntime) {
     }
 }
 
-/// Four clauses that can't hold together: their certificate at hashes of 8 bits and of 64, each up to the step that
-/// records `unsat`.
+/// Certificates of four clauses that no valuation satisfies, up to the step that records `unsat`: with hashes of 8 bits
+/// and of 64 bits.
 const FOUR_AT_8: &[u8] = &[
     2, 0, 1, 2, 1, 2, 5, 2, 0, 2, 5, 2, 0, 3, 5, 2, 1, 2, 5, 2, 1, 3, 11, 0, 9, 8, 6, 0, 1, 0, 2,
     68, 230, 1, 7, 1, 2, 230, 1, 6, 0, 0, 1, 68,
@@ -284,8 +286,8 @@ const FOUR_AT_64: &[u8] = &[
     217, 68,
 ];
 
-/// The same with names for the solver, as a run writes it, and without any bit of a hash, so that one bucket has all
-/// clauses.
+/// Certificates of the clauses of `FOUR_AT_8`: with solver names, as a run writes it; and with hashes of 0 bits, so
+/// that all clauses are in one bucket.
 const FOUR_AS_WRITTEN: &[u8] = &[
     2, 0, 1, 1, 0, 1, 2, 1, 2, 1, 1, 2, 5, 2, 0, 2, 5, 2, 0, 3, 5, 2, 1, 2, 5, 2, 1, 3, 11, 0, 9,
     8, 6, 0, 1, 0, 2, 68, 230, 1, 7, 1, 2, 230, 1, 6, 0, 0, 1, 68,
@@ -296,7 +298,7 @@ const FOUR_AT_0: &[u8] = &[
     0, 6, 0, 0, 1, 0,
 ];
 
-/// Tests what is said of a certificate cut at each byte: yes from this one on.
+/// Tests whether each prefix of the certificate `whole` is confirmed exactly if it has at least `from` bytes.
 fn counts_from(alloc: Global, whole: &[u8], from: usize) -> bool {
     let ends = Verdict::No {
         ask: 1,
@@ -311,7 +313,8 @@ fn counts_from(alloc: Global, whole: &[u8], from: usize) -> bool {
     is_yes(alloc, (SIXTH, NONE_LEFT, whole))
 }
 
-/// Tests the same of a certificate behind which an ask and the end come: yes from its last byte on.
+/// Tests whether `certificate`, with an ask and the end appended, is confirmed exactly if all of `certificate`
+/// is there.
 fn is_confirmed_from_its_end(alloc: Global, certificate: &[u8]) -> bool {
     let mut whole = Vec::new(alloc);
     append(&mut whole, &[certificate, &[11, 0, 13]])
@@ -326,7 +329,7 @@ fn certificates_count_up_to_unsat(rt: HostRuntime) {
     }
 }
 
-/// The same clauses, of which an empty core is shown while `unsat` isn't recorded.
+/// A certificate of the clauses of `FOUR_AT_8` with an empty core, although `unsat` isn't recorded.
 const EMPTY_CORE_AT_8: &[u8] = &[
     2, 0, 1, 2, 1, 2, 5, 2, 0, 2, 5, 2, 0, 3, 5, 2, 1, 2, 5, 2, 1, 3, 11, 0, 9, 8, 6, 0, 1, 0, 2,
     68, 230, 1, 12, 0, 2, 230, 1, 68, 11, 0, 13,
@@ -337,14 +340,14 @@ fn cores_are_confirmed(rt: HostRuntime) {
     assert!(rt; is_yes(rt.alloc(), (SIXTH, NONE_LEFT, EMPTY_CORE_AT_8)));
 }
 
-/// The looks that are added for these texts, behind those of others.
+/// Returns how many looks a verdict on `texts` adds to `looks`.
 fn looks_added(alloc: Global, texts: Texts<'_>, looks: &mut Looks) -> u64 {
     let before = looks.get();
     let _ = said_by(alloc, texts, looks);
     looks.get().saturating_sub(before)
 }
 
-/// The looks of a checker over a certificate.
+/// Returns the number of looks that a new checker takes for a certificate.
 fn looks_of(alloc: Global, certificate: &[u8]) -> u64 {
     let mut checker = Checker::new(alloc);
     let looks = looks_by(&mut checker, certificate);
@@ -352,13 +355,13 @@ fn looks_of(alloc: Global, certificate: &[u8]) -> u64 {
     looks
 }
 
-/// The same by a checker that has accepted nothing yet.
+/// Returns the number of looks of `checker`, which has accepted nothing yet, for a certificate.
 fn looks_by(checker: &mut Checker, certificate: &[u8]) -> u64 {
     let _ = checker.check_proof(&mut Counted::new(certificate));
     checker.looks()
 }
 
-/// Answers, the last of which don't match, and a certificate of their script.
+/// Answers and certificates for one script. Only the last answers don't match.
 static LOOKED_AT: [(&[u8], &[u8]); 4] = [
     (NONE_LEFT, FOUR_AT_8),
     (NONE_LEFT, FOUR_AT_64),
@@ -370,7 +373,7 @@ fn looked_at() -> &'static [(&'static [u8], &'static [u8])] {
     &LOOKED_AT
 }
 
-/// Tests whether the looks that are added for these texts are those of the checker, and some.
+/// Tests whether a verdict adds as many looks as the checker takes, and at least one.
 fn are_counted(alloc: Global, answers: &[u8], certificate: &[u8], looks: &mut Looks) -> bool {
     let counted = looks_of(alloc, certificate);
     counted > 0 && looks_added(alloc, (SIXTH, answers, certificate), looks) == counted
@@ -385,7 +388,7 @@ fn looks_are_those_of_the_checker(rt: HostRuntime) {
     }
 }
 
-/// The answers, how the row's certificate goes on behind the ask's assumptions, and what doesn't match.
+/// The answers, what follows the ask's assumptions in the certificate of `ROW`, and why the verdict is `No`.
 static CORES: [(&[u8], &[u8], Why); 10] = [
     (b"s UNSATISFIABLE\nf 0\n", &[12, 0, 0], Why::StepRefused),
     (
@@ -423,7 +426,8 @@ fn cores() -> &'static [(&'static [u8], &'static [u8], Why)] {
     &CORES
 }
 
-/// Tests whether a no is said where the row's certificate goes on so behind the ask's assumptions.
+/// Tests whether the verdict is `No` because of `why`, when `behind` follows the ask's assumptions in the certificate
+/// of `ROW`.
 fn is_refused_behind(alloc: Global, answers: &[u8], behind: &[u8], why: Why) -> bool {
     let verdict = Verdict::No { ask: 1, why };
     is_said_of(alloc, answers, (&ROW_STEPS[..12], behind, b""), verdict)
@@ -437,7 +441,7 @@ fn cores_are_compared(rt: HostRuntime) {
     }
 }
 
-/// Three asks: behind the first two, which have a model and an unknown, a clause comes and the third one.
+/// Three asks: the first two are answered with a model and `unknown`; a clause comes before the third.
 const THIRD: &[u8] = b"1 2 0\na 0\na 0\n3 0\na 0\n";
 
 /// The certificate up to the end of the second ask.
@@ -449,10 +453,11 @@ const TWO_ANSWERS: &[u8] = b"s SATISFIABLE\nv -1 2 0\ns UNKNOWN\n";
 
 const THIRD_ANSWER: &[u8] = b"s SATISFIABLE\nv -1 2 3 0\n";
 
-/// How the answers and the certificate go on behind some asks, and the ask and the cause of a no.
+/// What follows the first asks in the answers and in the certificate, and the ask and the reason of a `No`, or `None`
+/// for a `Yes`.
 pub(crate) type Tail<'a> = (&'a [u8], &'a [u8], Option<(u64, Why)>);
 
-/// Each cause of a no, at the third ask or behind it.
+/// Every reason for a `No` at the third ask or after it.
 static THIRD_ASKS: [Tail<'static>; 13] = [
     (THIRD_ANSWER, THIRD_STEPS, None),
     (b"", THIRD_STEPS, Some((3, Why::AnswerMissing))),
@@ -511,10 +516,10 @@ fn third_asks() -> &'static [Tail<'static>] {
 
 const THIRD_STEPS: &[u8] = &[2, 2, 3, 5, 1, 4, 11, 0, 10, 3, 1, 2, 4, 11, 0, 13];
 
-/// The same two asks, and then the empty clause and two asks more.
+/// The first two asks of `THIRD`, then the empty clause and two more asks.
 const EMPTY_THIRD: &[u8] = b"1 2 0\na 0\na 0\n0\na 0\na 0\n";
 
-/// Once the empty clause has recorded `unsat`, nothing more of the certificate counts.
+/// Once the empty clause has recorded `unsat`, the rest of the certificate isn't needed.
 static EMPTY_ASKS: [Tail<'static>; 7] = [
     (
         b"s UNSATISFIABLE\nf 0\ns UNSATISFIABLE\nf 0\n",
@@ -557,7 +562,7 @@ fn empty_asks() -> &'static [Tail<'static>] {
     &EMPTY_ASKS
 }
 
-/// Tests whether this is said of a script whose first asks are answered so.
+/// Tests the verdict on a script, when `answers` and `steps` follow the answers `first` and the steps `shown`.
 pub(crate) fn is_said_behind(
     alloc: Global,
     (script, first, shown): Texts<'_>,
@@ -578,7 +583,7 @@ pub(crate) fn is_said_behind(
         )
 }
 
-/// Tests whether this is said behind two asks.
+/// Tests the verdict on a script whose first two asks are answered as in `TWO_ANSWERS`.
 fn is_said_behind_two(alloc: Global, script: &[u8], tail: Tail<'_>) -> bool {
     is_said_behind(alloc, (script, TWO_ANSWERS, TWO_ASKS), tail)
 }
@@ -596,7 +601,8 @@ fn later_asks_are_named(rt: HostRuntime) {
     }
 }
 
-/// Memory is asked for items that came, and never for a count: here 2^63-1 literals are promised, and none comes.
+/// Memory is requested for items that were read, never for an announced count: here 2^63-1 literals are announced, and
+/// none follows.
 #[test]
 fn counts_promise_nothing(rt: HostRuntime) {
     let promise = &[5, 255, 255, 255, 255, 255, 255, 255, 255, 127];
@@ -619,11 +625,11 @@ const OUT_OF_PLACE: Verdict = Verdict::No {
     why: Why::StepOutOfPlace,
 };
 
-/// Texts, the reads of script, answers and certificate that fail, and what is said: nothing is read behind the step
-/// that decides.
+/// Texts; the reads of script, answers and certificate that fail; and the verdict. Nothing after the step that decides
+/// is read.
 static DECIDED_BEFORE: [(Texts<'static>, (u64, u64, u64), Verdict); 5] = [
     ((UNITS, NONE_LEFT, &[0x0d]), (0, 0, 2), OUT_OF_PLACE),
-    // The first command ends with its fourth byte, and expects a step.
+    // The first command ends with its fourth byte; then a step is expected.
     ((UNITS, NONE_LEFT, &[0x0d]), (5, 1, 2), OUT_OF_PLACE),
     ((ROW, b"s UNKNOWN\n", ROW_STEPS), (11, 11, 17), OUT_OF_PLACE),
     (
@@ -651,7 +657,8 @@ fn nothing_is_read_behind_the_decision(rt: HostRuntime) {
     }
 }
 
-/// Tests whether each of so many reads of a text in turn fails, and gives this fault.
+/// Tests whether `fault` is returned whenever one of the first `reads` reads of a text fails. The text is the script
+/// (0), the answers (1) or the certificate (2).
 fn each_fails(alloc: Global, texts: Texts<'_>, text: u8, reads: u64, fault: ConfirmFault) -> bool {
     for failing in 1..=reads {
         let reads = match text {
@@ -666,8 +673,8 @@ fn each_fails(alloc: Global, texts: Texts<'_>, text: u8, reads: u64, fault: Conf
     true
 }
 
-/// Tests whether each read in turn fails and gives its text's fault, and no further read is made. Of script and answers
-/// the one that finds the end is among them; of the certificate so many are made.
+/// Tests whether every failing read is reported as a fault of its text, and no further read is made. Script and answers
+/// are read up to their end, which takes one more read; the certificate is read `reads` times.
 fn each_read_fails(alloc: Global, texts: Texts<'_>, reads: u64) -> bool {
     let script = (texts.0.len() as u64).saturating_add(1);
     let answers = (texts.1.len() as u64).saturating_add(1);
@@ -682,7 +689,7 @@ fn each_read_fails(alloc: Global, texts: Texts<'_>, reads: u64) -> bool {
         && said_at(alloc, texts, behind) == Ok(Verdict::Yes)
 }
 
-/// The same of what a run writes for a script.
+/// Tests `each_read_fails` on what a run writes for a script.
 fn each_read_of_run_fails(alloc: Global, script: &[u8], reads: u64) -> bool {
     let written = run_on(alloc, &mut fails_at(script, 0), AMPLE);
     let texts = (
@@ -693,8 +700,8 @@ fn each_read_of_run_fails(alloc: Global, script: &[u8], reads: u64) -> bool {
     written.fault.is_none() && each_read_fails(alloc, texts, reads)
 }
 
-/// Scripts, and how many bytes of the certificates are read: all of one that ends with a model, and those up to
-/// recorded `unsat`.
+/// Scripts, and how many bytes of their certificates are read: all of them if the last ask has a model, otherwise those
+/// up to the step that records `unsat`.
 static READ_IN_TURN: [(&[u8], u64); 5] = [
     (ROW, 27),
     (SIXTH, 50),

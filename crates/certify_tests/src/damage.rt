@@ -1,4 +1,4 @@
-//! Answers and certificates of which one bit is turned.
+//! Tests of answers and certificates in which one bit is flipped.
 
 use crate::confirm::said_whole;
 use crate::written::{AMPLE, run_on};
@@ -12,7 +12,7 @@ fn turn(bytes: &mut [u8], place: usize, bit: usize) {
     }
 }
 
-/// Whether a verdict is no, or yes where that may be.
+/// Whether there is a verdict, which may be `Yes` only if `may_match`.
 fn may_be(said: Result<Verdict, ConfirmFault>, may_match: bool) -> bool {
     match said {
         Ok(Verdict::Yes) => may_match,
@@ -21,7 +21,7 @@ fn may_be(said: Result<Verdict, ConfirmFault>, may_match: bool) -> bool {
     }
 }
 
-/// Tests whether the answers are never confirmed where one of their bits is turned.
+/// Tests whether answers with one flipped bit are never confirmed.
 fn answers_are_denied(
     alloc: Global,
     script: &[u8],
@@ -41,8 +41,8 @@ fn answers_are_denied(
     true
 }
 
-/// Tests whether there is a verdict wherever one bit of a certificate is turned: the answers are right, whatever shows
-/// it.
+/// Tests whether there is a verdict for every certificate with one flipped bit. It may be `Yes`, since the answers
+/// are correct.
 fn certificates_are_reported(
     alloc: Global,
     script: &[u8],
@@ -62,14 +62,15 @@ fn certificates_are_reported(
     true
 }
 
-/// Tests both over what a run writes.
+/// Tests `answers_are_denied` and `certificates_are_reported` on what a run writes for a script.
 fn are_reported(alloc: Global, script: &[u8]) -> bool {
     let mut written = run_on(alloc, &mut Counted::new(script), AMPLE);
     answers_are_denied(alloc, script, &mut written.answers, &written.certificate)
         && certificates_are_reported(alloc, script, &written.answers, &mut written.certificate)
 }
 
-/// A variable is deleted; asks with cores and a model; a name comes again; a refutation.
+/// Scripts in which a variable is deleted, asks have cores and a model, a hidden name is introduced again, and the
+/// clauses are refuted.
 static SCRIPTS: [&[u8]; 4] = [
     b"1 2 0\n-2 0\nh 2 0\na -1 0\n",
     b"1 0\na -1 0\n2 0\na 0\n-3 -4 0\na 3 4 0\n",

@@ -1,4 +1,4 @@
-//! Devices for tests.
+//! Readers and writers for tests.
 
 use sat_base::Counted;
 use std::alloc::Global;
@@ -7,8 +7,8 @@ use std::fmt::Display;
 use std::io;
 use std::io::{ErrorKind, Read, Write};
 
-/// A device that gives its text byte by byte, and takes what it is asked to. One call fails, counted from 1; none where
-/// that is 0.
+/// A device that returns its text byte by byte, and accepts all that is written. Call number `failing`, counted from 1,
+/// fails; with 0, none does.
 #[derive(Drop)]
 pub(crate) struct FailsAt<'a> {
     text: &'a [u8],
@@ -65,8 +65,8 @@ pub(crate) fn fails_at(text: &[u8], failing: u64) -> Counted<FailsAt<'_>> {
     })
 }
 
-/// A reader that gives its text in pieces of at most so many bytes, and notes the largest room that it was asked to
-/// fill.
+/// A reader that returns its text in pieces of at most `size` bytes, and records the size of the largest buffer that it
+/// was given.
 #[derive(Drop)]
 pub(crate) struct Pieces<'a> {
     text: &'a [u8],
@@ -93,7 +93,7 @@ pub(crate) fn in_pieces(text: &[u8], size: usize) -> Counted<Pieces<'_>> {
     })
 }
 
-/// A writer that counts the bytes that it took.
+/// A writer that counts the bytes that it accepted.
 #[derive(Drop)]
 pub(crate) struct Watched<'a> {
     pub(crate) taken: &'a Cell<usize>,
@@ -110,8 +110,8 @@ impl Write for Watched<'_> {
     }
 }
 
-/// A reader that gives its text byte by byte, and looks at one of its reads, counted from 1, how many bytes a writer
-/// took.
+/// A reader that returns its text byte by byte. At read number `before`, counted from 1, it records how many bytes a
+/// writer has accepted so far.
 #[derive(Drop)]
 pub(crate) struct Watching<'a> {
     pub(crate) text: &'a [u8],
@@ -135,7 +135,7 @@ impl Read for Watching<'_> {
     }
 }
 
-/// Adds parts to bytes, one behind another. The answer is whether there was memory.
+/// Appends parts to bytes, in order. Returns `false` if memory runs out.
 pub(crate) fn append(bytes: &mut Vec<u8>, parts: &[&[u8]]) -> bool {
     for part in parts {
         if bytes.extend_from_slice(*part).is_err() {
@@ -145,7 +145,7 @@ pub(crate) fn append(bytes: &mut Vec<u8>, parts: &[&[u8]]) -> bool {
     true
 }
 
-/// Tests whether a value is printed so.
+/// Tests whether `words` is what is printed for a value.
 pub(crate) fn is_printed<T: Display>(alloc: Global, value: &T, words: &str) -> bool {
     match format!(in alloc; "{value}") {
         Ok(printed) => printed.as_str() == words,

@@ -1,5 +1,6 @@
-//! Texts that never end: a line of answers is refused once no allowed line begins with its bytes, a script is malformed
-//! at the first byte after which no right word continues, and it ends at a line that begins with `%`.
+//! Tests with texts that never end: a line of answers is refused as soon as no valid line begins with its bytes, a
+//! script is malformed at the first byte that no valid text can contain there, and it ends at a line that begins
+//! with `%`.
 
 use crate::confirm::said_at;
 use crate::devices::fails_at;
@@ -12,7 +13,7 @@ use std::alloc::Global;
 use std::io;
 use std::io::Read;
 
-/// A reader that gives a text, and then another again and again. Its reads are counted.
+/// A reader that returns a text, and then another text again and again. It counts its reads.
 #[derive(Drop)]
 struct Endless<'a> {
     text: &'a [u8],
@@ -34,7 +35,8 @@ impl Read for Endless<'_> {
     }
 }
 
-/// What is said of such answers, and how often they were read.
+/// Returns the verdict on answers that consist of `text` and then `again` without end, and the number of reads of
+/// the answers.
 fn said_of(
     alloc: Global,
     (script, certificate): (&[u8], &[u8]),
@@ -56,16 +58,16 @@ fn said_of(
     (said, answers.into_inner().reads)
 }
 
-/// Two names, a clause, and an ask with a model.
+/// A clause of two names, and an ask with a model.
 const ASK: (&[u8], &[u8]) = (
     b"1 2 0\na 0\n",
     &[2, 0, 1, 2, 1, 2, 5, 2, 0, 2, 11, 0, 10, 2, 1, 2, 11, 0, 13],
 );
 
-/// A text that is malformed.
+/// A script that is malformed.
 const MALFORMED: (&[u8], &[u8]) = (b"1 2", &[13]);
 
-/// Script and certificate, how the answers begin, what follows again and again, and what is said.
+/// Script and certificate, the beginning of the answers, what follows without end, and the reason of the `No`.
 static ENDLESS: [((&[u8], &[u8]), &[u8], &[u8], Why); 9] = [
     (ASK, b"", b"\0", Why::AnswerText),
     (ASK, b"s SATISFIABLE", b"\0", Why::AnswerText),
@@ -87,8 +89,8 @@ fn rows() -> &'static [(
     &ENDLESS
 }
 
-/// Tests whether this is said, after one read of the text and at most ten of one or two bytes, the digits of a number
-/// past the limit.
+/// Tests whether the verdict is `No` because of `why`, after at most 11 reads of the answers: one for `text`, and at
+/// most ten of one or two bytes, for the digits of a number past the limit.
 fn is_refused(alloc: Global, texts: (&[u8], &[u8]), text: &[u8], again: &[u8], why: Why) -> bool {
     let (said, reads) = said_of(alloc, texts, text, again);
     match said {
@@ -104,7 +106,7 @@ fn answers_that_never_end_are_refused(rt: HostRuntime) {
     }
 }
 
-/// Scripts that are malformed at their last byte, and the answers.
+/// Scripts that are malformed at their last byte, and their answers.
 static MALFORMED_THERE: [(&[u8], &[u8]); 9] = [
     (b"\0", b"c malformed 1\n"),
     (b"1 0\n1x", b"c malformed 2\n"),
@@ -121,8 +123,8 @@ fn malformed_there() -> &'static [(&'static [u8], &'static [u8])] {
     &MALFORMED_THERE
 }
 
-/// Tests whether a script that is read byte by byte has these answers, and they are confirmed, where a read behind its
-/// last byte would fail.
+/// Tests whether a script that is read byte by byte has the answers `answers`, and they are confirmed, although a read
+/// after its last byte would fail.
 fn is_decided(alloc: Global, text: &[u8], answers: &[u8]) -> bool {
     let behind = (text.len() as u64).saturating_add(1);
     let written = run_on(alloc, &mut fails_at(text, behind), AMPLE);
@@ -141,7 +143,7 @@ fn nothing_is_read_behind_a_wrong_word(rt: HostRuntime) {
     }
 }
 
-/// Tests whether a script that never ends is malformed from the beginning, and read once.
+/// Tests whether a script that repeats `again` without end is malformed at once, and is read only once.
 fn is_read_once(alloc: Global, again: &[u8]) -> bool {
     let mut script = Counted::new(Endless {
         text: b"",
@@ -157,7 +159,7 @@ fn a_script_that_never_ends_is_read_once(rt: HostRuntime) {
     assert!(rt; is_read_once(rt.alloc(), &[0; 64]));
 }
 
-/// Scripts that end at a line that begins with `%`, and the answers.
+/// Scripts that end at a line that begins with `%`, and their answers.
 static ENDED: [(&[u8], &[u8]); 4] = [
     (b"1 0\na 0\n%", b"s SATISFIABLE\nv 1 0\n"),
     (b"1 0\na 0\n \t%\n", b"s SATISFIABLE\nv 1 0\n"),
@@ -169,7 +171,7 @@ fn ended() -> &'static [(&'static [u8], &'static [u8])] {
     &ENDED
 }
 
-/// Returns a reader that gives zeros without end after a script.
+/// Returns a reader that returns a script and then zeros without end.
 fn with_zeros(text: &[u8]) -> Counted<Endless<'_>> {
     Counted::new(Endless {
         text,
@@ -178,7 +180,8 @@ fn with_zeros(text: &[u8]) -> Counted<Endless<'_>> {
     })
 }
 
-/// Tests whether a script with zeros after it has these answers, and they are confirmed, in one read each.
+/// Tests whether a script with zeros after it has the answers `answers`, and they are confirmed, with one read of the
+/// script by each of `run` and `confirm`.
 fn is_ended(alloc: Global, text: &[u8], answers: &[u8]) -> bool {
     let mut script = with_zeros(text);
     let written = run_on(alloc, &mut script, AMPLE);

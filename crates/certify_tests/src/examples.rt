@@ -1,10 +1,10 @@
-//! The examples of `examples/`: `bench/examples.py --rows` prints the rows.
+//! Tests of the scripts in `examples/`: `bench/examples.py --rows` prints the rows of the table.
 
 use crate::program::does;
 use sat_base::Counted;
 use std::alloc::Global;
 
-/// A script, the printed text, the status, and what comes on standard error.
+/// A script, the standard output, the status, and the standard error.
 static EXAMPLES: [(&str, &str, u8, &str); 6] = [
     (
         "\

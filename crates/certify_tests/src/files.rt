@@ -1,4 +1,4 @@
-//! Calls of the program over files, in a folder of their own.
+//! Tests of the program's calls on files, each in a folder of its own.
 
 use crate::devices::fails_at;
 use certify::program::program;
@@ -25,7 +25,7 @@ impl Folder<'_> {
         Ok(format!(in self.rt.alloc(); "{}/{name}", self.path)?)
     }
 
-    /// A call, over files of these names, with perhaps one more word.
+    /// Returns the words of a call: its first word, the paths of its files, and `more` unless that is empty.
     fn words(&self, (call, files, more): Words<'_>) -> io::Result<Vec<String>> {
         let alloc = self.rt.alloc();
         let mut words = Vec::new(alloc);
@@ -47,7 +47,7 @@ impl Folder<'_> {
         fs::read(self.rt, self.path_of(name)?)
     }
 
-    /// Makes a symbolic link, or a further name of a file of the folder.
+    /// Creates a symbolic link to a file of the folder, or a hard link.
     fn link(&self, original: &str, name: &str, is_hard: bool) -> io::Result<()> {
         let link = self.path_of(name)?;
         if is_hard {
@@ -64,8 +64,8 @@ impl Folder<'_> {
         }
     }
 
-    /// The status of a call whose output fails at one of its calls, or never where that is 0, and what it writes to its
-    /// errors.
+    /// Returns the status of a call and what it writes to its errors, when call number `failing` of its output fails.
+    /// With 0, none fails.
     fn call_failing(&self, call: Words<'_>, failing: u64) -> (u8, Vec<u8>) {
         let mut input = Counted::new("a 0\n".as_bytes());
         let mut output = fails_at(b"", failing);
@@ -75,7 +75,7 @@ impl Folder<'_> {
         (status, errors.into_inner())
     }
 
-    /// The status of a call, and what it writes to its output and its errors.
+    /// Returns the status of a call, its output, and its errors.
     fn call(&self, call: Words<'_>) -> (u8, Vec<u8>, Vec<u8>) {
         let alloc = self.rt.alloc();
         let mut input = Counted::new("a 0\n".as_bytes());
@@ -86,7 +86,7 @@ impl Folder<'_> {
         (status, output.into_inner(), errors.into_inner())
     }
 
-    /// Tests whether a call ends so.
+    /// Tests whether a call ends with the given status, output and errors.
     fn does(&self, call: Words<'_>, (status, printed, told): End) -> bool {
         let (found, output, errors) = self.call(call);
         found == status
@@ -94,19 +94,19 @@ impl Folder<'_> {
             && errors.as_slice() == told.as_bytes()
     }
 
-    /// Tests whether a call ends with this status and prints nothing, whatever it tells.
+    /// Tests whether a call ends with `status` and prints nothing, whatever it writes to its errors.
     fn ends(&self, call: Words<'_>, status: u8) -> bool {
         let (found, output, _) = self.call(call);
         found == status && output.is_empty()
     }
 
-    /// Tests whether a call ends with a fault of its output where that fails at one of its calls.
+    /// Tests whether a call reports that its output can't be written, when call number `failing` of the output fails.
     fn reports_fault(&self, call: Words<'_>, failing: u64) -> bool {
         let (found, errors) = self.call_failing(call, failing);
         found == 3 && errors.as_slice() == b"certify: AnswersWrite\n".as_slice()
     }
 
-    /// Takes an action. Gives whether what it says of a call or a file is so.
+    /// Carries out an action. Returns whether it succeeds or, for a check, whether the check holds.
     fn acts(&self, action: &Action<'_>) -> bool {
         match action {
             Action::Put(name, bytes) => self.put(name, bytes).is_ok(),
@@ -119,7 +119,7 @@ impl Folder<'_> {
         }
     }
 
-    /// Takes these actions, up to the first that says what isn't so. Gives whether there is none.
+    /// Carries out actions, up to the first one that fails. Returns whether none fails.
     fn acts_all(&self, actions: &[Action<'_>]) -> bool {
         for action in actions {
             if !self.acts(action) {
@@ -135,29 +135,29 @@ impl Folder<'_> {
     }
 }
 
-/// A call, the names of its files, and one more word or none.
+/// The first word of a call, the names of its files, and another word, or "" for none.
 type Words<'a> = (&'a str, &'a [&'a str], &'a str);
 
-/// What ends a call: the status, the output, and the errors.
+/// The outcome of a call: the status, the output and the errors.
 type End<'a> = (u8, &'a str, &'a str);
 
-/// What is done in a folder.
+/// An action in a folder, or a check of a file or a call.
 #[derive(Drop)]
 enum Action<'a> {
     Put(&'a str, &'a [u8]),
-    /// Makes a symbolic link of this text.
+    /// Creates a symbolic link. The first text is its target.
     Link(&'a str, &'a str),
-    /// Makes a further name of a file.
+    /// Creates a hard link to a file.
     Name(&'a str, &'a str),
     Holds(&'a str, &'a [u8]),
     Does(Words<'a>, End<'a>),
-    /// With this status, and nothing printed.
+    /// Calls the program, which ends with the given status and prints nothing.
     Ends(Words<'a>, u8),
-    /// With a fault, where a call of the output fails.
+    /// Calls the program while one call of its output fails, which it reports.
     Fails(Words<'a>, u64),
 }
 
-/// Four clauses over two variables that no valuation satisfies, at width 8.
+/// Certificate of four clauses over two variables that no valuation satisfies, at width 8.
 const REFUTED: &[u8] = &[
     2, 0, 1, 1, 0, 1, 2, 1, 2, 1, 1, 2, 5, 2, 0, 2, 5, 2, 0, 3, 5, 2, 1, 2, 5, 2, 1, 3, 11, 0, 9,
     8, 6, 0, 1, 0, 2, 0x44, 0xe6, 1, 7, 1, 2, 0xe6, 1, 6, 0, 0, 1, 0x44, 11, 0, 13,
@@ -166,7 +166,7 @@ const REFUTED: &[u8] = &[
 const DERIVATION: &[u8] = b"\
     i 1 1 2 0\ni 2 1 -2 0\ni 3 -1 2 0\ni 4 -1 -2 0\nd 5 1 0 1 2 0\nd 6 2 0 5 3 0\nd 7 0 5 6 4 0\n";
 
-/// Hints that are written of certificates.
+/// Certificates, and the hint texts that `hints` writes for them.
 const HINTED: &[&[Action<'static>]] = &[
     &[
         Action::Put("c", REFUTED),
@@ -178,7 +178,7 @@ const HINTED: &[&[Action<'static>]] = &[
         Action::Does(("hints", &["c", "h"], ""), (0, "", "")),
         Action::Holds("h", b""),
     ],
-    // a hidden variable is deleted
+    // A hidden variable is deleted.
     &[
         Action::Put("c", &[2, 0, 1, 2, 0, 0, 3, 0, 13]),
         Action::Does(("hints", &["c", "h"], ""), (0, "", "")),
@@ -194,7 +194,7 @@ const HINTED: &[&[Action<'static>]] = &[
     ],
 ];
 
-/// Hint texts that are checked.
+/// Hint texts, and what `check` prints for them.
 const CHECKED: &[&[Action<'static>]] = &[
     &[
         Action::Put("h", DERIVATION),
@@ -244,7 +244,7 @@ const CHECKED: &[&[Action<'static>]] = &[
     ],
 ];
 
-/// What is told on standard error of a run without rounds, of one of pair 1, 2, and of one whose only name has a unit.
+/// Standard error of runs: without rounds, with the binary clause 1 2, and with only one name, which has a unit.
 const NO_ROUND: &str =
     "[INFO  certify] progress conflicts=0 restarts=0 vars=0 binary=0 irred=0 core=0 mid=0 local=0\n";
 
@@ -254,7 +254,7 @@ const ONE_PAIR: &str =
 const ONE_UNIT: &str =
     "[INFO  certify] progress conflicts=1 restarts=1 vars=0 binary=0 irred=0 core=0 mid=0 local=0\n";
 
-/// Scripts that are run, with a word behind the files or none, and whose answers are confirmed.
+/// Scripts that are run, some with another word after the files, and whose answers are confirmed.
 const RUN: &[&[Action<'static>]] = &[
     &[
         Action::Put("s", b"1 2 0\na 0\n"),
@@ -290,7 +290,7 @@ const RUN: &[&[Action<'static>]] = &[
     ],
 ];
 
-/// Calls over the file `s`, a file that isn't there, and one in a folder that isn't there.
+/// Calls with the file `s`, a missing file, and a file in a missing folder.
 const UNOPENED: &[&[Action<'static>]] = &[&[
     Action::Put("s", b"1 0\na 0\n"),
     Action::Does(("check", &["n"], ""), (3, "", "certify: Read\n")),
@@ -323,15 +323,15 @@ const UNOPENED: &[&[Action<'static>]] = &[&[
     Action::Does(("check", &["."], ""), (3, "", "certify: Read\n")),
 ]];
 
-/// The usage, for a call that would write over what it reads, or write one file twice.
+/// The usage, printed for a call that would overwrite its input, or write a file twice.
 const REFUSED: End<'static> = (
     2,
     "",
     "usage: certify [run S A C [STEPS] | confirm S A C | hints C H | check H]\n",
 );
 
-/// Outputs that are the input, or the other output: by the same word, another word, a link, or a further name. Nothing
-/// is written over.
+/// Outputs that are the input or the other output: by the same path, another path, a symbolic link, or a hard link.
+/// Nothing is overwritten.
 const OVERLAPPING: &[&[Action<'static>]] = &[
     &[
         Action::Put("s", b"1 0\na 0\n"),
@@ -387,7 +387,7 @@ const FULL: &[&[Action<'static>]] = &[&[
 
 const TABLES: &[&[&[Action<'static>]]] = &[HINTED, CHECKED, RUN, UNOPENED];
 
-/// Tests whether each row of a table is so, in a folder of its own.
+/// Tests whether all actions of every row succeed, in a new folder.
 fn are_so(rt: &HostRuntime, name: &str, rows: &[&[Action<'_>]]) -> bool {
     match Folder::new(rt, name) {
         Ok(folder) => {
@@ -418,7 +418,7 @@ fn full_outputs_are_reported(rt: HostRuntime) {
     assert!(rt; are_so(&rt, "full", FULL));
 }
 
-/// A script, the status of its run, the answers, and what is printed of the hint text of its certificate.
+/// A script, the status of its run, its answers, and what `check` prints for the hint text of its certificate.
 static WORKED: [(&str, u8, &str, &str); 24] = [
     ("", 0, "", "proved empty=0 cores=0 lines=0\n"),
     (
@@ -561,7 +561,8 @@ static WORKED: [(&str, u8, &str, &str); 24] = [
     ),
 ];
 
-/// Tests whether a script is answered so, confirmed, and has a hint text of which this is printed.
+/// Tests whether a script has the answers `answers`, they are confirmed, and `check` prints `proved` for the hint text
+/// of its certificate.
 fn is_worked<'x>(
     folder: &Folder<'_>,
     (script, status, answers, proved): (&'x str, u8, &'x str, &'x str),
@@ -576,7 +577,8 @@ fn is_worked<'x>(
     ])
 }
 
-/// The number of the first row that isn't so, if there is one, or that there is no folder.
+/// Returns the index of the first row that fails, or `None` if none fails. Returns the length of the table if the
+/// folder can't be created or removed.
 fn first_wrong(rt: &HostRuntime) -> Option<usize> {
     match Folder::new(rt, "worked") {
         Ok(folder) => {

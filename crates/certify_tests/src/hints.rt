@@ -1,4 +1,4 @@
-//! Hint texts of what runs write: each is proved.
+//! Tests of hint texts of what runs write: each is proved.
 
 use crate::devices::{fails_at, in_pieces};
 use crate::written::{AMPLE, run_on};
@@ -6,24 +6,24 @@ use sat_base::{Counted, CountedRead};
 use sat_hints::{HintError, HintFault, HintVerdict, check, convert};
 use std::alloc::Global;
 
-/// The certificate that a run writes for a script.
+/// Returns the certificate that a run writes for a script.
 fn certificate_of(alloc: Global, script: &[u8]) -> Vec<u8> {
     run_on(alloc, &mut Counted::new(script), AMPLE).certificate
 }
 
-/// The hint text of the certificate that a reader gives, and whether that is one.
+/// Converts a certificate. Returns whether the conversion succeeds, and the hint text.
 fn text_of<C: CountedRead>(alloc: Global, certificate: &mut C) -> (bool, Vec<u8>) {
     let mut text = Counted::new(Vec::new(alloc));
     let done = convert(alloc, certificate, &mut text).is_ok();
     (done, text.into_inner())
 }
 
-/// What is said of a text in pieces of so many bytes.
+/// Returns the verdict on a hint text that is read in pieces of `size` bytes.
 fn said_in(alloc: Global, text: &[u8], size: usize) -> Option<HintVerdict> {
     check(alloc, &mut in_pieces(text, size)).ok()
 }
 
-/// The hint text of a certificate that is read in pieces of so many bytes, and what is said of that in such pieces.
+/// Returns the hint text of a certificate and the verdict on it, both read in pieces of `size` bytes.
 fn hinted_in(alloc: Global, certificate: &[u8], size: usize) -> (Vec<u8>, Option<HintVerdict>) {
     let (done, text) = text_of(alloc, &mut in_pieces(certificate, size));
     let said = if done {
@@ -37,7 +37,8 @@ fn hinted_in(alloc: Global, certificate: &[u8], size: usize) -> (Vec<u8>, Option
 /// Whether a text derives an empty clause, how many cores it has, and how many lines.
 type Fields = (bool, u64, u64);
 
-/// Tests whether a script's certificate has this hint text, which is proved with these fields, whole and by one byte.
+/// Tests whether `text` is the hint text of a script's certificate, and is proved with the given fields, in one piece
+/// and byte by byte.
 fn is_hinted(alloc: Global, script: &[u8], text: &[u8], (empty, cores, lines): Fields) -> bool {
     let certificate = certificate_of(alloc, script);
     let proved = HintVerdict::Proved {
@@ -54,7 +55,7 @@ fn is_hinted(alloc: Global, script: &[u8], text: &[u8], (empty, cores, lines): F
     true
 }
 
-/// A script, the hint text of its certificate, and its fields.
+/// A script, the hint text of its certificate, and the text's fields.
 static HINTED: [(&[u8], &[u8], Fields); 15] = [
     (b"", b"", (false, 0, 0)),
     (b"a 0\n", b"", (false, 0, 0)),
@@ -72,13 +73,13 @@ static HINTED: [(&[u8], &[u8], Fields); 15] = [
         (false, 1, 2),
     ),
     (b"a 1 -1 0\n", b"f 1 -1 0 0\n", (false, 1, 1)),
-    // A hidden variable is deleted during the ask, behind a unit of another.
+    // A hidden variable is deleted during the ask, after another variable has become a unit.
     (
         b"1 2 0\n-2 0\nh 2 0\na -1 0\n",
         b"i 1 1 2 0\ni 2 -2 0\nd 3 1 0 2 1 0\nx 1 0\ne 2 0\nf -1 0 3 0\n",
         (false, 1, 6),
     ),
-    // A variable with a unit, and one that no clause ever had.
+    // A hidden variable that is a unit, and a hidden variable that never occurred in a clause.
     (
         b"1 0\nh 1 0\n-1 0\na 0\n",
         b"i 1 1 0\ni 2 -2 0\ne 1 0\n",
@@ -118,7 +119,7 @@ fn certificates_have_hint_texts(rt: HostRuntime) {
     }
 }
 
-/// Whether a hint text was proved, whether it derives an empty clause, and how many cores it has.
+/// Whether a hint text was proved. `wanted` is whether it derives an empty clause, and how many cores it has.
 fn is_proved_with(said: Option<HintVerdict>, wanted: (bool, u64)) -> bool {
     match said {
         Some(HintVerdict::Proved { empty, cores, .. }) => (empty, cores) == wanted,
@@ -126,8 +127,8 @@ fn is_proved_with(said: Option<HintVerdict>, wanted: (bool, u64)) -> bool {
     }
 }
 
-/// Tests whether a script's certificate has a hint text that is proved, whole and by one byte: it derives an empty
-/// clause or doesn't, and has so many cores.
+/// Tests whether the hint text of a script's certificate is proved, in one piece and byte by byte. `wanted` is whether
+/// it derives an empty clause, and how many cores it has.
 pub(crate) fn is_proved(alloc: Global, script: &[u8], wanted: (bool, u64)) -> bool {
     let certificate = certificate_of(alloc, script);
     for size in [1, 4096] {
@@ -139,7 +140,7 @@ pub(crate) fn is_proved(alloc: Global, script: &[u8], wanted: (bool, u64)) -> bo
     true
 }
 
-/// How a conversion ends.
+/// The outcome of a conversion.
 #[derive(Drop, PartialEq)]
 enum End {
     Done,
@@ -157,7 +158,7 @@ fn end_of(came: Result<(), HintError>) -> End {
     }
 }
 
-/// How a conversion ends where one read or one write fails, and how many calls both devices saw.
+/// Returns the outcome of a conversion in which one read or one write fails, and the number of calls of each device.
 fn convert_at(alloc: Global, certificate: &[u8], failing: (u64, u64)) -> (End, u64, u64) {
     let mut reader = fails_at(certificate, failing.0);
     let mut out = fails_at(b"", failing.1);
@@ -165,7 +166,7 @@ fn convert_at(alloc: Global, certificate: &[u8], failing: (u64, u64)) -> (End, u
     (end, reader.into_inner().calls, out.into_inner().calls)
 }
 
-/// Tests whether each read and each write of a conversion fails in turn, and is the last of its device.
+/// Tests whether a failure of each read and each write of a conversion is reported, and is the last call of its device.
 fn each_call_fails(alloc: Global, certificate: &[u8]) -> bool {
     let (end, reads, writes) = convert_at(alloc, certificate, (0, 0));
     for at in 1..=reads {
@@ -183,7 +184,7 @@ fn each_call_fails(alloc: Global, certificate: &[u8]) -> bool {
     end == End::Done && reads > 50 && writes > 0
 }
 
-/// Tests whether each read of a hint text fails in turn, the one that finds the end too.
+/// Tests whether a failure of each read of a hint text is reported, including the read that finds its end.
 fn each_read_fails(alloc: Global, text: &[u8]) -> bool {
     for at in 0..=text.len() {
         let failing = (at as u64).saturating_add(1);
@@ -194,7 +195,8 @@ fn each_read_fails(alloc: Global, text: &[u8]) -> bool {
     true
 }
 
-/// Tests whether each call fails in turn over what a run writes for a script, and over its hint text.
+/// Tests whether every failing call is reported, for the certificate that a run writes for a script, and for its
+/// hint text.
 fn are_reported(alloc: Global, script: &[u8]) -> bool {
     let certificate = certificate_of(alloc, script);
     let (done, text) = text_of(alloc, &mut Counted::new(certificate.as_slice()));

@@ -1,7 +1,7 @@
-//! Tests of `certify` by its public calls, in a crate of their own so that the library is proved once.
+//! Tests of `certify` through its public functions, in a crate of their own so that the library is proved only once.
 //!
-//! A table of rows is named by a function of its own, and by no other: each body that names a table is proved over all
-//! of its rows, which is dear.
+//! Each table of rows is named in a single function, which returns it: a body that names a table is proved over all of
+//! its rows, which takes long.
 #![tactic(auto)]
 
 #[cfg(test)]

@@ -1,11 +1,12 @@
-//! Verdicts on scripts of the whole language: assumptions, names that are hidden or have a mode, and refusals.
+//! Tests of verdicts on scripts with every kind of command: assumptions, names that are hidden or have a mode,
+//! and refusals.
 
 use crate::confirm::{Tail, Texts, is_no, is_said_behind, is_yes};
 use certify::verdict::Why;
 
 /// Scripts with their answers and certificates.
 static CONFIRMED: [Texts<'static>; 24] = [
-    // Asks under assumptions bind no later one.
+    // An ask's assumptions don't constrain later asks.
     (
         b"-1 -2 0\na 1 2 0\n",
         b"s UNSATISFIABLE\nf 1 2 0\n",
@@ -33,7 +34,7 @@ static CONFIRMED: [Texts<'static>; 24] = [
             11, 0, 2, 2, 3, 2, 3, 4, 5, 2, 5, 7, 9, 0, 11, 2, 4, 6, 12, 2, 4, 6, 1, 0, 11, 0, 13,
         ],
     ),
-    // A literal stands twice in an ask, and in the assumptions in another order.
+    // A literal occurs twice in an ask, and the certificate's assumptions are in another order.
     (
         b"a 2 1 2 0\n",
         b"s SATISFIABLE\nv 1 2 0\n",
@@ -48,7 +49,7 @@ static CONFIRMED: [Texts<'static>; 24] = [
             0, 2, 2, 3, 1, 12, 1, 1, 0, 11, 0, 13,
         ],
     ),
-    // A name that comes in again is another variable: one that is new, or one that was deleted.
+    // A hidden name that is introduced again gets another variable: a new one, or one that was deleted.
     (
         b"1 0\nh 1 0\n-1 0\na 0\n",
         b"s SATISFIABLE\nv -1 0\n",
@@ -78,13 +79,13 @@ static CONFIRMED: [Texts<'static>; 24] = [
             3, 11, 0, 13,
         ],
     ),
-    // Each name of a command in turn comes in and is hidden.
+    // A command introduces and hides its names one after another.
     (
         b"h 1 1 0\na 0\n",
         b"s SATISFIABLE\nv 0\n",
         &[2, 0, 1, 2, 0, 0, 2, 1, 1, 2, 1, 0, 11, 0, 10, 0, 11, 0, 13],
     ),
-    // A witness name may be hidden, and comes in again as a sampled one.
+    // A witness name can be hidden, and is introduced again as a sample name.
     (
         b"w 1 0\nh 1 0\n1 0\na 0\n",
         b"s SATISFIABLE\nv 1 0\n",
@@ -99,7 +100,7 @@ static CONFIRMED: [Texts<'static>; 24] = [
             2, 0, 1, 4, 0, 0, 4, 0, 1, 5, 1, 0, 11, 0, 10, 1, 0, 11, 0, 13,
         ],
     ),
-    // Refusals, in each kind of command.
+    // Refusals in each kind of command.
     (
         b"w 1 0\n1 0\na 0\n",
         b"c refused 2 witness 1\ns SATISFIABLE\nv -1 0\n",
@@ -125,14 +126,14 @@ static CONFIRMED: [Texts<'static>; 24] = [
         b"c refused 1 limit\nc refused 2 limit\nc refused 3 limit\nc refused 4 limit\nc refused 5 limit\n",
         &[13],
     ),
-    // An ask that is refused is one: the header asks no more.
+    // A refused ask counts as an ask: with a header, no further ask is added.
     (b"p cnf 1 0\na 268435457 0\n", b"c refused 1 limit\n", &[13]),
     (
         b"p cnf 1 0\nw 1 0\n",
         b"s SATISFIABLE\nv -1 0\n",
         &[2, 0, 1, 11, 0, 10, 1, 1, 11, 0, 13],
     ),
-    // No names.
+    // Commands without names.
     (b"h 0\nw 0\ns 0\n", b"", &[13]),
     (
         b"1 0\nh -1 0\n",
@@ -158,9 +159,9 @@ fn whole_scripts_match(rt: HostRuntime) {
     }
 }
 
-/// Texts, the ask, and what doesn't match there.
+/// Texts, the ask that isn't confirmed, and why.
 static NOT_CONFIRMED: [(Texts<'static>, u64, Why); 8] = [
-    // The old variable of a hidden name, which the checker alone takes for the name's own.
+    // The certificate uses the old variable of a hidden name, which the checker alone accepts as the name's variable.
     (
         (
             b"1 0\nh 1 0\n-1 0\na 0\n",
@@ -170,7 +171,7 @@ static NOT_CONFIRMED: [(Texts<'static>, u64, Why); 8] = [
         1,
         Why::NameNotFresh,
     ),
-    // A refused command isn't refused in the answers, or with another reason.
+    // The answers lack a refusal, or give another reason for it.
     (
         (b"w 1 0\n1 0\n", b"", &[2, 0, 1, 13]),
         1,
@@ -190,7 +191,7 @@ static NOT_CONFIRMED: [(Texts<'static>, u64, Why); 8] = [
         1,
         Why::AnswerText,
     ),
-    // A clause of a witness name in the certificate.
+    // The certificate has a clause that contains a witness name.
     (
         (
             b"w 1 0\n1 0\n",
@@ -200,7 +201,7 @@ static NOT_CONFIRMED: [(Texts<'static>, u64, Why); 8] = [
         1,
         Why::StepOutOfPlace,
     ),
-    // A core that isn't among the assumptions, and one that doesn't fail.
+    // A core that isn't a subset of the assumptions, and a core that doesn't fail.
     (
         (
             b"-1 0\na 2 0\n",
@@ -219,7 +220,7 @@ static NOT_CONFIRMED: [(Texts<'static>, u64, Why); 8] = [
         1,
         Why::StepRefused,
     ),
-    // A hidden name stays in the model.
+    // The model contains a hidden name.
     (
         (
             b"1 2 0\nh 1 0\na 0\n",
@@ -244,8 +245,8 @@ fn whole_scripts_that_do_not_match(rt: HostRuntime) {
     }
 }
 
-/// Three asks, which have a model, a core and an unknown, then a name that is hidden and comes in again, and a fourth
-/// ask.
+/// Three asks, with a model, a core and `unknown` as answers; then a name that is hidden and introduced again, and a
+/// fourth ask.
 const FOURTH: &[u8] = b"1 2 0\na 0\na -1 -2 0\na 0\nh 2 0\n2 -1 0\na 1 0\n";
 
 /// The certificate up to the end of the third ask.
@@ -262,7 +263,7 @@ const FOURTH_STEPS: &[u8] = &[
 
 const FOURTH_ANSWER: &[u8] = b"s SATISFIABLE\nv 1 2 0\n";
 
-/// Each cause of a no, at the fourth ask or behind it.
+/// Every reason for a `No` at the fourth ask or after it.
 static FOURTH_ASKS: [Tail<'static>; 18] = [
     (FOURTH_ANSWER, FOURTH_STEPS, None),
     (b"", FOURTH_STEPS, Some((4, Why::AnswerMissing))),
@@ -281,7 +282,7 @@ static FOURTH_ASKS: [Tail<'static>; 18] = [
         &[2, 1, 0, 2, 2, 2, 5, 2, 4, 0],
         Some((4, Why::ClauseDiffers)),
     ),
-    // Another name is hidden, none is, or another one comes in.
+    // The certificate hides another name, hides no name, or introduces another name.
     (FOURTH_ANSWER, &[2, 0, 0], Some((4, Why::NameDiffers))),
     (FOURTH_ANSWER, &[2, 1, 2], Some((4, Why::NameDiffers))),
     (

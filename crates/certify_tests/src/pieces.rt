@@ -1,4 +1,4 @@
-//! Texts with a clause of 5,000 literals, read in pieces, of which none is asked for that is larger than 4,096 bytes.
+//! Tests of texts with a clause of 5,000 literals that are read in pieces. No read asks for more than 4,096 bytes.
 
 use crate::devices::in_pieces;
 use crate::written::run_on;
@@ -12,7 +12,7 @@ use std::io;
 
 const COUNT: usize = 5000;
 
-/// The positive literals of the first names.
+/// Returns the positive literals of the first `COUNT` names.
 fn literals(alloc: Global) -> Result<Vec<Lit>, AllocError> {
     let mut lits = Vec::new(alloc);
     for index in 0..COUNT {
@@ -21,7 +21,7 @@ fn literals(alloc: Global) -> Result<Vec<Lit>, AllocError> {
     Ok(lits)
 }
 
-/// A clause of the literals, and an ask.
+/// Returns a script with a clause of the literals, and an ask.
 fn script_of(alloc: Global, lits: &[Lit]) -> Result<Vec<u8>, AllocError> {
     let mut script = Vec::new(alloc);
     for lit in lits {
@@ -32,14 +32,14 @@ fn script_of(alloc: Global, lits: &[Lit]) -> Result<Vec<u8>, AllocError> {
     Ok(script)
 }
 
-/// A model in which all of them are true.
+/// Returns the answer with a model in which all literals are true.
 fn answers_of(alloc: Global, lits: &[Lit]) -> Result<Vec<u8>, AllocError> {
     let mut answers = Vec::new(alloc);
     push_sat(&mut answers, lits)?;
     Ok(answers)
 }
 
-/// Names the variables, each by itself.
+/// Writes a step for each variable that gives it a user name.
 fn write_names<W: CountedWrite>(out: &mut W) -> io::Result<()> {
     for index in 0..COUNT {
         let var = Var::from_index(index);
@@ -49,7 +49,7 @@ fn write_names<W: CountedWrite>(out: &mut W) -> io::Result<()> {
     Ok(())
 }
 
-/// The steps of the clause, and of the ask.
+/// Writes the steps of the clause and the ask.
 fn write_steps<W: CountedWrite>(out: &mut W, lits: &[Lit]) -> io::Result<()> {
     write_names(out)?;
     let none = ProofStep::Assumptions { assumptions: &[] };
@@ -66,7 +66,8 @@ fn certificate_of(alloc: Global, lits: &[Lit]) -> io::Result<Vec<u8>> {
     Ok(out.into_inner())
 }
 
-/// What is said of texts that are read in pieces of this size, and the most that a reader was asked for.
+/// Returns the verdict on texts that are read in pieces of `piece` bytes, and the size of the largest buffer that a
+/// reader was given.
 fn said_in(
     alloc: Global,
     texts: (&[u8], &[u8], &[u8]),
@@ -89,7 +90,7 @@ fn said_in(
     (said, asked.max(certificate.into_inner().largest))
 }
 
-/// Tests whether texts are confirmed in pieces of each size.
+/// Tests whether texts are confirmed in pieces of various sizes.
 fn are_confirmed(alloc: Global, texts: (&[u8], &[u8], &[u8])) -> bool {
     for piece in [1, 2, 4095, 4096, 8192] {
         let (said, asked) = said_in(alloc, texts, piece);
@@ -109,8 +110,8 @@ fn is_confirmed(alloc: Global) -> io::Result<bool> {
     Ok(are_confirmed(alloc, (&script, &answers, &certificate)))
 }
 
-/// The answers of a run over a script in pieces of this size, where they are confirmed in such pieces and no larger
-/// ones were asked for.
+/// Returns the answers of a run over a script in pieces of `piece` bytes, if they are confirmed in such pieces and no
+/// larger read was requested.
 fn answers_in(alloc: Global, script: &[u8], piece: usize) -> Option<Vec<u8>> {
     let mut reader = in_pieces(script, piece);
     let written = run_on(alloc, &mut reader, 1);
@@ -129,8 +130,8 @@ fn answers_in(alloc: Global, script: &[u8], piece: usize) -> Option<Vec<u8>> {
     }
 }
 
-/// Tests whether runs over all of the literals are confirmed, and answer alike in pieces of one byte and of the
-/// largest.
+/// Tests whether runs over a clause of all literals are confirmed, with the same answers in pieces of 1 byte and of
+/// 4,096 bytes.
 fn is_run(alloc: Global) -> Result<bool, AllocError> {
     let lits = literals(alloc)?;
     let script = script_of(alloc, &lits)?;

@@ -1,4 +1,4 @@
-//! Statuses and printed words.
+//! Tests of the program's statuses and of what it prints.
 
 use crate::devices::fails_at;
 use certify::program::program;
@@ -10,7 +10,7 @@ use std::io::ErrorKind;
 /// Arguments of the program.
 type Words = io::Result<Vec<String>>;
 
-/// Tests whether the program ends with this status, and writes these to its output and its errors.
+/// Tests whether the program ends with the given status, output and errors.
 pub(crate) fn does<I: CountedRead>(
     rt: &HostRuntime,
     words: Words,
@@ -25,14 +25,14 @@ pub(crate) fn does<I: CountedRead>(
         && errors.into_inner().as_slice() == told.as_bytes()
 }
 
-/// Four pigeons in three holes.
+/// The clauses that put four pigeons into three holes.
 const PIGEONS: &str = "\
     1 2 3 0\n4 5 6 0\n7 8 9 0\n10 11 12 0\n-1 -4 0\n-1 -7 0\n-1 -10 0\n-4 -7 0\n-4 -10 0\n-7 -10 0\n\
     -2 -5 0\n-2 -8 0\n-2 -11 0\n-5 -8 0\n-5 -11 0\n-8 -11 0\n-3 -6 0\n-3 -9 0\n-3 -12 0\n-6 -9 0\n\
     -6 -12 0\n-9 -12 0\na 0\n";
 
-/// What is told on standard error of a run that made no round, of one of pair 1, 2, of one whose names no clause has,
-/// and of PIGEONS.
+/// Standard error of runs: without rounds, with the binary clause 1 2, with names that occur in no clause, with one
+/// name that is only assumed, and of `PIGEONS`.
 const NO_ROUND: &str =
     "[INFO  certify] progress conflicts=0 restarts=0 vars=0 binary=0 irred=0 core=0 mid=0 local=0\n";
 
@@ -48,7 +48,7 @@ const ONE_NAME: &str =
 const SEVEN_ROUNDS: &str =
     "[INFO  certify] progress conflicts=7 restarts=1 vars=0 binary=19 irred=3 core=1 mid=0 local=0\n";
 
-/// A script, the printed text, the status, and what is told on standard error.
+/// A script, the standard output, the status, and the standard error.
 static SCRIPTS: [(&str, &str, u8, &str); 15] = [
     (
         PIGEONS,
@@ -136,7 +136,8 @@ fn words(alloc: Global, words: &[&str]) -> Result<Vec<String>, AllocError> {
     Ok(list)
 }
 
-/// Tests whether arguments end the program with this status and these words on its errors.
+/// Tests whether the program, called with the arguments `words`, ends with `status`, prints nothing, and writes `told`
+/// to its errors.
 fn is_reported(rt: &HostRuntime, words: Words, status: u8, told: &str) -> bool {
     let mut input = Counted::new("a 0\n".as_bytes());
     does(rt, words, &mut input, (status, "", told))
@@ -164,7 +165,7 @@ fn misuses() -> &'static [&'static [&'static str]] {
     &MISUSES
 }
 
-/// Tests whether these arguments give the usage.
+/// Tests whether the program prints the usage when it is called with the arguments `list`.
 fn is_misuse(rt: &HostRuntime, list: &[&str]) -> bool {
     match words(rt.alloc(), list) {
         Ok(words) => is_reported(rt, Ok(words), 2, USAGE),
@@ -187,7 +188,7 @@ fn arguments_want_memory(rt: HostRuntime) {
     assert!(rt; is_reported(&rt, no_memory, 3, "certify: OutOfMemory\n"));
 }
 
-/// Each read fails in turn, the one that finds the end too.
+/// Tests whether a failure of each read is reported, including the read that finds the end.
 #[test]
 fn standard_input_fails(rt: HostRuntime) {
     let wanted = (3, "", "certify: ScriptRead\n");
@@ -200,8 +201,8 @@ fn standard_input_fails(rt: HostRuntime) {
     }
 }
 
-/// The status of the program where one call of its output fails, how many calls were made and bytes taken, and whether
-/// this is on its errors.
+/// Returns the status of the program when call number `failing` of its output fails, how many calls were made and bytes
+/// accepted, and whether `told` is written to its errors.
 fn output_fails(rt: &HostRuntime, failing: u64, told: &str) -> (u8, u64, usize, bool) {
     let mut input = Counted::new("1 2 0\na 0\n".as_bytes());
     let mut output = fails_at(b"", failing);
@@ -213,15 +214,15 @@ fn output_fails(rt: &HostRuntime, failing: u64, told: &str) -> (u8, u64, usize, 
     (status, output.calls, output.taken, is_so)
 }
 
-/// The call of the output that fails, and the bytes taken before.
+/// The number of the output's call that fails, and how many bytes were accepted before.
 static TAKEN: [(u64, usize); 3] = [(1, 0), (2, 23), (3, 35)];
 
-/// What is told where the output fails behind a run of pair 1, 2.
+/// Standard error when the output fails after a run with the binary clause 1 2.
 const NOT_PRINTED: &str =
     "[INFO  certify] progress conflicts=1 restarts=1 vars=2 binary=1 irred=0 core=0 mid=0 local=0\ncertify: AnswersWrite\n";
 
-/// The write of the answers fails, then that of the last line, behind the answers, then the flush. Nothing more is
-/// written then.
+/// The calls that fail are the write of the answers, the write of the last line, and the flush. Nothing more is written
+/// after the failure.
 #[test]
 fn standard_output_fails(rt: HostRuntime) {
     for &(failing, taken) in &TAKEN {
@@ -230,8 +231,8 @@ fn standard_output_fails(rt: HostRuntime) {
     }
 }
 
-/// The status of the program where its input fails and then one call of its errors, and whether nothing is on its
-/// output.
+/// Returns the status of the program when its input fails and then call number `failing` of its errors, and whether
+/// nothing is written to its output.
 fn errors_fail(rt: &HostRuntime, failing: u64) -> (u8, bool) {
     let mut input = fails_at(b"", 1);
     let mut output = Counted::new(Vec::new(rt.alloc()));
@@ -241,7 +242,7 @@ fn errors_fail(rt: &HostRuntime, failing: u64) -> (u8, bool) {
     (status, output.into_inner().is_empty())
 }
 
-/// Standard error fails at any of its calls, and the status is the same.
+/// Tests whether the status is the same when any call of standard error fails.
 #[test]
 fn standard_error_fails(rt: HostRuntime) {
     for failing in 1..5 {

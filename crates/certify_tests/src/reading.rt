@@ -1,4 +1,4 @@
-//! Scripts of the whole language, read as they come and judged by their names.
+//! Tests of reading scripts with every kind of command, and of refusing commands because of their names.
 
 use certify::answers::write::push_literal;
 use certify::judge::{Names, NewNames, Refusal};
@@ -16,7 +16,7 @@ fn letter(kind: CommandKind) -> u8 {
     }
 }
 
-/// Writes the command's letter and its literals, `!` where a name is past the limit, and `;`.
+/// Writes the letter of the command, its literals, `!` if a name is past the limit, and `;`.
 fn render(out: &mut Vec<u8>, command: Command<'_>) -> Result<(), AllocError> {
     out.push(letter(command.kind))?;
     for lit in command.literals {
@@ -30,7 +30,7 @@ fn render(out: &mut Vec<u8>, command: Command<'_>) -> Result<(), AllocError> {
     Ok(())
 }
 
-/// Writes the commands that a piece completes. Says whether the text may go on.
+/// Writes the commands that a piece completes. Returns whether the text can continue.
 fn take(reader: &mut ScriptReader, piece: &[u8], out: &mut Vec<u8>) -> Result<bool, AllocError> {
     let mut rest = piece;
     for _ in 0..piece.len() {
@@ -45,8 +45,8 @@ fn take(reader: &mut ScriptReader, piece: &[u8], out: &mut Vec<u8>) -> Result<bo
     Ok(true)
 }
 
-/// Writes the commands of a text that is fed in pieces of this size, and `.`, `?` or `x` where it ends cleanly, asks or
-/// is malformed.
+/// Reads a text in pieces of `size` bytes. Returns its commands, then `.` if the text ends cleanly, `?` if it ends with
+/// an ask, or `x` if it is malformed.
 fn read_in(alloc: Global, text: &[u8], size: usize) -> Result<Vec<u8>, AllocError> {
     let mut out = Vec::new(alloc);
     let mut reader = ScriptReader::new(alloc);
@@ -91,7 +91,7 @@ const READ: [(&str, &str); 17] = [
     ("a\nc 1\n 1\n0 b", "a 1;x"),
 ];
 
-/// Tests whether the text is read so, whole and in pieces.
+/// Tests whether `told` is returned for the text, read in one piece and in smaller ones.
 fn reads(alloc: Global, (text, told): (&str, &str)) -> bool {
     for size in [1, 2, 3, 4096] {
         match read_in(alloc, text.as_bytes(), size) {
@@ -113,7 +113,7 @@ fn scripts_are_read(rt: HostRuntime) {
     }
 }
 
-/// The digit of the name, up to 9, by which a command is refused; `!` where by the limit.
+/// Returns the digit of the name, up to 9, because of which a command is refused, or `!` if the reason is the limit.
 fn reason(refusal: Refusal) -> u8 {
     if refusal == Refusal::Limit {
         return b'!';
@@ -126,7 +126,7 @@ fn reason(refusal: Refusal) -> u8 {
     b'?'
 }
 
-/// Writes why the command is refused, or a dot, and takes it then.
+/// Writes why the command is refused; or writes a dot and accepts the command.
 fn judge(names: &mut Names, command: Command<'_>, out: &mut Vec<u8>) -> Result<(), AllocError> {
     if let Some(refusal) = names.refusal(command) {
         out.push(reason(refusal))?;
@@ -136,7 +136,7 @@ fn judge(names: &mut Names, command: Command<'_>, out: &mut Vec<u8>) -> Result<(
     names.accept(command)
 }
 
-/// Judges each command of a text.
+/// Judges every command of a text.
 fn judge_all(alloc: Global, text: &[u8]) -> Result<Vec<u8>, AllocError> {
     let mut out = Vec::new(alloc);
     let mut reader = ScriptReader::new(alloc);
@@ -179,7 +179,8 @@ fn commands_are_judged(rt: HostRuntime) {
     }
 }
 
-/// Tests which names come in with a third one, with each of them again, and with a hidden one.
+/// Tests which names are introduced by the third name, then by the second name, and by the second name once it
+/// is hidden.
 fn brings(alloc: Global) -> Result<bool, AllocError> {
     let mut names = Names::new(alloc);
     let second = Var::from_index(1);

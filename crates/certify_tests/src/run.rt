@@ -1,4 +1,4 @@
-//! Runs over worked texts, whole and in pieces, and each call of a device failing in turn.
+//! Tests of runs over worked scripts, in one piece and in smaller ones, and with each call of a device failing in turn.
 
 use crate::devices::{Watched, Watching, fails_at, in_pieces};
 use crate::written::{AMPLE, run_on};
@@ -16,7 +16,7 @@ const FOURTH: &[u8] = b"1 2 0\na 0\n";
 
 const SIXTH: &[u8] = b"1 2 0\n1 -2 0\n-1 2 0\n-1 -2 0\na 0\n";
 
-/// A text, a budget, and the answers.
+/// A script, a budget, and the answers.
 static ANSWERS: [(&[u8], u64, &[u8]); 52] = [
     (
         b"1 2 0\n3 4 0\n5 6 0\n-1 -3 0\n-1 -5 0\n-3 -5 0\n-2 -4 0\n-2 -6 0\n-4 -6 0\na 0\n",
@@ -25,7 +25,7 @@ static ANSWERS: [(&[u8], u64, &[u8]); 52] = [
     ),
     (b"", AMPLE, b""),
     (b"a 0\n", AMPLE, b"s SATISFIABLE\nv 0\n"),
-    // As many steps as the bound without variables has.
+    // A budget of as many steps as the bound has when there are no variables.
     (b"a 0\n", 8, b"s SATISFIABLE\nv 0\n"),
     (b"3 0\na 0\n", AMPLE, b"s SATISFIABLE\nv -1 -2 3 0\n"),
     (FOURTH, AMPLE, b"s SATISFIABLE\nv -1 2 0\n"),
@@ -137,7 +137,7 @@ fn all_answers() -> &'static [(&'static [u8], u64, &'static [u8])] {
     &ANSWERS
 }
 
-/// What is said of three texts in pieces of so many bytes.
+/// Returns the verdict on three texts that are read in pieces of `size` bytes.
 fn said_in(
     alloc: Global,
     (script, answers, certificate): (&[u8], &[u8], &[u8]),
@@ -152,7 +152,8 @@ fn said_in(
     )
 }
 
-/// Tests whether these are the answers in pieces of so many bytes, and are confirmed with what was written.
+/// Tests whether a run over a script in pieces of `size` bytes writes the answers `answers`, and they are confirmed
+/// with its certificate.
 fn is_confirmed_in(alloc: Global, text: &[u8], budget: u64, answers: &[u8], size: usize) -> bool {
     let written = run_on(alloc, &mut in_pieces(text, size), budget);
     let texts = (
@@ -163,7 +164,7 @@ fn is_confirmed_in(alloc: Global, text: &[u8], budget: u64, answers: &[u8], size
     written.has_answers(answers) && said_in(alloc, texts, size) == Ok(Verdict::Yes)
 }
 
-/// The same in pieces of each of these sizes.
+/// Tests whether a run over a script writes the answers `answers`, and they are confirmed, in pieces of various sizes.
 fn is_confirmed_in_pieces(alloc: Global, text: &[u8], budget: u64, answers: &[u8]) -> bool {
     for size in [1, 2, 4095, 4096] {
         if !is_confirmed_in(alloc, text, budget, answers, size) {
@@ -183,7 +184,7 @@ fn scripts_are_answered_and_confirmed_in_pieces(rt: HostRuntime) {
     }
 }
 
-/// Scripts, a read by one byte each, and the answers that were written before it.
+/// Scripts, the number of a read of one byte, and the answers that are written before that read.
 static ANSWERED_BEFORE: [(&[u8], u64, &[u8]); 5] = [
     (b"a 0\n1 0\na 0\n", 4, b""),
     (b"a 0\n1 0\na 0\n", 5, b"s SATISFIABLE\nv 0\n"),
@@ -200,7 +201,7 @@ fn answered_before() -> &'static [(&'static [u8], u64, &'static [u8])] {
     &ANSWERED_BEFORE
 }
 
-/// How many bytes of answers are written before this read of a script.
+/// Returns how many bytes of answers are written before read number `read` of a script.
 fn taken_before(alloc: Global, text: &[u8], read: u64) -> usize {
     let taken = Cell::new(0);
     let mut script = Counted::new(Watching {
@@ -215,7 +216,7 @@ fn taken_before(alloc: Global, text: &[u8], read: u64) -> usize {
     script.into_inner().seen
 }
 
-/// An answer is written before the next command is read, and not before its own is.
+/// Tests that each answer is written before the next command is read, but not before its own ask is read.
 #[test]
 fn answers_come_before_the_next_command(rt: HostRuntime) {
     for &(text, read, answers) in answered_before() {
@@ -224,7 +225,7 @@ fn answers_come_before_the_next_command(rt: HostRuntime) {
     }
 }
 
-/// The largest piece that a run asks for.
+/// Returns the size of the largest buffer that a run gives to the reader.
 fn largest_piece(alloc: Global, text: &[u8]) -> usize {
     let mut script = in_pieces(text, 4096);
     let _ = run_on(alloc, &mut script, AMPLE);
@@ -236,13 +237,13 @@ fn pieces_are_small(rt: HostRuntime) {
     assert!(rt; largest_piece(rt.alloc(), SIXTH) == 4096);
 }
 
-/// Tests whether this is the certificate of a text.
+/// Tests whether `certificate` is what a run writes for a script.
 fn is_certified(alloc: Global, text: &[u8], budget: u64, certificate: &[u8]) -> bool {
     let written = run_on(alloc, &mut Counted::new(text), budget);
     written.fault.is_none() && written.certificate.as_slice() == certificate
 }
 
-/// A text, a budget, and the certificate.
+/// A script, a budget, and the certificate.
 static CERTIFICATES: [(&[u8], u64, &[u8]); 9] = [
     (b"", AMPLE, &[0x0d]),
     (
@@ -285,7 +286,7 @@ static CERTIFICATES: [(&[u8], u64, &[u8]); 9] = [
             0x02, 0xe6, 0x01, 0x06, 0x00, 0x00, 0x01, 0x44, 0x0b, 0x00, 0x0d,
         ],
     ),
-    // By its only round the ask learns the clause 1, and no more.
+    // In its only round, the ask learns the clause 1 and no more.
     (
         SIXTH,
         1,
@@ -296,7 +297,7 @@ static CERTIFICATES: [(&[u8], u64, &[u8]); 9] = [
             0x0d,
         ],
     ),
-    // A clause's literals are sorted by the solver's order, repeats dropped.
+    // A clause's literals are sorted in the order of solver names, without repeats.
     (
         b"-3 1 -2 1 -3 0\n",
         AMPLE,
@@ -305,7 +306,8 @@ static CERTIFICATES: [(&[u8], u64, &[u8]); 9] = [
             0x02, 0x01, 0x01, 0x03, 0x05, 0x03, 0x05, 0x00, 0x03, 0x0d,
         ],
     ),
-    // Once `unsat` is recorded names come in, no clause is written, and nothing for an ask but its assumptions.
+    // Once `unsat` is recorded, names are still introduced, but no clause is written, and for an ask only its
+    // assumptions are.
     (
         b"1 0\na 0\n-1 0\n2 0\na 0\n",
         AMPLE,
@@ -331,10 +333,10 @@ fn certificates_are_written(rt: HostRuntime) {
     }
 }
 
-/// The commands, the refused ones, and the number at which the text is malformed.
+/// The number of commands, the number of refused ones, and the number of the command at which the text is malformed.
 type Counts = (u64, u64, Option<u64>);
 
-/// Tests whether a run over a text counts so, and reports this of its asks.
+/// Tests whether a run over a script returns the counts `counts` and the reports `asks`.
 fn is_summed_up(
     alloc: Global,
     (text, budget, counts, asks): (&[u8], u64, Counts, &[AskReport]),
@@ -371,10 +373,10 @@ const UNSAT_AT_ONCE: AskReport = AskReport {
     steps: 0,
 };
 
-/// A text, a budget, what a run counts, and what it reports of each ask. An ask at the end of a text is reported, and
-/// is no command of it.
+/// A script, a budget, the counts of a run, and its reports of the asks. An ask at the end of a text is reported, but
+/// isn't counted as a command.
 static SUMMARIES: [(&[u8], u64, Counts, &[AskReport]); 9] = [
-    // Units stay from one ask to the next.
+    // Units are kept from one ask to the next.
     (
         b"1 0\na 0\n-1 0\n2 0\na 0\n",
         AMPLE,
@@ -388,7 +390,7 @@ static SUMMARIES: [(&[u8], u64, Counts, &[AskReport]); 9] = [
         &[UNSAT_BY_TWO, UNSAT_AT_ONCE],
     ),
     (SIXTH, 2, (5, 0, None), &[UNSAT_BY_TWO]),
-    // Names of no clause take no steps.
+    // Names that occur in no clause take no steps.
     (
         b"1 2 0\n1 -2 0\n-1 2 0\n-1 -2 0\n40 0\na 0\n",
         2,
@@ -413,10 +415,11 @@ fn runs_are_summed_up(rt: HostRuntime) {
     }
 }
 
-/// Calls of the script's reader, the answers' writer and the certificate's writer.
+/// The numbers of calls of the script's reader, the answers' writer and the certificate's writer.
 type Calls = (u64, u64, u64);
 
-/// The fault of a run in which one call of each device fails, counted from 1, and how many calls each made.
+/// Returns the fault of a run in which one call of each device fails, counted from 1, and how many calls of each device
+/// were made.
 fn run_at(alloc: Global, text: &[u8], failing: Calls) -> (Option<RunFault>, Calls) {
     let mut script = fails_at(text, failing.0);
     let mut answers = fails_at(b"", failing.1);
@@ -430,8 +433,8 @@ fn run_at(alloc: Global, text: &[u8], failing: Calls) -> (Option<RunFault>, Call
     (fault, calls)
 }
 
-/// A text, and how many calls a run over it makes, where that is looked at. The certificate's writer is written to and
-/// flushed before an answer, and at the end.
+/// A script, and how many calls a run over it makes, or `None` if that isn't tested. The certificate's writer is
+/// written to and flushed before each answer and at the end.
 static CALLS: [(&[u8], Option<Calls>); 6] = [
     (b"a 0\n", Some((5, 2, 4))),
     (FOURTH, Some((11, 2, 4))),
@@ -453,7 +456,7 @@ fn calls_of(calls: Calls, device: u8) -> u64 {
     }
 }
 
-/// Tests whether each of so many calls of a device in turn fails, gives this fault, and is the last.
+/// Tests whether each of the first `calls` calls of a device, if it fails, gives `fault` and is the last call.
 fn each_fails(alloc: Global, text: &[u8], device: u8, calls: u64, fault: RunFault) -> bool {
     for failing in 1..=calls {
         let one = match device {
@@ -469,7 +472,7 @@ fn each_fails(alloc: Global, text: &[u8], device: u8, calls: u64, fault: RunFaul
     true
 }
 
-/// Tests whether a run makes so many calls, and each in turn fails.
+/// Tests whether a run makes the calls `wanted`, if given, and reports a failure of each.
 fn each_call_fails(alloc: Global, text: &[u8], wanted: Option<Calls>) -> bool {
     let (fault, calls) = run_at(alloc, text, (0, 0, 0));
     fault == None
@@ -479,7 +482,7 @@ fn each_call_fails(alloc: Global, text: &[u8], wanted: Option<Calls>) -> bool {
         && each_fails(alloc, text, 2, calls.2, RunFault::CertificateWrite)
 }
 
-/// Each call of a device fails in turn, the flushes too, and gives that text's fault.
+/// Tests whether a failure of each call of a device, including flushes, gives the fault of its text.
 #[test]
 fn each_call_fails_in_turn(rt: HostRuntime) {
     for &(text, calls) in all_calls() {
@@ -487,7 +490,7 @@ fn each_call_fails_in_turn(rt: HostRuntime) {
     }
 }
 
-/// The fault of a run over one ask with writers that take so many bytes.
+/// Returns the fault of a run over one ask, with writers that accept only as many bytes as the slices have.
 fn fault_of_short(alloc: Global, answers: &mut [u8], certificate: &mut [u8]) -> Option<RunFault> {
     run(
         alloc,
@@ -499,7 +502,7 @@ fn fault_of_short(alloc: Global, answers: &mut [u8], certificate: &mut [u8]) -> 
     .err()
 }
 
-/// Each writer in turn is too short by a byte.
+/// Tests runs in which one of the writers is too short by a byte.
 #[test]
 fn short_writers_are_reported(rt: HostRuntime) {
     assert!(rt; fault_of_short(rt.alloc(), &mut [0; 18], &mut [0; 9]) == None);

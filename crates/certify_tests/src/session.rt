@@ -1,4 +1,4 @@
-//! A session whose asks make the search learn: answered, and confirmed.
+//! Tests of sessions whose asks make the search learn: they are answered, and confirmed.
 
 use crate::confirm::is_confirmed;
 use crate::devices::fails_at;
@@ -9,8 +9,8 @@ use certify::summary::{Answer, AskReport};
 use sat_base::Counted;
 use std::alloc::Global;
 
-/// Each three of five names with both signs, the positive ones with a sixth; asks without the sixth and under nothing,
-/// and the sixth is false from then on.
+/// All clauses of three of five names, with both signs; the positive ones also contain a sixth name. One ask assumes
+/// the negation of the sixth name, and one assumes nothing; then the sixth name is false.
 const SESSION: &[u8] =
     b"1 2 3 6 0 1 2 4 6 0 1 2 5 6 0 1 3 4 6 0 1 3 5 6 0 1 4 5 6 0 2 3 4 6 0 2 3 5 6 0 2 4 5 6 0 3 4 5 6 0
 -1 -2 -3 0 -1 -2 -4 0 -1 -2 -5 0 -1 -3 -4 0 -1 -3 -5 0 -1 -4 -5 0 -2 -3 -4 0 -2 -3 -5 0 -2 -4 -5 0 -3 -4 -5 0
@@ -19,7 +19,8 @@ a -6 0 a 0
 a 0
 ";
 
-/// The same, but the sixth is true and hidden before its name is another's.
+/// The clauses of `SESSION`, but the sixth name is true and is hidden before it is introduced again for
+/// another variable.
 const HIDDEN_SESSION: &[u8] =
     b"1 2 3 6 0 1 2 4 6 0 1 2 5 6 0 1 3 4 6 0 1 3 5 6 0 1 4 5 6 0 2 3 4 6 0 2 3 5 6 0 2 4 5 6 0 3 4 5 6 0
 -1 -2 -3 0 -1 -2 -4 0 -1 -2 -5 0 -1 -3 -4 0 -1 -3 -5 0 -1 -4 -5 0 -2 -3 -4 0 -2 -3 -5 0 -2 -4 -5 0 -3 -4 -5 0
@@ -28,7 +29,7 @@ a -6 0 a 0
 a 0
 ";
 
-/// Whether the asks were answered so.
+/// Whether the asks have the answers `answers`, in order.
 fn are(asks: &[AskReport], answers: &[Answer]) -> bool {
     if asks.len() != answers.len() {
         return false;
@@ -41,7 +42,7 @@ fn are(asks: &[AskReport], answers: &[Answer]) -> bool {
     true
 }
 
-/// Tests whether a run answers the asks of a script so.
+/// Tests whether a run answers the asks of a script with `answers`.
 fn is_answered(alloc: Global, script: &[u8], answers: &[Answer]) -> bool {
     let mut written = fails_at(b"", 0);
     let mut certificate = fails_at(b"", 0);
@@ -52,7 +53,7 @@ fn is_answered(alloc: Global, script: &[u8], answers: &[Answer]) -> bool {
     }
 }
 
-/// Scripts and their answers, and whether an empty clause is derived. There is a core of each first ask.
+/// Scripts, their answers, and whether an empty clause is derived. Each first ask has a core.
 static SESSIONS: [(&[u8], [Answer; 3], bool); 2] = [
     (SESSION, [Answer::Unsat, Answer::Sat, Answer::Unsat], true),
     (
@@ -62,7 +63,7 @@ static SESSIONS: [(&[u8], [Answer; 3], bool); 2] = [
     ),
 ];
 
-/// Tests whether a session is answered so and confirmed, and has a hint text that is proved.
+/// Tests whether the asks of a session have the answers `answers`, they are confirmed, and its hint text is proved.
 fn is_right(alloc: Global, (script, answers, empty): (&[u8], [Answer; 3], bool)) -> bool {
     is_answered(alloc, script, &answers)
         && is_confirmed(alloc, script, AMPLE)

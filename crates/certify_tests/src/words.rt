@@ -1,4 +1,4 @@
-//! The words of faults and of a no.
+//! Tests of what is printed for faults and for a `No`.
 
 use crate::devices::is_printed;
 use certify::answers::read::AnswerFault;

@@ -1,14 +1,14 @@
-//! What a run writes.
+//! The output of a run.
 
 use certify::fault::RunFault;
 use certify::run::run;
 use sat_base::{Counted, CountedRead};
 use std::alloc::Global;
 
-/// Steps that no worked script needs.
+/// A budget that is larger than any worked script needs.
 pub(crate) const AMPLE: u64 = 1 << 20;
 
-/// The answers and the certificate that a run writes, also before a fault.
+/// The answers and the certificate that a run writes, even before a fault.
 #[derive(Drop)]
 pub(crate) struct Written {
     pub(crate) fault: Option<RunFault>,
@@ -17,7 +17,7 @@ pub(crate) struct Written {
 }
 
 impl Written {
-    /// Tests whether the run is finished and these are the answers.
+    /// Tests whether the run finished and wrote the answers `answers`.
     pub(crate) fn has_answers(&self, answers: &[u8]) -> bool {
         self.fault.is_none() && self.answers.as_slice() == answers
     }

@@ -1,11 +1,11 @@
-//! Devices.
+//! Readers and writers for tests.
 
 use sat_base::{Counted, CountedRead, CountedWrite, ReadError, read_into, read_whole};
 use std::alloc::Global;
 use std::io;
 use std::io::{ErrorKind, Read, Write};
 
-/// A text that is given byte by byte; one call fails, counted from 1.
+/// A reader that returns its text byte by byte. Read number `failing`, counted from 1, fails.
 #[derive(Drop)]
 pub(crate) struct ByOne<'a> {
     text: &'a [u8],
@@ -33,7 +33,7 @@ impl Read for ByOne<'_> {
     }
 }
 
-/// A text that is given in one piece, and then zeros without end.
+/// A reader that returns its text in one piece, and then zeros without end.
 #[derive(Drop)]
 pub(crate) struct Endless<'a> {
     text: &'a [u8],
@@ -56,7 +56,7 @@ pub(crate) fn without_end(text: &[u8]) -> Counted<Endless<'_>> {
     Counted::new(Endless { text, calls: 0 })
 }
 
-/// A writer that takes at most this many bytes of a piece; one call fails, counted from 1.
+/// A writer that accepts at most `most` bytes of a piece. Write number `failing`, counted from 1, fails.
 #[derive(Drop)]
 pub(crate) struct ByFew {
     pub(crate) taken: Vec<u8>,
@@ -79,7 +79,7 @@ impl Write for ByFew {
     }
 }
 
-/// A writer that takes nothing.
+/// A writer that accepts no bytes.
 #[derive(Drop)]
 struct Full {}
 
@@ -127,26 +127,26 @@ pub(crate) fn by_few(alloc: Global, most: usize, failing: u64) -> Counted<ByFew>
     })
 }
 
-/// Writes a text whole, flushes, and tests whether the device was given the text.
+/// Writes a text with a single call and flushes. Returns whether the device received the text.
 fn is_passed_on(alloc: Global, text: &[u8]) -> bool {
     let mut writer = Counted::new(Vec::new(alloc));
     let passed = writer.write_all_counted(text).is_ok() && writer.flush_counted().is_ok();
     passed && writer.into_inner().as_slice() == text
 }
 
-/// Tests whether a reader is read whole to this text.
+/// Tests whether `text` is what a reader returns up to its end.
 fn is_read<R: CountedRead>(alloc: Global, reader: &mut R, text: &[u8]) -> Result<bool, ReadError> {
     Ok(read_whole(alloc, reader)?.as_slice() == text)
 }
 
-/// Tests whether a reader's bytes are fed as this text.
+/// Tests whether `text` is what `read_into` appends from a reader.
 fn is_fed<R: CountedRead>(alloc: Global, reader: &mut R, text: &[u8]) -> bool {
     let mut held = Vec::new(alloc);
     read_into(reader, &mut held).is_ok() && held.as_slice() == text
 }
 
-/// Reads a text whole, byte by byte, of which one read fails, counted from 1. Gives whether the text was read, or the
-/// fault, and how many calls were made.
+/// Reads a text byte by byte up to its end, while read number `failing`, counted from 1, fails. Returns whether the
+/// text was read, or the fault, and the number of reads.
 fn read_by_one(alloc: Global, text: &[u8], failing: u64) -> (Result<bool, ReadError>, u64) {
     let mut reader = by_one(text, failing);
     let answer = is_read(alloc, &mut reader, text);
@@ -170,21 +170,21 @@ fn each_read_of_a_whole_text_may_fail(rt: HostRuntime) {
     assert!(rt; read_by_one(rt.alloc(), b"abc", 5) == (Ok(true), 4));
 }
 
-/// Writes a text by one call. Tests whether all bytes were taken, and the device was given the text.
+/// Writes a text with one call of `write`. Tests whether all bytes were accepted, and the device received the text.
 fn is_written_once(alloc: Global, text: &[u8]) -> bool {
     let mut writer = Counted::new(Vec::new(alloc));
     let taken = writer.write(text).ok();
     taken == Some(text.len()) && writer.into_inner().as_slice() == text
 }
 
-/// Flushes by both calls. Gives how often the device was, if both are done.
+/// Flushes by `flush` and by `flush_counted`. Returns how many times the device was flushed, if both calls succeed.
 fn flushed_twice() -> Option<u64> {
     let mut writer = Counted::new(Flushed { flushes: 0 });
     let done = writer.flush().is_ok() && writer.flush_counted().is_ok();
     done.then_some(writer.into_inner().flushes)
 }
 
-/// Reads a piece of a text by one call. Gives how many bytes were read, and the first.
+/// Reads a piece of a text with one call of `read`. Returns the number of bytes that were read, and the first byte.
 fn read_once(text: &[u8]) -> (Option<usize>, u8) {
     let mut piece = [0; 4];
     let count = by_one(text, 0).read(&mut piece).ok();

@@ -1,7 +1,7 @@
-//! Rows of texts, whole and in pieces of one byte, and what goes on after a fault.
+//! Tests of a parser with tables of texts, in one piece and in smaller ones, and of the state after a fault.
 //!
-//! The tests see a parser and a formula through functions that ensure nothing, and keep few values: that is cheap to
-//! prove.
+//! The tests use a parser and a formula only through functions without `ensures` clauses, and keep few values, which
+//! makes them cheap to prove.
 ghost use Rattle.std.specs.Prelude.{◌≡◌, ◌<◌, ℕ, List, IfOk, length};
 ghost use Rattle.sat_base.specs.device.Device.{GaveFront};
 ghost use Rattle.sat_base.specs.dimacs.Parsing.{IsWholeText};
@@ -24,7 +24,7 @@ fn feed(parser: &mut DimacsParser, piece: &[u8]) -> Result<(), DimacsError> {
     parser.feed(piece)
 }
 
-/// Feeds a text in pieces of this length, and says that it is over.
+/// Feeds a text in pieces of `piece` bytes, and finishes the text.
 fn read(parser: &mut DimacsParser, text: &[u8], piece: usize) -> Result<(), DimacsError>
     requires { 0 < piece }
 {
@@ -34,14 +34,14 @@ fn read(parser: &mut DimacsParser, text: &[u8], piece: usize) -> Result<(), Dima
     parser.finish()
 }
 
-/// The header, how many clauses were read, and the highest variable.
+/// The header, the number of clauses so far, and the number of variables.
 type State = (Option<(u64, u64)>, u64, usize);
 
 fn state(parser: &DimacsParser) -> State {
     (parser.header(), parser.clause_count(), parser.var_count())
 }
 
-/// Adds the numbers of a formula's literals, with a 0 behind each clause.
+/// Appends the DIMACS numbers of a formula's literals, with a 0 after each clause.
 fn add_numbers(all: &mut Vec<i64>, formula: &CnfFormula) -> Result<(), AllocError> {
     for clause in formula {
         for lit in clause {
@@ -52,14 +52,14 @@ fn add_numbers(all: &mut Vec<i64>, formula: &CnfFormula) -> Result<(), AllocErro
     Ok(())
 }
 
-/// The numbers of a formula's literals, with a 0 behind each clause.
+/// Returns the DIMACS numbers of a formula's literals, with a 0 after each clause.
 fn numbers(alloc: Global, formula: &CnfFormula) -> Result<Vec<i64>, AllocError> {
     let mut all = Vec::new(alloc);
     add_numbers(&mut all, formula)?;
     Ok(all)
 }
 
-/// Tests whether a formula has these clauses.
+/// Tests whether `clauses` are the numbers of a formula's literals, with a 0 after each clause.
 fn has(alloc: Global, formula: &CnfFormula, clauses: &[i64]) -> bool {
     match numbers(alloc, formula) {
         Ok(all) => all.as_slice() == clauses,
@@ -67,26 +67,27 @@ fn has(alloc: Global, formula: &CnfFormula, clauses: &[i64]) -> bool {
     }
 }
 
-/// Takes the clauses that wait. Gives whether they are these, how many there are, and the highest variable.
+/// Takes the clauses out of a parser. Returns whether they are `clauses`, how many there are, and the number
+/// of variables.
 fn take(alloc: Global, parser: &mut DimacsParser, clauses: &[i64]) -> (bool, u64, usize) {
     let formula = parser.take_formula();
     let is_right = has(alloc, &formula, clauses);
     (is_right, formula.len() as u64, formula.var_count())
 }
 
-/// Tests whether nothing waits, and the text was said to be over.
+/// Tests whether no clauses are left to take, and the text is finished.
 fn is_finished(parser: &mut DimacsParser) -> bool {
     parser.take_formula().is_empty() && parser.finish() == Err(DimacsError::HasFailed)
 }
 
-/// Tests whether nothing waits, and nothing is read any more.
+/// Tests whether no clauses are left to take, and nothing more is accepted.
 fn is_over(parser: &mut DimacsParser) -> bool {
     parser.take_formula().is_empty()
         && parser.feed(b"1 0\n") == Err(DimacsError::HasFailed)
         && parser.finish() == Err(DimacsError::HasFailed)
 }
 
-/// A text, the answer, the numbers of its clauses, its header, and its highest variable.
+/// A text, its result, the numbers of its clauses, its header, and the number of its variables.
 type Row = (
     &'static [u8],
     Result<(), DimacsError>,
@@ -119,15 +120,15 @@ fn rows() -> &'static [Row] {
     &ROWS
 }
 
-/// Tests whether a parser that has read a row's text has what the row says, also when its clauses are taken, and is
-/// over.
+/// Tests whether a parser that has read the text of `row` has the header and clauses of `row`, also after the clauses
+/// are taken, and accepts nothing more.
 fn has_read(alloc: Global, parser: &mut DimacsParser, row: &Row) -> bool {
     let found = state(parser);
     let (is_right, count, _) = take(alloc, parser, row.2);
     is_right && found == (row.3, count, row.4) && state(parser) == found && is_over(parser)
 }
 
-/// Tests whether a row's text, in pieces of this length, says what the row says.
+/// Tests whether the text of `row`, in pieces of `piece` bytes, has the results of `row`.
 fn says(alloc: Global, row: &Row, piece: usize) -> bool
     requires { 0 < piece }
 {
@@ -135,7 +136,7 @@ fn says(alloc: Global, row: &Row, piece: usize) -> bool
     read(&mut parser, row.0, piece) == row.1 && has_read(alloc, &mut parser, row)
 }
 
-/// The first of some lengths of pieces in which a row's text doesn't say what the row says.
+/// Returns the first length of pieces with which a row's text has other results, or `None`.
 fn wrong_length(alloc: Global, row: &Row) -> Option<usize> {
     for piece in [1, 3, 100] {
         if !says(alloc, row, piece) {
@@ -152,7 +153,8 @@ fn texts_say_clauses_and_faults(rt: HostRuntime) {
     }
 }
 
-/// A piece, the state behind it, the clauses that wait then, and the highest variable of those and the ones before.
+/// A piece, the state after it, the numbers of the clauses that can be taken then, the number of such clauses, and the
+/// number of variables so far.
 type Piece = (&'static [u8], State, &'static [i64], u64, usize);
 
 static PIECES: [Piece; 3] = [
@@ -177,7 +179,7 @@ fn goes_on(alloc: Global, parser: &mut DimacsParser, piece: &Piece) -> bool {
         && take(alloc, parser, piece.2) == (true, piece.3, piece.4)
 }
 
-/// The first piece behind which a parser that is fed them isn't as the piece says.
+/// Returns the first piece after which the parser isn't in the state of its row, or `None`.
 fn wrong_piece(alloc: Global, parser: &mut DimacsParser) -> Option<Piece> {
     for piece in pieces() {
         if !goes_on(alloc, parser, piece) {
@@ -187,7 +189,7 @@ fn wrong_piece(alloc: Global, parser: &mut DimacsParser) -> Option<Piece> {
     None
 }
 
-/// Tests whether nothing waits behind the pieces, and the state stays when the text is said to be over.
+/// Tests whether no clauses are left to take after the pieces, and the state doesn't change when the text is finished.
 fn ends(alloc: Global, parser: &mut DimacsParser) -> bool {
     take(alloc, parser, &[]) == (true, 0, 9)
         && read(parser, b"", 1) == Ok(())
@@ -202,7 +204,7 @@ fn clauses_are_taken_as_they_come(rt: HostRuntime) {
     assert!(rt; ends(rt.alloc(), &mut parser));
 }
 
-/// Tests whether a formula with these clauses and this highest variable is read from a text.
+/// Tests whether a formula with `clauses` and `highest` variables is read from a text.
 fn is_parsed(alloc: Global, text: &[u8], clauses: &[i64], highest: usize) -> bool {
     match DimacsParser::parse(alloc, &mut Counted::new(text)) {
         Ok(formula) => formula.var_count() == highest && has(alloc, &formula, clauses),
@@ -229,18 +231,18 @@ fn each_read_may_fail(rt: HostRuntime) {
     assert!(rt; answer == Ok(2));
 }
 
-/// What a closure saw: the numbers of the clauses that it took, and how often it was called.
+/// What a closure saw: the numbers of the clauses that it took, and how many times it was called.
 #[derive(Drop)]
 struct Seen {
     numbers: Vec<i64>,
     calls: u64,
 }
 
-/// A caller's refusal, of the call of this number.
+/// A caller's refusal, with the number of the call.
 #[derive(Clone, Copy, Debug, Drop, PartialEq, Eq)]
 struct Refused(u64);
 
-/// Takes what waits, but refuses one call, counted from 1.
+/// Takes the clauses out of a parser, but refuses call number `refused`, counted from 1.
 fn look(seen: &mut Seen, parser: &mut DimacsParser, refused: u64) -> Result<(), Refused> {
     seen.calls = seen.calls.saturating_add(1);
     if seen.calls == refused {
@@ -249,7 +251,7 @@ fn look(seen: &mut Seen, parser: &mut DimacsParser, refused: u64) -> Result<(), 
     add_numbers(&mut seen.numbers, &parser.take_formula()).map_err(|_| Refused(0))
 }
 
-/// Reads a text, of which one call of the closure refuses, counted from 1.
+/// Reads a text with a closure that refuses call number `refused`, counted from 1.
 fn read_and_look<R: CountedRead>(
     alloc: Global,
     reader: &mut R,
@@ -265,7 +267,7 @@ fn read_and_look<R: CountedRead>(
     (seen, answer)
 }
 
-/// The state of a parser that has read its text, if nothing waits and nothing more is read, or the fault.
+/// The state of a parser that has read its text, or `None` if clauses are left or more is accepted; or the fault.
 type End = Result<Option<State>, IncrementalError<Refused>>;
 
 fn end_of(answer: Result<DimacsParser, IncrementalError<Refused>>) -> End {
@@ -274,7 +276,7 @@ fn end_of(answer: Result<DimacsParser, IncrementalError<Refused>>) -> End {
     Ok((is_finished(&mut parser) && is_over(&mut parser)).then_some(found))
 }
 
-/// Tests whether the closure saw these clauses, and was called so often. Gives the parser's end.
+/// Returns whether the closure saw `clauses` and was called `calls` times, and the parser's end.
 fn looked<R: CountedRead>(
     alloc: Global,
     reader: &mut R,
@@ -286,8 +288,8 @@ fn looked<R: CountedRead>(
     (is_right, end_of(answer))
 }
 
-/// Reads a text byte by byte, of which one read fails and one call of the closure refuses, both counted from 1. Gives
-/// how often the closure was called, and the fault.
+/// Reads a text byte by byte, while read number `failing` fails and the closure refuses call number `refused`, both
+/// counted from 1. Returns how many times the closure was called, and the fault.
 fn in_parts(
     alloc: Global,
     text: &[u8],
@@ -298,7 +300,7 @@ fn in_parts(
     (seen.calls, answer.err())
 }
 
-/// Adds a clause for each of the first thousand variables.
+/// Adds a thousand clauses, one for each of the first thousand variables.
 pub(crate) fn add_thousand(formula: &mut CnfFormula) -> Result<(), FormulaError> {
     for index in 0..1000 {
         formula.add_clause(&[Lit::from_index(index, true), Lit::from_index(1, false)])?;
@@ -306,7 +308,7 @@ pub(crate) fn add_thousand(formula: &mut CnfFormula) -> Result<(), FormulaError>
     Ok(())
 }
 
-/// Whether a thousand clauses are written, and their text.
+/// Returns whether a formula of a thousand clauses is written, and its text.
 fn long_text(alloc: Global) -> (bool, Vec<u8>) {
     let mut formula = CnfFormula::new(alloc);
     let mut writer = Counted::new(Vec::new(alloc));
@@ -315,8 +317,8 @@ fn long_text(alloc: Global) -> (bool, Vec<u8>) {
     (is_written, writer.into_inner())
 }
 
-/// Tests whether a text's clauses have so many numbers, a closure that is called 4 times sees them, and the parser ends
-/// as the text says.
+/// Tests whether a formula has `length` numbers, a closure that is called 4 times sees them in `text`, and the parser
+/// has the expected end.
 fn are_seen_again(alloc: Global, text: &[u8], formula: &CnfFormula, length: usize) -> bool {
     let end = Some((Some((1_000, 1_000)), 1_000, formula.var_count()));
     match numbers(alloc, formula) {
@@ -328,7 +330,7 @@ fn are_seen_again(alloc: Global, text: &[u8], formula: &CnfFormula, length: usiz
     }
 }
 
-/// Parses a text, and tests that.
+/// Parses a text, and tests `are_seen_again` with its formula.
 fn is_seen_again(alloc: Global, text: &[u8], length: usize) -> bool {
     match DimacsParser::parse(alloc, &mut Counted::new(text)) {
         Ok(formula) => are_seen_again(alloc, text, &formula, length),
@@ -343,7 +345,7 @@ fn a_caller_sees_each_clause_of_a_long_text(rt: HostRuntime) {
     assert!(rt; is_seen_again(rt.alloc(), text.as_slice(), 3_000));
 }
 
-/// A text, the clauses that a caller sees, how often the closure is called, and the parser's end or the fault.
+/// A text, the clauses that a caller sees, how many times the closure is called, and the parser's end or the fault.
 type Seeing = (&'static [u8], &'static [i64], u64, End);
 
 static SEEN: [Seeing; 4] = [
@@ -377,7 +379,7 @@ fn all_seen() -> &'static [Seeing] {
     &SEEN
 }
 
-/// Tests whether a caller sees this of a text that is given byte by byte.
+/// Tests whether a caller sees what `row` has in a text that is read byte by byte.
 fn is_seen(alloc: Global, row: &Seeing) -> bool {
     let (is_right, end) = looked(alloc, &mut by_one(row.0, 0), row.1, row.2);
     is_right && end == row.3
@@ -390,8 +392,8 @@ fn a_caller_sees_each_piece_and_the_clauses_before_a_fault(rt: HostRuntime) {
     }
 }
 
-/// Reads a text byte by byte. Gives the numbers of the clauses that a closure took, how often it was called, how often
-/// the reader was, and the fault.
+/// Reads a text byte by byte. Returns the numbers of the clauses that a closure took, how many times the closure was
+/// called, how many times the reader was, and the fault.
 fn looks_and_reads(
     alloc: Global,
     text: &[u8],
@@ -402,8 +404,8 @@ fn looks_and_reads(
     (numbers, calls, reader.into_inner().calls, answer.err())
 }
 
-/// After the byte `%` the text has ended, and nothing is read. The closure has the parser after each piece, and once
-/// more after the end.
+/// After the byte `%`, the text has ended and nothing is read. The closure is called after each piece, and once more
+/// after the end.
 #[test]
 fn a_caller_sees_each_piece_up_to_a_percent_line(rt: HostRuntime) {
     let (numbers, calls, reads, fault) = looks_and_reads(rt.alloc(), b"1\n%\n");
@@ -411,14 +413,14 @@ fn a_caller_sees_each_piece_up_to_a_percent_line(rt: HostRuntime) {
     assert!(rt; (calls, reads) == (4, 3));
 }
 
-/// How often a reader of a text is called that gives it byte by byte, and the fault.
+/// Returns how many times a reader is called that returns a text byte by byte, and the fault.
 fn reads_and_fault(alloc: Global, text: &[u8]) -> (u64, Option<DimacsError>) {
     let mut reader = by_one(text, 0);
     let fault = DimacsParser::parse(alloc, &mut reader).err();
     (reader.into_inner().calls, fault)
 }
 
-/// A text, and the line and the byte at which it is found malformed.
+/// A text, the line that is malformed, and the number of bytes that are read until it is found malformed.
 static FIRST_WRONG: [(&[u8], u64, u64); 5] = [
     (b"\0\0\0\n", 1, 1),
     (b"1 0\n2x 0\n", 2, 6),
@@ -431,7 +433,7 @@ fn first_wrong() -> &'static [(&'static [u8], u64, u64)] {
     &FIRST_WRONG
 }
 
-/// Nothing is read behind the first byte of a wrong word behind which no right one goes on.
+/// Nothing is read after the first byte that no valid token can contain there.
 #[test]
 fn wrong_words_are_reported_at_once(rt: HostRuntime) {
     for &(text, line, reads) in first_wrong() {
@@ -457,7 +459,7 @@ fn a_caller_may_refuse_and_a_read_may_fail(rt: HostRuntime) {
     assert!(rt; in_parts(rt.alloc(), text, 10, 10) == (9, None));
 }
 
-/// How many clauses a text has, which are let go as they come.
+/// Returns how many clauses a text has. The clauses are dropped as soon as they are read.
 fn count_in_parts<R: CountedRead>(
     alloc: Global,
     reader: &mut R,
@@ -486,7 +488,7 @@ fn a_percent_line_ends_a_formula(rt: HostRuntime) {
     assert!(rt; parser.finish().is_ok() && !parser.has_ended());
 }
 
-/// How many clauses a text has that goes on with zeros without end, and how often it is read.
+/// Returns the number of clauses of a text that continues with zeros without end, and how many times it is read.
 fn parse_endless(alloc: Global, text: &[u8]) -> (Option<usize>, u64) {
     let mut reader = without_end(text);
     let count = match DimacsParser::parse(alloc, &mut reader) {
@@ -496,7 +498,8 @@ fn parse_endless(alloc: Global, text: &[u8]) -> (Option<usize>, u64) {
     (count, reader.into_inner().calls)
 }
 
-/// The same, for a caller that sees the clauses of every piece.
+/// Returns the number of clauses of a text that continues with zeros without end, and how many times it is read, if a
+/// caller takes the clauses after every piece.
 fn count_endless(alloc: Global, text: &[u8]) -> (Option<u64>, u64) {
     let mut reader = without_end(text);
     let count = count_in_parts(alloc, &mut reader).ok();

@@ -1,13 +1,13 @@
-//! Texts from outside, and each write failing in turn.
+//! Tests of written texts, and of writes that fail.
 //!
-//! No `?` stands where a formula is owned: that is dear to prove.
+//! A function that owns a formula has no `?`, which would take long to prove.
 
 use crate::devices::by_few;
 use crate::dimacs::add_thousand;
 use sat_base::{CnfFormula, Counted, ExtendFormula, FormulaError, Lit, Var, write_dimacs};
 use std::alloc::Global;
 
-/// A formula's text, if there is memory.
+/// Returns a formula's text, or `None` if memory runs out.
 fn written(alloc: Global, formula: &CnfFormula) -> Option<Vec<u8>> {
     let mut writer = Counted::new(Vec::new(alloc));
     let is_written = write_dimacs(&mut writer, formula).is_ok();
@@ -15,7 +15,8 @@ fn written(alloc: Global, formula: &CnfFormula) -> Option<Vec<u8>> {
     if is_written { Some(text) } else { None }
 }
 
-/// Adds nothing, a clause and a variable that stands in none, or that and the last variable.
+/// Adds nothing at stage 0; at stage 1, a clause and a variable that occurs in no clause; at a later stage, also an
+/// empty clause and a clause of the last variable.
 fn fill(formula: &mut CnfFormula, stage: u64) -> Result<(), FormulaError> {
     if stage == 0 {
         return Ok(());
@@ -60,8 +61,9 @@ fn formulas_have_these_texts(rt: HostRuntime) {
     }
 }
 
-/// Writes a formula to a writer that takes so many bytes a call, of which one fails, counted from 1. Gives whether it
-/// was written, how many calls were made, and whether what was taken is this text.
+/// Writes a formula to a writer that accepts at most `most` bytes per call, and whose call number `failing` fails,
+/// counted from 1. Returns whether the formula was written, the number of calls, and whether the accepted bytes
+/// are `text`.
 fn by_few_calls(
     alloc: Global,
     formula: &CnfFormula,
@@ -78,13 +80,13 @@ fn length(alloc: Global, formula: &CnfFormula) -> Option<usize> {
     Some(written(alloc, formula)?.len())
 }
 
-/// The same, without what was taken.
+/// Returns the first two results of `by_few_calls`.
 fn calls(alloc: Global, formula: &CnfFormula, most: usize, failing: u64) -> (bool, u64) {
     let (is_written, calls, _) = by_few_calls(alloc, formula, (most, failing), &[]);
     (is_written, calls)
 }
 
-/// The first of three calls whose failing doesn't end the writing.
+/// Returns the number of the first of three calls whose failure doesn't end the writing, or `None`.
 fn wrong_call(alloc: Global, formula: &CnfFormula) -> Option<u64> {
     for failing in [1, 2, 3] {
         if calls(alloc, formula, 4096, failing) != (false, failing) {
@@ -94,7 +96,7 @@ fn wrong_call(alloc: Global, formula: &CnfFormula) -> Option<u64> {
     None
 }
 
-/// Tests whether a thousand clauses are written by three calls, and by no more than the failed one.
+/// Tests whether a thousand clauses are written with three calls, and a failed call is the last one.
 fn is_not_tried_again(alloc: Global, formula: &mut CnfFormula) -> bool {
     add_thousand(formula) == Ok(())
         && length(alloc, formula) == Some(8_909)
@@ -108,7 +110,8 @@ fn a_failed_write_is_not_tried_again(rt: HostRuntime) {
     assert!(rt; is_not_tried_again(rt.alloc(), &mut formula));
 }
 
-/// The first byte, counted from 1, of which a failed call doesn't leave the bytes before it.
+/// Returns the number of the first byte, counted from 1, such that the call that fails for it doesn't leave exactly the
+/// bytes before it; or `None`.
 fn wrong_byte(alloc: Global, formula: &CnfFormula, text: &[u8]) -> Option<u64> {
     for failing in 1..18 {
         let front = text.get(..(failing - 1) as usize).unwrap_or(&[]);
@@ -119,7 +122,8 @@ fn wrong_byte(alloc: Global, formula: &CnfFormula, text: &[u8]) -> Option<u64> {
     None
 }
 
-/// Tests whether a text is taken byte by byte, up to a call that fails, and isn't by a writer that takes nothing.
+/// Tests whether a writer can accept a text byte by byte, up to a call that fails, and whether writing fails if the
+/// writer accepts no bytes.
 fn is_taken_by_bytes(alloc: Global, formula: &mut CnfFormula, text: &[u8]) -> bool {
     fill(formula, 1) == Ok(())
         && wrong_byte(alloc, formula, text) == None

@@ -1,6 +1,6 @@
-//! Each call once, what stands after a refusal, and a caller that knows the trait alone.
+//! Tests of each function of a formula, of its state after a refusal, and of a caller that knows only the trait.
 //!
-//! No `?` stands where a formula is owned: that is dear to prove.
+//! A function that owns a formula has no `?`, which would take long to prove.
 ghost use Rattle.std.specs.Prelude.{◌≡◌, ◌≤◌, ◌∷◌, [], ℕ, true, OnOk};
 ghost use Rattle.sat_base.specs.values.Literals.{coded, var_limit};
 
@@ -22,12 +22,12 @@ fn add_unit<F: ExtendFormula>(formula: &mut F) -> Result<Lit, F::Error>
     Ok(lit)
 }
 
-/// The number of clauses, whether there is none, and the count of variables.
+/// Returns the number of clauses, whether there are none, and the number of variables.
 fn counts(formula: &CnfFormula) -> (usize, bool, usize) {
     (formula.len(), formula.is_empty(), formula.var_count())
 }
 
-/// Tests whether an iterator gives a clause, an empty one, another, and no more.
+/// Tests whether an iterator returns the clause `first`, an empty clause, the clause `last`, and then `None`.
 fn gives_three<'x>(formula: &'x CnfFormula, first: &'x [Lit], last: &'x [Lit]) -> bool {
     let mut clauses = formula.iter();
     let is_sized = clauses.len() == 3 && clauses.size_hint() == (3, Some(3));
@@ -49,14 +49,14 @@ fn longest(formula: &CnfFormula) -> usize {
     longest
 }
 
-/// Adds a clause, an empty one, and another.
+/// Adds the clause `first`, an empty clause, and the clause `last`.
 fn add_three(formula: &mut CnfFormula, first: &[Lit], last: &[Lit]) -> Result<(), FormulaError> {
     formula.add_clause(first)?;
     formula.add_clause(&[])?;
     formula.add_clause(last)
 }
 
-/// Tests whether three clauses that are added to an empty formula come in order.
+/// Tests whether three clauses that are added to an empty formula are returned in order.
 fn keeps_order(formula: &mut CnfFormula) -> bool {
     let (one, two, three) = (Var::from_index(0), Var::from_index(1), Var::from_index(2));
     let first = [one.positive(), two.negative()];
@@ -74,7 +74,7 @@ fn clauses_come_in_order(rt: HostRuntime) {
     assert!(rt; keeps_order(&mut formula));
 }
 
-/// Sets a count, and gives the count that there is then.
+/// Sets the number of variables, and returns the number afterwards.
 fn set(formula: &mut CnfFormula, count: usize) -> usize
     requires { count ≤ var_limit }
 {
@@ -82,7 +82,7 @@ fn set(formula: &mut CnfFormula, count: usize) -> usize
     formula.var_count()
 }
 
-/// Tests whether an empty formula's variables are counted, where some are new and the count is set.
+/// Tests whether the variables of an empty formula are counted when some are new and the number is set.
 fn counts_variables(formula: &mut CnfFormula) -> bool {
     formula.var_count() == 0
         && formula.new_var() == Ok(Var::from_index(0))
@@ -100,7 +100,8 @@ fn variables_are_counted(rt: HostRuntime) {
     assert!(rt; formula.new_var() == Ok(Var::from_index(21)));
 }
 
-/// Tests whether a formula whose count of variables is the limit gives no new one, and takes a clause of the last.
+/// Tests whether a formula with as many variables as the limit allows returns no new one, but accepts a clause with the
+/// last variable.
 fn gives_no_more(formula: &mut CnfFormula) -> bool {
     formula.new_var() == Err(FormulaError::VariableLimit)
         && formula.new_lit() == Err(FormulaError::VariableLimit)
@@ -116,7 +117,7 @@ fn no_variable_is_left(rt: HostRuntime) {
     assert!(rt; gives_no_more(&mut formula));
 }
 
-/// Tests whether a unit clause is added to a formula of one clause.
+/// Tests whether a unit clause of a new variable is added to a formula of one clause.
 fn takes_unit(formula: &mut CnfFormula) -> bool {
     formula.add_clause(&[Lit::from_index(2, true)]) == Ok(())
         && add_unit(formula) == Ok(Lit::from_index(3, true))
@@ -129,7 +130,7 @@ fn a_generic_caller(rt: HostRuntime) {
     assert!(rt; takes_unit(&mut formula));
 }
 
-/// Tests whether a formula that is swapped with an empty one takes its clause along.
+/// Tests whether a formula's clause moves along when the formula is swapped with an empty one.
 fn is_taken_out(formula: &mut CnfFormula, empty: &mut CnfFormula) -> bool {
     let is_added = formula.add_clause(&[Lit::from_index(2, true)]) == Ok(());
     mem::swap(formula, empty);

@@ -1,4 +1,4 @@
-//! Outside values, and each call once.
+//! Tests of conversions from numbers, and of each function of variables and literals.
 ghost use Rattle.std.specs.Prelude.{◌<◌, ◌*◌};
 ghost use Rattle.sat_base.specs.values.Literals.{var_limit};
 
@@ -11,7 +11,7 @@ fn index_of(number: i64) -> Option<usize> {
     Some(Var::from_dimacs(number)?.index())
 }
 
-/// The first of some numbers that is a variable's.
+/// Returns the first number that converts to a variable, or `None`.
 fn first_of_variable(numbers: &[i64]) -> Option<i64> {
     for &number in numbers {
         if Var::from_dimacs(number).is_some() {
@@ -29,7 +29,7 @@ fn numbers_of_variables(rt: HostRuntime) {
     assert!(rt; (Var::from_index(6).to_dimacs(), Var::max_count()) == (7, 268_435_456));
 }
 
-/// The first of some numbers that is a literal's.
+/// Returns the first number that converts to a literal, or `None`.
 fn first_of_literal(numbers: &[i64]) -> Option<i64> {
     for &number in numbers {
         if Lit::from_dimacs(number).is_some() {
@@ -39,7 +39,7 @@ fn first_of_literal(numbers: &[i64]) -> Option<i64> {
     None
 }
 
-/// Tests whether the literal of this number has this code, and that of the code the number.
+/// Tests whether the literal with the DIMACS number `number` has the code `code`, and vice versa.
 fn have(number: i64, code: usize) -> bool
     requires { code < 2 * var_limit }
 {
@@ -96,7 +96,8 @@ fn hash_of<T: Hash>(value: &T) -> u64 {
     hasher.finish()
 }
 
-/// Tests whether a variable comes before the next, and so do their literals, positive ones first.
+/// Tests whether a variable is ordered before the next one, and so are their literals, with the positive literal of
+/// each variable first.
 fn are_ordered(var: Var, next: Var) -> bool {
     order_of_variables(var, next) == Ordering::Less
         && order_of_literals(var.positive(), var.negative()) == Ordering::Less

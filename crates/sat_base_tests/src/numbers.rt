@@ -1,4 +1,4 @@
-//! Numbers in decimal and in LEB128.
+//! Tests of numbers in decimal and in LEB128.
 
 use sat_base::{push_decimal, push_leb128};
 use std::alloc::Global;
@@ -34,7 +34,7 @@ fn rows() -> &'static [Row] {
     &ROWS
 }
 
-/// Whether a number is appended as these digits, and as these bytes.
+/// Whether a number is appended as the digits of `row`, and as the bytes of `row`.
 fn is_appended(alloc: Global, row: &Row) -> bool {
     let mut digits = Vec::new(alloc);
     let mut bytes = Vec::new(alloc);

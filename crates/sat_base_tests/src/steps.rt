@@ -1,6 +1,6 @@
-//! Steps that are written and read again.
+//! Tests of steps that are written and read back.
 //!
-//! Each function is short and keeps few values, and the rows stand in tables: that is cheap to prove.
+//! Functions are short and keep few values, and rows are in tables, which makes the tests cheap to prove.
 
 ghost use Rattle.std.specs.Prelude.{◌≤◌};
 
@@ -12,7 +12,7 @@ use sat_base::{
 use std::alloc::Global;
 use std::io;
 
-/// A step's text, if there is memory.
+/// Returns the text of a step, or `None` if memory runs out.
 fn written(alloc: Global, step: &ProofStep<'_>) -> Option<Vec<u8>> {
     let mut writer = Counted::new(Vec::new(alloc));
     let is_written = write_step(&mut writer, step).is_ok();
@@ -20,7 +20,7 @@ fn written(alloc: Global, step: &ProofStep<'_>) -> Option<Vec<u8>> {
     if is_written { Some(text) } else { None }
 }
 
-/// Whether there was room for a step in a new writer of steps, and the text that it took.
+/// Returns whether a step fits into the buffer of a new `StepWriter`, and the text that is written.
 fn tried(alloc: Global, step: &ProofStep<'_>) -> (bool, Vec<u8>) {
     let mut steps = StepWriter::new(Counted::new(Vec::new(alloc)));
     let is_tried = steps.try_write(step);
@@ -28,7 +28,7 @@ fn tried(alloc: Global, step: &ProofStep<'_>) -> (bool, Vec<u8>) {
     (is_tried && end.is_ok(), writer.into_inner())
 }
 
-/// Tests whether a step has this text where it is only written if there is room.
+/// Tests whether `text` is what `try_write` writes for a step.
 fn is_tried_so(alloc: Global, step: &ProofStep<'_>, text: &[u8]) -> bool {
     let (is_tried, found) = tried(alloc, step);
     is_tried && found.as_slice() == text
@@ -37,7 +37,7 @@ fn is_tried_so(alloc: Global, step: &ProofStep<'_>, text: &[u8]) -> bool {
 /// The errors of two calls.
 type Errors = (StepError, Option<StepError>);
 
-/// How a text ends: the errors of two calls, and how many reads they make behind the last byte.
+/// How a text ends: the errors of two calls, and the number of reads they make after the last byte.
 type End = (Errors, u64);
 
 const AT_THE_END: End = ((StepError::Ends, Some(StepError::Ends)), 2);
@@ -48,8 +48,8 @@ const BAD: End = ((StepError::BadByte, Some(StepError::HasFailed)), 0);
 
 const FAULT: Errors = (StepError::Read, Some(StepError::HasFailed));
 
-/// Reads steps and writes them again, up to the first error. Gives that, and the error of the call behind it,
-/// unless there is no memory, or too many steps come.
+/// Reads steps and writes them again, up to the first error. Returns that error and the error of the next call, or
+/// `None` if memory runs out or there are too many steps.
 fn copied<R: CountedRead>(
     steps: &mut StepReader<'_, R>,
     copy: &mut Counted<Vec<u8>>,
@@ -65,19 +65,20 @@ fn copied<R: CountedRead>(
     None
 }
 
-/// Tests whether a reader gives the steps of this text, and then these errors.
+/// Tests whether a reader returns the steps of `text`, and then the given errors.
 fn gives<R: CountedRead>(alloc: Global, reader: &mut R, text: &[u8], errors: Errors) -> bool {
     let mut copy = Counted::new(Vec::new(alloc));
     let found = copied(&mut StepReader::new(alloc, reader), &mut copy);
     found == Some(errors) && copy.into_inner().as_slice() == text
 }
 
-/// The same of a text that is given whole.
+/// Tests `gives` for a text that is read in one piece.
 fn whole_gives(alloc: Global, text: &[u8], steps: &[u8], errors: Errors) -> bool {
     gives(alloc, &mut Counted::new(text), steps, errors)
 }
 
-/// The same of a text that is given byte by byte, of which one read fails, counted from 1. Gives the calls, too.
+/// Tests `gives` for a text that is read byte by byte, while read number `failing`, counted from 1, fails. Also returns
+/// the number of reads.
 fn pieces_give(
     alloc: Global,
     text: &[u8],
@@ -90,14 +91,14 @@ fn pieces_give(
     (is_right, pieces.into_inner().calls)
 }
 
-/// Tests whether a text that is given whole or by one byte gives these steps and then ends so.
+/// Tests whether a text, read in one piece or byte by byte, has the given steps and the given end.
 fn both_give(alloc: Global, text: &[u8], steps: &[u8], (errors, behind): End) -> bool {
     let calls = (text.len() as u64).saturating_add(behind);
     whole_gives(alloc, text, steps, errors)
         && pieces_give(alloc, text, 0, steps, errors) == (true, calls)
 }
 
-/// The tag of the next step.
+/// Returns the tag of the next step, or `None` on an error.
 fn next_tag<R: CountedRead>(steps: &mut StepReader<'_, R>) -> Option<u8> {
     match steps.advance() {
         Ok(()) => Some(steps.tag()),
@@ -105,18 +106,18 @@ fn next_tag<R: CountedRead>(steps: &mut StepReader<'_, R>) -> Option<u8> {
     }
 }
 
-/// The tag of the first step that a reader gives.
+/// Returns the tag of a reader's first step, or `None` on an error.
 fn first_tag<R: CountedRead>(alloc: Global, reader: &mut R) -> Option<u8> {
     next_tag(&mut StepReader::new(alloc, reader))
 }
 
-/// Tests whether the tag of the step with this text is its first byte.
+/// Tests whether the tag of the step with the text `text` is the first byte of `text`.
 fn begins_with_tag(alloc: Global, text: &[u8]) -> bool {
     first_tag(alloc, &mut Counted::new(text)) == text.first().copied()
 }
 
-/// Tests whether a step has this text, and is read again from it, whole and by one byte, and whether the text begins
-/// with its tag.
+/// Tests whether `text` is written for a step, is read as that step, in one piece and byte by byte, and begins with
+/// its tag.
 fn has_text(alloc: Global, step: &ProofStep<'_>, text: &[u8]) -> bool {
     match written(alloc, step) {
         Some(found) => {
@@ -192,7 +193,7 @@ fn rows_about_variables(first: Var, last: Var) -> [Row<'static>; 8] {
     ]
 }
 
-/// The first text of some rows that isn't the step's, or from which the step isn't read again.
+/// Returns the first text that isn't written for its step, or isn't read as that step, or `None`.
 fn wrong_text(alloc: Global, rows: &[Row<'_>]) -> Option<&'static [u8]> {
     for (step, text) in rows {
         if !has_text(alloc, step, *text) {
@@ -254,7 +255,7 @@ fn wrong_about_the_last(alloc: Global) -> Option<&'static [u8]> {
     wrong_text(alloc, &long_rows(&lits))
 }
 
-/// Rows about the first literal and the negation of the last.
+/// Returns rows about the first literal and the negation of the last one.
 fn long_rows(lits: &[Lit]) -> [Row<'_>; 4] {
     [
         (
@@ -330,7 +331,7 @@ fn a_hash_has_at_most_64_bits(rt: HostRuntime) {
 
 const FOUR_STEPS: &[u8] = &[5, 2, 0, 3, 12, 1, 3, 2, 0xe6, 1, 9, 1, 0x80, 1, 0, 13];
 
-/// The steps that stand before a byte, counted from 1.
+/// Returns the steps that end before byte number `byte`, counted from 1.
 fn steps_before(byte: u64) -> &'static [u8] {
     let mut whole = 0;
     for end in [4, 11, 15, 16] {
@@ -341,7 +342,8 @@ fn steps_before(byte: u64) -> &'static [u8] {
     FOUR_STEPS.get(..whole as usize).unwrap_or(&[])
 }
 
-/// Tests whether a reader whose read of this number fails gives the steps before it, and is called no more.
+/// Tests whether a reader whose read number `failing` fails returns the steps before that read, and is not
+/// called again.
 fn is_a_fault(alloc: Global, failing: u64) -> bool {
     let steps = steps_before(failing);
     pieces_give(alloc, FOUR_STEPS, failing, steps, FAULT) == (true, failing)
@@ -352,12 +354,12 @@ fn each_read_of_steps_may_fail(rt: HostRuntime) {
     for failing in 1..18 {
         assert!(rt; is_a_fault(rt.alloc(), failing), "{failing}");
     }
-    // The end was found before the read that fails, which the call behind makes.
+    // The end was found before the read that fails, which is made by the next call.
     let late = (StepError::Ends, Some(StepError::Read));
     assert!(rt; pieces_give(rt.alloc(), FOUR_STEPS, 18, FOUR_STEPS, late).0);
 }
 
-/// A text, its whole steps, and how it ends.
+/// A text, its complete steps, and how it ends.
 static TEXTS: [(&[u8], &[u8], End); 34] = [
     (&[0], &[], BAD),
     (&[14], &[], BAD),
@@ -391,7 +393,7 @@ static TEXTS: [(&[u8], &[u8], End); 34] = [
     (&[5, 2, 0], &[], CUT),
     (&[], &[], AT_THE_END),
     (&[13], &[13], AT_THE_END),
-    // Texts that promise 2^63 items, and then have none, or one: memory is for items that came.
+    // Texts that announce 2^63 items, but contain none or one: memory is requested only for items that were read.
     (
         &[5, 0x80, 0x80, 0x80, 0x80, 0x80, 0x80, 0x80, 0x80, 0x80, 1],
         &[],
@@ -435,7 +437,7 @@ static TEXTS: [(&[u8], &[u8], End); 34] = [
         &[],
         CUT,
     ),
-    // The room of lists is used again.
+    // The memory of lists is reused.
     (
         &[
             7, 2, 0, 0x44, 3, 1, 12, 1, 3, 1, 9, 7, 1, 5, 0, 5, 0, 7, 0, 6, 0, 0, 2, 3, 4, 13,
@@ -468,7 +470,7 @@ fn write_twice(
     steps.write(step)
 }
 
-/// Whether a step was written twice, and what its writer took.
+/// Returns whether a step was written twice, and what its writer accepted.
 fn half_written(alloc: Global, step: &ProofStep<'_>) -> (bool, Vec<u8>) {
     let mut steps = StepWriter::new(Counted::new(Vec::new(alloc)));
     let is_written = write_twice(&mut steps, step).is_ok();
@@ -482,7 +484,7 @@ fn what_waits_is_lost_with_a_writer_of_steps(rt: HostRuntime) {
     assert!(rt; is_written && taken.as_slice() == [5, 1, 0].as_slice());
 }
 
-/// The positive literals of 3,000 variables, or of fewer where memory ends.
+/// Returns the positive literals of 3,000 variables, or of fewer if memory runs out.
 fn many_lits(alloc: Global, first: usize) -> Vec<Lit>
     requires { first ≤ 268000000 }
 {
@@ -495,7 +497,7 @@ fn many_lits(alloc: Global, first: usize) -> Vec<Lit>
     lits
 }
 
-/// The length of a step's text, if the step is read again from it, whole.
+/// Returns the length of a step's text, if the text, in one piece, is read as the step.
 fn length_again(alloc: Global, step: &ProofStep<'_>) -> Option<usize> {
     let text = written(alloc, step)?;
     let is_right = whole_gives(alloc, text.as_slice(), text.as_slice(), AT_THE_END.0);
@@ -521,8 +523,9 @@ fn a_long_step_has_no_room(rt: HostRuntime) {
     assert!(rt; !is_tried && taken.is_empty());
 }
 
-/// Writes a step to a writer that takes so many bytes a call, of which one fails, counted from 1. Gives whether the
-/// step was written, how many calls were made, and whether what was taken begins this text, and is it.
+/// Writes a step to a writer that accepts at most `most` bytes per call, and whose call number `failing` fails, counted
+/// from 1. Returns whether the step was written, the number of calls, and whether the accepted bytes are a prefix of
+/// `text`, and all of it.
 fn by_few_calls(
     alloc: Global,
     step: &ProofStep<'_>,
@@ -541,7 +544,7 @@ fn by_few_calls(
     )
 }
 
-/// Tests whether a step is an error where one of so many calls fails, and ends with it.
+/// Tests whether writing a step fails if one of the first `calls` calls fails, and the failed call is the last one.
 fn may_fail(alloc: Global, step: &ProofStep<'_>, most: usize, calls: u64, text: &[u8]) -> bool {
     for failing in 1..=calls {
         let (is_written, made, begins, _) = by_few_calls(alloc, step, (most, failing), text);
@@ -552,8 +555,8 @@ fn may_fail(alloc: Global, step: &ProofStep<'_>, most: usize, calls: u64, text: 
     true
 }
 
-/// Tests whether a step is written whole to a writer that takes so many bytes a call, and is an error where one of the
-/// calls fails.
+/// Tests whether a step is written completely to a writer that accepts at most `most` bytes per call, and whether
+/// writing fails if one of the calls fails.
 fn is_taken_by_few(alloc: Global, step: &ProofStep<'_>, most: usize) -> bool {
     let Some(text) = written(alloc, step) else {
         return false;
@@ -575,14 +578,14 @@ fn each_write_of_a_short_step_may_fail(rt: HostRuntime) {
     }
 }
 
-/// Tests whether a step is an error where the writer takes nothing, after one call.
+/// Tests whether writing a step fails after one call if the writer accepts no bytes.
 fn is_not_taken(alloc: Global, step: &ProofStep<'_>) -> bool {
     let (is_written, calls, _, _) = by_few_calls(alloc, step, (0, 0), &[]);
     !is_written && calls == 1
 }
 
-/// The length of a long step's text, and whether the step is taken by a writer that takes few bytes a call, and not by
-/// one that takes none.
+/// Returns the length of a long step's text, whether a writer that accepts few bytes per call receives the step, and
+/// whether writing fails if the writer accepts no bytes.
 fn taken(alloc: Global, step: &ProofStep<'_>) -> (Option<usize>, bool, bool) {
     let length = length_again(alloc, step);
     let is_taken = is_taken_by_few(alloc, step, 7);

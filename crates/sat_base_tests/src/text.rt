@@ -34,7 +34,7 @@ const MINUS_TWELVE: Option<Token> = Some(Token::Number {
     value: 12,
 });
 
-/// The highest number that is given as it is, and one past it that is given as the limit.
+/// The highest number that is returned exactly, and a number past it, which is returned as the limit.
 const HIGHEST: Option<Token> = Some(Token::Number {
     negative: false,
     value: u64::MAX - 1,
@@ -52,11 +52,11 @@ const LIMIT_HEADER: Option<Token> = Some(Token::Header {
     clauses: u64::MAX,
 });
 
-/// A byte, the token that it ends, and the line on which the tokenizer stands behind it.
+/// A byte, the token that it ends, and the tokenizer's line after it.
 type Step = (u8, Option<Token>, u64);
 
-/// The first of some bytes, with its line, behind which the tokenizer doesn't give this token, or none, and stand on
-/// this line.
+/// Returns the first byte, with its line, after which the tokenizer returns another token or has another line,
+/// or `None`.
 fn wrong_byte(tokenizer: &mut Tokenizer, rows: &[Step]) -> Option<(u8, u64)> {
     for &(byte, token, line) in rows {
         let found = tokenizer.push(byte);
@@ -104,10 +104,10 @@ fn gives_tokens_where_they_end(rt: HostRuntime) {
     assert!(rt; tokenizer.finish() == None);
 }
 
-/// A text, the tokens that it gives, each behind its line, and the line on which it ends.
+/// A text, its tokens, each after its line, and the line on which the text ends.
 type Row = (&'static [u8], &'static [(u64, Token)], u64);
 
-/// Tests whether a token, if there is one, is the next of these.
+/// Tests whether a token is the next one of `left`, or there is no token.
 fn is_next(left: &mut Iter<'_, (u64, Token)>, line: u64, token: Option<Token>) -> bool {
     match token {
         Some(token) => left.next() == Some(&(line, token)),
@@ -115,13 +115,13 @@ fn is_next(left: &mut Iter<'_, (u64, Token)>, line: u64, token: Option<Token>) -
     }
 }
 
-/// Tests whether a text that ends gives the last of these tokens, if there is one left, and ends on this line.
+/// Tests whether the end of a text returns the last token of `left`, if one is left, and the text ends on line `line`.
 fn ends_on(tokenizer: &mut Tokenizer, left: &mut Iter<'_, (u64, Token)>, line: u64) -> bool {
     let token = tokenizer.finish();
     is_next(left, tokenizer.line(), token) && left.next() == None && tokenizer.line() == line
 }
 
-/// Tests whether a text gives what its row says.
+/// Tests whether a text has the tokens and the last line of `row`.
 fn gives(row: &Row) -> bool {
     let mut tokenizer = Tokenizer::new();
     let mut left = row.1.iter();
@@ -134,7 +134,8 @@ fn gives(row: &Row) -> bool {
     ends_on(&mut tokenizer, &mut left, row.2)
 }
 
-/// Takes a number with the blank that ends it, if the bytes begin so and this is wanted, else what `push_some` takes.
+/// Reads a number together with the blank after it, if the bytes begin so and `whole` is true; otherwise, reads what
+/// `push_some` reads.
 fn take_some(tokenizer: &mut Tokenizer, bytes: &[u8], whole: bool) -> (usize, Option<Token>)
     requires { 0 < length bytes.now }
     ensures { result.0 ≤ length bytes.now }
@@ -147,7 +148,8 @@ fn take_some(tokenizer: &mut Tokenizer, bytes: &[u8], whole: bool) -> (usize, Op
     tokenizer.push_some(bytes)
 }
 
-/// Tests the same where all of a text is handed over.
+/// Tests whether a text that is passed at once has the tokens and the last line of `row`. If `whole`, numbers are read
+/// together with the blank after them.
 fn gives_at_once(row: &Row, whole: bool) -> bool {
     let mut tokenizer = Tokenizer::new();
     let mut left = row.1.iter();
@@ -165,7 +167,7 @@ fn gives_at_once(row: &Row, whole: bool) -> bool {
     ends_on(&mut tokenizer, &mut left, row.2)
 }
 
-/// Tests whether bytes give no token.
+/// Tests whether bytes return no token.
 fn give_nothing(tokenizer: &mut Tokenizer, bytes: &[u8]) -> bool {
     for byte in bytes {
         if tokenizer.push(*byte) != None {
@@ -175,10 +177,10 @@ fn give_nothing(tokenizer: &mut Tokenizer, bytes: &[u8]) -> bool {
     true
 }
 
-/// A front with a header that waits for the end of its line.
+/// A prefix of a text with a header whose line has not ended.
 const FRONT: &[u8] = b"c 1\n\n p\tcnf  007 18446744073709551616 ";
 
-/// Tests whether the front gives nothing, and a header once the text ends.
+/// Tests whether `FRONT` returns no token, and a header once the text ends.
 fn gives_header_at_the_end(tokenizer: &mut Tokenizer) -> bool {
     give_nothing(tokenizer, FRONT) && tokenizer.finish() == LIMIT_HEADER && tokenizer.line() == 3
 }
@@ -201,8 +203,8 @@ const HEADER: Token = Token::Header {
     clauses: 1,
 };
 
-/// Lines that begin with p and are no headers, then headers, which come once and before words, then lines that begin
-/// with %, which end the text.
+/// Lines that begin with `p` and aren't headers; headers, of which a text can have one, before its first word; and
+/// lines that begin with `%`, which end the text.
 static LINES: [Row; 29] = [
     (b"p", &[(1, Token::Wrong)], 1),
     (b"p ", &[(1, Token::Wrong)], 1),
@@ -219,7 +221,7 @@ static LINES: [Row; 29] = [
     (b"p cnf 1 +1", &[(1, Token::Wrong)], 1),
     (b"p cnf 1x 1", &[(1, Token::Wrong)], 1),
     (b"p cnf 1 1 1", &[(1, Token::Wrong)], 1),
-    // The rest of such a line gives nothing more, and the next line is read.
+    // The rest of such a line returns no further token, and the next line is read.
     (b"p cnf -1 1 x 2\n3", &[(1, Token::Wrong), (2, THREE)], 2),
     (b"px cnf 1 1 x 2\n3", &[(1, Token::Wrong), (2, THREE)], 2),
     (b"p cnf 1 1 x y\n3", &[(1, Token::Wrong), (2, THREE)], 2),
@@ -256,7 +258,7 @@ fn lines() -> &'static [Row] {
     &LINES
 }
 
-/// The first text that doesn't give what its row says.
+/// Returns the first text that doesn't have the tokens of its row, or `None`.
 fn wrong_text() -> Option<&'static [u8]> {
     for row in lines() {
         if !gives(row) || !gives_at_once(row, false) || !gives_at_once(row, true) {
@@ -272,7 +274,7 @@ fn lines_that_begin_with_p_or_percent(rt: HostRuntime) {
     assert!(rt; wrong == None, "{wrong:?}");
 }
 
-/// Tests whether a word on the first line gives its token once the text ends, and nothing before.
+/// Tests whether a word on the first line returns its token only once the text ends.
 fn is_reported_at_the_end(word: &[u8], token: Option<Token>) -> bool {
     let mut tokenizer = Tokenizer::new();
     give_nothing(&mut tokenizer, word) && tokenizer.line() == 1 && tokenizer.finish() == token
@@ -299,7 +301,7 @@ fn words() -> &'static [(&'static [u8], Option<Token>)] {
     &WORDS
 }
 
-/// The first word that doesn't give its token at the end of the text.
+/// Returns the first word that doesn't return its token at the end of the text, or `None`.
 fn wrong_word() -> Option<&'static [u8]> {
     for row in words() {
         if !is_reported_at_the_end(row.0, row.1) {
@@ -315,7 +317,7 @@ fn reports_numbers_from_wrong_words(rt: HostRuntime) {
     assert!(rt; wrong == None, "{wrong:?}");
 }
 
-/// How many bytes of a text lead to a word or header line that is wrong whatever follows, if some do.
+/// Returns the number of bytes after which a word or header line is malformed whatever follows, or `None`.
 fn wrong_behind(text: &[u8]) -> Option<u64> {
     let mut tokenizer = Tokenizer::new();
     let mut count = 0u64;
@@ -329,7 +331,7 @@ fn wrong_behind(text: &[u8]) -> Option<u64> {
     None
 }
 
-/// Texts, and the bytes of each up to the first behind which no right word or header line goes on.
+/// Texts, and for each the number of bytes up to the first one after which no valid word or header line can continue.
 static TURNS: [(&[u8], Option<u64>); 37] = [
     (b"", None),
     (b"1x0 0", Some(2)),
@@ -344,13 +346,13 @@ static TURNS: [(&[u8], Option<u64>); 37] = [
     (b"b1", Some(2)),
     (b"a b c", None),
     (b"-", None),
-    // Behind these a further digit makes a number.
+    // Words that a further digit would make valid.
     (b"-0", None),
     (b"-00", None),
     (b"-01 0", None),
     (b"99999999999999999999999", None),
     (b"1 0\n2\t-3\r\n 4_", Some(13)),
-    // A word that its end makes wrong is told by its token.
+    // A word that only its end makes malformed is reported as a token.
     (b"- -0 +", Some(6)),
     (b"c\0+\n_", Some(5)),
     (b" \tc--\n1", None),
@@ -367,7 +369,7 @@ static TURNS: [(&[u8], Option<u64>); 37] = [
     (b"p cnf 1 -", Some(9)),
     (b"p cnf 1 1x", Some(10)),
     (b"p cnf 1 1 1", Some(11)),
-    // The line's other words say nothing.
+    // The line's other words are not reported.
     (b"p cn 1 1 x\n", None),
     (b"p cnf 1 1\np", Some(11)),
     (b"1\n\tp", Some(4)),
@@ -385,7 +387,7 @@ fn wrong_words_are_reported_at_their_first_wrong_byte(rt: HostRuntime) {
     }
 }
 
-/// Texts, and whether a line that begins with `%` has ended each.
+/// Texts, and whether a line that begins with `%` has ended them.
 static ENDED: [(&[u8], bool); 7] = [
     (b"", false),
     (b"%", true),
@@ -400,7 +402,7 @@ fn ended() -> &'static [(&'static [u8], bool)] {
     &ENDED
 }
 
-/// Whether a text has ended after these bytes.
+/// Returns whether a text has ended after the given bytes.
 fn is_over_after(text: &[u8]) -> bool {
     let mut tokenizer = Tokenizer::new();
     for byte in text {

@@ -1,4 +1,4 @@
-//! Tests of what is announced of accepted steps, and of its transcripts.
+//! Tests of what is announced for accepted steps, and of the transcripts.
 
 use crate::calls::{Answer, Call, error_of};
 use crate::hearing::{
@@ -10,10 +10,11 @@ use sat_base::{Counted, Var};
 use sat_checker::{CheckedProofStep, CheckerData, ProofProcessor};
 use std::alloc::Global;
 
-/// Steps in bytes, what is announced of them, and its transcript.
+/// Steps in bytes, their announcements, and their transcript.
 type Row = (&'static [u8], &'static [Notice], &'static [Said]);
 
-/// Whether a processor and a transcript that were added are notified of exactly this, if the steps are fed one by one.
+/// Whether a processor and a transcript that were added are notified of exactly what `row` has, if the steps are fed
+/// one by one.
 fn is_reported_to_added(alloc: Global, row: &Row) -> bool {
     let mut checker = Heard::notifying(alloc);
     let taken = add_listener(&mut checker, row.1)
@@ -23,7 +24,7 @@ fn is_reported_to_added(alloc: Global, row: &Row) -> bool {
     taken && told
 }
 
-/// Returns the error of a proof whose announcements a processor of the caller's own hears.
+/// Checks a proof with a processor of the caller's own, and returns the error.
 pub(crate) fn check_with<O: ProofProcessor>(
     alloc: Global,
     checker: &mut Heard,
@@ -36,8 +37,8 @@ pub(crate) fn check_with<O: ProofProcessor>(
     )
 }
 
-/// Whether a processor of the caller's own is notified of exactly this, if the steps are read as a proof, with or
-/// without its end.
+/// Whether a processor of the caller's own is notified of exactly what `row` has, if the steps are read as a proof,
+/// with or without its end.
 fn is_reported_to_own(alloc: Global, row: &Row) -> bool {
     let mut checker = Heard::notifying(alloc);
     let mut own = Listener::new(row.1);
@@ -51,7 +52,7 @@ fn is_announced(alloc: Global, row: &Row) -> bool {
     is_reported_to_added(alloc, row) && is_reported_to_own(alloc, row)
 }
 
-/// Returns the first steps of some rows of which something else is announced.
+/// Returns the steps of the first row whose announcements differ, or `None`.
 fn first_unannounced(alloc: Global, rows: &[Row]) -> Option<&'static [u8]> {
     for row in rows {
         if !is_announced(alloc, row) {
@@ -61,7 +62,7 @@ fn first_unannounced(alloc: Global, rows: &[Row]) -> Option<&'static [u8]> {
     None
 }
 
-/// What is announced of the four clauses over two variables, and of two clauses that follow from them.
+/// The announcements for the four clauses over two variables, and for two clauses that follow from them.
 pub(crate) const REFUTED: &[Notice] = &[
     Notice::AddClause(0, [1, 2, 0]),
     Notice::AddClause(1, [1, -2, 0]),
@@ -79,7 +80,7 @@ pub(crate) const REFUTED_SAID: &[Said] = &[
     Said::Unsat,
 ];
 
-/// The four clauses, and [1] and [] by the complete hashes of two of them each.
+/// The four clauses, and [1] and [] derived with the complete hashes of two clauses each.
 pub(crate) const REFUTATION: &[u8] = &[
     5, 2, 0, 2, 5, 2, 0, 3, 5, 2, 1, 2, 5, 2, 1, 3, //
     6, 0, 1, 0, 2, 0xaa, 0x90, 0xd4, 0x94, 0xd0, 0x92, 0xc5, 0xc8, 0x44, 0xc1, 0x98, 0x8e, 0x93,
@@ -88,10 +89,10 @@ pub(crate) const REFUTATION: &[u8] = &[
     0xf0, 0xb2, 0xc5, 0xd9, 0x44,
 ];
 
-/// Derived clauses over named buckets.
+/// Derived clauses, with the buckets that their hashes name.
 static PROPAGATIONS: [Row; 4] = [
     (REFUTATION, REFUTED, REFUTED_SAID),
-    // at width 8
+    // At width 8.
     (
         &[
             5, 2, 0, 2, 5, 2, 0, 3, 5, 2, 1, 2, 5, 2, 1, 3, 9, 8, 6, 0, 1, 0, 2, 0x44, 0xe6, 1, 6,
@@ -100,7 +101,7 @@ static PROPAGATIONS: [Row; 4] = [
         REFUTED,
         REFUTED_SAID,
     ),
-    // at width 0 one bucket has all clauses
+    // At width 0, one bucket has all clauses.
     (
         &[
             5, 2, 0, 2, 5, 2, 0, 3, 5, 2, 1, 2, 5, 2, 1, 3, 9, 0, 6, 0, 1, 0, 1, 0, 6, 0, 0, 1, 0,
@@ -108,7 +109,7 @@ static PROPAGATIONS: [Row; 4] = [
         REFUTED,
         REFUTED_SAID,
     ),
-    // in the order passed: the first clause is falsified as the bucket is passed again
+    // Ids are in the order in which clauses are passed: the first clause is falsified when the bucket is passed again.
     (
         &[
             5, 3, 3, 4, 6, 5, 2, 0, 2, 5, 2, 3, 7, 9, 0, 6, 0, 2, 0, 4, 2, 0, 0,
@@ -129,14 +130,14 @@ static PROPAGATIONS: [Row; 4] = [
 
 /// Names and modes.
 static NAMES: [Row; 13] = [
-    // of an unknown variable, which stays so without a solver index
+    // A name for an unknown variable, which remains unknown when its solver name is removed.
     (&[2, 0, 5], &[Notice::UserVar(1, 5, SAMPLE, NEW)], &[]),
     (
         &[1, 0, 0, 2, 0, 5],
         &[Notice::UserVar(1, 5, SAMPLE, NEW)],
         &[],
     ),
-    // of a known one: of a clause, a witness, and by its solver index
+    // A name for a known variable: one in a clause, a witness, and one with a solver name.
     (
         &[5, 1, 0, 2, 0, 5],
         &[
@@ -158,7 +159,7 @@ static NAMES: [Row; 13] = [
         &[Notice::UserVar(1, 5, SAMPLE, KNOWN)],
         &[Said::ObserveInternalVar(5)],
     ),
-    // removed, also from a witness
+    // A name is removed, from a sampling variable and from a witness.
     (
         &[2, 0, 5, 2, 0, 0],
         &[Notice::UserVar(1, 5, SAMPLE, NEW), Notice::NoName(1)],
@@ -173,7 +174,7 @@ static NAMES: [Row; 13] = [
         ],
         &[Said::WitnessVar(5), Said::HideVar(5)],
     ),
-    // modes that change
+    // Modes that change.
     (
         &[2, 0, 5, 4, 0, 0, 4, 0, 1],
         &[
@@ -183,7 +184,7 @@ static NAMES: [Row; 13] = [
         ],
         &[Said::WitnessVar(5), Said::SampleVar(5)],
     ),
-    // modes that stay
+    // Modes that don't change.
     (
         &[2, 0, 5, 4, 0, 1, 4, 0, 0, 4, 0, 0],
         &[
@@ -192,7 +193,7 @@ static NAMES: [Row; 13] = [
         ],
         &[Said::WitnessVar(5)],
     ),
-    // modes of a variable without a name: one that never had any, and a hidden one
+    // Modes of a variable without a name: one that never had a name, and a hidden one.
     (
         &[5, 1, 0, 4, 0, 0, 4, 0, 1],
         &[Notice::AddClause(0, [1, 0, 0])],
@@ -203,7 +204,7 @@ static NAMES: [Row; 13] = [
         &[Notice::UserVar(1, 5, SAMPLE, NEW), Notice::NoName(1)],
         &[Said::HideVar(5)],
     ),
-    // another name for one that is hidden no longer, and one for a deleted variable
+    // Another name for a variable that is no longer hidden, and a name for a deleted variable.
     (
         &[2, 0, 5, 2, 0, 0, 4, 0, 1, 2, 0, 6],
         &[
@@ -227,13 +228,13 @@ static NAMES: [Row; 13] = [
 
 /// Clauses of the formula.
 static INPUTS: [Row; 11] = [
-    // new, as a sorted set
+    // A new clause, as a sorted set.
     (
         &[5, 3, 2, 0, 2],
         &[Notice::AddClause(0, [1, 2, 0])],
         &[Said::AddClause([1, 2, 0])],
     ),
-    // stored before: a long one, a unit
+    // Clauses that are already stored: a long clause, and a unit.
     (
         &[5, 2, 0, 2, 5, 3, 2, 0, 0],
         &[
@@ -250,7 +251,7 @@ static INPUTS: [Row; 11] = [
         ],
         &[Said::AddClause([1, 0, 0]), Said::AddClause([1, 0, 0])],
     ),
-    // as a redundant clause, which is irredundant from there on
+    // A clause that is already stored as redundant, and is irredundant from then on.
     (
         &[
             9, 0, 5, 2, 0, 2, 6, 1, 3, 0, 2, 4, 1, 0, 5, 3, 0, 2, 4, 6, 0, 3, 0, 2, 4, 1, 0,
@@ -262,7 +263,7 @@ static INPUTS: [Row; 11] = [
         ],
         &[Said::AddClause([1, 2, 0]), Said::AddClause([1, 2, 3])],
     ),
-    // as a derived unit
+    // A clause that is already stored as a derived unit.
     (
         &[9, 0, 5, 2, 0, 2, 5, 2, 0, 3, 6, 0, 1, 0, 1, 0, 5, 1, 0],
         &[
@@ -277,7 +278,7 @@ static INPUTS: [Row; 11] = [
             Said::AddClause([1, 0, 0]),
         ],
     ),
-    // one that was removed is new again
+    // A clause that was removed is new again.
     (
         &[5, 2, 0, 2, 5, 1, 0, 8, 2, 0, 2, 2, 5, 2, 0, 2],
         &[
@@ -292,7 +293,7 @@ static INPUTS: [Row; 11] = [
             Said::AddClause([1, 2, 0]),
         ],
     ),
-    // both signs of a variable: it gets an id and is not stored
+    // A clause with both signs of a variable gets an id, but is not stored.
     (
         &[5, 3, 2, 1, 0, 5, 3, 0, 1, 2, 5, 1, 2],
         &[
@@ -306,13 +307,13 @@ static INPUTS: [Row; 11] = [
             Said::AddClause([2, 0, 0]),
         ],
     ),
-    // an empty one, after which no clause has an effect
+    // An empty clause, after which no clause has an effect.
     (
         &[5, 0, 5, 0, 5, 1, 0, 5, 2, 0, 1],
         &[Notice::AddClause(0, [0, 0, 0])],
         &[Said::AddClause([0, 0, 0])],
     ),
-    // in the user's names: a variable that has one, and one that is its own
+    // Clauses in the user's names: a variable that has a name, and a variable whose number is its name.
     (
         &[2, 0, 5, 5, 2, 0, 3],
         &[
@@ -335,13 +336,13 @@ static INPUTS: [Row; 11] = [
             Said::AddClause([5, -5, 0]),
         ],
     ),
-    // steps of which nothing is announced
+    // Steps for which nothing is announced.
     (&[9, 8, 1, 0, 1, 1, 0, 0, 9, 64, 13], &[], &[]),
 ];
 
-/// Clauses that follow from others.
+/// Clauses that follow from other clauses.
 static DERIVED: [Row; 11] = [
-    // a redundant one, as a sorted set
+    // A redundant clause, as a sorted set.
     (
         &[9, 0, 5, 2, 0, 2, 6, 1, 4, 4, 2, 0, 0, 1, 0],
         &[
@@ -350,7 +351,7 @@ static DERIVED: [Row; 11] = [
         ],
         &[Said::AddClause([1, 2, 0])],
     ),
-    // stored already, as that or as irredundant: no announcement and no id
+    // A redundant clause that is already stored, as redundant or as irredundant: no announcement and no id.
     (
         &[
             9, 0, 5, 2, 0, 2, 6, 1, 3, 0, 2, 4, 1, 0, 6, 1, 3, 0, 2, 4, 1, 0, 6, 1, 2, 0, 2, 1, 0,
@@ -363,7 +364,7 @@ static DERIVED: [Row; 11] = [
         ],
         &[Said::AddClause([1, 2, 0]), Said::AddClause([4, 0, 0])],
     ),
-    // irredundant for the first time, and once more
+    // A clause that becomes irredundant, and is derived as irredundant once more.
     (
         &[
             9, 0, 5, 2, 0, 2, 6, 1, 3, 0, 2, 4, 1, 0, 6, 0, 3, 0, 2, 4, 1, 0, 6, 0, 3, 0, 2, 4, 1,
@@ -376,7 +377,7 @@ static DERIVED: [Row; 11] = [
         ],
         &[Said::AddClause([1, 2, 0])],
     ),
-    // both signs of a variable; a unit that is stored already; one that is true in the clause
+    // A clause with both signs of a variable; a unit that is already stored; a clause that a unit satisfies.
     (&[6, 0, 2, 0, 1, 0], &[], &[]),
     (
         &[5, 1, 0, 6, 0, 1, 0, 0, 7, 1, 0, 0],
@@ -391,7 +392,7 @@ static DERIVED: [Row; 11] = [
         ],
         &[Said::AddClause([1, 0, 0])],
     ),
-    // units, of which the second rests on the first
+    // Units. The second is derived from the first.
     (
         &[9, 0, 5, 1, 0, 5, 2, 1, 2, 5, 2, 3, 5, 7, 2, 2, 0, 5, 0],
         &[
@@ -407,7 +408,7 @@ static DERIVED: [Row; 11] = [
             Said::AddClause([-2, -3, 0]),
         ],
     ),
-    // a clause that is passed, and isn't needed
+    // A clause of the bucket that isn't needed.
     (
         &[9, 0, 5, 2, 0, 4, 5, 2, 0, 2, 5, 2, 0, 3, 6, 0, 1, 0, 1, 0],
         &[
@@ -422,7 +423,7 @@ static DERIVED: [Row; 11] = [
             Said::AddClause([1, -2, 0]),
         ],
     ),
-    // units come first, by their ids, even if the falsified clause needs the later one
+    // Units come first, ordered by their ids, even if the falsified clause needs the later unit.
     (
         &[
             9, 0, 5, 1, 0, 5, 1, 2, 5, 2, 1, 4, 5, 2, 3, 5, 6, 0, 1, 6, 1, 0,
@@ -441,7 +442,7 @@ static DERIVED: [Row; 11] = [
             Said::AddClause([-2, -3, 0]),
         ],
     ),
-    // a unit that the negated clause holds itself isn't needed; the derived one contradicts it
+    // A unit that is part of the negated clause isn't needed. The derived unit contradicts it.
     (
         &[
             9, 0, 5, 1, 1, 5, 2, 0, 2, 5, 2, 0, 3, 6, 0, 1, 0, 1, 0, 11, 0,
@@ -462,7 +463,7 @@ static DERIVED: [Row; 11] = [
             Said::Assume([0, 0, 0]),
         ],
     ),
-    // each empty one is new
+    // Every empty clause is new.
     (
         &[
             9, 0, 5, 2, 0, 2, 5, 1, 1, 5, 1, 3, 6, 0, 0, 1, 0, 6, 1, 0, 1, 0,
@@ -486,7 +487,7 @@ static DERIVED: [Row; 11] = [
 
 /// Clauses that are deleted.
 static DELETED: [Row; 12] = [
-    // redundant: removed; stored once more; irredundant as well
+    // Redundant: removed; stored once more; also stored as irredundant.
     (
         &[9, 0, 5, 2, 0, 2, 6, 1, 3, 0, 2, 4, 1, 0, 8, 3, 4, 2, 0, 0],
         &[
@@ -514,7 +515,7 @@ static DELETED: [Row; 12] = [
         &[Notice::AddClause(0, [1, 2, 0])],
         &[Said::AddClause([1, 2, 0])],
     ),
-    // satisfied: removed; stored once more; remains as redundant, and is removed then
+    // Satisfied: removed; stored once more; remains as redundant, and is removed later.
     (
         &[5, 2, 0, 2, 5, 1, 0, 8, 2, 2, 0, 2],
         &[
@@ -554,7 +555,7 @@ static DELETED: [Row; 12] = [
         ],
         &[Said::AddClause([1, 2, 0]), Said::AddClause([1, 0, 0])],
     ),
-    // simplified: removed; stored once more; remains as redundant
+    // Simplified: removed; stored once more; remains as redundant.
     (
         &[5, 3, 0, 2, 4, 5, 2, 4, 0, 8, 3, 0, 2, 4, 1],
         &[
@@ -599,7 +600,7 @@ static DELETED: [Row; 12] = [
             Said::AddClause([1, 3, 0]),
         ],
     ),
-    // by a unit, by the empty clause, and by a clause that was stored before
+    // Simplified by a unit, by the empty clause, and by a clause that was stored earlier.
     (
         &[5, 2, 0, 2, 5, 1, 0, 8, 2, 0, 2, 1],
         &[
@@ -636,7 +637,7 @@ static DELETED: [Row; 12] = [
 
 /// Models, assumptions and failed cores.
 static ANSWERS: [Row; 13] = [
-    // in the order of their steps
+    // Literals in the order of the steps.
     (
         &[5, 2, 0, 2, 10, 2, 2, 1],
         &[Notice::AddClause(0, [1, 2, 0]), Notice::Model([2, -1, 0])],
@@ -650,7 +651,7 @@ static ANSWERS: [Row; 13] = [
         ],
         &[Said::Assume([2, -1, 0]), Said::Assume([0, 0, 0])],
     ),
-    // cores: by a unit, by a clause, by both, of no literal, and of both signs
+    // Cores: by a unit, by a clause, by both, without literals, and with both signs of a variable.
     (
         &[5, 1, 0, 11, 2, 1, 2, 12, 1, 1, 0],
         &[
@@ -718,7 +719,7 @@ static ANSWERS: [Row; 13] = [
             Said::FailedAssumptions([1, -1, 0]),
         ],
     ),
-    // in the user's names
+    // Literals in the user's names.
     (
         &[2, 0, 5, 5, 1, 0, 11, 1, 1, 12, 1, 1, 0],
         &[
@@ -750,8 +751,8 @@ static ANSWERS: [Row; 13] = [
         ],
         &[Said::WitnessVar(5), Said::Assume([-5, 0, 0])],
     ),
-    // without literals of variables that have no name: a hidden one, which is its own once it is sampled again, and a
-    // witness
+    // Literals of variables without a name are left out: those of a hidden variable, whose number is its name once it
+    // is sampled again, and of a witness.
     (
         &[
             2, 0, 5, 2, 0, 0, 11, 3, 0, 1, 3, 12, 2, 0, 1, 0, 10, 2, 1, 2,
@@ -797,7 +798,7 @@ static ANSWERS: [Row; 13] = [
 /// A name, and units that contradict each other.
 pub(crate) const UNITS: &[u8] = &[2, 0, 1, 5, 1, 0, 5, 1, 1];
 
-/// What is announced of them until what is delayed is settled.
+/// The announcements of `UNITS` until the delayed steps are settled.
 pub(crate) const CONFLICT_BEFORE: &[Notice] = &[
     Notice::UserVar(1, 1, SAMPLE, NEW),
     Notice::AddClause(0, [1, 0, 0]),
@@ -822,7 +823,7 @@ const CONFLICT_SAID: &[Said] = &[
     Said::Unsat,
 ];
 
-/// The empty clause of a unit conflict, which the next step announces.
+/// The empty clause of a unit conflict, which is announced by the next step.
 static CONFLICTS: [Row; 5] = [
     (&[2, 0, 1, 5, 1, 0, 5, 1, 1, 13], CONFLICT, CONFLICT_SAID),
     (
@@ -846,7 +847,7 @@ static CONFLICTS: [Row; 5] = [
             Said::Assume([-1, 0, 0]),
         ],
     ),
-    // under another name
+    // The variable has another name.
     (
         &[2, 0, 5, 5, 1, 0, 5, 1, 1, 13],
         &[
@@ -861,7 +862,7 @@ static CONFLICTS: [Row; 5] = [
             Said::Unsat,
         ],
     ),
-    // of derived units, one step's
+    // The conflicting units are derived by a single step.
     (
         &[9, 0, 5, 1, 0, 5, 2, 1, 2, 5, 2, 1, 3, 7, 2, 2, 0, 3, 0, 13],
         &[
@@ -971,7 +972,8 @@ fn calls_are_announced(rt: HostRuntime) {
     assert!(rt; wrong == None, "{wrong:?}");
 }
 
-/// A processor that looks up the name of the first variable, and expects these names. 0 is no name.
+/// A processor that looks up the name of the first variable at each announcement, and expects the names `awaited`,
+/// where 0 is no name.
 #[derive(Drop)]
 struct Names {
     awaited: &'static [i64],
@@ -1009,14 +1011,15 @@ impl ProofProcessor for Names {
     }
 }
 
-/// A variable that is known, gets a name, becomes a witness, is hidden, is sampled again and becomes a witness without
-/// a name. Assumptions are announced after every step.
+/// Steps in which a variable becomes known, gets a name, becomes a witness, is hidden, is sampled again and becomes a
+/// witness without a name. Assumptions are announced after every step.
 const LOOKED_UP: &[u8] = &[
     1, 0, 1, 11, 0, 2, 0, 5, 11, 0, 4, 0, 0, 11, 0, 2, 0, 0, 11, 0, 4, 0, 1, 11, 0, 4, 0, 0, 11, 0,
     13,
 ];
 
-/// Its name before every step that is announced. A sampling variable without a name has its own number.
+/// The name of that variable at each announcement for `LOOKED_UP`. A sampling variable without a name has its
+/// own number.
 const FOUND: &[i64] = &[1, 1, 5, 5, 5, 5, 0, 1, 0];
 
 fn are_looked_up(alloc: Global, own: &mut Names) -> bool {

@@ -1,4 +1,4 @@
-//! Tests of listeners of several types, in boxes.
+//! Tests of boxed listeners of several types.
 use crate::listeners::FailsAt;
 use sat_base::Lit;
 use sat_checker::{
@@ -26,7 +26,7 @@ impl ProofProcessor for Quiet {
     }
 }
 
-/// Adds two boxes of different types. The second returns a fault at this call.
+/// Adds two boxes of different types. The second returns a fault at call number `at`.
 fn add_boxes(checker: &mut BoxChecker, alloc: Global, at: u64) -> bool {
     let Ok(quiet) = Box::new(alloc, Quiet {}) else {
         return false;
@@ -39,7 +39,8 @@ fn add_boxes(checker: &mut BoxChecker, alloc: Global, at: u64) -> bool {
     first.is_ok() && second.is_ok()
 }
 
-/// Whether a clause is added, or a listener returns a fault. Any other error is `None`.
+/// Returns `true` if the clause of `lit` is added, `false` if a listener returns a fault, and `None` for any
+/// other error.
 fn is_added(checker: &mut BoxChecker, lit: Lit) -> Option<bool> {
     match checker.add_clause(&[lit]) {
         Ok(()) => Some(true),
@@ -48,7 +49,8 @@ fn is_added(checker: &mut BoxChecker, lit: Lit) -> Option<bool> {
     }
 }
 
-/// Adds two clauses, while the second box returns a fault at this call. Also returns the number of boxes at the end.
+/// Adds two clauses, while the second box returns a fault at call number `at`. Returns what `add_boxes` and the two
+/// calls return, and the number of processors at the end.
 fn reported_boxes(alloc: Global, at: u64) -> (bool, Option<bool>, Option<bool>, usize) {
     let mut checker: BoxChecker = Checker::notifying(alloc);
     let added = add_boxes(&mut checker, alloc, at);

@@ -29,7 +29,7 @@ fn is_refuted<R: CountedRead>(
     answer
 }
 
-/// Does the same with a checker that has accepted nothing yet.
+/// Does what `is_refuted` does, with a checker that has accepted nothing yet.
 fn is_refuted_by<R: CountedRead>(
     checker: &mut Checker,
     formula: &CnfFormula,

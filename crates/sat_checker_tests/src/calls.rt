@@ -1,6 +1,6 @@
 //! Calls of a checker, one after another, and their results.
 //!
-//! Tests are lists of calls, and one function makes the calls, so the tests are cheap to prove.
+//! Tests are lists of calls, and a single function makes the calls, so the tests are cheap to prove.
 
 use crate::devices::by_one;
 use crate::kinds::{Kind, dimacs_failure, failure};
@@ -12,7 +12,8 @@ use std::alloc::Global;
 /// Clauses, by the numbers of their literals.
 pub(crate) type Clauses = &'static [&'static [i64]];
 
-/// A call of a checker. In a text that is read byte by byte, the read with this number fails, or none if it is 0.
+/// A call of a checker. If a call has a number, its text is read byte by byte and the read with this number fails; with
+/// 0, none fails.
 #[derive(Clone, Copy)]
 pub(crate) enum Call {
     Clause(&'static [i64]),
@@ -26,23 +27,23 @@ pub(crate) enum Call {
     /// Steps that are fed as a proof.
     Proof(&'static [u8]),
     ProofByOne(&'static [u8], u64),
-    /// `self_check_delayed_steps`.
+    /// A call of `self_check_delayed_steps`.
     Settle,
 }
 
-/// The result of a call: its error, and whether unsat is recorded and `End` accepted afterwards.
+/// The result of a call: its error, whether unsat is recorded afterwards, and whether `End` was accepted.
 pub(crate) type Answer = (Option<Kind>, bool, bool);
 
 /// A call, and its result.
 pub(crate) type Answered = (Call, Answer);
 
-/// What some calls of a new checker show, and the calls.
+/// The name of a test, and its calls of a new checker.
 pub(crate) type Calls = (&'static str, &'static [Answered]);
 
-/// The end of a proof.
+/// A proof that consists of its end.
 pub(crate) const END: &[u8] = &[13];
 
-/// Adds the literals of these numbers. Returns whether there was memory for them.
+/// Appends the literals with the given DIMACS numbers. Returns `false` if memory runs out.
 fn push_lits(lits: &mut Vec<Lit>, numbers: &[i64]) -> bool {
     for number in numbers {
         let pushed = match Lit::from_dimacs(*number) {
@@ -56,7 +57,7 @@ fn push_lits(lits: &mut Vec<Lit>, numbers: &[i64]) -> bool {
     true
 }
 
-/// Makes a clause, if there is memory.
+/// Returns the clause with the given literals, or `None` if memory runs out.
 fn clause_of(alloc: Global, numbers: &[i64]) -> Option<Vec<Lit>> {
     let mut lits = Vec::new(alloc);
     if push_lits(&mut lits, numbers) {
@@ -77,7 +78,7 @@ fn add_clause<P: ProofProcessor, T: ProofTranscriptProcessor>(
     }
 }
 
-/// Adds clauses to a formula. Returns whether there was memory for them.
+/// Adds clauses to a formula. Returns `false` if memory runs out.
 fn fill(alloc: Global, formula: &mut CnfFormula, clauses: Clauses) -> bool {
     for numbers in clauses {
         let added = match clause_of(alloc, *numbers) {
@@ -172,7 +173,7 @@ pub(crate) fn error_of<P: ProofProcessor, T: ProofTranscriptProcessor>(
     }
 }
 
-/// Whether calls of a checker, one after another, have these results.
+/// Whether calls of `checker`, one after another, have the given results.
 pub(crate) fn answers<P: ProofProcessor, T: ProofTranscriptProcessor>(
     alloc: Global,
     checker: &mut Checker<P, T>,
@@ -187,7 +188,7 @@ pub(crate) fn answers<P: ProofProcessor, T: ProofTranscriptProcessor>(
     true
 }
 
-/// Whether calls of a new checker, one after another, have these results.
+/// Whether calls of a new checker, one after another, have the given results.
 pub(crate) fn are_answered(alloc: Global, calls: &[Answered]) -> bool {
     let mut checker = Checker::new(alloc);
     let right = answers(alloc, &mut checker, calls);
@@ -195,7 +196,7 @@ pub(crate) fn are_answered(alloc: Global, calls: &[Answered]) -> bool {
     right
 }
 
-/// Returns what the first calls show that have another result.
+/// Returns the name of the first test in which a call has another result, or `None`.
 pub(crate) fn first_wrong(alloc: Global, rows: &[Calls]) -> Option<&'static str> {
     for row in rows {
         if !are_answered(alloc, row.1) {

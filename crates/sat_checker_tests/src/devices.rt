@@ -4,7 +4,7 @@ use sat_base::Counted;
 use std::io;
 use std::io::{ErrorKind, Read};
 
-/// A text that is read byte by byte. The read with this number fails, counted from 1; at 0 none does.
+/// A text that is read byte by byte. Read number `failing` fails, counted from 1; with 0, none does.
 #[derive(Drop)]
 pub(crate) struct ByOne<'a> {
     text: &'a [u8],

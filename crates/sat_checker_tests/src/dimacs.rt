@@ -10,8 +10,8 @@ const TAKEN: Answer = (None, false, false);
 
 const REFUTED: Answer = (None, true, false);
 
-/// A fault in the first line, in the second, and by a number past the limit in the third, with or without unsat
-/// recorded.
+/// A fault in the first line, in the second line, and because of a number past the limit in the third line, with or
+/// without unsat recorded.
 const FIRST_LINE: Answer = (
     Some(Kind::Dimacs(DimacsError::Malformed { line: 1 })),
     false,
@@ -43,7 +43,7 @@ pub(crate) const PAIRS: &[u8] = b"c four clauses\np cnf 2 4\n1 2 0\n1 -2 0\n-1 2
 
 type Row = (&'static [u8], Answer);
 
-/// Texts. Some have a fault after clauses that contradict each other, or after others.
+/// Texts, some of which have a fault after clauses, contradictory or not.
 static TEXTS: [Row; 11] = [
     (b"", TAKEN),
     (PAIRS, TAKEN),
@@ -62,13 +62,13 @@ fn texts() -> &'static [Row] {
     &TEXTS
 }
 
-/// Whether a text has this result, read in one chunk and in chunks of one byte.
+/// Whether a text has the given result, read in one chunk and in chunks of one byte.
 fn is_answered(alloc: Global, row: &Row) -> bool {
     are_answered(alloc, &[(Call::Dimacs(row.0), row.1)])
         && are_answered(alloc, &[(Call::DimacsByOne(row.0, 0), row.1)])
 }
 
-/// Returns the first text that has another result.
+/// Returns the first text that has another result, or `None`.
 fn first_unanswered(alloc: Global) -> Option<&'static [u8]> {
     for row in texts() {
         if !is_answered(alloc, row) {
@@ -86,7 +86,8 @@ fn texts_are_answered(rt: HostRuntime) {
 
 const UNITS: &[u8] = b"1 2 0\n-1 0\n";
 
-/// Returns the first read whose fault is not returned, or after which the checker does not continue.
+/// Returns the number of the first read whose failure isn't reported, or after which the checker can't be used any
+/// more, or `None`.
 fn first_unanswered_read(alloc: Global) -> Option<u64> {
     for failing in 1..13 {
         let calls = [

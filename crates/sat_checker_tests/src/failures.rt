@@ -1,4 +1,4 @@
-//! Tests of processors and transcripts that return a fault, at every one of their calls in turn.
+//! Tests of processors and transcripts that return a fault, at each of their calls.
 
 use crate::announcements::{
     CONFLICT, CONFLICT_BEFORE, CONFLICT_SAID_BEFORE, REFUTATION, REFUTED, REFUTED_SAID, UNITS,
@@ -14,11 +14,12 @@ use crate::kinds::Kind;
 use crate::proofs;
 use std::alloc::Global;
 
-/// The number of steps in the transcript of the first announcements of the refutation. The fifth has none.
+/// The number of transcript steps for a number of announcements of the refutation. The fifth announcement has none.
 const STEPS: [usize; 7] = [0, 1, 2, 3, 4, 4, 5];
 
-/// Returns how often the listener at a place is called without a fault, if the one at the failing place returns a fault
-/// for this announcement. Those after it are not notified of it.
+/// Returns how many times the listener at position `place` is called without a fault, if the listener at
+/// position `failing` returns a fault for announcement number `at`. Listeners after `failing` are not notified
+/// of that announcement.
 fn calls(place: usize, failing: usize, at: usize) -> usize {
     if place < failing {
         at
@@ -27,17 +28,17 @@ fn calls(place: usize, failing: usize, at: usize) -> usize {
     }
 }
 
-/// Returns the announcements that the listener at a place accepts.
+/// Returns the announcements that the listener at position `place` accepts.
 fn told(place: usize, failing: usize, at: usize) -> &'static [Notice] {
     &REFUTED[..calls(place, failing, at).min(REFUTED.len())]
 }
 
-/// Returns the steps that the transcript at a place accepts.
+/// Returns the steps that the transcript at position `place` accepts.
 fn said(place: usize, failing: usize, at: usize) -> &'static [Said] {
     &REFUTED_SAID[..STEPS[calls(place, failing, at).min(6)].min(REFUTED_SAID.len())]
 }
 
-/// Adds two processors at places 1 and 2, and two transcripts at places 3 and 4.
+/// Adds two processors at positions 1 and 2, and two transcripts at positions 3 and 4.
 fn add_four(checker: &mut Heard, failing: usize, at: usize) -> bool {
     add_listener(checker, told(1, failing, at))
         && add_reader(checker, said(3, failing, at))
@@ -50,7 +51,8 @@ fn is_ended(alloc: Global, checker: &mut Heard, call: Call) -> bool {
     error_of(alloc, checker, call) == Some(Kind::NoMore)
 }
 
-/// Whether a proof ends by such a fault, with a processor of the caller's own at place 0.
+/// Whether a proof ends with the fault of a listener that expects no more, with a processor of the caller's own at
+/// position 0.
 fn is_ended_with_own(alloc: Global, checker: &mut Heard, awaited: &'static [Notice]) -> bool {
     let mut own = Listener::new(awaited);
     check_with(alloc, checker, REFUTATION, &mut own) == Some(Kind::NoMore) && own.is_done()
@@ -66,8 +68,8 @@ fn has_failed(alloc: Global, checker: &mut Heard) -> bool {
     true
 }
 
-/// Whether a fault at this place ends the steps at this announcement: those of a proof with a processor of the caller's
-/// own, or those that are fed one by one.
+/// Whether a fault of the listener at position `failing` ends the steps at announcement number `at`. The steps are read
+/// as a proof with a processor of the caller's own, or fed one by one.
 fn ends(alloc: Global, failing: usize, at: usize, with_own: bool) -> bool {
     let mut checker = Heard::notifying(alloc);
     let ended = add_four(&mut checker, failing, at)
@@ -81,7 +83,7 @@ fn ends(alloc: Global, failing: usize, at: usize, with_own: bool) -> bool {
     ended && left
 }
 
-/// The places, and the announcements at which the listener there is called.
+/// The positions, and the announcements at which the listener at that position is called.
 static FAULTS: [(usize, &[usize]); 5] = [
     (0, &[1, 2, 3, 4, 5, 6]),
     (1, &[1, 2, 3, 4, 5, 6]),
@@ -94,7 +96,7 @@ fn faults() -> &'static [(usize, &'static [usize])] {
     &FAULTS
 }
 
-/// Returns the first announcement at which a fault does not end the steps as it should.
+/// Returns the first announcement at which a fault does not end the steps, or `None`.
 fn first_unended(alloc: Global, failing: usize, announcements: &[usize]) -> Option<usize> {
     for at in announcements {
         if !ends(alloc, failing, *at, true) || failing > 0 && !ends(alloc, failing, *at, false) {
@@ -118,12 +120,12 @@ const FAULT: Answer = (Some(Kind::NoMore), false, false);
 
 const HAS_FAILED: Answer = (Some(Kind::HasFailed), false, false);
 
-/// A formula of four clauses is added, and the checker continues.
+/// Returns calls that add a formula of four clauses, after which the checker can still be used.
 fn taken(call: Call) -> [Answered; 2] {
     [(call, TAKEN), (Call::Proof(END), (None, false, true))]
 }
 
-/// A fault ends the formula, and the checker has failed.
+/// Returns calls in which a fault ends the formula, and the checker has failed.
 fn ended(call: Call) -> [Answered; 4] {
     [
         (call, FAULT),
@@ -133,7 +135,7 @@ fn ended(call: Call) -> [Answered; 4] {
     ]
 }
 
-/// Whether a formula's clauses are announced up to the first that is not expected, if this many are.
+/// Whether the first `count` clauses of a formula are announced, and the next announcement ends the formula.
 fn is_reported_up_to(alloc: Global, call: Call, count: usize) -> bool {
     let (told, said) = (told(0, 1, count), said(0, 1, count));
     if count == 4 {
@@ -143,7 +145,8 @@ fn is_reported_up_to(alloc: Global, call: Call, count: usize) -> bool {
     }
 }
 
-/// Returns the first number of clauses after which a fault does not end a formula, as such or as its text.
+/// Returns the first number of clauses after which a fault does not end a formula, given as such or as a text,
+/// or `None`.
 fn first_unreported(alloc: Global) -> Option<usize> {
     for count in 0..5 {
         if !is_reported_up_to(alloc, Call::Formula(proofs::PAIRS), count)
@@ -176,7 +179,7 @@ const SETTLED: &[Answered] = &[
     (Call::Settle, UNSAT_HAS_FAILED),
 ];
 
-/// A fault there ends a proof, too.
+/// A fault at that empty clause also ends a proof.
 const ENDED: &[Answered] = &[
     (Call::Steps(UNITS), UNSAT),
     (Call::Proof(END), UNSAT_FAULT),

@@ -20,19 +20,19 @@ type Ids = [u64; 4];
 /// No id.
 pub(crate) const NO: u64 = u64::MAX;
 
-/// An announcement. Variables, names and literals are numbers of DIMACS.
+/// An announcement. Variables, names and literals are DIMACS numbers.
 #[derive(Clone, Copy)]
 pub(crate) enum Notice {
-    /// A variable, its name, whether it is a sampling one, and whether it was unknown.
+    /// A variable, its name, whether it is a sampling variable, and whether it was unknown.
     UserVar(i64, i64, bool, bool),
-    /// A variable, which has no name any more.
+    /// A variable that no longer has a name.
     NoName(i64),
     DeleteVar(i64),
     AddClause(u64, Numbers),
     /// An id, and the earlier id of the same clause.
     DuplicatedClause(u64, u64, Numbers),
     TautologicalClause(u64, Numbers),
-    /// An id, whether it is redundant, the clause, and its propagations.
+    /// An id, whether the clause is redundant, the clause, and its propagations.
     AtClause(u64, bool, Numbers, Ids),
     MakeIrredundant(u64, Numbers),
     DeleteClause(u64, Numbers),
@@ -59,7 +59,7 @@ pub(crate) const KEPT: bool = true;
 
 pub(crate) const GONE: bool = false;
 
-/// A step of a transcript, with numbers of DIMACS.
+/// A step of a transcript, with DIMACS numbers.
 #[derive(Clone, Copy)]
 pub(crate) enum Said {
     WitnessVar(i64),
@@ -73,7 +73,7 @@ pub(crate) enum Said {
     FailedAssumptions(Numbers),
 }
 
-/// Returns the number of the literal at this place, or zero.
+/// Returns the DIMACS number of the literal at position `place`, or 0.
 fn number_at(lits: &[Lit], place: usize) -> i64 {
     match lits.get(place) {
         Some(lit) => lit.to_dimacs(),
@@ -86,7 +86,7 @@ fn are_numbers(lits: &[Lit], numbers: Numbers) -> bool {
     lits.len() <= 3 && found == numbers
 }
 
-/// Returns the id at this place, or `NO`.
+/// Returns the id at position `place`, or `NO`.
 fn id_at(ids: &[u64], place: usize) -> u64 {
     match ids.get(place) {
         Some(id) => *id,
@@ -157,7 +157,7 @@ const FAILED: u8 = 10;
 
 const FORGOTTEN: u8 = 12;
 
-/// None of these: a variable's name, which `is_user_var` compares, or what no test expects.
+/// Any other announcement: a variable's name, which `is_user_var` compares, or one that no test expects.
 const OTHER: u8 = 11;
 
 const NONE: Ids = [NO; 4];
@@ -165,7 +165,7 @@ const NONE: Ids = [NO; 4];
 /// The kind of an announcement, its id, another id, a flag, its literals and its propagations.
 type Found<'a> = (u8, u64, u64, bool, &'a [Lit], &'a [u64]);
 
-/// The same parts of an announcement that is expected.
+/// The corresponding parts of an expected announcement.
 type Awaited = (u8, u64, u64, bool, Numbers, Ids);
 
 fn parts_of<'a>(step: &CheckedProofStep<'a>) -> Found<'a> {
@@ -240,7 +240,7 @@ fn are_same(found: Found<'_>, awaited: Awaited) -> bool {
         && are_ids(ids, wanted_ids)
 }
 
-/// Whether the announcement is this one.
+/// Whether the announcement `step` is the expected one, `told`.
 fn is_reported(step: &CheckedProofStep<'_>, told: Notice) -> bool {
     match *step {
         CheckedProofStep::UserVar { var, user_var } => is_user_var(told, var, user_var),
@@ -248,7 +248,7 @@ fn is_reported(step: &CheckedProofStep<'_>, told: Notice) -> bool {
     }
 }
 
-/// Returns the kind of a transcript's step, by its place in the list below, its variable and its literals.
+/// Returns the kind of a transcript's step, as its position in the list below, its variable and its literals.
 fn said_parts<'a>(step: &ProofTranscriptStep<'a>) -> (u8, i64, &'a [Lit]) {
     match *step {
         ProofTranscriptStep::WitnessVar { var } => (0, var.to_dimacs(), &[]),
@@ -263,7 +263,7 @@ fn said_parts<'a>(step: &ProofTranscriptStep<'a>) -> (u8, i64, &'a [Lit]) {
     }
 }
 
-/// Returns the same parts of a step that is expected.
+/// Returns the corresponding parts of an expected step.
 fn awaited_said(said: Said) -> (u8, i64, Numbers) {
     match said {
         Said::WitnessVar(number) => (0, number, [0; 3]),
@@ -278,7 +278,7 @@ fn awaited_said(said: Said) -> (u8, i64, Numbers) {
     }
 }
 
-/// Whether the step is this one.
+/// Whether the step of a transcript is the expected one, `said`.
 fn is_said(step: &ProofTranscriptStep<'_>, said: Said) -> bool {
     let (what, number, lits) = said_parts(step);
     let (wanted, wanted_number, numbers) = awaited_said(said);
@@ -287,7 +287,7 @@ fn is_said(step: &ProofTranscriptStep<'_>, said: Said) -> bool {
 
 const ANOTHER: &str = "another one is awaited";
 
-/// A processor that expects these announcements.
+/// A processor that expects the announcements `awaited`.
 #[derive(Drop)]
 pub(crate) struct Listener {
     awaited: &'static [Notice],
@@ -302,7 +302,7 @@ impl Listener {
         self.awaited.is_empty()
     }
 
-    /// Accepts an announcement. Returns a fault if it is not the next one that is expected.
+    /// Accepts the next expected announcement. Returns a fault for any other announcement.
     fn fault(&mut self, step: &CheckedProofStep<'_>) -> Option<&'static str> {
         let Some((first, rest)) = self.awaited.split_first() else {
             return Some(NO_MORE);
@@ -332,7 +332,7 @@ impl ProofProcessor for Listener {
     }
 }
 
-/// A transcript that expects these steps.
+/// A transcript that expects the steps `awaited`.
 #[derive(Drop)]
 pub(crate) struct Reader {
     awaited: &'static [Said],
@@ -347,7 +347,7 @@ impl Reader {
         self.awaited.is_empty()
     }
 
-    /// Accepts a step. Returns a fault if it is not the next one that is expected.
+    /// Accepts the next expected step. Returns a fault for any other step.
     fn fault(&mut self, step: &ProofTranscriptStep<'_>) -> Option<&'static str> {
         let Some((first, rest)) = self.awaited.split_first() else {
             return Some(NO_MORE);
@@ -373,15 +373,15 @@ impl ProofTranscriptProcessor for Reader {
     }
 }
 
-/// A checker with such processors and transcripts.
+/// A checker whose processors and transcripts have expectations.
 pub(crate) type Heard = Checker<Listener, Reader>;
 
-/// Adds a processor that expects these announcements. Returns whether there was memory.
+/// Adds a processor that expects the announcements `awaited`. Returns `false` if memory runs out.
 pub(crate) fn add_listener(checker: &mut Heard, awaited: &'static [Notice]) -> bool {
     checker.add_processor(Listener::new(awaited)).is_ok()
 }
 
-/// Adds a transcript that expects these steps.
+/// Adds a transcript that expects the steps `awaited`. Returns `false` if memory runs out.
 pub(crate) fn add_reader(checker: &mut Heard, awaited: &'static [Said]) -> bool {
     checker.add_transcript(Reader::new(awaited)).is_ok()
 }
@@ -404,7 +404,7 @@ fn transcripts_are_done(transcripts: &[Reader]) -> bool {
     true
 }
 
-/// Whether there are this many processors and transcripts, and all of them received all that they expect.
+/// Whether there are `count` processors and `count` transcripts, and each of them received all that it expects.
 pub(crate) fn are_done(given_back: Processors<Listener, Reader>, count: usize) -> bool {
     given_back.processors.len() == count
         && given_back.transcripts.len() == count
@@ -412,7 +412,8 @@ pub(crate) fn are_done(given_back: Processors<Listener, Reader>, count: usize) -
         && transcripts_are_done(&given_back.transcripts)
 }
 
-/// Whether calls of a new checker have these results, and a processor and a transcript are notified of exactly this.
+/// Whether calls of a new checker have the given results, a processor is notified of exactly `told`, and a transcript
+/// of exactly `said`.
 pub(crate) fn are_heard(
     alloc: Global,
     told: &'static [Notice],
@@ -427,7 +428,7 @@ pub(crate) fn are_heard(
     right && left
 }
 
-/// What some calls show, their announcements and transcript, and the calls.
+/// The name of a test, its announcements and its transcript, and its calls.
 pub(crate) type HeardCalls = (
     &'static str,
     &'static [Notice],
@@ -435,7 +436,7 @@ pub(crate) type HeardCalls = (
     &'static [Answered],
 );
 
-/// Returns what the first calls show that have another result, or of which something else is announced.
+/// Returns the name of the first test in which a call has another result or something else is announced, or `None`.
 pub(crate) fn first_unheard(alloc: Global, rows: &[HeardCalls]) -> Option<&'static str> {
     for row in rows {
         if !are_heard(alloc, row.1, row.2, row.3) {

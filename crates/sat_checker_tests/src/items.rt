@@ -1,4 +1,4 @@
-//! Tests of hashes, of sets of literals, and of what is known of variables.
+//! Tests of hashes, of sets of literals, and of what is recorded about variables.
 
 use crate::calls::{Call, error_of};
 use sat_base::{ClauseHash, HashBits, Lit, Var};
@@ -7,10 +7,10 @@ use sat_checker::variables::Variables;
 use sat_checker::{Checker, ClauseHasher};
 use std::alloc::Global;
 
-/// The hash of [1,2] by width.
+/// The hash of [1,2] for some widths.
 static HASHES: [(u32, ClauseHash); 4] = [(64, 0x449114950295082a), (8, 0x44), (6, 17), (0, 0)];
 
-/// Names two variables, sets the width, and hashes a clause of the two.
+/// Gives solver names to two variables, sets the width, and returns the hash of a clause of the two variables.
 fn named_hash(hasher: &mut ClauseHasher, bits: HashBits) -> Option<ClauseHash> {
     let (first, second) = (Var::from_index(7), Var::from_index(5));
     let (two, one) = (Some(Var::from_index(1)), Some(Var::from_index(0)));
@@ -48,7 +48,7 @@ fn lits(numbers: [i64; 3]) -> Option<[Lit; 3]> {
     ])
 }
 
-/// Whether literals have these numbers in DIMACS, in this order.
+/// Whether literals have the given DIMACS numbers, in order.
 fn have_numbers(lits: &[Lit], numbers: &[i64]) -> bool {
     if lits.len() != numbers.len() {
         return false;
@@ -61,7 +61,7 @@ fn have_numbers(lits: &[Lit], numbers: &[i64]) -> bool {
     true
 }
 
-/// Literals, the sorted set of them, and whether both signs of a variable are among them.
+/// Literals, their sorted set, and whether it contains both signs of a variable.
 static SETS: [([i64; 3], &[i64], bool); 4] = [
     ([2, 1, 1], &[1, 2], false),
     ([-1, 3, 1], &[1, -1, 3], true),
@@ -73,7 +73,7 @@ fn sets() -> &'static [([i64; 3], &'static [i64], bool)] {
     &SETS
 }
 
-/// Whether `copy_canonical` makes this sorted set, and returns this.
+/// Whether `copy_canonical` makes the sorted set `wanted`, and returns `both`.
 fn is_set_of(alloc: Global, numbers: [i64; 3], wanted: &[i64], both: bool) -> bool {
     let Some(lits) = lits(numbers) else {
         return false;
@@ -89,7 +89,7 @@ fn sets_are_sorted(rt: HostRuntime) {
     }
 }
 
-/// Two sets, whether the first is a part of the second, and whether it is a strict one.
+/// Two sets, whether the first is a subset of the second, and whether it is a strict one.
 static PARTS: [([i64; 3], [i64; 3], bool, bool); 4] = [
     ([1, 2, 2], [2, 1, 3], true, true),
     ([1, 2, 3], [3, 2, 1], true, false),
@@ -101,7 +101,8 @@ fn parts() -> &'static [([i64; 3], [i64; 3], bool, bool)] {
     &PARTS
 }
 
-/// Whether the sorted set of literals is a part of another one.
+/// Returns whether the first literals, as a set, are a subset of the second ones, or a strict subset; or `None` if
+/// memory runs out.
 #[tactic(auto, using(sat_checker::proofs::lemmas::sets::Canonical::canonical_increasing))]
 fn are_part(alloc: Global, first: &[Lit], second: &[Lit], strict: bool) -> Option<bool> {
     let mut part = Vec::new(alloc);
@@ -123,7 +124,7 @@ fn parts_are_reported(rt: HostRuntime) {
     }
 }
 
-/// What a checker reports of the first variable: its name, whether it is known, and whether a variable was deleted.
+/// What a checker reports about the first variable: its name, whether it is known, and whether it was deleted.
 type Notice = (Option<usize>, bool, bool);
 
 /// Steps, and what is reported after them.
@@ -159,7 +160,7 @@ fn variables_are_reported(rt: HostRuntime) {
     }
 }
 
-/// Whether a variable has a name until it is removed, and is still known after that.
+/// Whether a variable has a name until the name is removed, and is still known afterwards.
 fn is_held(variables: &mut Variables) -> bool {
     let (var, name) = (Var::from_index(0), Var::from_index(4));
     variables.ensure_var(var) == Ok(())

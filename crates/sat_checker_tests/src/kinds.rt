@@ -1,4 +1,4 @@
-//! Errors by their kinds, which can be compared.
+//! The kinds of errors, which can be compared.
 
 use sat_base::DimacsError;
 use sat_checker::{CheckerDimacsError, CheckerError};
@@ -15,7 +15,7 @@ pub(crate) enum Kind {
     ParseError,
     CheckFailed,
     ProofProcessorError,
-    /// The same, with the fault of a listener that expects no more.
+    /// A `ProofProcessorError` with the fault of a listener that expects no more.
     NoMore,
     OutOfMemory,
     CounterEnd,
@@ -49,7 +49,7 @@ fn kind_of(alloc: Global, error: &CheckerError) -> Kind {
     }
 }
 
-/// Returns the kind of a result's error, if it is one.
+/// Returns the kind of a result's error, or `None` if it is `Ok`.
 pub(crate) fn failure(alloc: Global, answer: &Result<(), CheckerError>) -> Option<Kind> {
     match answer {
         Ok(()) => None,
@@ -57,7 +57,7 @@ pub(crate) fn failure(alloc: Global, answer: &Result<(), CheckerError>) -> Optio
     }
 }
 
-/// Returns the kind of a result's error, if it is one.
+/// Returns the kind of a result's error, or `None` if it is `Ok`.
 pub(crate) fn dimacs_failure(
     alloc: Global,
     answer: &Result<(), CheckerDimacsError>,

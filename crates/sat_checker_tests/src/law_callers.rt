@@ -1,4 +1,4 @@
-//! What follows from the laws of what is stored.
+//! Functions whose contracts follow from the laws about what is stored.
 ghost use Rattle.std.specs.Prelude.{ℕ, ◌≡◌, ◌<◌, ◌≤◌, ◌++◌, Bool, true, false, List, [], ◌∷◌, length, map};
 ghost use Rattle.std.specs.List.{AllByRecursion};
 ghost use Rattle.sat_base.specs.steps.Steps.{AddClause, AtClause, DeleteClause, Redundant, Step};
@@ -15,7 +15,7 @@ use sat_checker::law_stored::{
     bytes_bound_ids, contents_follow_steps, last_was_derived, named_clauses_pass, stored_is_tidy,
 };
 
-/// [1] passes under the hashes of [1,2] and [1,-2], whichever other clauses have these hashes.
+/// States that [1] passes under the hashes of [1,2] and [1,-2], whichever other clauses have these hashes.
 fn resolvent_passes()
     ensures { (f : Stored) (g h : ℕ) → IsStoredByHash f (0 ∷ 2 ∷ []) g → IsStoredByHash f (0 ∷ 3 ∷ []) h
         → PassesByHashes f (0 ∷ []) (g ∷ h ∷ []) }
@@ -23,7 +23,7 @@ fn resolvent_passes()
     named_clauses_pass();
 }
 
-/// A redundant clause that is derived and deleted changes no count.
+/// States that no count changes if a redundant clause is derived and deleted.
 fn counts_return()
     ensures { (earlier : List Step) (hashes : List ℕ) (side : Bool) (set : List ℕ)
         → (contents (ready_after (DeleteClause (0 ∷ 2 ∷ []) Redundant ∷ AtClause true (0 ∷ 2 ∷ []) hashes
@@ -32,7 +32,7 @@ fn counts_return()
     contents_follow_steps();
 }
 
-/// The ids of stored clauses were given.
+/// States that the ids of stored clauses are below the next id.
 fn ids_were_given()
     ensures { (steps : List Step) → AcceptsAll steps
         → AllByRecursion (λ id. id < (ready_after steps).next_id) (map (λ c. c.id) (ready_after steps).clauses) }
@@ -40,7 +40,7 @@ fn ids_were_given()
     stored_is_tidy();
 }
 
-/// A derived clause may replace one that it is a strict part of.
+/// States that a derived clause [1,2] becomes the last clause, which is a strict subset of [1,2,3].
 fn derived_is_part()
     ensures { (steps : List Step) (hashes : List ℕ) → AcceptsAll (AtClause false (0 ∷ 2 ∷ []) hashes ∷ steps)
         → let f = ready_after (AtClause false (0 ∷ 2 ∷ []) hashes ∷ steps) in IsStrictSubset (last_literals f.last f)
@@ -49,7 +49,7 @@ fn derived_is_part()
     last_was_derived();
 }
 
-/// A clause that is read after other steps has an id.
+/// States that ids are not exhausted when a clause is read from a text of at most `most_bytes` bytes.
 fn clause_has_an_id()
     ensures { (steps : List Step) (clause text : List ℕ) → SpellsSteps (steps ++ AddClause clause ∷ []) text
         → length text ≤ most_bytes → SpentBy (AddClause clause) (stored_after (taken_after steps [])) → ⊥ }

@@ -9,7 +9,7 @@ use sat_checker::{
 };
 use std::alloc::Global;
 
-/// A listener that returns a fault at one of its calls, counted from 1.
+/// A listener that returns a fault at call number `at`, counted from 1.
 #[derive(Drop)]
 pub(crate) struct FailsAt {
     calls: u64,
@@ -54,14 +54,14 @@ impl ProofTranscriptProcessor for FailsAt {
     }
 }
 
-/// Adds a processor and a transcript that accept everything. Returns whether there was memory.
+/// Adds a processor and a transcript that accept everything. Returns `false` if memory runs out.
 pub(crate) fn add_quiet(checker: &mut Checker<FailsAt, FailsAt>) -> bool {
     let processor = checker.add_processor(FailsAt::new(0));
     let transcript = checker.add_transcript(FailsAt::new(0));
     processor.is_ok() && transcript.is_ok()
 }
 
-/// Notifies the listeners up to four times. Returns how often there was no fault before the first one.
+/// Notifies the listeners up to four times. Returns how many times that succeeded before the first fault.
 fn told(
     processing: &mut Processing<FailsAt, FailsAt>,
     variables: &Variables,
@@ -75,15 +75,15 @@ fn told(
     4
 }
 
-/// Adds two processors and a transcript that fail at this call.
+/// Adds two processors and a transcript that fail at call number `at`. Returns `false` if memory runs out.
 fn add_three(processing: &mut Processing<FailsAt, FailsAt>, at: u64) -> bool {
     processing.add_processor(FailsAt::new(at)).is_ok()
         && processing.add_processor(FailsAt::new(at)).is_ok()
         && processing.add_transcript(FailsAt::new(at)).is_ok()
 }
 
-/// Whether two processors that fail at this call, and a transcript, are returned as the first fault left them: the
-/// second processor and the transcript were called once less.
+/// Whether two processors and a transcript, which fail at call number `at`, are returned as the first fault left them:
+/// the second processor and the transcript were called once less.
 fn are_handed_back(alloc: Global, at: u64) -> bool {
     let variables = Variables::new(alloc);
     let mut processing: Processing<FailsAt, FailsAt> = Processing::new(alloc);
@@ -94,7 +94,7 @@ fn are_handed_back(alloc: Global, at: u64) -> bool {
     added && count.saturating_add(1) == at && left
 }
 
-/// Whether the first processor was called this often, and the second one and the transcript once less.
+/// Whether the first processor was called `at` times, and the second processor and the transcript once less.
 fn were_left(given_back: &Processors<FailsAt, FailsAt>, at: u64) -> bool {
     given_back.processors.len() == 2
         && given_back.transcripts.len() == 1
@@ -110,7 +110,8 @@ fn failed_processors_are_handed_back(rt: HostRuntime) {
     }
 }
 
-/// Whether the others are not notified if a processor of the caller's own returns a fault, and are notified otherwise.
+/// Whether the other listeners are not notified if a processor of the caller's own returns a fault, and are
+/// notified otherwise.
 fn is_reported_before(
     processing: &mut Processing<FailsAt, FailsAt>,
     names: CheckerData<'_>,
@@ -124,7 +125,7 @@ fn is_reported_before(
         && own.calls == 2
 }
 
-/// Whether there is a listener once a processor was added, and the caller's own is notified before it.
+/// Whether there is a listener once a processor was added, and the caller's own processor is notified before it.
 fn is_reported_first(alloc: Global) -> bool {
     let variables = Variables::new(alloc);
     let mut processing: Processing<FailsAt, FailsAt> = Processing::new(alloc);
@@ -139,7 +140,7 @@ fn own_processor_is_reported_first(rt: HostRuntime) {
     assert!(rt; is_reported_first(rt.alloc()));
 }
 
-/// Returns the number of literals of a clause in a transcript, and the first of them.
+/// Returns the length of a clause in a transcript, and its first literal.
 fn length_and_first(step: &ProofTranscriptStep<'_>) -> Option<(usize, i64)> {
     match *step {
         ProofTranscriptStep::AddClause { clause } => {
@@ -159,7 +160,7 @@ fn name_first(variables: &mut Variables) -> bool {
         && variables.set_mode(second, false).is_ok()
 }
 
-/// Returns the same for the transcript of a clause.
+/// Returns the length and the first literal of the transcript of `clause`.
 fn transcribed(alloc: Global, variables: &Variables, clause: &[Lit]) -> Option<(usize, i64)> {
     let mut transcript = Transcript::new(alloc);
     let step = CheckedProofStep::AddClause { id: 0, clause };

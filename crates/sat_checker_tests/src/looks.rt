@@ -1,4 +1,4 @@
-//! Tests of how many looks every kind of step needs, over the four clauses of two variables and with a third variable
+//! Tests of how many looks every kind of step takes, with the four clauses over two variables, and a third variable
 //! that is known and unused.
 use sat_base::{ClauseHash, DeleteClauseProof, HashBits, Lit, ProofStep, Var};
 use sat_checker::{Checker, SelfChecker};
@@ -7,7 +7,7 @@ use std::alloc::Global;
 /// The hash of [1,2].
 const HASH: ClauseHash = 0x449114950295082a;
 
-/// Steps, and the looks that they need.
+/// Returns steps, each with the number of looks that it takes.
 fn kinds<'a>(
     one: &'a [Lit],
     two: &'a [Lit],
@@ -78,7 +78,7 @@ fn kinds<'a>(
     ]
 }
 
-/// Adds the clauses, and makes the third variable known. Returns whether all was accepted.
+/// Adds the clauses, and makes the third variable known. Returns whether everything was accepted.
 fn is_ready(checker: &mut Checker) -> bool {
     for (first, second) in [(0, 2), (0, 3), (1, 2), (1, 3)] {
         if checker
@@ -96,7 +96,7 @@ fn is_ready(checker: &mut Checker) -> bool {
     checker.self_check_step(&known).is_ok() && checker.self_check_step(&none).is_ok()
 }
 
-/// Feeds the steps in turn, this many times. Returns whether all were accepted.
+/// Feeds all steps in order, `times` times. Returns whether all were accepted.
 fn are_accepted(checker: &mut Checker, steps: &[ProofStep<'_>], times: u64) -> bool {
     for _ in 0..times {
         for step in steps {
@@ -108,7 +108,7 @@ fn are_accepted(checker: &mut Checker, steps: &[ProofStep<'_>], times: u64) -> b
     true
 }
 
-/// Returns the looks that a step needs after these, fed this many times, whether it is accepted or not.
+/// Returns the number of looks that a step takes, accepted or not, after the steps `earlier` were fed `times` times.
 fn looks_of(
     alloc: Global,
     earlier: &[ProofStep<'_>],
@@ -136,7 +136,7 @@ fn looks_of_each_kind(rt: HostRuntime) {
     }
 }
 
-/// All clauses are filed again once, when hashes are looked up after many changes.
+/// Tests that all clauses are rehashed once, when hashes are looked up after many changes.
 #[test]
 fn looks_behind_changes(rt: HostRuntime) {
     let two = [Lit::from_code(0), Lit::from_code(2)];

@@ -1,4 +1,4 @@
-//! Tests of complete proofs, and of calls before and after them.
+//! Tests of complete proofs, and of calls before and after proofs.
 
 use crate::calls::{
     Answer, Answered, Call, Calls, Clauses, END, answers, are_answered, first_wrong,
@@ -7,8 +7,8 @@ use crate::kinds::Kind;
 use sat_checker::{Checker, Looks};
 use std::alloc::Global;
 
-/// Whether a text has the first result as a proof, and an end after it the second, read in one chunk and in chunks of
-/// one byte.
+/// Whether `text` has the result `answer` as a proof, and an end after it has the result `behind`. The text is read in
+/// one chunk and in chunks of one byte.
 pub(crate) fn is_answered(
     alloc: Global,
     text: &'static [u8],
@@ -26,7 +26,7 @@ const UNREAD: Answer = (Some(Kind::ParseError), false, false);
 
 const ENDED: Answer = (None, false, true);
 
-/// Texts that are no proofs, and texts that continue after an end.
+/// Texts that aren't proofs, and texts that continue after an end.
 static TEXTS: [(&[u8], Answer); 10] = [
     (&[], INCOMPLETE),
     (&[5, 1, 0], INCOMPLETE),
@@ -44,7 +44,7 @@ fn texts() -> &'static [(&'static [u8], Answer)] {
     &TEXTS
 }
 
-/// Returns the first text that has another result, or after which an end is not accepted.
+/// Returns the first text that has another result, or after which an end is not accepted, or `None`.
 fn first_unanswered(alloc: Global) -> Option<&'static [u8]> {
     for row in texts() {
         if !is_answered(alloc, row.0, row.1, ENDED) {
@@ -60,14 +60,14 @@ fn texts_are_answered(rt: HostRuntime) {
     assert!(rt; wrong == None, "{wrong:?}");
 }
 
-/// A hidden variable gets a name again, and unsat is recorded.
+/// A hidden variable is given a name again, and unsat is recorded.
 const NAMED_AGAIN: &[u8] = &[
     0x02, 0x00, 0x01, 0x05, 0x01, 0x00, 0x02, 0x00, 0x00, 0x04, 0x00, 0x01, 0x02, 0x00, 0x01, 0x05,
     0x01, 0x01, 0x0d,
 ];
 
-/// Returns the first read whose fault is not returned, or after which the checker does not continue. Unsat is recorded
-/// before the last one.
+/// Returns the number of the first read whose failure isn't reported, or after which the checker can't be used any
+/// more, or `None`. Unsat is recorded before the last read.
 fn first_unanswered_read(alloc: Global) -> Option<u64> {
     for failing in 1..20 {
         let unsat = failing == 19;
@@ -173,7 +173,7 @@ fn calls_around_proofs_are_answered(rt: HostRuntime) {
     assert!(rt; wrong == None, "{wrong:?}");
 }
 
-/// Whether two checkers have the same count of looks, which is not 0.
+/// Whether adding the looks of a checker twice gives twice their number, which isn't 0.
 fn add_up(checker: &Checker) -> bool {
     let mut looks = Looks::new();
     looks.add(checker);

@@ -1,11 +1,11 @@
-//! Tests of steps in bytes, by the kind of the last step.
+//! Tests of steps in bytes, grouped by the kind of the last step.
 
 use crate::calls::Answer;
 use crate::kinds::Kind;
 use crate::{proofs, steps};
 use std::alloc::Global;
 
-/// Steps, and their result: the first error, and whether unsat is recorded and `End` accepted.
+/// Steps, and their result: the first error, whether unsat is recorded, and whether `End` was accepted.
 pub(crate) type Row = (&'static [u8], Answer);
 
 const ENDED: Answer = (None, false, true);
@@ -18,10 +18,10 @@ const REFUSED: Answer = (Some(Kind::CheckFailed), false, false);
 
 const UNSAT: Answer = (None, true, false);
 
-/// Refused, with unsat recorded.
+/// A step is refused, and unsat is recorded.
 const UNSAT_REFUSED: Answer = (Some(Kind::CheckFailed), true, false);
 
-/// Returns the result of steps as a proof, which is incomplete if they are accepted and none is the end.
+/// Returns the result of steps that are read as a proof, which is incomplete if they are accepted and none is `End`.
 fn proof_answer((error, unsat, ended): Answer) -> Answer {
     if error.is_none() && !ended {
         (Some(Kind::ProofIncomplete), unsat, ended)
@@ -30,7 +30,7 @@ fn proof_answer((error, unsat, ended): Answer) -> Answer {
     }
 }
 
-/// Returns the result of an empty clause after them, and of an end: no step is accepted after a refused one.
+/// Returns the results of an empty clause and of an end after the steps: nothing is accepted after a refused step.
 fn behind((error, unsat, ended): Answer) -> (Answer, Answer) {
     if error.is_some() {
         let failed = (Some(Kind::HasFailed), unsat, ended);
@@ -40,14 +40,14 @@ fn behind((error, unsat, ended): Answer) -> (Answer, Answer) {
     }
 }
 
-/// Whether steps have this result, one by one and as a proof, and what follows them has its own.
+/// Whether steps have the result of `row`, one by one and as a proof, and what follows them has the expected result.
 fn is_answered(alloc: Global, row: &Row) -> bool {
     let (clause, end) = behind(row.1);
     steps::is_answered(alloc, row.0, row.1, clause)
         && proofs::is_answered(alloc, row.0, proof_answer(row.1), end)
 }
 
-/// Returns the first steps of some rows that have another result.
+/// Returns the steps of the first row that has another result, or `None`.
 fn first_unanswered(alloc: Global, rows: &[Row]) -> Option<&'static [u8]> {
     for row in rows {
         if !is_answered(alloc, row) {
@@ -60,7 +60,7 @@ fn first_unanswered(alloc: Global, rows: &[Row]) -> Option<&'static [u8]> {
 /// Complete proofs.
 static PROOFS: [Row; 8] = [
     (&[0x0d], ENDED),
-    // a hidden variable gets a name again, which the checker accepts
+    // A hidden variable is given a name again, which the checker accepts.
     (
         &[
             0x02, 0x00, 0x01, 0x05, 0x01, 0x00, 0x02, 0x00, 0x00, 0x04, 0x00, 0x01, 0x02, 0x00,
@@ -68,7 +68,7 @@ static PROOFS: [Row; 8] = [
         ],
         REFUTED,
     ),
-    // the four clauses over two variables, at width 8
+    // The four clauses over two variables, at width 8.
     (
         &[
             0x02, 0x00, 0x01, 0x01, 0x00, 0x01, 0x02, 0x01, 0x02, 0x01, 0x01, 0x02, 0x05, 0x02,
@@ -78,14 +78,14 @@ static PROOFS: [Row; 8] = [
         ],
         REFUTED,
     ),
-    // the same at width 0, and every derived clause names hash 0 once
+    // The same clauses at width 0, where every derived clause names the hash 0 once.
     (
         &[
             5, 2, 0, 2, 5, 2, 0, 3, 5, 2, 1, 2, 5, 2, 1, 3, 9, 0, 6, 0, 1, 0, 1, 0, 6, 0, 0, 1, 0,
         ],
         UNSAT,
     ),
-    // at width 0, one walk over the clauses is not enough, but two are
+    // At width 0, one pass over the clauses is not enough, but two are.
     (
         &[
             5, 3, 3, 4, 6, 5, 2, 0, 2, 5, 2, 3, 7, 9, 0, 6, 0, 2, 0, 4, 1, 0,
@@ -98,21 +98,21 @@ static PROOFS: [Row; 8] = [
         ],
         GOES_ON,
     ),
-    // an end after an end, and after unsat was recorded
+    // An end after an end, and after unsat was recorded.
     (&[13, 13], ENDED),
     (&[5, 0, 13], REFUTED),
 ];
 
 /// Solver names, and the user's names.
 static NAMES: [Row; 25] = [
-    // with a solver name a variable is known; without one it remains unknown
+    // With a solver name, a variable is known; a step without one leaves it unknown.
     (&[1, 0, 1, 4, 0, 1], GOES_ON),
     (&[1, 0, 0], GOES_ON),
     (&[1, 0, 0, 4, 0, 1], REFUSED),
-    // set, replaced and removed; two variables may have the same one
+    // A solver name is set, replaced and removed. Two variables may have the same solver name.
     (&[1, 0, 1, 1, 0, 2, 1, 0, 0], GOES_ON),
     (&[1, 0, 1, 1, 1, 1], GOES_ON),
-    // clauses are named by it, also those stored before, until it is removed
+    // Clauses are hashed with the solver name, even those stored earlier, until it is removed.
     (
         &[
             9, 8, 1, 3, 1, 1, 6, 2, 5, 2, 6, 12, 5, 2, 6, 13, 6, 0, 1, 6, 2, 0x44, 0xe6, 1,
@@ -135,7 +135,7 @@ static NAMES: [Row; 25] = [
         ],
         REFUSED,
     ),
-    // a deleted variable still has it
+    // A deleted variable still has its solver name.
     (
         &[
             9, 8, 1, 3, 1, 1, 6, 2, 3, 3, 3, 6, 5, 2, 6, 12, 5, 2, 6, 13, 6, 0, 1, 6, 2, 0x44,
@@ -143,20 +143,21 @@ static NAMES: [Row; 25] = [
         ],
         GOES_ON,
     ),
-    // a name for an unknown variable, a sampling one and a witness
+    // A user name for an unknown variable, for a sampling variable and for a witness.
     (&[2, 0, 1, 4, 0, 1], GOES_ON),
     (&[5, 1, 0, 2, 0, 1], GOES_ON),
     (&[5, 1, 0, 4, 0, 0, 2, 0, 1], GOES_ON),
-    // a name of another variable, a variable that has one, and a hidden one
+    // The name of another variable; names for a variable that has one; a name for a hidden variable.
     (&[2, 0, 1, 2, 1, 1], REFUSED),
     (&[2, 0, 1, 2, 0, 2], REFUSED),
     (&[2, 0, 1, 2, 0, 1], REFUSED),
     (&[2, 0, 1, 2, 0, 0, 2, 0, 1], REFUSED),
-    // one that is no longer hidden, and a name that is free again
+    // A name for a variable that is no longer hidden, and a name that is free again.
     (&[2, 0, 1, 2, 0, 0, 4, 0, 1, 2, 0, 2], GOES_ON),
     (&[2, 0, 1, 2, 0, 0, 2, 1, 1], GOES_ON),
     (&[2, 0, 1, 2, 0, 0, 3, 0, 2, 1, 1], GOES_ON),
-    // a name is removed: there is one, none, none for a known variable, and none any more
+    // A name is removed from a variable that has one, from an unknown variable, from a known variable without one, and
+    // from a hidden variable.
     (&[2, 0, 1, 2, 0, 0], GOES_ON),
     (&[2, 0, 0], REFUSED),
     (&[5, 1, 0, 2, 0, 0], REFUSED),
@@ -164,9 +165,9 @@ static NAMES: [Row; 25] = [
     (&[2, 0, 1, 2, 0, 0, 2, 1, 1, 2, 0, 0], REFUSED),
 ];
 
-/// Variables that are deleted, and modes.
+/// Variables that are deleted, and their modes.
 static VARIABLES: [Row; 24] = [
-    // unknown, named, in a clause, in a redundant one, assumed
+    // Variables that are unknown, named, in a clause, in a redundant clause, or assumed.
     (&[3, 0], REFUSED),
     (&[2, 0, 1, 3, 0], REFUSED),
     (&[5, 2, 0, 2, 3, 0], REFUSED),
@@ -174,7 +175,8 @@ static VARIABLES: [Row; 24] = [
     (&[9, 0, 5, 2, 0, 2, 6, 1, 3, 0, 2, 4, 1, 0, 3, 2], REFUSED),
     (&[11, 1, 0, 3, 0], REFUSED),
     (&[11, 2, 2, 1, 3, 0], REFUSED),
-    // known; no longer assumed; no longer in a clause; without its name; with a unit, which is removed
+    // Variables that are known; no longer assumed; no longer in a clause; no longer named; and in a unit, which
+    // is removed.
     (&[10, 1, 0, 3, 0], GOES_ON),
     (&[11, 1, 0, 11, 0, 3, 0], GOES_ON),
     (
@@ -187,11 +189,11 @@ static VARIABLES: [Row; 24] = [
     (&[2, 0, 1, 2, 0, 0, 3, 0], GOES_ON),
     (&[5, 1, 0, 3, 0, 5, 1, 1], GOES_ON),
     (&[5, 1, 0, 5, 1, 1, 3, 0, 5, 1, 0], UNSAT),
-    // unknown again, and a sampling one when it is used again
+    // Once deleted, a variable is unknown again, and is a sampling variable when it is used again.
     (&[11, 1, 0, 11, 0, 3, 0, 3, 0], REFUSED),
     (&[11, 1, 0, 11, 0, 3, 0, 4, 0, 1], REFUSED),
     (&[2, 0, 1, 2, 0, 0, 3, 0, 5, 1, 0], GOES_ON),
-    // modes: unknown variables, known ones, a hidden one and one that has a name
+    // Modes of unknown variables, of known ones, of a hidden variable and of a variable with a name.
     (&[4, 0, 1], REFUSED),
     (&[4, 0, 0], REFUSED),
     (&[5, 1, 0, 4, 0, 0], GOES_ON),
@@ -201,33 +203,33 @@ static VARIABLES: [Row; 24] = [
     (&[2, 0, 1, 4, 0, 0, 4, 0, 1], GOES_ON),
 ];
 
-/// Clauses of the formula, derived ones, and units.
+/// Clauses of the formula, derived clauses, and units.
 static CLAUSES: [Row; 42] = [
-    // of unknown and sampling variables, of a witness, of a hidden one
+    // Clauses of unknown and sampling variables, of a witness, and of a hidden variable.
     (&[5, 1, 0, 5, 2, 2, 0], GOES_ON),
     (&[5, 1, 0, 4, 0, 0, 5, 1, 0], REFUSED),
     (&[5, 1, 0, 4, 0, 0, 5, 2, 2, 0], REFUSED),
     (&[2, 0, 1, 2, 0, 0, 5, 1, 0], REFUSED),
-    // after unsat was recorded every one is accepted, and has no effect
+    // After unsat was recorded, every clause is accepted, and has no effect.
     (&[5, 1, 0, 4, 0, 0, 5, 0, 5, 1, 0], UNSAT),
     (&[5, 0, 5, 1, 0, 4, 0, 1], UNSAT_REFUSED),
     (&[5, 0, 5, 1, 0, 6, 0, 1, 0, 0], UNSAT_REFUSED),
-    // an empty one, a tautology, one that contradicts another
+    // An empty clause, a tautology, and a clause that contradicts another.
     (&[5, 0], UNSAT),
     (&[5, 2, 0, 1], GOES_ON),
     (&[5, 1, 0, 5, 1, 1], UNSAT),
-    // a clause that was stored twice is stored; another does not follow
+    // A clause that was added twice is stored; another clause does not follow.
     (&[5, 2, 0, 2, 5, 3, 2, 0, 0, 6, 0, 1, 4, 0], REFUSED),
-    // a tautology follows, and is not stored
+    // A tautology follows, and is not stored.
     (&[6, 0, 2, 0, 1, 0], GOES_ON),
     (&[6, 0, 2, 0, 1, 0, 4, 0, 1], GOES_ON),
     (&[6, 1, 2, 0, 1, 0, 8, 2, 0, 1, 0], REFUSED),
     (&[9, 0, 6, 0, 2, 0, 1, 1, 0], GOES_ON),
-    // so does a clause that a unit satisfies, also after an empty bucket; one in which the unit is false does not
+    // A clause that a unit satisfies follows, even with an empty bucket; a clause in which the unit is false does not.
     (&[5, 1, 0, 6, 0, 2, 0, 2, 0], GOES_ON),
     (&[9, 0, 5, 1, 0, 6, 0, 2, 2, 0, 1, 0], GOES_ON),
     (&[5, 1, 0, 6, 0, 2, 1, 2, 0], REFUSED),
-    // the clauses of the buckets lead to a conflict, or do not
+    // The clauses of the buckets lead to a conflict, or they don't.
     (
         &[9, 8, 5, 2, 0, 2, 5, 2, 0, 3, 6, 0, 1, 0, 2, 0x44, 0xe6, 1],
         GOES_ON,
@@ -241,7 +243,7 @@ static CLAUSES: [Row; 42] = [
         REFUSED,
     ),
     (&[9, 8, 5, 2, 0, 2, 5, 2, 0, 3, 6, 0, 1, 0, 0], REFUSED),
-    // an empty bucket before the conflict, and after it
+    // An empty bucket before the conflict, and after it.
     (
         &[
             9, 8, 5, 2, 0, 2, 5, 2, 0, 3, 6, 0, 1, 0, 3, 0, 0x44, 0xe6, 1,
@@ -260,13 +262,13 @@ static CLAUSES: [Row; 42] = [
         ],
         GOES_ON,
     ),
-    // a bucket of two: only the second is falsified; a unit satisfies the other
+    // A bucket of two clauses. Only the second clause is falsified; a unit satisfies the other clause.
     (
         &[9, 0, 5, 2, 4, 6, 5, 2, 0, 2, 6, 0, 2, 0, 2, 1, 0],
         GOES_ON,
     ),
     (&[9, 0, 5, 1, 4, 5, 2, 4, 0, 6, 0, 1, 0, 1, 0], REFUSED),
-    // a clause that was derived twice is stored twice
+    // A clause that was derived twice is stored twice.
     (
         &[
             9, 0, 5, 2, 0, 2, 6, 1, 3, 0, 2, 4, 1, 0, 6, 1, 3, 4, 2, 0, 1, 0, 8, 3, 0, 2, 4, 0, 8,
@@ -274,23 +276,23 @@ static CLAUSES: [Row; 42] = [
         ],
         GOES_ON,
     ),
-    // a check that passes does not change the units
+    // A check that passes does not change the units.
     (&[9, 0, 5, 2, 0, 2, 6, 0, 2, 0, 2, 1, 0, 10, 1, 2], GOES_ON),
     (
         &[9, 0, 5, 2, 0, 2, 6, 0, 2, 0, 2, 1, 0, 6, 0, 1, 1, 0],
         REFUSED,
     ),
-    // an empty clause is derived
+    // An empty clause is derived.
     (&[9, 0, 5, 2, 0, 2, 5, 1, 1, 5, 1, 3, 6, 0, 0, 1, 0], UNSAT),
     (&[9, 0, 5, 2, 0, 2, 5, 1, 1, 6, 0, 0, 1, 0], REFUSED),
-    // units, each by its one hash
+    // Units, each with its own hash.
     (&[9, 0, 5, 1, 0, 5, 2, 1, 2, 7, 1, 2, 0], GOES_ON),
     (&[9, 0, 5, 1, 0, 5, 2, 1, 2, 7, 1, 4, 0], REFUSED),
     (&[7, 0], GOES_ON),
-    // one that is stored already, under an empty bucket, and its negation
+    // A unit that is already stored, with an empty bucket, and its negation.
     (&[5, 1, 0, 7, 1, 0, 0], GOES_ON),
     (&[5, 1, 0, 7, 1, 1, 0], REFUSED),
-    // the second rests on the first
+    // Units. The second is derived from the first.
     (
         &[
             9, 8, 1, 2, 1, 5, 1, 0, 5, 2, 1, 2, 5, 2, 3, 5, 7, 2, 2, 0xe6, 1, 5, 0x44,
@@ -303,12 +305,12 @@ static CLAUSES: [Row; 42] = [
         ],
         REFUSED,
     ),
-    // of two that contradict each other the second records unsat
+    // Two units that contradict each other: the second records unsat.
     (
         &[9, 0, 5, 1, 0, 5, 2, 1, 2, 5, 2, 1, 3, 7, 2, 2, 0, 3, 0],
         UNSAT,
     ),
-    // their variables become known
+    // The variables of derived units and clauses become known.
     (
         &[9, 0, 5, 2, 0, 2, 5, 1, 1, 5, 1, 3, 7, 1, 8, 0, 4, 4, 0],
         GOES_ON,
@@ -323,7 +325,7 @@ static CLAUSES: [Row; 42] = [
 
 /// Clauses that are deleted.
 static DELETIONS: [Row; 32] = [
-    // redundant: stored as that, in any order, once; only as irredundant; not stored
+    // Redundant: stored as redundant, in any order, once; stored only as irredundant; not stored.
     (
         &[9, 0, 5, 2, 0, 2, 6, 1, 3, 0, 2, 4, 1, 0, 8, 3, 0, 2, 4, 0],
         GOES_ON,
@@ -346,15 +348,15 @@ static DELETIONS: [Row; 32] = [
         &[9, 0, 5, 2, 0, 2, 6, 1, 2, 0, 2, 1, 0, 8, 2, 0, 3, 0],
         REFUSED,
     ),
-    // a unit and an empty clause cannot be deleted
+    // A unit and an empty clause cannot be deleted.
     (&[5, 1, 0, 8, 1, 0, 0], REFUSED),
     (&[5, 1, 0, 8, 1, 0, 2], REFUSED),
     (&[5, 0, 8, 0, 0], UNSAT_REFUSED),
-    // satisfied: a unit is true in it; none is; one is false in it
+    // Satisfied: a unit satisfies the clause; there is no unit; a unit falsifies one of its literals.
     (&[5, 2, 0, 2, 5, 1, 0, 8, 2, 0, 2, 2, 3, 1], GOES_ON),
     (&[5, 2, 0, 2, 8, 2, 0, 2, 2], REFUSED),
     (&[5, 2, 0, 2, 5, 1, 1, 8, 2, 0, 2, 2], REFUSED),
-    // not stored; only as redundant; as often as it is stored
+    // Satisfied: the clause isn't stored; is stored only as redundant; is deleted as many times as it is stored.
     (&[5, 1, 0, 8, 2, 0, 2, 2], REFUSED),
     (
         &[
@@ -372,14 +374,14 @@ static DELETIONS: [Row; 32] = [
         &[5, 2, 0, 2, 5, 1, 0, 8, 2, 0, 2, 2, 8, 2, 0, 2, 2],
         REFUSED,
     ),
-    // without its irredundant count it remains as redundant
+    // Without its irredundant count, the clause remains as redundant.
     (
         &[
             9, 0, 5, 2, 0, 2, 6, 1, 2, 0, 2, 1, 0, 5, 1, 0, 8, 2, 0, 2, 2, 3, 1,
         ],
         REFUSED,
     ),
-    // simplified: the last irredundant clause is a part; the empty one is a part of every clause
+    // Simplified: the last irredundant clause is a subset. The empty clause is a subset of every clause.
     (&[5, 2, 0, 2, 5, 1, 0, 8, 2, 0, 2, 1, 3, 1], GOES_ON),
     (
         &[5, 3, 0, 2, 4, 5, 2, 4, 0, 8, 3, 0, 2, 4, 1, 3, 1],
@@ -390,13 +392,13 @@ static DELETIONS: [Row; 32] = [
         REFUSED,
     ),
     (&[5, 2, 0, 2, 5, 0, 8, 2, 0, 2, 1], UNSAT),
-    // with a change of width in between
+    // The width changes in between.
     (&[5, 2, 0, 2, 5, 1, 0, 9, 8, 8, 2, 0, 2, 1], GOES_ON),
-    // the clause itself, one that is no part, and none
+    // The last clause is the clause itself; is not a subset; does not exist.
     (&[5, 2, 0, 2, 8, 2, 0, 2, 1], REFUSED),
     (&[5, 2, 0, 2, 5, 1, 4, 8, 2, 0, 2, 1], REFUSED),
     (&[8, 2, 0, 2, 1], REFUSED),
-    // one that was removed; a redundant one is not the last; an irredundant derived one is
+    // The last clause was removed. A redundant clause is not the last clause; an irredundant derived clause is.
     (
         &[
             5, 1, 0, 5, 3, 0, 2, 4, 5, 2, 0, 2, 8, 2, 0, 2, 2, 8, 3, 0, 2, 4, 1,
@@ -415,7 +417,7 @@ static DELETIONS: [Row; 32] = [
         ],
         GOES_ON,
     ),
-    // only as redundant, and no longer stored
+    // The clause is stored only as redundant, or no longer stored.
     (
         &[
             9, 0, 5, 2, 0, 2, 6, 1, 3, 0, 2, 4, 1, 0, 5, 1, 0, 8, 3, 0, 2, 4, 1,
@@ -426,7 +428,7 @@ static DELETIONS: [Row; 32] = [
         &[5, 2, 0, 2, 5, 1, 0, 8, 2, 0, 2, 1, 8, 2, 0, 2, 1],
         REFUSED,
     ),
-    // three, four and five literals, found under three widths until they are removed
+    // Clauses of three, four and five literals, which are found at three widths until they are removed.
     (
         &[
             5, 1, 0, 6, 1, 3, 0, 2, 4, 0, 6, 1, 4, 0, 2, 4, 6, 0, 6, 1, 5, 0, 2, 4, 6, 8, 0, 8, 3,
@@ -447,7 +449,7 @@ static DELETIONS: [Row; 32] = [
 static ANSWERS: [Row; 32] = [
     (&[9, 0], GOES_ON),
     (&[9, 64], GOES_ON),
-    // a width applies to earlier clauses, too, and a later one to all
+    // A width applies to earlier clauses, too, and a later width to all clauses.
     (
         &[5, 2, 0, 2, 5, 2, 0, 3, 9, 8, 6, 0, 1, 0, 2, 0x44, 0xe6, 1],
         GOES_ON,
@@ -458,19 +460,20 @@ static ANSWERS: [Row; 32] = [
         ],
         REFUSED,
     ),
-    // models: one that fits, also with a unit that it leaves out; its variables become known
+    // Models: one that fits, even if it leaves out a unit. Its variables become known.
     (&[5, 2, 0, 2, 10, 2, 0, 3], GOES_ON),
     (&[5, 1, 0, 10, 1, 2], GOES_ON),
     (&[10, 0], GOES_ON),
     (&[10, 1, 0, 4, 0, 1], GOES_ON),
-    // a variable twice, also with both signs
+    // A model with a variable twice, even with both signs.
     (&[10, 2, 0, 0], REFUSED),
     (&[10, 2, 0, 1], REFUSED),
     (&[10, 3, 0, 2, 0], REFUSED),
-    // a unit contradicted
+    // A model that contradicts a unit.
     (&[5, 1, 0, 10, 1, 1], REFUSED),
     (&[5, 1, 0, 5, 1, 2, 10, 2, 0, 3], REFUSED),
-    // an irredundant clause without a literal of the model, though a unit satisfies it; a redundant one needs none
+    // An irredundant clause without a literal of the model, even if a unit satisfies the clause. A redundant clause
+    // need not have one.
     (&[5, 2, 0, 2, 10, 2, 1, 3], REFUSED),
     (&[5, 2, 0, 2, 10, 0], REFUSED),
     (&[5, 3, 0, 2, 4, 5, 1, 0, 10, 2, 3, 5], REFUSED),
@@ -480,26 +483,26 @@ static ANSWERS: [Row; 32] = [
         ],
         GOES_ON,
     ),
-    // unsat is recorded
+    // Unsat is recorded.
     (&[5, 0, 10, 0], UNSAT_REFUSED),
     (&[5, 1, 0, 5, 1, 1, 10, 1, 2], UNSAT_REFUSED),
-    // assumptions: any, and they become known
+    // Assumptions: any literals, whose variables become known.
     (&[11, 2, 0, 1], GOES_ON),
     (&[5, 1, 0, 11, 2, 1, 1], GOES_ON),
     (&[11, 1, 0, 4, 0, 1], GOES_ON),
-    // cores: not assumed, no longer assumed, assumed in part
+    // Cores: not assumed, no longer assumed, assumed in part.
     (&[12, 1, 0, 0], REFUSED),
     (&[5, 1, 0, 11, 1, 1, 11, 0, 12, 1, 1, 0], REFUSED),
     (&[5, 1, 0, 11, 1, 2, 12, 2, 1, 2, 0], REFUSED),
-    // both signs, if they are assumed
+    // A core with both signs of a variable, if both are assumed.
     (&[11, 2, 0, 1, 12, 2, 0, 1, 0], GOES_ON),
     (&[11, 1, 0, 12, 2, 0, 1, 0], REFUSED),
-    // by a unit, by a clause, and if nothing shows that it fails
+    // A core shown by a unit, by a clause, and a core that nothing shows to fail.
     (&[5, 1, 0, 11, 3, 1, 2, 1, 12, 1, 1, 0], GOES_ON),
     (&[9, 0, 5, 2, 0, 2, 11, 2, 1, 3, 12, 2, 3, 1, 1, 0], GOES_ON),
     (&[5, 2, 0, 2, 11, 2, 1, 3, 12, 2, 1, 3, 0], REFUSED),
     (&[12, 0, 0], REFUSED),
-    // the empty core fails by a conflict, and not only because unsat is recorded
+    // The empty core must fail by a conflict, and not only because unsat is recorded.
     (&[5, 0, 12, 0, 0], UNSAT_REFUSED),
 ];
 

@@ -1,4 +1,4 @@
-//! Tests of steps that are accepted and refused, read from their bytes and fed one by one.
+//! Tests of steps that are accepted or refused, read from their bytes and fed one by one.
 
 use crate::calls::{Answer, Answered, Call, Calls, answers, are_answered, first_wrong};
 use crate::kinds::Kind;
@@ -7,7 +7,7 @@ use sat_base::{CountedRead, Lit, StepReader};
 use sat_checker::{Checker, CheckerError, SelfChecker};
 use std::alloc::Global;
 
-/// Feeds a checker the steps of a text, up to the first that is refused.
+/// Feeds a checker the steps of a text, up to the first refused step.
 fn fed<C: SelfChecker, R: CountedRead>(
     checker: &mut C,
     steps: &mut StepReader<'_, R>,
@@ -21,7 +21,7 @@ fn fed<C: SelfChecker, R: CountedRead>(
     Ok(())
 }
 
-/// Feeds a checker the steps of a reader, up to the first that is refused.
+/// Feeds a checker the steps of a reader, up to the first refused step.
 pub(crate) fn read_by<C: SelfChecker, R: CountedRead>(
     alloc: Global,
     checker: &mut C,
@@ -30,7 +30,7 @@ pub(crate) fn read_by<C: SelfChecker, R: CountedRead>(
     fed(checker, &mut StepReader::new(alloc, reader))
 }
 
-/// Whether steps have these results while a processor and a transcript accept everything that is announced.
+/// Whether calls have the given results while a processor and a transcript accept everything that is announced.
 fn is_answered_to_listeners(alloc: Global, calls: &[Answered]) -> bool {
     let mut checker: Checker<FailsAt, FailsAt> = Checker::notifying(alloc);
     let right = add_quiet(&mut checker) && answers(alloc, &mut checker, calls);
@@ -38,8 +38,8 @@ fn is_answered_to_listeners(alloc: Global, calls: &[Answered]) -> bool {
     right
 }
 
-/// Whether steps have the first result, and an empty clause after them the second, read in one chunk and in chunks of
-/// one byte, with and without a listener.
+/// Whether steps have the result `answer`, and an empty clause after them has the result `behind`. The steps are read
+/// in one chunk and in chunks of one byte, with and without listeners.
 pub(crate) fn is_answered(
     alloc: Global,
     text: &'static [u8],
@@ -59,7 +59,7 @@ const REFUTED: Answer = (None, true, false);
 
 const REFUSED: Answer = (Some(Kind::CheckFailed), false, false);
 
-/// The first variable is hidden.
+/// Steps that name the first variable and hide it.
 const HIDDEN: &[u8] = &[2, 0, 1, 2, 0, 0];
 
 static CALLS: [Calls; 2] = [
@@ -78,7 +78,7 @@ static CALLS: [Calls; 2] = [
             (Call::Clause(&[-1]), REFUTED),
             (Call::Settle, REFUTED),
             (Call::Settle, REFUTED),
-            // the variable is deleted, and can't be deleted again
+            // The variable is deleted, and can't be deleted again.
             (Call::Steps(&[3, 0]), REFUTED),
             (Call::Steps(&[3, 0]), (Some(Kind::CheckFailed), true, false)),
             (Call::Settle, (Some(Kind::HasFailed), true, false)),

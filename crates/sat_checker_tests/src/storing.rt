@@ -1,5 +1,5 @@
-//! Tests of a store: clauses of three, four and five literals are added and removed, the width changes, and those that
-//! are left are found.
+//! Tests of a store: clauses of three, four and five literals are added and removed, the width changes, and the
+//! remaining clauses are found.
 use sat_base::{HashBits, Lit};
 use sat_checker::Looks;
 use sat_checker::sorted_lits::copy_canonical;
@@ -10,12 +10,12 @@ use std::alloc::{AllocError, Global};
 /// The number of clauses that are stored.
 const COUNT: u8 = 30;
 
-/// Whether this one of them is left.
+/// Whether the clause with the number `number` remains.
 fn is_left(number: u8) -> bool {
     number / 3 % 3 == 0
 }
 
-/// Fills a clause with the literals of this number: three, four or five.
+/// Replaces `clause` by the literals of clause number `number`: three, four or five.
 fn fill(clause: &mut Vec<Lit>, number: u8) -> Result<(), AllocError> {
     clause.clear();
     let first = number as i64 * 2 + 1;
@@ -57,7 +57,7 @@ fn put_all(
     Ok(true)
 }
 
-/// Deletes those that are not left, which are more than half of all.
+/// Deletes the clauses that don't remain, which are more than half of all clauses.
 fn take_most(
     store: &mut Store,
     clause: &mut Vec<Lit>,
@@ -75,7 +75,7 @@ fn take_most(
     Ok(true)
 }
 
-/// Returns the id of the clause with these literals.
+/// Returns the id of the clause with the given literals, or `None` if it isn't stored.
 fn id_of(store: &Store, clause: &[Lit], looks: &mut Looks) -> Option<u64> {
     match store.stored(clause, looks) {
         Some(found) => Some(found.id),
@@ -83,7 +83,7 @@ fn id_of(store: &Store, clause: &[Lit], looks: &mut Looks) -> Option<u64> {
     }
 }
 
-/// Whether exactly those that are left are found, all with their ids.
+/// Whether exactly the remaining clauses are found, each with its id.
 fn finds_left(store: &Store, clause: &mut Vec<Lit>, looks: &mut Looks) -> Result<bool, AllocError> {
     for number in 0..COUNT {
         fill(clause, number)?;
@@ -99,7 +99,7 @@ fn finds_left(store: &Store, clause: &mut Vec<Lit>, looks: &mut Looks) -> Result
     Ok(true)
 }
 
-/// Whether there are this many pairs, in order, at places below half of those that were given.
+/// Whether there are `count` pairs, in ascending order, at positions below half of the number of clauses.
 fn are_sorted(pairs: &[Pair], count: usize) -> bool {
     for place in 0..pairs.len() {
         if pairs[place].place >= 15 {
@@ -112,7 +112,7 @@ fn are_sorted(pairs: &[Pair], count: usize) -> bool {
     pairs.len() == count
 }
 
-/// Sets the width. Returns whether exactly those that are left are found.
+/// Sets the width. Returns whether exactly the remaining clauses are found.
 fn finds_at(
     store: &mut Store,
     width: u32,
@@ -133,7 +133,8 @@ fn lists(store: &Store, pairs: &mut Vec<Pair>) -> Result<bool, AllocError> {
     Ok(are_sorted(pairs, 12))
 }
 
-/// Whether what is left is found, by hashes of 64 bits, of 8, of 2 and of none, and its pairs are listed in order.
+/// Returns whether the remaining clauses are found with hashes of 64, 8, 2 and 0 bits, and their pairs are listed
+/// in order.
 fn stands(
     store: &mut Store,
     clause: &mut Vec<Lit>,

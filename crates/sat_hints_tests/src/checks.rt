@@ -1,4 +1,4 @@
-//! Rows of hint texts, whole and in pieces of one byte.
+//! Tests of checking hint texts, in one piece and byte by byte.
 
 use crate::devices::{by_one, repeating};
 use sat_base::Counted;
@@ -20,7 +20,7 @@ const fn bad(line: u64, why: HintWhy) -> HintVerdict {
     HintVerdict::Bad { line, why }
 }
 
-/// Derivations, and lines at fault, each for one reason.
+/// Derivations, and texts whose first faulty line has a single fault.
 fn derivations() -> [Row; 15] {
     [
         (b"", proved(false, 0, 0)),
@@ -38,7 +38,7 @@ fn derivations() -> [Row; 15] {
             b"i 1 1 2 0\ni 2 1 -2 0\ni 3 -1 2 0\ni 4 -1 -2 0\nd 5 1 0 1 2 0\nd 6 2 0 5 3 0\nd 7 0 5 6 4 0\n",
             proved(true, 0, 7),
         ),
-        // Each reason at a line that isn't the first, with one behind it that would be another.
+        // Each reason, at a line that isn't the first, and with a line after it that has another fault.
         (b"i 1 1 0\ni 2 1\ni 1 1 0\n", bad(2, HintWhy::Syntax)),
         (b"i 2 1 0\ni 1 1 0\nx 9 0\n", bad(2, HintWhy::IdOrder)),
         (b"i 1 1 0\nx 9 0\ni 1 1 0\n", bad(2, HintWhy::UnknownId)),
@@ -54,13 +54,13 @@ fn derivations() -> [Row; 15] {
     ]
 }
 
-/// Several reasons at a line, clauses and assumptions of both signs, lists with repeats.
+/// Several faults in a line, clauses and assumptions with both signs of a variable, and lists with repeats.
 fn faults() -> [Row; 8] {
     [
-        // Several reasons at one line.
+        // Several faults in one line.
         (b"i 1 1 2 0\nd 1 3 0 9 0\n", bad(2, HintWhy::IdOrder)),
         (b"i 1 1 2 0\nd 2 3 0 1 9 0\n", bad(2, HintWhy::UnknownId)),
-        // A clause that is falsified before its turn.
+        // A clause that is falsified before it is the last one.
         (
             b"i 1 1 0\ni 2 2 0\nd 3 1 0 1 2 0\n",
             bad(3, HintWhy::NotUnit),
@@ -84,8 +84,8 @@ fn faults() -> [Row; 8] {
 /// Variables that become new.
 fn new_variables() -> [Row; 19] {
     [
-        // Four that a reader of the format is told of: units go, and may not be named again; a longer clause is in the
-        // way.
+        // The four examples from the description of the format: units are removed and can't be named again, and a
+        // longer clause prevents the step.
         (
             b"i 1 1 2 0\ni 2 -2 0\nd 3 1 0 2 1 0\nx 1 0\ne 2 0\nf -1 0 3 0\n",
             proved(false, 1, 6),
@@ -96,11 +96,11 @@ fn new_variables() -> [Row; 19] {
         ),
         (b"i 1 1 2 0\ne 2 0\n", bad(2, HintWhy::VarInUse)),
         (b"e 7 0\n", proved(false, 0, 1)),
-        // A unit is a set of one literal, however often that stands.
+        // A unit is a set of one literal, however many times the literal is written.
         (b"i 1 2 2 0\ne 2 0\nx 1 0\n", bad(3, HintWhy::UnknownId)),
-        // A clause with both signs is in the way.
+        // A clause with both signs of the variable prevents the step.
         (b"i 1 2 -2 0\ne 2 0\n", bad(2, HintWhy::VarInUse)),
-        // Both signs as units, and several units of one: all go.
+        // Units with both signs, and several units of the same variable: all are removed.
         (
             b"i 1 2 0\ni 2 -2 0\ni 3 2 0\ne 2 0\nx 3 0\n",
             bad(5, HintWhy::UnknownId),
@@ -109,23 +109,23 @@ fn new_variables() -> [Row; 19] {
             b"i 1 2 0\ni 2 -2 0\ni 3 2 0\ne 2 0\nd 4 0 1 2 0\n",
             bad(5, HintWhy::UnknownId),
         ),
-        // Units of other variables, and the empty clause, stay.
+        // Units of other variables, and the empty clause, remain.
         (
             b"i 1 2 0\ni 2 3 0\ni 3 0\ne 2 0\nx 2 0\nx 3 0\n",
             proved(false, 0, 6),
         ),
-        // A unit that comes later stays till the next time.
+        // A unit that is added later remains until the variable becomes new again.
         (
             b"i 1 2 0\ne 2 0\ni 2 -2 0\nf 2 0 2 0\ne 2 0\nx 2 0\n",
             bad(6, HintWhy::UnknownId),
         ),
-        // Ids aren't given again.
+        // Ids aren't assigned again.
         (b"i 5 2 0\ne 2 0\ni 5 2 0\n", bad(3, HintWhy::IdOrder)),
         (
             b"i 5 2 0\ne 2 0\ni 6 -2 0\nf 2 0 6 0\n",
             proved(false, 1, 4),
         ),
-        // Twice, and of a variable with longer clauses that are gone, and that come again.
+        // A variable becomes new twice; and a variable whose longer clauses were deleted, and are added again.
         (b"e 2 0\ne 2 0\n", proved(false, 0, 2)),
         (
             b"i 1 2 3 0\nx 1 0\ne 2 0\ni 2 2 3 0\ne 2 0\n",
@@ -139,13 +139,13 @@ fn new_variables() -> [Row; 19] {
             b"e 1 0\ni 1 2 3 0\ni 2 -3 -2 4 0\nx 2 0\nx 1 0\ne 2 0\ne 3 0\ne 4 0\n",
             proved(false, 0, 8),
         ),
-        // A clause that follows with both signs, and one that follows as a unit.
+        // A derived clause with both signs of the variable, and a derived unit.
         (b"d 1 1 -1 0 0\ne 1 0\n", bad(2, HintWhy::VarInUse)),
         (
             b"i 1 1 2 0\ni 2 -2 0\nd 3 1 0 2 1 0\nx 1 0\ne 1 0\nx 3 0\n",
             bad(6, HintWhy::UnknownId),
         ),
-        // A core.
+        // A core that rests on a unit, before and after the unit is removed.
         (
             b"i 1 2 0\nf -2 0 1 0\ne 2 0\nf -2 0 1 0\n",
             bad(4, HintWhy::UnknownId),
@@ -153,10 +153,10 @@ fn new_variables() -> [Row; 19] {
     ]
 }
 
-/// Numbers at their limits, and lines that aren't of the grammar.
+/// Numbers at their limits, and lines that don't follow the grammar.
 fn spellings() -> [Row; 25] {
     [
-        // IDs and literals at their limits and past them.
+        // Ids and literals at their limits and past them.
         (b"i 18446744073709551615 1 0\n", proved(false, 0, 1)),
         (b"i 18446744073709551616 1 0\n", bad(1, HintWhy::Syntax)),
         (b"i 0 1 0\n", bad(1, HintWhy::Syntax)),
@@ -165,7 +165,7 @@ fn spellings() -> [Row; 25] {
         (b"i 1 -268435457 0\n", bad(1, HintWhy::Syntax)),
         (b"i 1 +1 0\n", bad(1, HintWhy::Syntax)),
         (b"i 1 -0 0\n", bad(1, HintWhy::Syntax)),
-        // Without LF at the end; blank lines; CR; spaces.
+        // No LF at the end; blank lines; CR; spaces.
         (b"i 1 1 0", bad(1, HintWhy::Syntax)),
         (b"i 1 1 0\n\ni 2 2 0\n", bad(2, HintWhy::Syntax)),
         (b"i 1 1 0\r\n", bad(1, HintWhy::Syntax)),
@@ -191,13 +191,13 @@ pub(crate) fn whole(alloc: Global, text: &[u8]) -> Result<HintVerdict, HintFault
     check(alloc, &mut reader)
 }
 
-/// One byte a read, of which one fails, or none where that is 0.
+/// Returns the verdict on a text that is read byte by byte. Read number `failing` fails; with 0, none fails.
 pub(crate) fn in_bytes(alloc: Global, text: &[u8], failing: u64) -> Result<HintVerdict, HintFault> {
     let mut reader = by_one(text, failing);
     check(alloc, &mut reader)
 }
 
-/// Whether each text has its verdict, read whole and one byte at a time.
+/// Whether each text has its verdict, read in one piece and byte by byte.
 fn hold(alloc: Global, rows: &[Row]) -> bool {
     for row in rows {
         let verdict = Ok(row.1);
@@ -228,7 +228,7 @@ fn spellings_are_exact(rt: HostRuntime) {
     assert!(rt; hold(rt.alloc(), &spellings()));
 }
 
-/// Each read fails in turn, also the one that would find the end.
+/// Tests that a failure of each read is reported, including the read that would find the end.
 #[test]
 fn reads_fail(rt: HostRuntime) {
     let text = b"i 1 1 0\nx 1 0\n";
@@ -240,7 +240,7 @@ fn reads_fail(rt: HostRuntime) {
     assert!(rt; verdict == Ok(proved(false, 0, 2)));
 }
 
-/// Texts that are refused at their last byte, which is the first that no line has there.
+/// Texts that are refused at their last byte, since no valid line has that byte there.
 const FRONTS: [&[u8]; 24] = [
     b"q",
     b" ",
@@ -268,7 +268,7 @@ const FRONTS: [&[u8]; 24] = [
     b"e 7 0\ni 1 q",
 ];
 
-/// Whether a text is refused when it has been read, and how many reads of one byte there were.
+/// Returns whether a text is refused once it has been read, and the number of reads of one byte.
 fn refused_in_bytes(alloc: Global, text: &[u8]) -> (bool, u64) {
     let mut reader = by_one(text, 0);
     let refused = match check(alloc, &mut reader) {
@@ -285,14 +285,14 @@ fn lines_are_refused_at_the_first_wrong_byte(rt: HostRuntime) {
     }
 }
 
-/// The verdict on a text behind which one byte comes for ever, and how many reads there were.
+/// Returns the verdict on a text that is followed by `byte` without end, and the number of reads.
 fn without_end(alloc: Global, text: &[u8], byte: u8) -> (Result<HintVerdict, HintFault>, u64) {
     let mut reader = repeating(text, byte);
     let verdict = check(alloc, &mut reader);
     (verdict, reader.into_inner().calls)
 }
 
-/// `i 1`, the literal 1 so many times, and a space.
+/// Returns `i 1`, the literal 1 `count` times, and a space.
 fn long_line(alloc: Global, count: u64) -> Result<Vec<u8>, AllocError> {
     let mut text = Vec::new(alloc);
     text.extend_from_slice(b"i 1 ")?;

@@ -1,4 +1,4 @@
-//! Certificates and their hint texts, whole and in pieces of one byte.
+//! Tests of certificates and their hint texts, in one piece and byte by byte.
 
 use crate::checks::{in_bytes, proved, whole};
 use crate::devices::{by_few, by_one};
@@ -13,9 +13,9 @@ type Row = (&'static [u8], &'static [u8]);
 /// Certificates of clauses and cores, each with its hint text.
 fn clauses() -> [Row; 8] {
     [
-        // Nothing but its end.
+        // Only the end of the proof.
         (&[0x0d], b""),
-        // Four clauses over two variables, and how they are refuted.
+        // Four clauses over two variables, and their refutation.
         (
             &[
                 0x02, 0x00, 0x01, 0x01, 0x00, 0x01, 0x02, 0x01, 0x02, 0x01, 0x01, 0x02, 0x05, 0x02,
@@ -38,7 +38,7 @@ fn clauses() -> [Row; 8] {
             ],
             b"i 1 1 2 0\nf -1 -2 0 1 0\n",
         ),
-        // A clause that is derived and deleted, one that is stored before, and a tautology.
+        // A clause that is derived and deleted, a clause that is already stored, and a tautology.
         (
             &[
                 0x05, 0x02, 0x00, 0x02, 0x09, 0x00, 0x05, 0x02, 0x02, 0x00, 0x05, 0x02, 0x00, 0x01,
@@ -47,7 +47,7 @@ fn clauses() -> [Row; 8] {
             ],
             b"i 1 1 2 0\nd 4 1 2 3 0 1 0\nx 4 0\n",
         ),
-        // A satisfied clause that is kept as redundant, and then is gone, and one that is gone at once.
+        // A satisfied clause that remains as redundant, and is deleted later, and one that is deleted at once.
         (
             &[
                 0x05, 0x02, 0x00, 0x02, 0x05, 0x02, 0x00, 0x04, 0x09, 0x00, 0x06, 0x01, 0x02, 0x00,
@@ -56,7 +56,7 @@ fn clauses() -> [Row; 8] {
             ],
             b"i 1 1 2 0\ni 2 1 3 0\ni 3 1 0\nx 2 0\nx 1 0\n",
         ),
-        // A redundant clause that is derived again as an irredundant one.
+        // A redundant clause that is derived again as irredundant.
         (
             &[
                 0x05, 0x02, 0x00, 0x02, 0x09, 0x00, 0x06, 0x01, 0x03, 0x00, 0x02, 0x04, 0x01, 0x00,
@@ -72,10 +72,10 @@ fn clauses() -> [Row; 8] {
     ]
 }
 
-/// Certificates in which variables are deleted, or new, each with its text.
+/// Certificates in which variables are deleted, each with its hint text.
 fn variables() -> [Row; 5] {
     [
-        // A hidden variable is deleted behind the clauses that have it: its unit is gone, another stands.
+        // A hidden variable is deleted after the clauses that contain it. Its unit is removed; another unit remains.
         (
             &[
                 0x02, 0x00, 0x01, 0x01, 0x00, 0x01, 0x02, 0x01, 0x02, 0x01, 0x01, 0x02, 0x05, 0x02,
@@ -85,7 +85,7 @@ fn variables() -> [Row; 5] {
             ],
             b"i 1 1 2 0\ni 2 -2 0\nd 3 1 0 2 1 0\nx 1 0\ne 2 0\nf -1 0 3 0\n",
         ),
-        // A variable with a unit, one without.
+        // A variable with a unit, and one without.
         (
             &[
                 0x02, 0x00, 0x01, 0x01, 0x00, 0x01, 0x05, 0x01, 0x00, 0x02, 0x00, 0x00, 0x02, 0x01,
@@ -94,7 +94,7 @@ fn variables() -> [Row; 5] {
             ],
             b"i 1 1 0\ni 2 -2 0\ne 1 0\n",
         ),
-        // A variable that no clause ever had.
+        // A variable that never occurred in a clause.
         (
             &[
                 0x02, 0x00, 0x01, 0x02, 0x01, 0x02, 0x02, 0x01, 0x00, 0x03, 0x01, 0x0b, 0x00, 0x09,
@@ -102,7 +102,8 @@ fn variables() -> [Row; 5] {
             ],
             b"e 2 0\n",
         ),
-        // The empty clause of two units comes before their variable is new, and both units go.
+        // The empty clause of two contradictory units comes before their variable becomes new, and both units
+        // are removed.
         (
             &[0x05, 0x01, 0x00, 0x05, 0x01, 0x01, 0x03, 0x00, 0x0d],
             b"i 1 1 0\ni 2 -1 0\nd 3 0 1 2 0\ne 1 0\n",
@@ -117,10 +118,10 @@ fn variables() -> [Row; 5] {
     ]
 }
 
-/// Certificates of runs, each with its text.
+/// Certificates of runs, each with its hint text.
 fn asks() -> [Row; 9] {
     [
-        // No name at all, one in no clause, and a clause of two.
+        // No name at all; a name in no clause; and a clause of two literals.
         (&[0x0b, 0x00, 0x09, 0x06, 0x0a, 0x00, 0x0b, 0x00, 0x0d], b""),
         (
             &[
@@ -149,7 +150,7 @@ fn asks() -> [Row; 9] {
             &[0x05, 0x00, 0x0b, 0x00, 0x09, 0x06, 0x0b, 0x00, 0x0d],
             b"i 1 0\n",
         ),
-        // Cores, of which one has both signs of a variable.
+        // Cores, one of them with both signs of a variable.
         (
             &[
                 0x02, 0x00, 0x01, 0x01, 0x00, 0x01, 0x02, 0x01, 0x02, 0x01, 0x01, 0x02, 0x05, 0x02,
@@ -165,7 +166,7 @@ fn asks() -> [Row; 9] {
             ],
             b"f 1 -1 0 0\n",
         ),
-        // Asks of which each binds the next one not, and a name that comes again as another variable.
+        // Asks whose assumptions don't constrain later asks, and a name that is introduced again for another variable.
         (
             &[
                 0x02, 0x00, 0x01, 0x01, 0x00, 0x01, 0x05, 0x01, 0x00, 0x0b, 0x01, 0x01, 0x09, 0x06,
@@ -189,8 +190,8 @@ fn asks() -> [Row; 9] {
     ]
 }
 
-/// Each three of five variables with both signs, the positive ones with a sixth, which is learned: asks without the
-/// sixth and under nothing, and it is false from then on.
+/// All clauses of three of five variables, with both signs; the positive ones also contain a sixth variable. One ask
+/// assumes the negation of the sixth variable, and one assumes nothing; then the variable is false.
 const SESSION: &[u8] = &[
     0x02, 0x00, 0x01, 0x01, 0x00, 0x01, 0x02, 0x01, 0x02, 0x01, 0x01, 0x02, 0x02, 0x02, 0x03, 0x01,
     0x02, 0x03, 0x02, 0x03, 0x04, 0x02, 0x04, 0x05, 0x02, 0x05, 0x06, 0x01, 0x05, 0x04, 0x05, 0x04,
@@ -218,7 +219,8 @@ const SESSION: &[u8] = &[
     0x0d,
 ];
 
-/// The same, but the sixth is true and hidden, and deleted, before its name is another's.
+/// The clauses of `SESSION`, but the sixth variable is true, and is hidden and deleted before its name is introduced
+/// again for another variable.
 const HIDDEN_SESSION: &[u8] = &[
     0x02, 0x00, 0x01, 0x01, 0x00, 0x01, 0x02, 0x01, 0x02, 0x01, 0x01, 0x02, 0x02, 0x02, 0x03, 0x01,
     0x02, 0x03, 0x02, 0x03, 0x04, 0x02, 0x04, 0x05, 0x02, 0x05, 0x06, 0x01, 0x05, 0x04, 0x05, 0x04,
@@ -247,13 +249,13 @@ const HIDDEN_SESSION: &[u8] = &[
     0x06, 0x00, 0x0a, 0x06, 0x00, 0x03, 0x04, 0x07, 0x09, 0x0d, 0x0b, 0x00, 0x0d,
 ];
 
-/// Whether the text is proved.
+/// Whether the text is proved, read in one piece and byte by byte.
 fn is_proved(alloc: Global, text: &[u8]) -> bool {
     let verdict = whole(alloc, text);
     matches!(verdict, Ok(HintVerdict::Proved { .. })) && in_bytes(alloc, text, 0) == verdict
 }
 
-/// What this reader's certificate gives, if that is a text.
+/// Returns the hint text of a reader's certificate, or `None` if the conversion fails.
 fn converted<R: CountedRead>(alloc: Global, certificate: &mut R) -> Option<Vec<u8>> {
     let mut out = Counted::new(Vec::new(alloc));
     match convert(alloc, certificate, &mut out) {
@@ -262,14 +264,15 @@ fn converted<R: CountedRead>(alloc: Global, certificate: &mut R) -> Option<Vec<u
     }
 }
 
-/// What the certificate gives, read whole and one byte at a time, if that is one text.
+/// Returns the hint text of a certificate, or `None` if the conversion fails, or reading byte by byte gives
+/// another text.
 fn text_of(alloc: Global, certificate: &[u8]) -> Option<Vec<u8>> {
     let text = converted(alloc, &mut Counted::new(certificate))?;
     let again = converted(alloc, &mut by_one(certificate, 0))?;
     if again == text { Some(text) } else { None }
 }
 
-/// Whether the certificate gives this text, and that is proved.
+/// Whether `text` is the hint text of a certificate, and is proved.
 fn gives(alloc: Global, certificate: &[u8], text: &[u8]) -> bool {
     match text_of(alloc, certificate) {
         Some(written) => written.as_slice() == text && is_proved(alloc, text),
@@ -277,7 +280,7 @@ fn gives(alloc: Global, certificate: &[u8], text: &[u8]) -> bool {
     }
 }
 
-/// Whether each certificate gives its text.
+/// Whether each certificate has its hint text.
 fn hold(alloc: Global, rows: &[Row]) -> bool {
     for row in rows {
         if !gives(alloc, row.0, row.1) {
@@ -287,7 +290,7 @@ fn hold(alloc: Global, rows: &[Row]) -> bool {
     true
 }
 
-/// Whether this is the verdict on what the certificate gives.
+/// Whether `verdict` is the verdict on the hint text of a certificate.
 fn is_judged(alloc: Global, certificate: &[u8], verdict: HintVerdict) -> bool {
     match text_of(alloc, certificate) {
         Some(text) => whole(alloc, &text) == Ok(verdict)
@@ -296,7 +299,7 @@ fn is_judged(alloc: Global, certificate: &[u8], verdict: HintVerdict) -> bool {
     }
 }
 
-/// Which error the certificate gives, by its number.
+/// Returns the number of the error with which a certificate is refused, or 0.
 fn error_of(alloc: Global, certificate: &[u8]) -> u8 {
     let mut reader = Counted::new(certificate);
     let mut out = Counted::new(Vec::new(alloc));
@@ -339,14 +342,15 @@ fn rows_refused(rt: HostRuntime) {
         &[0x05, 0x02, 0x00, 0x02, 0x06, 0x00, 0x01, 0x00, 0x00, 0x0d],
     );
     assert!(rt; refused == 3);
-    // A variable is deleted that a clause of two literals has, and one that is unknown.
+    // The deletion of a variable that a clause of two literals contains, and of an unknown variable.
     let used = error_of(rt.alloc(), &[0x05, 0x02, 0x00, 0x02, 0x03, 0x00, 0x0d]);
     assert!(rt; used == 3);
     let unknown = error_of(rt.alloc(), &[0x03, 0x00, 0x0d]);
     assert!(rt; unknown == 3);
 }
 
-/// The certificate of two units, read by one byte, and its text, written by few; a call of each may fail.
+/// Converts a certificate of two units. Read number `read` of one byte fails, or write number `write` of at most 7
+/// bytes; with 0, none fails. Returns the number of the error, or 0.
 fn faults(alloc: Global, read: u64, write: u64) -> u8 {
     let certificate = [0x02, 0x00, 0x01, 0x05, 0x01, 0x00, 0x05, 0x01, 0x01, 0x0d];
     let mut reader = by_one(&certificate, read);
@@ -365,7 +369,7 @@ fn calls_fail(rt: HostRuntime) {
         let error = faults(rt.alloc(), read, 0);
         assert!(rt; error == 1);
     }
-    // The text has 31 bytes.
+    // The text has 31 bytes, which takes five writes.
     for write in 1..6 {
         let error = faults(rt.alloc(), 0, write);
         assert!(rt; error == 2);

@@ -1,11 +1,11 @@
-//! A reader that gives one byte at a time, and a writer that takes few.
+//! Readers and writers for tests.
 
 use sat_base::Counted;
 use std::alloc::Global;
 use std::io;
 use std::io::{ErrorKind, Read, Write};
 
-/// A text that is given byte by byte; one read fails, counted from 1, or none where that is 0.
+/// A reader that returns its text byte by byte. Read number `failing` fails, counted from 1; with 0, none does.
 #[derive(Drop)]
 pub(crate) struct ByOne<'a> {
     text: &'a [u8],
@@ -33,7 +33,7 @@ impl Read for ByOne<'_> {
     }
 }
 
-/// A text, and behind it one byte for ever. Reads are counted.
+/// A reader that returns a text, and then one byte without end. It counts its reads.
 #[derive(Drop)]
 pub(crate) struct Endless<'a> {
     text: &'a [u8],
@@ -55,7 +55,8 @@ impl Read for Endless<'_> {
     }
 }
 
-/// A writer that takes at most this many bytes of a piece; one write fails, counted from 1, or none where that is 0.
+/// A writer that accepts at most `most` bytes of a piece. Write number `failing` fails, counted from 1; with 0,
+/// none does.
 #[derive(Drop)]
 pub(crate) struct ByFew {
     pub(crate) taken: Vec<u8>,

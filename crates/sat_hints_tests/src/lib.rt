@@ -1,4 +1,4 @@
-//! Tests of `sat_hints` by its public calls, in a crate of their own so that the library is proved once.
+//! Tests of `sat_hints` through its public functions, in a crate of their own so that the library is proved only once.
 #![tactic(auto)]
 
 #[cfg(test)]

@@ -1,4 +1,4 @@
-//! The two parts of propagation, each alone, and the building of watch lists.
+//! Tests of the two parts of propagation, each on its own, and of building watch lists.
 ghost use Rattle.std.specs.Prelude.{ℕ, List, ◌≡◌, ◌+◌, ◌<◌, [], length};
 ghost use Rattle.sat_parts.specs.prop.State.{level, current_level};
 ghost use Rattle.sat_parts.specs.prop.Ready.{LongReady};
@@ -13,10 +13,10 @@ use sat_parts::{Conflict, Parts, Reason, enable_watchlists, propagate_binary, pr
 use sat_store::StoreError;
 use std::alloc::{AllocError, Global};
 
-/// How many variables there are.
+/// The number of variables.
 const COUNT: usize = 3;
 
-/// Propagates the next literal of the queue over the clauses of two literals. None where the queue is empty.
+/// Propagates the next literal of the queue over the clauses of two literals. Returns `None` if the queue is empty.
 fn over_binary(parts: &mut Parts) -> Result<Option<Result<(), Conflict>>, AllocError>
     requires { HoldsBelow (length parts.old.trail.starts + 1) parts.old }
 {
@@ -36,7 +36,7 @@ fn over_binary(parts: &mut Parts) -> Result<Option<Result<(), Conflict>>, AllocE
     }
 }
 
-/// Propagates the next literal of the queue over the long clauses. None where the queue is empty.
+/// Propagates the next literal of the queue over the long clauses. Returns `None` if the queue is empty.
 fn over_long(alloc: Global, parts: &mut Parts) -> Result<Option<Result<(), Conflict>>, AllocError>
     ghost live: { List ℕ }
     requires { LongReady parts.old.clauses live parts.old.watchlists.lists
@@ -71,7 +71,8 @@ fn built_and_over_long(
     over_long(alloc, parts)
 }
 
-/// What each part answers alone over these clauses. None where they aren't clauses over three variables.
+/// Loads clauses, and propagates one literal over the long ones if `is_long`, otherwise over those of two literals.
+/// Returns `None` if they aren't clauses over three variables, or the queue is empty.
 fn found_alone(
     alloc: Global,
     parts: &mut Parts,
@@ -91,7 +92,7 @@ fn found_alone(
     }
 }
 
-/// What propagation answers over these clauses. None where they aren't clauses over three variables.
+/// Loads clauses, and propagates over all of them. Returns `None` if they aren't clauses over three variables.
 fn found_together(
     alloc: Global,
     parts: &mut Parts,
@@ -107,7 +108,7 @@ fn found_together(
     Ok(Some(found))
 }
 
-/// Whether the third variable is true by the first of the long clauses.
+/// Whether the reason of the third variable is the first long clause.
 fn third_by_first(parts: &Parts) -> bool {
     match parts.db.refs().first() {
         Some(cref) => parts.graph.nodes.len() == 3

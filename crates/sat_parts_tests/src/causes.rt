@@ -1,4 +1,4 @@
-//! Literals of reasons and conflicts.
+//! Tests of the literals of reasons and conflicts.
 ghost use Rattle.std.specs.Prelude.{◌≤◌, length};
 ghost use Rattle.sat_store.specs.clause.Buffer.{IsClause, lits_at};
 
@@ -6,13 +6,13 @@ use sat_base::Lit;
 use sat_parts::{CauseLits, Conflict, Reason};
 use sat_store::{ClauseAlloc, ClauseHeader, ClauseRef, StoreError};
 
-/// How many literals the two parts have.
+/// Returns the number of literals in the two parts together.
 fn count_in_parts(lits: &CauseLits) -> usize {
     let (own, long) = lits.parts();
     own.len().saturating_add(long.len())
 }
 
-/// Whether the literals are those with these codes, by place and one after the other.
+/// Whether the literals have the codes `codes`, by index and when counted in the two parts.
 fn reads(lits: &CauseLits, codes: &[usize]) -> bool {
     if lits.len() != codes.len() || lits.is_empty() != codes.is_empty() {
         return false;
@@ -27,7 +27,8 @@ fn reads(lits: &CauseLits, codes: &[usize]) -> bool {
         && lits.iter().next().map(|lit| lit.code()) == codes.first().copied()
 }
 
-/// Whether a reason and a conflict read the literals 0, 3, 4 and 7 of a clause.
+/// Whether a reason and a conflict have the literals with the codes 0, 3, 4 and 7 of a clause. The reason leaves out
+/// the first literal.
 fn reads_clause(clauses: &ClauseAlloc, cref: ClauseRef) -> bool
     requires clause { IsClause clauses.now cref }
     requires long { 3 ≤ length (lits_at clauses.now cref) }
@@ -48,7 +49,7 @@ fn long_row(clauses: &mut ClauseAlloc) -> Result<bool, StoreError> {
     Ok(reads_clause(clauses, cref))
 }
 
-/// Whether a unit has no literals, and clauses of two literals have their own.
+/// Whether a unit has no literals, and a reason and a conflict of two literals have their own.
 fn short_row(clauses: &ClauseAlloc) -> bool {
     let (first, second) = (Lit::from_code(5), Lit::from_code(8));
     let (unit, binary) = (Reason::Unit, Reason::Binary([first]));

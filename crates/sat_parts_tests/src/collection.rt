@@ -1,4 +1,4 @@
-//! A collection where a clause is the reason of a literal.
+//! Tests of a collection while a clause is the reason of a literal.
 ghost use Rattle.std.specs.Prelude.{◌≡◌, ◌<◌, IsTrue, OnOk, [], length};
 ghost use Rattle.sat_parts.specs.clause.Db.{HoldsDb, live_refs};
 ghost use Rattle.sat_parts.specs.clause.Collected.{AreFirsts};
@@ -14,7 +14,7 @@ use sat_parts::{
 use sat_store::{ClauseAlloc, ClauseRef, StoreError, Tier};
 use std::alloc::{AllocError, Global};
 
-/// Whether the reason of a literal, where it is a long clause, is a live one that has the literal first.
+/// Whether the reason of a literal, if it is a long clause, is a live clause whose first literal is `lit`.
 fn reason_holds(clauses: &ClauseAlloc, db: &ClauseDb, graph: &ImplGraph, lit: Lit) -> bool
     requires { HoldsDb clauses.now db.now }
     ensures { IsTrue result → HasFirst clauses.now (live_refs clauses.now db.now.refs) graph.now lit }
@@ -30,7 +30,7 @@ fn reason_holds(clauses: &ClauseAlloc, db: &ClauseDb, graph: &ImplGraph, lit: Li
     }
 }
 
-/// Whether the reasons of the trail's literals are as a collection asks.
+/// Whether the reasons of the trail's literals are as a collection requires.
 fn reasons_hold(clauses: &ClauseAlloc, db: &ClauseDb, graph: &ImplGraph, trail: &Trail) -> bool
     requires { HoldsDb clauses.now db.now }
     ensures { IsTrue result → AreFirsts clauses.now (live_refs clauses.now db.now.refs) trail.now.lits graph.now }
@@ -44,7 +44,7 @@ fn reasons_hold(clauses: &ClauseAlloc, db: &ClauseDb, graph: &ImplGraph, trail: 
     true
 }
 
-/// Two clauses, of which the first is deleted.
+/// Adds two clauses, and deletes the first one. Returns the second one, or `None` if the first one isn't live.
 fn two_clauses(
     alloc: Global,
     clauses: &mut ClauseAlloc,
@@ -73,7 +73,7 @@ fn two_clauses(
     Ok(Some(second))
 }
 
-/// Makes the sixth variable true by a clause.
+/// Makes the sixth variable true, with a clause as its reason.
 fn enqueue_by(
     assignment: &mut Assignment,
     graph: &mut ImplGraph,
@@ -92,7 +92,7 @@ fn enqueue_by(
     Ok(true)
 }
 
-/// Collects, and answers whether the only clause that is left is the reason of the sixth variable.
+/// Collects, and returns whether the only remaining clause was moved and is the reason of the sixth variable.
 fn is_moved(
     alloc: Global,
     clauses: &mut ClauseAlloc,

@@ -1,4 +1,4 @@
-//! What each part answers by itself.
+//! Tests of single parts of a search.
 ghost use Rattle.std.specs.Prelude.{◌≡◌, ◌<◌, [], length};
 ghost use Rattle.sat_base.specs.values.Literals.{variable};
 ghost use Rattle.sat_parts.specs.prop.Trails.{no_trail};
@@ -59,7 +59,8 @@ fn implications(binary: &mut BinaryClauses) -> Result<bool, AllocError>
     )
 }
 
-/// What is left of three clauses once a literal is true.
+/// Assigns the first variable, and removes the clauses of assigned variables. Returns whether only the two clauses
+/// without the first variable remain.
 fn removal(binary: &mut BinaryClauses, values: &mut Assignment) -> Result<bool, AllocError>
     requires lists { length binary.old.implied ≡ 6 }
     requires values { length values.old.current ≡ 3 }
@@ -129,7 +130,8 @@ fn parts_are_read_back(rt: HostRuntime) {
     drop(binary);
 }
 
-/// Whether the queue and the count of level 0 have a unit, and what is left of it once the trail is cleared.
+/// Returns whether a unit is in the queue and in the count of level 0, and is only in the count once the trail
+/// is cleared.
 fn cleared(assignment: &mut Assignment, graph: &mut ImplGraph, trail: &mut Trail, lit: Lit) -> bool
     requires value { variable lit < length assignment.old.current }
     requires node { variable lit < length graph.old }

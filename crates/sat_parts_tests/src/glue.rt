@@ -1,4 +1,4 @@
-//! The levels of a clause in its buffer.
+//! Tests of the levels of a clause that is in the buffer.
 ghost use Rattle.std.specs.Prelude.{ℕ, ◌≡◌, ◌<◌, IsTrue, [], length, slice_index};
 ghost use Rattle.sat_base.specs.values.Literals.{variable};
 ghost use Rattle.sat_store.specs.clause.Buffer.{IsClause, lits_at};
@@ -15,7 +15,7 @@ use sat_parts::{
 use sat_store::{ClauseAlloc, ClauseRef, StoreError, TmpFlags};
 use std::alloc::{AllocError, Global};
 
-/// Whether each literal of a clause has a node of a level below the bound.
+/// Whether every literal of a clause has a node with a level below `bound`.
 fn levels_below(graph: &ImplGraph, clauses: &ClauseAlloc, cref: ClauseRef, bound: usize) -> bool
     requires { IsClause clauses.now cref }
     ensures nodes { IsTrue result → (k : ℕ) → k < length (lits_at clauses.now cref) →
@@ -32,7 +32,8 @@ fn levels_below(graph: &ImplGraph, clauses: &ClauseAlloc, cref: ClauseRef, bound
     true
 }
 
-/// Nodes of three variables with this false literal, of which the second is of level 3.
+/// Adds the nodes of three variables, whose reasons are binary clauses with the false literal `lit`. The second node
+/// has the level 3.
 fn make_nodes(graph: &mut ImplGraph, lit: Lit) -> Result<(), AllocError> {
     for index in 0u32..3 {
         let level = if index == 1 { 3 } else { 0 };
@@ -45,7 +46,8 @@ fn make_nodes(graph: &mut ImplGraph, lit: Lit) -> Result<(), AllocError> {
     Ok(())
 }
 
-/// The glue of the first clause of the list. None where it isn't a live one.
+/// Returns the glue of the first clause of the list, or `None` if the clause isn't live, a level is too high, or the
+/// glue that is counted only up to 1 isn't 1.
 fn glue_of_first(
     flags: &mut TmpFlags,
     graph: &ImplGraph,

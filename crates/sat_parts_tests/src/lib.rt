@@ -1,4 +1,4 @@
-//! Tests of the public calls of `sat_parts`.
+//! Tests of `sat_parts` through its public functions.
 #![tactic(auto)]
 
 #[cfg(test)]

@@ -1,4 +1,4 @@
-//! Long clauses by tier, deletions and collections.
+//! Tests of long clauses by tier, of deletions and of collections.
 ghost use Rattle.std.specs.Prelude.{ℕ, ◌≡◌, ◌+◌, ◌<◌, ◌≤◌, OnOk, IfOk, [], ◌∷◌, ◌++◌, length, slice_index_or};
 ghost use Rattle.sat_base.specs.values.Literals.{negated};
 ghost use Rattle.sat_parts.specs.clause.Db.{HoldsDb, live_refs};
@@ -11,7 +11,7 @@ use sat_parts::{
 use sat_store::{ClauseAlloc, ClauseHeader, ClauseRef, StoreError, Tier};
 use std::alloc::Global;
 
-/// The numbers of clauses by tier.
+/// Returns the number of clauses of each tier.
 pub fn counts(db: &ClauseDb) -> [usize; 4] {
     [
         db.count_by_tier(Tier::Irred),
@@ -47,7 +47,7 @@ pub fn store(
     Ok(cref)
 }
 
-/// Adds four clauses, which stand at 0, 6, 12 and 18.
+/// Adds four clauses, whose offsets are 0, 6, 12 and 18.
 pub fn store_four(
     clauses: &mut ClauseAlloc,
     db: &mut ClauseDb,
@@ -78,7 +78,7 @@ pub fn store_four(
     Ok((a, b, c, d))
 }
 
-/// Moves the clauses to other tiers.
+/// Moves the four clauses to other tiers.
 fn move_four(
     clauses: &mut ClauseAlloc,
     db: &mut ClauseDb,
@@ -99,7 +99,7 @@ fn move_four(
     set_clause_tier(clauses, db, fourth, Tier::Core);
 }
 
-/// Deletes the first and the third.
+/// Deletes the first and the third clause.
 fn delete_two(
     clauses: &mut ClauseAlloc,
     db: &mut ClauseDb,
@@ -117,7 +117,7 @@ fn delete_two(
     delete_clause(clauses, db, watchlists, third);
 }
 
-/// The places of the first three live clauses.
+/// Returns the offsets of the first three live clauses.
 fn offsets(clauses: &ClauseAlloc, db: &ClauseDb) -> (Option<usize>, Option<usize>, Option<usize>)
     requires { HoldsDb clauses.now db.now }
 {
@@ -128,7 +128,8 @@ fn offsets(clauses: &ClauseAlloc, db: &ClauseDb) -> (Option<usize>, Option<usize
     (first, second, third)
 }
 
-/// Whether all holds of a collection that isn't due, and of the one that is once another clause is deleted.
+/// Returns whether a collection that isn't due changes nothing, and whether a collection removes the deleted clauses
+/// once another clause is deleted.
 fn collects(
     alloc: Global,
     clauses: &mut ClauseAlloc,

@@ -1,4 +1,4 @@
-//! Clauses that come to the parts of a search.
+//! Tests of loading clauses into the parts of a search.
 ghost use Rattle.std.specs.Prelude.{ℕ, ◌≡◌, ◌≢◌, ◌*◌, ◌<◌, ◌≤◌, IsTrue, OnOk, [], length, slice_index_or};
 ghost use Rattle.sat_base.specs.values.Literals.{var_limit};
 ghost use Rattle.sat_parts.specs.clause.Orders.{AreDistinct};
@@ -15,7 +15,7 @@ use sat_parts::parts::variables::use_variable;
 use sat_store::StoreError;
 use std::alloc::{AllocError, Global};
 
-/// Whether the literal stands at this place or behind it.
+/// Whether `lit` occurs in `lits` at index `from` or later.
 fn stands_from(lits: &[Lit], from: usize, lit: Lit) -> bool
     ensures { ¬ IsTrue result → (k : ℕ) → from ≤ k → k < length lits.now → slice_index_or lits.now k 0 ≢ lit }
 {
@@ -27,7 +27,7 @@ fn stands_from(lits: &[Lit], from: usize, lit: Lit) -> bool
     false
 }
 
-/// Whether each variable has an index below the count.
+/// Whether each literal's variable has an index below `count`.
 fn are_below(lits: &[Lit], count: usize) -> bool
     ensures { IsTrue result → (k : ℕ) → k < length lits.now → slice_index_or lits.now k 0 < 2 * count }
 {
@@ -39,7 +39,7 @@ fn are_below(lits: &[Lit], count: usize) -> bool
     true
 }
 
-/// Whether no literal stands at two places.
+/// Whether no literal occurs twice.
 fn are_distinct(lits: &[Lit]) -> bool
     ensures { IsTrue result → AreDistinct lits.now }
 {
@@ -51,7 +51,7 @@ fn are_distinct(lits: &[Lit]) -> bool
     true
 }
 
-/// Lets each variable be picked.
+/// Makes every variable available for being picked.
 fn use_all(parts: &mut Parts, count: usize)
     requires holds { PartsInvariant parts.old }
     requires bottom { parts.old.trail.starts ≡ [] }
@@ -64,7 +64,7 @@ fn use_all(parts: &mut Parts, count: usize)
     }
 }
 
-/// Makes the variables those with an index below the count, where there were none.
+/// Introduces `count` variables. There must be no variables before.
 fn begin(alloc: Global, parts: &mut Parts, count: usize) -> Result<(), AllocError>
     requires holds { PartsInvariant parts.old }
     requires none { parts.old.assignment.current ≡ [] }
@@ -77,7 +77,7 @@ fn begin(alloc: Global, parts: &mut Parts, count: usize) -> Result<(), AllocErro
     Ok(())
 }
 
-/// Loads a clause. Answers whether it is one of different literals over so many variables.
+/// Loads a clause. Returns `false` if its literals aren't distinct literals over `count` variables.
 fn load_one(
     parts: &mut Parts,
     count: usize,
@@ -94,7 +94,7 @@ fn load_one(
     Ok(true)
 }
 
-/// Makes these the literals, of which each is a number that stands for one.
+/// Replaces `lits` by the literals with the given DIMACS numbers.
 fn read_lits(lits: &mut Vec<Lit>, numbers: &[i64]) -> Result<(), AllocError> {
     lits.clear();
     for number in numbers {
@@ -105,7 +105,7 @@ fn read_lits(lits: &mut Vec<Lit>, numbers: &[i64]) -> Result<(), AllocError> {
     Ok(())
 }
 
-/// Loads clauses in their order.
+/// Loads clauses in order. Returns `false` if one of them isn't a clause over `count` variables.
 fn load_all(
     parts: &mut Parts,
     count: usize,
@@ -125,8 +125,8 @@ fn load_all(
     Ok(true)
 }
 
-/// Makes so many variables, where there were none, and loads clauses in their order. Answers whether they are clauses
-/// over them.
+/// Introduces `count` variables, and loads clauses in order. Returns `false` if one of them isn't a clause over the
+/// variables. There must be no variables before.
 pub fn loaded(
     alloc: Global,
     parts: &mut Parts,

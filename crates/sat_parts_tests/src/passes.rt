@@ -1,4 +1,4 @@
-//! Passes over clauses, and the calls for one clause.
+//! Tests of passes over clauses, and of functions for a single clause.
 ghost use Rattle.std.specs.Prelude.{◌≡◌, ◌≤◌, ◌<◌, ◌==◌, IsTrue, OnOk, [], length};
 ghost use Rattle.std.specs.List.{Contains, filter};
 ghost use Rattle.sat_store.specs.clause.Buffer.{IsClause, lits_at};
@@ -14,7 +14,7 @@ use sat_parts::{
 use sat_store::{ClauseAlloc, ClauseRef, StoreError, Tier};
 use std::alloc::{AllocError, Global};
 
-/// Whether the clause stands at this place of the list and isn't deleted.
+/// Whether `cref` is at index `at` of the list and isn't deleted.
 fn stands_at(clauses: &ClauseAlloc, db: &ClauseDb, at: usize, cref: ClauseRef) -> bool
     requires db { HoldsDb clauses.now db.now }
     requires within { at < length db.now.refs }
@@ -29,7 +29,7 @@ fn stands_at(clauses: &ClauseAlloc, db: &ClauseDb, at: usize, cref: ClauseRef) -
     there == cref
 }
 
-/// Whether the clause is a live one of the list.
+/// Whether `cref` is a live clause of the list.
 pub fn is_among(clauses: &ClauseAlloc, db: &ClauseDb, cref: ClauseRef) -> bool
     requires { HoldsDb clauses.now db.now }
     ensures live { IsTrue result → Contains (live_refs clauses.now db.now.refs) cref }
@@ -44,7 +44,7 @@ pub fn is_among(clauses: &ClauseAlloc, db: &ClauseDb, cref: ClauseRef) -> bool
     false
 }
 
-/// Tier, mark and activity of a clause of the list.
+/// Returns the tier, the mark and the activity of the clause at index `at` of the list.
 fn fields(clauses: &ClauseAlloc, db: &ClauseDb, at: usize) -> Option<(Tier, bool, u32)>
     requires { HoldsDb clauses.now db.now }
 {
@@ -55,7 +55,7 @@ fn fields(clauses: &ClauseAlloc, db: &ClauseDb, at: usize) -> Option<(Tier, bool
     Some((header.tier(), header.mark(), header.activity()))
 }
 
-/// Four clauses, one of each tier.
+/// Adds four clauses, one of each tier.
 pub fn four(
     alloc: Global,
     clauses: &mut ClauseAlloc,
@@ -73,7 +73,7 @@ pub fn four(
     Ok(())
 }
 
-/// What is of which tier once the clauses of tier Mid were gone over, and which marks are set for the tier Local.
+/// Reduces the clauses of tier Mid, and marks those of tier Local. Returns whether the tiers and marks are as expected.
 fn tiers_and_marks(
     alloc: Global,
     clauses: &mut ClauseAlloc,
@@ -93,7 +93,8 @@ fn tiers_and_marks(
     )
 }
 
-/// Bumps the first clause, lets activities decay by half, and bumps it again.
+/// Bumps the first clause, decays the activities by one half, and bumps the clause again. Returns the next bump, and
+/// the fields of the clause.
 fn raised(clauses: &mut ClauseAlloc, db: &ClauseDb) -> Option<(u64, Option<(Tier, bool, u32)>)>
     requires { HoldsDb clauses.old db.now }
     ensures { HoldsDb clauses.new db.now }
@@ -110,7 +111,7 @@ fn raised(clauses: &mut ClauseAlloc, db: &ClauseDb) -> Option<(u64, Option<(Tier
     Some((activity.bump(), fields(clauses, db, 0)))
 }
 
-/// Keeps the first three literals of a clause, and answers how many it had.
+/// Keeps the first three literals of a clause, and returns how many it had, or 0 if it isn't live.
 fn shortened(
     clauses: &mut ClauseAlloc,
     db: &ClauseDb,
@@ -128,7 +129,7 @@ fn shortened(
     len
 }
 
-/// Keeps the clauses of three literals.
+/// Keeps only the clauses of three literals.
 fn keep_short(clauses: &mut ClauseAlloc, db: &mut ClauseDb, watchlists: &mut Watchlists)
     requires { HoldsDb clauses.old db.old }
     ensures db { HoldsDb clauses.new db.new }
@@ -143,7 +144,7 @@ fn keep_short(clauses: &mut ClauseAlloc, db: &mut ClauseDb, watchlists: &mut Wat
     );
 }
 
-/// Deletes a clause unless it is a reason. None where it isn't there.
+/// Deletes a clause unless it is a reason. Returns whether it was deleted, or `None` if it isn't live.
 fn tried(
     clauses: &mut ClauseAlloc,
     db: &mut ClauseDb,
@@ -164,7 +165,7 @@ fn tried(
     Some(try_delete_clause(clauses, db, watchlists, graph, assignment, cref))
 }
 
-/// Shortens the last clause, and deletes it where it isn't a reason.
+/// Shortens the last clause, and deletes it, as it isn't a reason. Returns whether that succeeded.
 fn cut_and_tried(
     alloc: Global,
     clauses: &mut ClauseAlloc,
@@ -189,7 +190,7 @@ fn cut_and_tried(
     Ok(lens == (5, 3) && first == Some(true) && db.garbage_size() == 6 && !watchlists.enabled())
 }
 
-/// Tries to delete the first clause, which is the reason of its first literal.
+/// Tries to delete the first clause, which is the reason of its first literal. Returns whether it was kept.
 fn reason_stays(
     alloc: Global,
     clauses: &mut ClauseAlloc,

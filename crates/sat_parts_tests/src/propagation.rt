@@ -1,4 +1,4 @@
-//! Propagation of units.
+//! Tests of propagating units.
 ghost use Rattle.std.specs.Prelude.{◌≡◌, []};
 ghost use Rattle.sat_parts.specs.parts.Whole.{PartsInvariant};
 
@@ -10,10 +10,10 @@ use sat_parts::{ClauseDb, Conflict, Parts};
 use sat_store::StoreError;
 use std::alloc::Global;
 
-/// How many variables there are.
+/// The number of variables.
 const COUNT: usize = 3;
 
-/// What propagation answers over these clauses. None where they aren't clauses over three variables.
+/// Loads clauses, and propagates. Returns `None` if they aren't clauses over three variables.
 fn propagated(
     alloc: Global,
     parts: &mut Parts,
@@ -29,7 +29,8 @@ fn propagated(
     Ok(Some(found))
 }
 
-/// The same, where a second call follows the first at once: it asks nothing else than what the first gave.
+/// Loads clauses, and propagates twice. Returns `None` if they aren't clauses over three variables. The second call
+/// requires no more than what the first call ensures.
 fn propagated_twice(
     alloc: Global,
     parts: &mut Parts,
@@ -50,7 +51,7 @@ fn propagated_twice(
     }
 }
 
-/// Whether the literals are those with these numbers.
+/// Whether the literals have the DIMACS numbers `numbers`, in order.
 pub fn reads(lits: &[Lit], numbers: &[i64]) -> bool {
     if lits.len() != numbers.len() {
         return false;
@@ -63,7 +64,7 @@ pub fn reads(lits: &[Lit], numbers: &[i64]) -> bool {
     true
 }
 
-/// Whether the conflict is the first of the long clauses.
+/// Whether the conflict is the first long clause.
 pub fn names_first(
     db: &ClauseDb,
     found: &Result<Option<Result<(), Conflict>>, StoreError>,

@@ -1,4 +1,4 @@
-//! What becoming true and being undone change, and the levels of a clause.
+//! Tests of assignments that are made and undone, and of the levels of a clause.
 ghost use Rattle.std.specs.Prelude.{ℕ, ◌≡◌, ◌<◌, IfOk, IsTrue, OnOk, [], length, slice_index, slice_index_or, false};
 ghost use Rattle.sat_base.specs.values.Literals.{variable};
 ghost use Rattle.sat_parts.specs.prop.Graphs.{node_of};
@@ -14,10 +14,10 @@ use sat_parts::{ImplGraph, Parts, Reason, compute_glue};
 use sat_store::{StoreError, TmpFlags};
 use std::alloc::{AllocError, Global};
 
-/// How many variables there are.
+/// The number of variables.
 const COUNT: usize = 5;
 
-/// Reason, level and depth of a variable that there is.
+/// Returns the reason, the level and the depth of a variable, or `None` if there is no such variable.
 fn node(graph: &ImplGraph, index: usize) -> Option<(Reason, usize, usize)> {
     if index >= graph.nodes.len() || index >= COUNT {
         return None;
@@ -26,8 +26,8 @@ fn node(graph: &ImplGraph, index: usize) -> Option<(Reason, usize, usize)> {
     Some((graph.reason(var), graph.level(var), graph.depth(var)))
 }
 
-/// Loads two clauses and a unit, propagates, and takes the unit off the trail. Answers whether it stood there without a
-/// reason.
+/// Loads two clauses and a unit, propagates, and removes the unit from the trail. Returns whether the unit was on the
+/// trail without a reason.
 fn begun(alloc: Global, parts: &mut Parts) -> Result<bool, StoreError>
     requires holds { PartsInvariant parts.old }
     requires none { parts.old.assignment.current ≡ [] }
@@ -65,7 +65,8 @@ fn advance(alloc: Global, parts: &mut Parts, lit: Lit) -> Result<bool, AllocErro
     }
 }
 
-/// Whether the nodes are those of a unit off the trail, two decisions, and what the second one implies by each clause.
+/// Whether the nodes are as expected: for a unit that is no longer on the trail, for two decisions, and for what the
+/// second decision implies by the clause of two literals and by the long clause.
 fn nodes_are_right(parts: &Parts) -> bool {
     let cref = match parts.db.refs().first() {
         Some(cref) => *cref,
@@ -79,7 +80,7 @@ fn nodes_are_right(parts: &Parts) -> bool {
         && node(graph, 4) == Some((Reason::Long(cref), 2, 4))
 }
 
-/// Whether each literal has a node of a level below the bound.
+/// Whether every literal has a node with a level below `bound`.
 fn levels_below(graph: &ImplGraph, lits: &[Lit], bound: usize) -> bool
     ensures nodes { IsTrue result → (k : ℕ) → k < length lits.now
         → variable (slice_index lits.now k) < length graph.now }
@@ -95,7 +96,7 @@ fn levels_below(graph: &ImplGraph, lits: &[Lit], bound: usize) -> bool
     true
 }
 
-/// Makes ten flags, all false.
+/// Creates ten flags, all false.
 pub fn make_flags(flags: &mut TmpFlags) -> Result<(), AllocError>
     requires { flags.old.flags.items ≡ [] }
     ensures clear { OnOk result ((k : ℕ) → slice_index_or flags.new.flags.items k false ≡ false) }
@@ -105,7 +106,7 @@ pub fn make_flags(flags: &mut TmpFlags) -> Result<(), AllocError>
     Ok(())
 }
 
-/// The glue of these literals.
+/// Returns the glue of the literals, or 99 if a literal has no node of a level below 10.
 fn glue_of(flags: &mut TmpFlags, graph: &ImplGraph, lits: &[Lit]) -> Result<usize, AllocError>
     requires { flags.old.flags.items ≡ [] }
 {
@@ -116,7 +117,7 @@ fn glue_of(flags: &mut TmpFlags, graph: &ImplGraph, lits: &[Lit]) -> Result<usiz
     Ok(compute_glue(flags, graph, lits))
 }
 
-/// Whether the decisions can be made, and the nodes are right.
+/// Makes the decisions. Returns whether they are possible, and the nodes are as expected.
 fn decisions(alloc: Global, parts: &mut Parts) -> Result<bool, AllocError>
     requires holds { PartsInvariant parts.old }
     requires done { IsFullyPropagated parts.old }
@@ -131,7 +132,7 @@ fn decisions(alloc: Global, parts: &mut Parts) -> Result<bool, AllocError>
     Ok(nodes_are_right(parts) && parts.trail.current_level() == 2)
 }
 
-/// Whether nothing is left on the trail once all levels are undone, and an open variable that was raised is picked.
+/// Undoes all levels. Returns whether the trail is empty, and an unassigned variable that was bumped is picked.
 fn undone(parts: &mut Parts) -> bool
     requires { PartsInvariant parts.old }
 {
@@ -166,7 +167,7 @@ fn table(alloc: Global, parts: &mut Parts, flags: &mut TmpFlags) -> Result<bool,
     Ok(undone(parts))
 }
 
-/// Whether the variable has lost this value.
+/// Whether the variable is unassigned, and its last value was `value`.
 fn has_lost(parts: &Parts, index: usize, value: bool) -> bool {
     if index >= parts.assignment.assignment().len() || index >= COUNT {
         return false;

@@ -1,4 +1,4 @@
-//! Lists of watches that are lent.
+//! Tests of borrowed lists of watches.
 ghost use Rattle.std.specs.Prelude.{◌≡◌, ◌<◌, length};
 
 use sat_base::Lit;
@@ -6,7 +6,7 @@ use sat_parts::{Watch, Watchlists};
 use sat_store::{ClauseAlloc, ClauseHeader, ClauseRef, StoreError};
 use std::alloc::{AllocError, Global};
 
-/// Whether a literal has one watch, on this clause and with this blocking literal.
+/// Whether a literal has a single watch, with the clause `cref` and the literal `blocking`.
 fn is_watched(watchlists: &mut Watchlists, lit: Lit, cref: ClauseRef, blocking: Lit) -> bool
     requires { lit < length watchlists.old.lists }
     ensures { length watchlists.new.lists ≡ length watchlists.old.lists }
@@ -15,7 +15,7 @@ fn is_watched(watchlists: &mut Watchlists, lit: Lit, cref: ClauseRef, blocking: 
     list.len() == 1 && list.cref(0) == cref && list.blocking(0) == blocking
 }
 
-/// Puts a watch into the list of a literal.
+/// Adds a watch to the list of a literal.
 fn watch(
     watchlists: &mut Watchlists,
     lit: Lit,
@@ -29,7 +29,7 @@ fn watch(
     list.push(Watch { cref, blocking })
 }
 
-/// Empties the list of a literal.
+/// Clears the list of a literal.
 fn unwatch(watchlists: &mut Watchlists, lit: Lit)
     requires { lit < length watchlists.old.lists }
     ensures { length watchlists.new.lists ≡ length watchlists.old.lists }

@@ -1,4 +1,5 @@
-//! The clause that the last conflict of a search gives, and what was used for it, against values by hand.
+//! Tests of the clause that the last conflict of a search gives, and of what was used for it, against values found
+//! by hand.
 
 use crate::searcher::{no_room, search};
 use sat_base::{Counted, Lit};
@@ -8,8 +9,8 @@ use sat_solver::proof::Proof;
 use sat_solver::variables::Variables;
 use std::alloc::Global;
 
-/// Clauses; the codes of the learned clause, the one that asserts first; those of the literals whose reasons were used,
-/// those of minimisation first; and how many long clauses took part.
+/// Clauses; the codes of the learned clause, beginning with the literal that it asserts; the codes of the literals
+/// whose reasons were used, beginning with those used for minimization; and how many long clauses took part.
 type Row = (
     &'static [&'static [usize]],
     &'static [usize],
@@ -17,17 +18,17 @@ type Row = (
     usize,
 );
 
-/// Decisions go by index, and make variables false.
+/// Decisions are made in the order of indices, and make variables false.
 const ROWS: &[Row] = &[
     // -1 is decided. 2 follows from it, and falsifies the second clause.
     (&[&[0, 2], &[0, 3]], &[0], &[2], 0),
-    // -1 and -2 are decided. 3 follows by the first clause, and falsifies the second.
+    // -1 and -2 are decided. 3 follows from the first clause, and falsifies the second.
     (&[&[0, 2, 4], &[0, 2, 5]], &[2, 0], &[4], 2),
-    // -1 is decided, and 2 follows. -3 is decided, 4 follows, and falsifies the last clause. -2 is dropped, as it
-    // follows from 1.
+    // -1 is decided, and 2 follows. -3 is decided, 4 follows, and falsifies the last clause. -2 is dropped, as it is
+    // implied by 1.
     (&[&[0, 2], &[3, 4, 6], &[0, 4, 7]], &[4, 0], &[2, 6], 2),
-    // -1 and -2 are decided. 3 follows, from it 4 and 5, and these falsify the last clause: 3 is the first implication
-    // point.
+    // -1 and -2 are decided. 3 follows, 4 and 5 follow from 3, and falsify the last clause: 3 is the first
+    // implication point.
     (
         &[&[0, 2, 4], &[5, 6], &[5, 8], &[0, 7, 9]],
         &[5, 0],
@@ -36,7 +37,7 @@ const ROWS: &[Row] = &[
     ),
 ];
 
-/// Whether the literals are those of the codes, in order.
+/// Whether the literals have the codes `codes`, in order.
 fn are_codes(lits: &[Lit], codes: &[usize]) -> bool {
     if lits.len() != codes.len() {
         return false;
@@ -49,7 +50,7 @@ fn are_codes(lits: &[Lit], codes: &[usize]) -> bool {
     true
 }
 
-/// Whether the last conflict gave this.
+/// Whether the last conflict gave what `row` has.
 fn is_analysis(search: &Search, row: &Row) -> bool {
     let analysis = &search.analysis;
     are_codes(analysis.clause(), row.1)
@@ -57,7 +58,7 @@ fn is_analysis(search: &Search, row: &Row) -> bool {
         && analysis.involved().len() == row.3
 }
 
-/// Whether a search over the clauses comes to an answer, and its last conflict gave what the row says.
+/// Whether a search over the clauses of `row` finds an answer, and its last conflict gave what `row` has.
 fn is_right(alloc: Global, row: &Row) -> bool {
     let mut names = Variables::new(alloc);
     let mut core: Core<Counted<Vec<u8>>> = Core {
@@ -69,7 +70,7 @@ fn is_right(alloc: Global, row: &Row) -> bool {
     search(&mut core, &mut names, row.0, &mut room) && is_analysis(&core.search, row)
 }
 
-/// The place of the first row that isn't right.
+/// Returns the index of the first row that isn't right, or `None`.
 fn first_wrong(alloc: Global) -> Option<usize> {
     for at in 0..ROWS.len() {
         if !is_right(alloc, &ROWS[at]) {

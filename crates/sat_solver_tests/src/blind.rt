@@ -1,4 +1,4 @@
-//! A checker to which hashes tell nothing: each one, and each width, is 0 where a step is fed to it.
+//! A checker that can't distinguish hashes: it receives each step with a width of 0 and with hashes of 0.
 
 use sat_base::{
     ClauseHash, Counted, CountedRead, DeleteClauseProof, HashBits, Lit, ProofStep, StepError,
@@ -7,7 +7,7 @@ use sat_base::{
 use sat_checker::{Checker, SelfChecker};
 use std::alloc::{AllocError, Global};
 
-/// Room for the hashes of a step, and how many clauses were deleted as of no use.
+/// Scratch memory for the hashes of a step, and the number of clauses that were deleted as redundant.
 #[derive(Drop)]
 struct Blanks {
     hashes: Vec<ClauseHash>,
@@ -24,7 +24,7 @@ impl Blanks {
         }
     }
 
-    /// As many hashes, all of them 0.
+    /// Sets the hashes to as many zeros as `hashes` has items.
     fn take_hashes(&mut self, hashes: &[ClauseHash]) -> Result<(), AllocError> {
         self.hashes.clear();
         for _ in hashes {
@@ -33,7 +33,7 @@ impl Blanks {
         Ok(())
     }
 
-    /// The same units, with hashes of 0.
+    /// Sets the units to `units`, but with hashes of 0.
     fn take_units(&mut self, units: &[(Lit, ClauseHash)]) -> Result<(), AllocError> {
         self.units.clear();
         for unit in units {
@@ -47,7 +47,8 @@ fn is_taken<C: SelfChecker>(checker: &mut C, step: &ProofStep<'_>) -> bool {
     checker.self_check_step(step).is_ok()
 }
 
-/// A step that has hashes, without what they tell. Gives whether it is accepted, and `None` for the other kinds.
+/// Passes a step that has hashes to the checker, with hashes of 0. Returns whether it is accepted, or `None` for a step
+/// of another kind.
 fn takes_hashed<C: SelfChecker>(
     checker: &mut C,
     blanks: &mut Blanks,
@@ -96,7 +97,7 @@ fn is_reduction(step: &ProofStep<'_>) -> bool {
     }
 }
 
-/// A step without what its hashes or its width tell. Gives whether it is accepted.
+/// Passes a step to the checker, with a width and hashes of 0. Returns whether it is accepted.
 fn takes<C: SelfChecker>(checker: &mut C, blanks: &mut Blanks, step: &ProofStep<'_>) -> bool {
     if let Some(taken) = takes_hashed(checker, blanks, step) {
         return taken;
@@ -113,10 +114,10 @@ fn takes<C: SelfChecker>(checker: &mut C, blanks: &mut Blanks, step: &ProofStep<
     is_taken(checker, step)
 }
 
-/// More steps than a proof of these tests has.
+/// An upper bound on the number of steps in a proof.
 const MOST: usize = 10_000;
 
-/// Whether each step that a reader gives up to its end is accepted.
+/// Whether every step of a reader, up to the end of its proof, is accepted.
 fn are_taken<C: SelfChecker, R: CountedRead>(
     checker: &mut C,
     blanks: &mut Blanks,
@@ -144,8 +145,8 @@ fn are_read<C: SelfChecker, R: CountedRead>(
     are_taken(checker, blanks, &mut StepReader::new(alloc, reader))
 }
 
-/// How many clauses a proof deletes as of no use; `None` where its steps aren't accepted if no hash tells a clause from
-/// another.
+/// Returns the number of clauses that a proof deletes as redundant, or `None` if its steps aren't accepted when all
+/// hashes are 0.
 pub(crate) fn reductions(alloc: Global, text: &[u8]) -> Option<u64> {
     let mut checker = Checker::new(alloc);
     let mut blanks = Blanks::new(alloc);

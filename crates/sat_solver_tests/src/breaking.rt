@@ -1,5 +1,5 @@
-//! Each call of a proof's target fails in turn, in each format, with and without a checker of the solver's own; and
-//! what a solver drops isn't called.
+//! Tests in which each call of a proof's target fails in turn, in each format, with and without the solver's own
+//! checker; and tests that a solver doesn't call a target or a processor while it is dropped.
 
 use crate::calls::{Behind, Call, CallParts, Kind, Part, done, kind_of};
 use crate::devices::{ByFew, Tally, by_few};
@@ -22,7 +22,7 @@ const ROWS: &[&[i64]] = &[
 
 const LINES: &[Part<'static>] = &[(Kind::Right, &[Call::Formula(ROWS), Call::Solve(true)])];
 
-/// A name is hidden, and comes in again, before a second ask.
+/// A name is hidden, and is introduced again before a second ask.
 const STEPS: &[Part<'static>] = &[(
     Kind::Right,
     &[
@@ -37,7 +37,8 @@ const STEPS: &[Part<'static>] = &[(
 
 const CHECKED: &[Part<'static>] = &[(Kind::Right, &[Call::Check])];
 
-/// How a session is written: whether it is checked as it goes, the format, and the calls.
+/// A session: the calls that are made first, which start the solver's own checker if there are any; the format of the
+/// proof; and the other calls.
 type Row = (
     &'static [Part<'static>],
     ProofFormat,
@@ -61,8 +62,8 @@ fn calls_of(target: Few) -> u64 {
     target.into_inner().calls
 }
 
-/// How a session ends, closing its proof included, and how many calls a target got that was handed back by that, or
-/// else by the solver.
+/// Returns the outcome of a session, including the closing of its proof, and the number of calls of the target, which
+/// is returned by the closing or else by the solver.
 fn end_of(told: Kind, closed: Closed<Few>, left: Option<Few>) -> (Kind, u64) {
     match (closed, left) {
         (Ok(Some(target)), None) => (told, calls_of(target)),
@@ -78,8 +79,8 @@ fn end_of(told: Kind, closed: Closed<Few>, left: Option<Few>) -> (Kind, u64) {
     }
 }
 
-/// How a session ends whose target takes seven bytes at a time and fails at this call, whether the solver has failed
-/// then, and how many calls the target got.
+/// Plays a session whose target accepts seven bytes at a time and fails at call number `failing`. Returns the outcome,
+/// whether the solver has failed afterwards, and the number of calls of the target.
 fn end_with(alloc: Global, (front, format, parts): Row, failing: u64) -> (Kind, bool, u64) {
     let act = Behind(Proved {
         target: by_few(alloc, 7, failing),
@@ -96,7 +97,7 @@ fn end_with(alloc: Global, (front, format, parts): Row, failing: u64) -> (Kind, 
     (kind, failed, calls)
 }
 
-/// Whether each call of the target fails, none comes behind it, and the target is handed back.
+/// Whether a failure of each call of the target is reported, no call follows it, and the target is returned.
 fn each_fails(alloc: Global, row: Row) -> bool {
     let (whole, _, calls) = end_with(alloc, row, 0);
     for at in 1..=calls {
@@ -118,7 +119,7 @@ fn each_call_of_a_target_fails(rt: HostRuntime) {
     }
 }
 
-/// Hands a proof's target and a processor to a solver that was used, and asks.
+/// A play that passes a proof's target and a processor to a solver that has been used, and asks.
 #[derive(Drop)]
 struct Late<'a>(&'a Cell<u64>);
 
@@ -132,7 +133,8 @@ impl<'a> Play<Solver<Counted<Tally<'a>>, Tally<'a>>, [Kind; 4]> for Late<'a> {
     }
 }
 
-/// How these calls are answered, and how often target and processor are called, on their way out too.
+/// Plays `Late`. Returns the results of its calls, and how many times target and processor are called, including while
+/// they are dropped.
 fn reported_late(alloc: Global) -> ([Kind; 4], u64) {
     let calls = Cell::new(0);
     let (kinds, left) = played::<

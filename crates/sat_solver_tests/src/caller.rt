@@ -1,4 +1,4 @@
-//! A caller of a proof over a target that is lent.
+//! A caller that writes a proof into a borrowed target.
 ghost use Rattle.sat_solver_tests.specs.Calling.{CallAnswers, PutsOwned};
 
 use sat_base::{CountedWrite, ProofStep};
@@ -6,7 +6,7 @@ use sat_solver::ProofFormat;
 use sat_solver::proof::{Proof, ProofError};
 use std::alloc::Global;
 
-/// Writes an ask for nothing, and the last step, into a target of its own, which comes back.
+/// Writes an ask without assumptions, and the last step, into `target`, and returns `target`.
 fn write_owned<W: CountedWrite + Drop>(
     alloc: Global,
     target: W,
@@ -26,7 +26,7 @@ fn write_owned<W: CountedWrite + Drop>(
     written
 }
 
-/// The same, into a target that is lent.
+/// Writes what `write_owned` writes into a borrowed target.
 pub fn write_lent<C: CountedWrite>(alloc: Global, target: &mut C) -> Result<(), ProofError>
     ensures { CallAnswers result (C.seen target.old) (C.seen target.new) }
 {

@@ -1,4 +1,4 @@
-//! Sessions: calls of a solver, and how each is answered.
+//! Sessions: calls of a solver, and the result of each call.
 ghost use Rattle.sat_solver.specs.solver.Whole.{IsSolver};
 
 use crate::driver::{Made, Play};
@@ -8,15 +8,15 @@ use sat_solver::{Progress, ProofFormat, Solver, SolverConfigUpdate, SolverError}
 use std::alloc::{AllocError, Global};
 use std::io::ErrorKind;
 
-/// How a call is answered.
+/// The result of a call.
 #[derive(Clone, Copy, PartialEq, Eq)]
 pub(crate) enum Kind {
-    /// With what is wanted of it.
+    /// The call succeeds with the expected result.
     Right,
     Wrong,
     Interrupted,
     Processor,
-    /// With the fault that the target answered.
+    /// The call fails with the target's error.
     Target,
     Witness,
     Assumed,
@@ -29,35 +29,35 @@ pub(crate) enum Kind {
     Other,
 }
 
-/// A call of a solver, with what it answers where it isn't refused. Names and literals are numbers.
+/// A call of a solver, with the result that it has if it isn't refused. Names and literals are numbers.
 pub(crate) enum Call {
     Clause(&'static [i64]),
     Formula(&'static [&'static [i64]]),
     Text(&'static [u8]),
     Assume(&'static [i64]),
     Set(SolverConfigUpdate),
-    /// So many rounds are allowed for an ask.
+    /// Sets how many rounds an ask may take.
     Allow(u64),
     Solve(bool),
-    /// An ask under these literals, and a model; there are no assumptions afterwards.
+    /// An ask under the first literals, which has the second ones as its model. There are no assumptions afterwards.
     Sat(&'static [i64], &'static [i64]),
-    /// The same, and a core.
+    /// An ask under the first literals, which has the second ones as its core. There are no assumptions afterwards.
     Unsat(&'static [i64], &'static [i64]),
     Model(&'static [i64]),
     Core(&'static [i64]),
-    /// No model and no core is known.
+    /// Neither a model nor a core is known.
     Unknown,
-    /// Variables without a value, clauses of two literals, and long ones.
+    /// The number of variables without a value, of clauses of two literals, and of long clauses.
     Counts([u64; 3]),
-    /// Rounds.
+    /// The number of rounds.
     Steps(u64),
-    /// The least restarts, and the most.
+    /// The smallest and the largest number of restarts.
     Restarts(u64, u64),
     Hide(i64),
     Witness(i64),
     Sample(i64),
     New(i64),
-    /// The names that hidden variables get.
+    /// The names that hidden variables are given.
     Observe(&'static [i64]),
     Check,
     Tell,
@@ -65,7 +65,7 @@ pub(crate) enum Call {
     Close,
 }
 
-/// Calls that are all answered in one way.
+/// Calls that all have results of the same kind.
 pub(crate) type Part<'a> = (Kind, &'a [Call]);
 
 pub(crate) fn right_if(is_right: bool) -> Kind {
@@ -102,7 +102,7 @@ pub(crate) fn done<T: Drop>(came: Result<T, SolverError>) -> Kind {
     }
 }
 
-/// The first that isn't right, if there is one.
+/// Returns the first kind that isn't `Right`, or `Right`.
 pub(crate) fn first_of(kinds: &[Kind]) -> Kind {
     for kind in kinds {
         if *kind != Kind::Right {
@@ -112,7 +112,7 @@ pub(crate) fn first_of(kinds: &[Kind]) -> Kind {
     Kind::Right
 }
 
-/// Puts literals into a list, in place of what it had.
+/// Replaces the literals in `lits` by those with the given numbers.
 pub(crate) fn read(lits: &mut Vec<Lit>, numbers: &[i64]) -> Result<(), AllocError> {
     lits.clear();
     for number in numbers {
@@ -123,7 +123,7 @@ pub(crate) fn read(lits: &mut Vec<Lit>, numbers: &[i64]) -> Result<(), AllocErro
     Ok(())
 }
 
-/// Whether the literals are these numbers, in order.
+/// Whether the literals have the DIMACS numbers `numbers`, in order.
 pub(crate) fn are(lits: &[Lit], numbers: &[i64]) -> bool {
     if lits.len() != numbers.len() {
         return false;
@@ -136,7 +136,7 @@ pub(crate) fn are(lits: &[Lit], numbers: &[i64]) -> bool {
     true
 }
 
-/// Whether the names are these, in order.
+/// Whether the names have the DIMACS numbers `names`, in order.
 fn are_names(users: &[Var], names: &[i64]) -> bool {
     if users.len() != names.len() {
         return false;
@@ -184,7 +184,7 @@ fn assume<W: CountedWrite + Drop, P: ProofProcessor>(
     done(solver.assume(lits))
 }
 
-/// Adds these clauses to a formula. Gives whether there was memory.
+/// Adds the clauses `rows` to a formula. Returns `false` if memory runs out.
 fn fill(formula: &mut CnfFormula, lits: &mut Vec<Lit>, rows: &[&[i64]]) -> bool {
     for at in 0..rows.len() {
         if read(lits, rows[at]).is_err() || formula.add_clause(lits).is_err() {
@@ -336,7 +336,7 @@ fn has_restarts(progress: Progress, least: u64, most: u64) -> Kind {
     right_if(least <= progress.restarts && progress.restarts <= most)
 }
 
-/// Makes a call about a proof or who listens.
+/// Makes a call about a proof, a checker or a processor, and returns the kind of its result.
 fn begin<W: CountedWrite + Drop + Made, P: ProofProcessor + Made>(
     alloc: Global,
     solver: &mut Solver<W, P>,
@@ -354,7 +354,7 @@ fn begin<W: CountedWrite + Drop + Made, P: ProofProcessor + Made>(
     }
 }
 
-/// Makes a call about names.
+/// Makes a call about names, and returns the kind of its result.
 fn set<W: CountedWrite + Drop + Made, P: ProofProcessor + Made>(
     alloc: Global,
     solver: &mut Solver<W, P>,
@@ -373,7 +373,7 @@ fn set<W: CountedWrite + Drop + Made, P: ProofProcessor + Made>(
     }
 }
 
-/// Makes a call about what is known.
+/// Makes a call that checks what the solver knows, and returns the kind of its result.
 fn tell<W: CountedWrite + Drop + Made, P: ProofProcessor + Made>(
     alloc: Global,
     solver: &mut Solver<W, P>,
@@ -402,7 +402,7 @@ fn allow<W: CountedWrite + Drop, P: ProofProcessor>(solver: &mut Solver<W, P>, r
     done(solver.config(&update))
 }
 
-/// Makes a call.
+/// Makes a call, and returns the kind of its result.
 fn make<W: CountedWrite + Drop + Made, P: ProofProcessor + Made>(
     alloc: Global,
     solver: &mut Solver<W, P>,
@@ -426,7 +426,7 @@ fn make<W: CountedWrite + Drop + Made, P: ProofProcessor + Made>(
     }
 }
 
-/// Makes calls, up to the first that isn't answered in this way, whose answer is given.
+/// Makes calls, up to the first whose result isn't of the kind `kind`, and returns the kind of that result.
 fn make_part<W: CountedWrite + Drop + Made, P: ProofProcessor + Made>(
     alloc: Global,
     solver: &mut Solver<W, P>,
@@ -446,8 +446,8 @@ fn make_part<W: CountedWrite + Drop + Made, P: ProofProcessor + Made>(
     kind
 }
 
-/// Makes calls, up to the first that isn't answered as its part says. Gives its answer, and that all is right where
-/// there is none.
+/// Makes calls, up to the first whose result isn't of the kind that its part has, and returns the kind of that result;
+/// or returns `Right`.
 fn make_all<W: CountedWrite + Drop + Made, P: ProofProcessor + Made>(
     alloc: Global,
     solver: &mut Solver<W, P>,
@@ -471,14 +471,14 @@ fn make_all<W: CountedWrite + Drop + Made, P: ProofProcessor + Made>(
     Kind::Right
 }
 
-/// Makes all calls, behind those of a front.
+/// A play that makes the calls of `front`, and then those of `parts`.
 #[derive(Drop)]
 pub(crate) struct CallParts<'a> {
     pub(crate) front: &'a [Part<'a>],
     pub(crate) parts: &'a [Part<'a>],
 }
 
-/// A session without a front.
+/// Returns a play without calls in `front`.
 pub(crate) fn plain<'a>(parts: &'a [Part<'a>]) -> CallParts<'a> {
     CallParts { front: &[], parts }
 }
@@ -492,7 +492,7 @@ impl<W: CountedWrite + Drop + Made, P: ProofProcessor + Made> Play<Solver<W, P>,
     }
 }
 
-/// No change of a parameter.
+/// An update that changes no parameter.
 pub(crate) const SAME: SolverConfigUpdate = SolverConfigUpdate {
     vsids_decay: None,
     clause_activity_decay: None,
@@ -502,7 +502,7 @@ pub(crate) const SAME: SolverConfigUpdate = SolverConfigUpdate {
     max_steps: None,
 };
 
-/// Each call that answers a `Result`.
+/// Every call that returns a `Result`.
 const EACH: &[Part<'static>] = &[(
     Kind::Failed,
     &[
@@ -525,7 +525,7 @@ const EACH: &[Part<'static>] = &[(
     ],
 )];
 
-/// A play, and whether each call answers behind it that the solver has failed, and no core is known.
+/// A play, and then a check whether every call reports that the solver has failed, and no core is known.
 #[derive(Drop)]
 pub(crate) struct Behind<A>(pub(crate) A);
 

@@ -1,4 +1,4 @@
-//! The bytes and lines of proofs.
+//! Tests of the bytes and lines of proofs.
 
 use crate::calls::{Call, Kind, Part};
 use crate::scripts::text_of;
@@ -26,10 +26,10 @@ const REFUTED: &[Part<'static>] = &[(
     &[Call::Formula(TWO_BY_TWO), Call::Unsat(&[], &[])],
 )];
 
-/// The name below comes in, and the hidden one is deleted.
+/// The name below it is introduced, and the hidden one is deleted.
 const HIDDEN: &[Part<'static>] = &[(Kind::Right, &[Call::Hide(2), Call::Sat(&[], &[-1])])];
 
-/// Lines have no assumptions, and no clauses behind the first ask.
+/// DRAT has no assumptions, and no clauses after the first ask.
 const LINES: &[Part<'static>] = &[
     (Kind::NotInDrat, &[Call::Assume(&[])]),
     (
@@ -50,7 +50,8 @@ const LINES: &[Part<'static>] = &[
 
 const UNIT: &[Part<'static>] = &[(Kind::Right, &[Call::Clause(&[1]), Call::Solve(true)])];
 
-/// A unit makes two clauses of two literals true: that of the lower literal goes first, though it came later.
+/// A unit satisfies two clauses of two literals: the clause of the lower literal is removed first, though it was
+/// added later.
 const PAIRS: &[Part<'static>] = &[(
     Kind::Right,
     &[
@@ -62,7 +63,7 @@ const PAIRS: &[Part<'static>] = &[(
     ],
 )];
 
-/// Repeated assumptions are written so, and a core has none twice.
+/// Repeated assumptions are written repeatedly, but a core has no repeated literals.
 const REPEATED: &[Part<'static>] = &[(
     Kind::Right,
     &[Call::Clause(&[-1]), Call::Unsat(&[1, 1], &[1])],
@@ -71,7 +72,7 @@ const REPEATED: &[Part<'static>] = &[(
 /// Calls, the format of their proof, and its text.
 type Row = (&'static [Part<'static>], ProofFormat, &'static [u8]);
 
-/// Hashes are cut to six bits where there are few clauses, and to eight where there are four.
+/// Hashes are cut to six bits if there are few clauses, and to eight bits if there are four.
 const ROWS: &[Row] = &[
     (
         NOTHING,
@@ -133,7 +134,7 @@ const ROWS: &[Row] = &[
     (UNIT, ProofFormat::Drat, b""),
 ];
 
-/// Whether each call is answered as it is to be, and the text of the proof is this one.
+/// Whether each call has the expected result, and `text` is the text of the proof.
 fn is_right(alloc: Global, (parts, format, text): Row) -> bool {
     match text_of(alloc, format, &[], parts) {
         Some(wrote) => wrote.as_slice() == text,
@@ -152,7 +153,7 @@ fn proofs_are_written_in_each_format(rt: HostRuntime) {
     }
 }
 
-/// Whether the lines of a deletion are these.
+/// Whether `wanted` is written for a deletion.
 fn is_deletion(alloc: Global, binary: bool, wanted: &[u8]) -> bool {
     let lits = [
         Var::from_index(62).positive(),

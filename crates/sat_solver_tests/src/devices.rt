@@ -1,4 +1,4 @@
-//! Writers that take little, or fail.
+//! Writers that accept few bytes, or fail.
 
 use crate::driver::Made;
 use sat_base::Counted;
@@ -8,7 +8,8 @@ use std::cell::Cell;
 use std::io;
 use std::io::{ErrorKind, Write};
 
-/// A writer that takes at most this many bytes of a piece; one call fails, counted from 1, a flush too.
+/// A writer that accepts at most `most` bytes of a piece. Call number `failing` fails, counted from 1 and
+/// including flushes.
 #[derive(Drop)]
 pub(crate) struct ByFew {
     pub(crate) taken: Vec<u8>,

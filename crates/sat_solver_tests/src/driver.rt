@@ -1,5 +1,5 @@
-//! Solvers that tests play on. They are made here and nowhere else, and lent, since each function that owns one is dear
-//! to prove.
+//! Solvers that tests play on. They are created only here, and borrowed elsewhere, since each function that owns a
+//! solver takes long to prove.
 ghost use Rattle.sat_solver.specs.solver.Whole.{IsSolver};
 
 use sat_base::{Counted, CountedWrite};
@@ -7,10 +7,10 @@ use sat_checker::{Checker, Nobody, ProofProcessor};
 use sat_solver::{HandedBack, ProofFormat, Solver, SolverError};
 use std::alloc::Global;
 
-/// A target that keeps what it takes.
+/// A target that stores what it receives.
 pub(crate) type Bytes = Counted<Vec<u8>>;
 
-/// What calls make where they need one.
+/// A value that calls create when they need one.
 pub(crate) trait Made: Drop {
     fn made(alloc: Global) -> Self;
 }
@@ -27,14 +27,14 @@ impl Made for Nobody {
     }
 }
 
-/// What is played on.
+/// A value that tests play on.
 pub(crate) trait Ready: Drop {
-    /// What holds between calls.
+    /// The invariant between calls.
     ghost ready: { Self → Type 0 };
 }
 
-/// What is made anew, and gives back what is left in it of others. Where a function owns one of these, the prover need
-/// not look at the solver that it is.
+/// A value that can be created, and finally returns the values of others that are left in it. In a function that owns
+/// such a value, the prover need not look at the solver that it is.
 pub(crate) trait Fresh<B>: Ready {
     fn fresh(alloc: Global) -> Self
         ensures { Self.ready result };
@@ -66,27 +66,27 @@ impl<W: CountedWrite + Drop> Fresh<Option<W>> for Solver<W> {
     }
 }
 
-/// What a test does with a solver, and what it tells of it.
+/// What a test does with a solver, and what it returns.
 pub(crate) trait Play<S: Ready, R>: Drop {
     fn play(self, alloc: Global, solver: &mut S) -> R
         requires { S.ready solver.old }
         ensures { S.ready solver.new };
 }
 
-/// What a play tells of what is made anew, and what is left in that.
+/// Plays on a new value. Returns what the play returns, and what is left in the value.
 pub(crate) fn played<B, S: Fresh<B>, R, A: Play<S, R>>(alloc: Global, act: A) -> (R, B) {
     let mut solver = S::fresh(alloc);
     let told = act.play(alloc, &mut solver);
     (told, solver.left())
 }
 
-/// The same of a new solver, where no proof is written.
+/// Plays on a new solver without a proof, and returns what the play returns.
 pub(crate) fn told<R, A: Play<Solver<Bytes>, R>>(alloc: Global, act: A) -> R {
     let (told, _target) = played::<Option<Bytes>, Solver<Bytes>, R, A>(alloc, act);
     told
 }
 
-/// A play that is written as a proof, which is closed behind it.
+/// A play while a proof is written, which is closed afterwards.
 #[derive(Drop)]
 pub(crate) struct Proved<W, A> {
     pub(crate) target: W,
@@ -94,7 +94,7 @@ pub(crate) struct Proved<W, A> {
     pub(crate) act: A,
 }
 
-/// How closing a proof went.
+/// The result of closing a proof.
 pub(crate) type Closed<W> = Result<Option<W>, SolverError>;
 
 impl<W: CountedWrite + Drop, P: ProofProcessor, R: Drop, A: Play<Solver<W, P>, R>> Play<
@@ -116,7 +116,7 @@ impl<W: CountedWrite + Drop, P: ProofProcessor, R: Drop, A: Play<Solver<W, P>, R
     }
 }
 
-/// What a play tells, and its proof's text; `None` where that isn't begun or isn't closed.
+/// Returns what a play returns and its proof's text, or `None` if the proof isn't opened or closed.
 pub(crate) fn written<R: Drop, A: Play<Solver<Bytes>, R>>(
     alloc: Global,
     format: ProofFormat,

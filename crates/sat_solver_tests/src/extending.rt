@@ -1,4 +1,4 @@
-//! A solver as what knows only the trait of formulas fills it.
+//! Tests of a solver that is filled by code which knows only the trait `ExtendFormula`.
 ghost use Rattle.sat_solver.specs.solver.Whole.{IsSolver};
 
 use crate::driver::{Play, told};
@@ -6,7 +6,7 @@ use sat_base::{CountedWrite, ExtendFormula, Lit};
 use sat_solver::{Solver, SolverError};
 use std::alloc::Global;
 
-/// Adds a new literal as a clause of its own.
+/// Adds a unit clause of a new literal, and returns the literal.
 fn add_unit<F: ExtendFormula>(formula: &mut F) -> Result<Lit, F::Error>
     requires { F.ready formula.old }
     ensures { F.ready formula.new }
@@ -16,7 +16,7 @@ fn add_unit<F: ExtendFormula>(formula: &mut F) -> Result<Lit, F::Error>
     Ok(lit)
 }
 
-/// Whether the model is these two literals.
+/// Whether the model consists of the two literals `wanted`.
 fn is_model<W: CountedWrite + Drop>(
     alloc: Global,
     solver: &Solver<W>,
@@ -30,7 +30,7 @@ fn is_model<W: CountedWrite + Drop>(
     }
 }
 
-/// Two new literals are added as clauses, and a model has both.
+/// A play that adds two new literals as unit clauses, and checks that a model has both.
 #[derive(Drop)]
 struct Units;
 

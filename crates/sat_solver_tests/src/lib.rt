@@ -1,5 +1,5 @@
-//! Tests of `sat_solver` by its public calls, in a crate of their own so that the library is proved once; and callers
-//! that are proved.
+//! Tests of `sat_solver` through its public functions, in a crate of their own so that the library is proved only once;
+//! and callers that are proved.
 #![tactic(auto)]
 
 #[cfg(test)]

@@ -1,4 +1,4 @@
-//! Who listens to a solver's own checker.
+//! Tests of processors that listen to a solver's own checker.
 
 use crate::calls::{Behind, Call, Kind, Part, done, first_of, plain};
 use crate::driver::{Bytes, Closed, Made, Play, Proved, played};
@@ -8,7 +8,7 @@ use sat_checker::{CheckedProofStep, Checker, CheckerData, Nobody, ProofProcessor
 use sat_solver::{HandedBack, ProofFormat, Solver};
 use std::alloc::Global;
 
-/// Mixes all that it's told into one number, and answers a fault at one of its calls, counted from 1.
+/// A processor that mixes all announcements into one number, and returns an error at call number `at`, counted from 1.
 #[derive(Drop)]
 struct Listener {
     calls: u64,
@@ -26,7 +26,7 @@ impl Listener {
     }
 }
 
-/// The kind of an announcement, and a number that it has.
+/// Returns a number for the kind of an announcement, and a number that the announcement contains.
 fn mark(step: &CheckedProofStep<'_>) -> (u64, u64) {
     match step {
         CheckedProofStep::UserVar { var, .. } => (1, var.index() as u64),
@@ -72,7 +72,7 @@ impl Made for Listener {
     }
 }
 
-/// Clauses between asks: a model, a core, and clauses that can't be satisfied.
+/// Clauses between asks: an ask with a model, one with a core, and finally clauses that can't be satisfied.
 const SESSION: &[Part<'static>] = &[(
     Kind::Right,
     &[
@@ -89,7 +89,7 @@ const SESSION: &[Part<'static>] = &[(
     ],
 )];
 
-/// Two listen to all calls, of whom the first fails at one of its own.
+/// A play of all calls with two processors. The first fails at the given call of its own, counted from 1.
 #[derive(Drop)]
 struct Hearing(u64);
 
@@ -103,7 +103,8 @@ impl<W: CountedWrite + Drop + Made> Play<Solver<W, Listener>, Kind> for Hearing 
 
 type Heard = ((Kind, Closed<Bytes>), bool);
 
-/// The calls of each processor, and what was told to the first; `None` where they aren't two.
+/// Returns the number of calls of each processor, and the first one's mixed number, or `None` unless there are
+/// two processors.
 fn calls_of(processors: &[Listener]) -> Option<(u64, u64, u64)> {
     if processors.len() != 2 {
         return None;
@@ -112,7 +113,7 @@ fn calls_of(processors: &[Listener]) -> Option<(u64, u64, u64)> {
     Some((first.calls, second.calls, first.told))
 }
 
-/// How often one is called by the checker of a proof's text, and what it's told.
+/// Returns how many times the checker of a proof's text calls a processor, and the processor's mixed number.
 fn of_text(alloc: Global, text: &[u8]) -> Option<(u64, u64)> {
     let mut checker: Checker<Listener, Nobody> = Checker::notifying(alloc);
     let added = checker.add_processor(Listener::new(0)).is_ok();
@@ -124,7 +125,7 @@ fn of_text(alloc: Global, text: &[u8]) -> Option<(u64, u64)> {
     Some((handed.processors[0].calls, handed.processors[0].told))
 }
 
-/// How the calls end, closing included, and the text of their proof.
+/// Returns the outcome of the calls and of the closing, whether the solver has failed, and the text of the proof.
 fn end_of(((told, closed), failed): Heard) -> (Kind, bool, Option<Vec<u8>>) {
     match closed {
         Ok(Some(target)) => (told, failed, Some(target.into_inner())),
@@ -135,7 +136,8 @@ fn end_of(((told, closed), failed): Heard) -> (Kind, bool, Option<Vec<u8>>) {
 
 type Came = (Kind, bool, Option<Vec<u8>>);
 
-/// How the calls end, and what both listeners are told.
+/// Plays the session with two processors, the first of which fails at call number `at`. Returns the outcome, and what
+/// `calls_of` returns for the processors.
 fn of_solver(alloc: Global, at: u64) -> (Came, Option<(u64, u64, u64)>) {
     let act = Behind(Proved {
         target: Bytes::made(alloc),
@@ -151,7 +153,8 @@ fn of_solver(alloc: Global, at: u64) -> (Came, Option<(u64, u64, u64)>) {
     (end_of(heard), calls_of(&handed.processors))
 }
 
-/// How many announcements there are, where both hear them all, and hear what the checker of the text tells.
+/// Returns the number of announcements, if both processors receive all of them, and a checker of the text makes
+/// equal ones.
 fn announcements(alloc: Global) -> Option<u64> {
     let ((kind, _, text), heard) = of_solver(alloc, 0);
     match text {
@@ -160,7 +163,8 @@ fn announcements(alloc: Global) -> Option<u64> {
     }
 }
 
-/// Their number, where the session came to its end, both heard as many, and the checker of the text tells the same.
+/// Returns the number of announcements, if the session succeeded, both processors were called that many times, and a
+/// checker of the text makes equal announcements.
 fn reported_alike(
     alloc: Global,
     kind: Kind,
@@ -173,7 +177,8 @@ fn reported_alike(
     if same { Some(first) } else { None }
 }
 
-/// Whether a fault of the first at this call ends the calls, and the second was told once less.
+/// Whether a fault of the first processor at call number `at` ends the session, and the second processor was called
+/// once less.
 fn fails_at(alloc: Global, at: u64) -> bool {
     match of_solver(alloc, at) {
         ((Kind::Processor, true, _), Some((first, second, _))) => {
@@ -183,7 +188,7 @@ fn fails_at(alloc: Global, at: u64) -> bool {
     }
 }
 
-/// Whether each announcement is a fault in turn, and there are some.
+/// Whether a fault at each announcement ends the session, and there are more than eight announcements.
 fn each_fails(alloc: Global) -> bool {
     match announcements(alloc) {
         Some(count) => {

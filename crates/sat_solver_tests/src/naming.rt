@@ -1,4 +1,4 @@
-//! Names that are hidden and named anew, and modes, as calls of a solver whose proof is checked.
+//! Tests of names that are hidden and introduced again, and of modes, by calls of a solver whose proof is checked.
 
 use crate::calls::{Call, Kind, Part};
 use crate::scripts::first_wrong;
@@ -174,8 +174,9 @@ const UNSATISFIABLE: &[Part<'static>] = &[
     ),
 ];
 
-/// The first variable is kept for its clause, so that the last name, with all below it, finds one too few. With the
-/// name before it the second one, which is hidden, would come in as well.
+/// The first variable is kept for its clause, so there is one variable too few for the last name and all names below
+/// it. Once the second name is hidden too, there is one variable too few for the second name and all names below the
+/// last one.
 const VARIABLES_LACK: &[Part<'static>] = &[
     (
         Kind::Right,

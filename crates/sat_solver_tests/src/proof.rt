@@ -1,4 +1,4 @@
-//! Proofs that are written, and targets that fail.
+//! Tests of proofs that are written, and of targets that fail.
 ghost use Rattle.sat_solver.specs.proof.ProofView.{HasAllowedSteps};
 
 use crate::caller::write_lent;
@@ -8,18 +8,18 @@ use sat_solver::ProofFormat;
 use sat_solver::proof::Proof;
 use std::alloc::{AllocError, Global};
 
-/// A target that takes at most so many bytes of a piece, and the call of it that fails, counted from 1.
+/// How many bytes of a piece a target accepts at most, and which call of it fails, counted from 1.
 type Device = (usize, u64);
 
-/// How many calls a target saw, how many bytes it took, and whether these are the first of the text.
+/// The number of calls of a target, the number of bytes that it accepted, and whether they are a prefix of the text.
 type Seen = (u64, usize, bool);
 
 const NOTHING: Seen = (0, 0, true);
 
-/// The text of two steps, of two more, and of the last.
+/// The text of two steps, of two more steps, and of the last step.
 const TEXT: &[u8] = &[1, 3, 1, 11, 0, 1, 3, 1, 11, 0, 13];
 
-/// Makes two steps. Gives whether both were taken.
+/// Makes two steps. Returns whether both succeed.
 fn make_two<W: CountedWrite + Drop>(proof: &mut Proof<W>) -> bool
     requires { HasAllowedSteps proof.old }
     ensures { HasAllowedSteps proof.new }
@@ -33,7 +33,7 @@ fn make_two<W: CountedWrite + Drop>(proof: &mut Proof<W>) -> bool
     proof.step(&ask).is_ok() && first
 }
 
-/// What a target saw, if there is one.
+/// Returns what a target saw, or `NOTHING` if there is no target.
 fn seen(target: Option<Counted<ByFew>>, text: &[u8]) -> Seen {
     match target {
         None => NOTHING,
@@ -45,7 +45,8 @@ fn seen(target: Option<Counted<ByFew>>, text: &[u8]) -> Seen {
     }
 }
 
-/// Closes a proof. Gives whether its target came back by that, or else the fault; and what the target saw.
+/// Closes a proof. Returns whether the closing returned the target, or `None` if the closing failed; and what the
+/// target saw.
 fn closed(mut proof: Proof<Counted<ByFew>>, text: &[u8]) -> (Option<bool>, Seen)
     requires { HasAllowedSteps proof }
 {
@@ -58,8 +59,8 @@ fn closed(mut proof: Proof<Counted<ByFew>>, text: &[u8]) -> (Option<bool>, Seen)
     (came, seen(target, text))
 }
 
-/// Makes two steps and flushes them, makes two more and closes. Gives whether the steps and the flush were done, and
-/// what came of closing.
+/// Makes two steps, flushes them, makes two more steps, and closes the proof. Returns whether the steps succeed,
+/// whether the flush does, and what `closed` returns.
 fn written(alloc: Global, device: Device) -> (bool, bool, (Option<bool>, Seen)) {
     let mut proof: Proof<Counted<ByFew>> = Proof::new(alloc);
     proof.open(ProofFormat::Varisat, by_few(alloc, device.0, device.1));
@@ -69,8 +70,8 @@ fn written(alloc: Global, device: Device) -> (bool, bool, (Option<bool>, Seen)) 
     (first && second, flushed, closed(proof, TEXT))
 }
 
-/// Makes a step of more bytes than may wait, and two more. Gives whether it and whether they were taken, and what came
-/// of closing.
+/// Makes a step of more bytes than the buffer holds, and two more steps. Returns whether the first step succeeds,
+/// whether the others do, and what `closed` returns.
 fn long_written(
     alloc: Global,
     device: Device,
@@ -84,25 +85,25 @@ fn long_written(
     Ok((long, more, closed(proof, &[11, 136, 39, 0, 0])))
 }
 
-/// Steps without a target.
+/// Makes steps without a target. Returns whether they succeed, and what `closed` returns.
 fn unwritten(alloc: Global) -> (bool, (Option<bool>, Seen)) {
     let mut proof: Proof<Counted<ByFew>> = Proof::new(alloc);
     let made = make_two(&mut proof) && proof.flush().is_ok();
     (made && !proof.is_open(), closed(proof, &[]))
 }
 
-/// Whether a caller's steps reach a target that it is lent.
+/// Whether a caller's steps reach a borrowed target.
 fn is_lent(alloc: Global) -> bool {
     let mut target = Counted::new(Vec::new(alloc));
     let done = write_lent(alloc, &mut target).is_ok();
     done && target.into_inner().as_slice() == [11, 0, 13].as_slice()
 }
 
-/// A device, whether the flush was done, what came of closing, and what the device saw.
+/// A device, whether the flush succeeds, the result of closing, and what the device saw.
 type Row = (Device, bool, Option<bool>, Seen);
 
-/// The first takes 4 bytes of a piece and never fails; each call of it in turn; one that takes a byte, and one that
-/// takes all.
+/// A device that accepts 4 bytes of a piece and never fails; the same device with each of its calls failing; a device
+/// that accepts one byte of a piece; and one that accepts all.
 const ROWS: &[Row] = &[
     ((4, 0), true, Some(true), (6, 11, true)),
     ((4, 1), false, Some(false), (1, 0, true)),
@@ -117,7 +118,7 @@ const ROWS: &[Row] = &[
     ((0, 0), false, Some(false), (1, 0, true)),
 ];
 
-/// Whether each row is as it says.
+/// Whether each row has the expected results.
 fn rows_are_right(alloc: Global) -> bool {
     for (device, flushed, came, saw) in ROWS {
         if written(alloc, *device) != (true, *flushed, (*came, *saw)) {

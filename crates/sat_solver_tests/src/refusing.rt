@@ -1,5 +1,5 @@
-//! Calls that are refused, at each place of a session: its answers, and what is written of it, are those of the session
-//! alone.
+//! Tests of calls that are refused at each position of a session: they change neither the session's results nor
+//! its proof.
 
 use crate::calls::{Call, Kind, Part};
 use crate::scripts::text_of;
@@ -9,7 +9,8 @@ use std::alloc::Global;
 /// A session, and the formats of its proof.
 type CallsInFormats = (&'static [Call], &'static [ProofFormat]);
 
-/// Names come, are hidden and come again; a witness; asks under assumptions; a unit that is found; learning.
+/// Names are introduced, hidden and introduced again; a witness; asks under assumptions; a unit that is
+/// found; learning.
 const NAMES: CallsInFormats = (
     &[
         Call::Witness(9),
@@ -43,7 +44,7 @@ const NAMES: CallsInFormats = (
     &[ProofFormat::Varisat],
 );
 
-/// Asks under no literals, as lines.
+/// Asks without assumptions, whose proofs are in the DRAT formats.
 const LINES: CallsInFormats = (
     &[
         Call::Clause(&[1, 2]),
@@ -60,7 +61,7 @@ const LINES: CallsInFormats = (
 
 const LAST: i64 = 1 << 28;
 
-/// A parameter out of its range, beside one within.
+/// A parameter out of its range, and one within its range.
 const OUT_OF_RANGE: SolverConfigUpdate = SolverConfigUpdate {
     vsids_decay: Some(499),
     clause_activity_decay: None,
@@ -70,7 +71,8 @@ const OUT_OF_RANGE: SolverConfigUpdate = SolverConfigUpdate {
     max_steps: Some(0),
 };
 
-/// A session, how calls are refused, these calls, and the first and the last place of them.
+/// A session, the kind of the refusals, the calls that are refused, and the first and the last position at which they
+/// are made.
 type Row = (CallsInFormats, Kind, &'static [Call], usize, usize);
 
 const ROWS: &[Row] = &[
@@ -100,7 +102,8 @@ const ROWS: &[Row] = &[
         27,
     ),
     (NAMES, Kind::Limit, &[Call::Text(b"15 268435457 0")], 0, 27),
-    // A hidden variable is kept for its clause, and its name is another's, so that one too few is left.
+    // A hidden variable is kept for its clause and its name belongs to another variable, so there is one variable
+    // too few.
     (
         NAMES,
         Kind::Limit,
@@ -134,7 +137,8 @@ const ROWS: &[Row] = &[
     (LINES, Kind::OutOfRange, &[Call::Set(OUT_OF_RANGE)], 0, 8),
 ];
 
-/// What is written of a session with these calls at this place, where each call is answered as it is to be.
+/// Returns the proof of a session with the refused calls inserted at position `at`, or `None` if a call doesn't have
+/// the expected result.
 fn text_with(
     alloc: Global,
     calls: &[Call],
@@ -151,7 +155,7 @@ fn text_with(
     text_of(alloc, format, &[], &parts)
 }
 
-/// Whether refused calls change nothing at this place.
+/// Whether refused calls at position `at` change nothing.
 fn is_same(
     alloc: Global,
     calls: &[Call],
@@ -167,7 +171,7 @@ fn is_same(
     }
 }
 
-/// Whether the calls of a row change nothing at any of its places.
+/// Whether the refused calls of a row change nothing at any of its positions.
 fn is_right(alloc: Global, row: &Row) -> bool {
     let ((calls, formats), kind, refused, first, last) = *row;
     for format in formats {

@@ -1,4 +1,4 @@
-//! Scripts of clauses, names and asks, as calls of a solver whose proof is checked.
+//! Tests of scripts of clauses, names and asks, as calls of a solver whose proof is checked.
 
 use crate::blind::reductions;
 use crate::calls::{Call, CallParts, Kind, Part, SAME};
@@ -6,7 +6,7 @@ use crate::driver::{is_accepted, written};
 use sat_solver::{ProofFormat, SolverConfigUpdate};
 use std::alloc::Global;
 
-/// The proof of a session, where each call is answered as it is to be.
+/// Returns the proof of a session, or `None` if a call doesn't have the expected result.
 pub(crate) fn text_of(
     alloc: Global,
     format: ProofFormat,
@@ -25,8 +25,8 @@ pub(crate) fn text_of(
 
 const CHECKED: &[Part<'static>] = &[(Kind::Right, &[Call::Check])];
 
-/// Whether each call is answered as it is to be, and the proof is accepted, also where hashes tell nothing, and is the
-/// same where the solver has a checker of its own.
+/// Whether each call has the expected result, the proof is accepted, even with all hashes 0, and the proof is the same
+/// if the solver has its own checker.
 fn is_right(alloc: Global, parts: &[Part<'_>]) -> bool {
     let text = text_of(alloc, ProofFormat::Varisat, &[], parts);
     let checked = text_of(alloc, ProofFormat::Varisat, CHECKED, parts);
@@ -41,7 +41,7 @@ fn is_right(alloc: Global, parts: &[Part<'_>]) -> bool {
     }
 }
 
-/// The number of the first session that isn't right, if there is one.
+/// Returns the index of the first session that isn't right, or `None`.
 pub(crate) fn first_wrong(alloc: Global, sessions: &[&[Part<'_>]]) -> Option<usize> {
     for at in 0..sessions.len() {
         if !is_right(alloc, sessions[at]) {
@@ -82,7 +82,7 @@ const TWO_ASSUMED: &[Part<'static>] = &[(
     &[
         Call::Clause(&[-1, -2]),
         Call::Unsat(&[1, 2], &[2, 1]),
-        // The first variable is decided as it was last.
+        // The first variable is decided with its last value.
 
         Call::Sat(&[], &[1, -2]),
     ],
@@ -168,7 +168,7 @@ const SATISFIED_AT_ONCE: &[Part<'static>] = &[(
     ],
 )];
 
-/// A long clause loses the literal that a unit makes false: two are left.
+/// A unit falsifies a literal of a long clause, which is dropped: two literals are left.
 const CUT_TO_TWO: &[Part<'static>] = &[(
     Kind::Right,
     &[
@@ -179,7 +179,7 @@ const CUT_TO_TWO: &[Part<'static>] = &[(
     ],
 )];
 
-/// Three are left, and then two.
+/// Three literals are left, and then two.
 const CUT_TWICE: &[Part<'static>] = &[(
     Kind::Right,
     &[
@@ -192,7 +192,7 @@ const CUT_TWICE: &[Part<'static>] = &[(
     ],
 )];
 
-/// A unit makes clauses of two literals and of three true.
+/// A unit satisfies clauses of two and of three literals.
 const MADE_TRUE: &[Part<'static>] = &[(
     Kind::Right,
     &[
@@ -205,7 +205,7 @@ const MADE_TRUE: &[Part<'static>] = &[(
     ],
 )];
 
-/// A name's index goes to another, at whose unit it is looked as at one of level 0.
+/// A variable's index is given to another variable, whose unit is treated as a literal of level 0.
 const INDEX_AGAIN: &[Part<'static>] = &[(
     Kind::Right,
     &[
@@ -217,7 +217,7 @@ const INDEX_AGAIN: &[Part<'static>] = &[(
     ],
 )];
 
-/// And that is put back where a clause comes in which it is false.
+/// The unit is in the search again once a clause is added that contains its negation.
 const UNIT_AGAIN: &[Part<'static>] = &[(
     Kind::Right,
     &[
@@ -230,7 +230,7 @@ const UNIT_AGAIN: &[Part<'static>] = &[(
     ],
 )];
 
-/// A hidden variable that no clause has any more is deleted, and its name becomes that of another.
+/// A hidden variable that no clause contains any more is deleted, and its name is given to another variable.
 const HIDDEN_DELETED: &[Part<'static>] = &[(
     Kind::Right,
     &[
@@ -267,7 +267,7 @@ const INDEX_KEPT: &[Part<'static>] = &[(
     ],
 )];
 
-/// A variable that no clause has any more is false, whatever it was.
+/// A variable that no clause contains any more is false, whatever its value was.
 const VALUE_FORGOTTEN: &[Part<'static>] = &[(
     Kind::Right,
     &[
@@ -278,7 +278,7 @@ const VALUE_FORGOTTEN: &[Part<'static>] = &[(
     ],
 )];
 
-/// Rounds that are spent end an ask, and a later one goes on.
+/// An ask ends when its rounds are exhausted, and a later ask continues.
 const SPENT: &[Part<'static>] = &[
     (
         Kind::Right,
@@ -310,7 +310,7 @@ const NONE_ALLOWED: &[Part<'static>] = &[
     (Kind::Right, &[Call::Steps(0)]),
 ];
 
-/// Once a model is known an ask takes no round.
+/// Once a model is known, an ask takes no round.
 const KNOWN: &[Part<'static>] = &[(
     Kind::Right,
     &[
@@ -329,7 +329,7 @@ const NO_ROUNDS: SolverConfigUpdate = SolverConfigUpdate {
     ..SAME
 };
 
-/// Parameters out of their ranges are refused beside one that isn't, and change nothing.
+/// Parameters out of their ranges are refused, together with one in its range, and nothing changes.
 const OUT_OF_RANGE: &[Part<'static>] = &[
     (
         Kind::OutOfRange,

@@ -1,4 +1,4 @@
-//! A search over a few clauses, and the names that it works for.
+//! A search over a few clauses, and the names of its variables.
 ghost use Rattle.std.specs.Prelude.{MatchOption};
 ghost use Rattle.sat_solver.specs.solver.Joined.{IsJoined};
 ghost use Rattle.sat_solver.specs.solver.Taking.{GoesOnOr};
@@ -15,14 +15,14 @@ use sat_solver::variables::refuse::leftmost_witness;
 use sat_store::LubySequence;
 use std::alloc::Global;
 
-/// What clauses are read into.
+/// Scratch memory for reading clauses.
 #[derive(Drop)]
 pub struct ClauseScratch {
     lits: Vec<Lit>,
     loading: Loading,
 }
 
-/// Nothing in it.
+/// Returns empty scratch memory.
 pub fn no_room(alloc: Global) -> ClauseScratch {
     ClauseScratch {
         lits: Vec::new(alloc),
@@ -33,7 +33,7 @@ pub fn no_room(alloc: Global) -> ClauseScratch {
     }
 }
 
-/// Reads literals in codes. Gives whether they are literals and there was memory.
+/// Reads literals from their codes. Returns `false` if a code is too large or memory runs out.
 fn read(codes: &[usize], lits: &mut Vec<Lit>) -> bool {
     lits.clear();
     for code in codes {
@@ -47,7 +47,7 @@ fn read(codes: &[usize], lits: &mut Vec<Lit>) -> bool {
     true
 }
 
-/// Adds a clause. Gives whether a valuation may be left; None where a call fails.
+/// Adds a clause. Returns whether the clauses may still be satisfiable, or `None` if a call fails.
 fn add<W: CountedWrite + Drop>(
     core: &mut Core<W>,
     names: &mut Variables,
@@ -66,7 +66,7 @@ fn add<W: CountedWrite + Drop>(
     }
 }
 
-/// Adds these clauses, whose literals are in codes. Gives whether a valuation may be left.
+/// Adds the clauses, given by the codes of their literals. Returns whether the clauses may still be satisfiable.
 fn add_all<W: CountedWrite + Drop>(
     core: &mut Core<W>,
     names: &mut Variables,
@@ -88,7 +88,7 @@ fn add_all<W: CountedWrite + Drop>(
     Some(true)
 }
 
-/// Rounds up to an answer. Gives whether there is one.
+/// Makes rounds up to an answer. Returns whether there is one.
 fn answer<W: CountedWrite + Drop>(core: &mut Core<W>, names: &mut Variables) -> bool
     requires { IsJoined names.old core.old }
 {
@@ -105,7 +105,7 @@ fn answer<W: CountedWrite + Drop>(core: &mut Core<W>, names: &mut Variables) -> 
     }
 }
 
-/// Searches for a model of these clauses. Gives whether there is an answer.
+/// Searches for a model of the clauses. Returns whether there is an answer.
 pub fn search<W: CountedWrite + Drop>(
     core: &mut Core<W>,
     names: &mut Variables,

@@ -1,14 +1,15 @@
-//! What may begin behind which call.
+//! Tests of what may begin after which call.
 
 use crate::calls::{Call, Kind, Part, SAME, plain};
 use crate::driver::told;
 use std::alloc::Global;
 
-/// What may begin, and begins too late.
+/// The calls that open a proof, start the solver's own checker, or add a processor. Later, they are refused as
+/// too late.
 const BEGINNINGS: &[Call] = &[Call::Proof, Call::Check, Call::Tell];
 
-/// A new solver lets all begin, and so does one whose proof was closed. Behind a proof that is open there begins no
-/// other.
+/// All of them may begin on a new solver, and on a solver whose proof was closed. While a proof is open, no second
+/// proof may begin.
 const FIRST: &[Part<'static>] = &[
     (
         Kind::Right,

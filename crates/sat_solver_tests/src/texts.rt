@@ -1,4 +1,4 @@
-//! Formulas and their texts, as a solver takes them, and what it counts.
+//! Tests of formulas and their texts, as a solver adds them, and of what it counts.
 
 use crate::calls::{Call, Kind, Part};
 use crate::scripts::first_wrong;
@@ -27,7 +27,7 @@ const NO_CLAUSES: &[Part<'static>] = &[(
     &[Call::Formula(&[]), Call::Solve(true), Call::Steps(1)],
 )];
 
-/// Clauses of a text before a fault stand.
+/// The clauses of a text before a fault are kept.
 const MALFORMED: &[Part<'static>] = &[
     (Kind::Right, &[Call::Witness(3)]),
     (Kind::Malformed, &[Call::Text(b"4 0\n1 x\n")]),
@@ -88,7 +88,7 @@ const UNITS: &[Part<'static>] = &[(
     &[Call::Formula(&[&[1], &[-2, 3]]), Call::Counts([2, 1, 0])],
 )];
 
-/// Units that contradict each other are known without an ask.
+/// Units that contradict each other are recognized without an ask.
 const CONTRADICTION: &[Part<'static>] = &[(
     Kind::Right,
     &[

@@ -1,4 +1,5 @@
-//! Twenty clauses of three names of five, and pigeons, in searches that restart and reduce behind each round, or never.
+//! Tests with twenty clauses of three of five names, and with pigeons, in searches that restart and reduce after each
+//! round, or never.
 
 use crate::blind::reductions;
 use crate::calls::{Call, Kind, Part, SAME};
@@ -7,7 +8,7 @@ use crate::scripts::text_of;
 use sat_solver::{ProofFormat, SolverConfigUpdate};
 use std::alloc::Global;
 
-/// Each three of five names with both signs, the positive ones with a sixth.
+/// All clauses of three of five names, with both signs; the positive ones also contain a sixth name.
 const TWENTY: &[&[i64]] = &[
     &[1, 2, 3, 6],
     &[-1, -2, -3],
@@ -43,13 +44,13 @@ const SLOW: SolverConfigUpdate = SolverConfigUpdate {
     ..SAME
 };
 
-/// A search that is checked as it goes, and restarts and reduces behind each round.
+/// A search that is checked while it runs, and restarts and reduces after each round.
 const FAST: &[Part<'static>] = &[(Kind::Right, &[Call::Check, Call::Set(HURRIED)])];
 
-/// One that never restarts.
+/// A search that is checked while it runs, and never restarts.
 const STEADY: &[Part<'static>] = &[(Kind::Right, &[Call::Check, Call::Set(SLOW)])];
 
-/// Three asks, of which the last has name 6 false.
+/// Three asks. In the last one, name 6 is false.
 const FALSE_AT_LAST: &[Part<'static>] = &[(
     Kind::Right,
     &[
@@ -61,7 +62,7 @@ const FALSE_AT_LAST: &[Part<'static>] = &[(
     ],
 )];
 
-/// Name 6 is true and hidden before its name is another's.
+/// Name 6 is true, and is hidden before it is introduced again for another variable.
 const HIDDEN_AT_LAST: &[Part<'static>] = &[(
     Kind::Right,
     &[
@@ -75,7 +76,7 @@ const HIDDEN_AT_LAST: &[Part<'static>] = &[(
     ],
 )];
 
-/// Five pigeons in four holes.
+/// The clauses that put five pigeons into four holes.
 const PIGEONS: &[u8] =
     b"1 2 3 4 0 5 6 7 8 0 9 10 11 12 0 13 14 15 16 0 17 18 19 20 0 -1 -5 0 -1 -9 0 -1 -13 0 -1 -17 0 -5 -9 0
 -5 -13 0 -5 -17 0 -9 -13 0 -9 -17 0 -13 -17 0 -2 -6 0 -2 -10 0 -2 -14 0 -2 -18 0 -6 -10 0 -6 -14 0 -6 -18 0
@@ -102,7 +103,7 @@ const ONCE: &[Part<'static>] = &[(
     ],
 )];
 
-/// How a search goes, and what is called.
+/// The calls that configure the search, and the calls of the session.
 type Row = (&'static [Part<'static>], &'static [Part<'static>]);
 
 const ROWS: &[Row] = &[
@@ -114,8 +115,8 @@ const ROWS: &[Row] = &[
     (&[], HIDDEN_AT_LAST),
 ];
 
-/// How many clauses the proof of a session deletes as of no use; `None` where a call isn't answered as it is to be, or
-/// the proof isn't accepted, also where hashes tell nothing.
+/// Returns the number of clauses that the proof of a session deletes as redundant, or `None` if a call doesn't have the
+/// expected result, or the proof isn't accepted, even with all hashes 0.
 fn deletions(alloc: Global, (front, parts): Row) -> Option<u64> {
     match text_of(alloc, ProofFormat::Varisat, front, parts) {
         Some(text) => if is_accepted(alloc, &text) {
@@ -138,7 +139,7 @@ fn twenty_clauses_are_solved(rt: HostRuntime) {
     }
 }
 
-/// A search that reduces behind each round deletes more than one that doesn't.
+/// Whether a search that reduces after each round deletes more clauses than one that doesn't.
 fn reduces(alloc: Global) -> bool {
     match (
         deletions(alloc, (FAST, OFTEN)),

@@ -42,7 +42,7 @@ pub fn ask<W: CountedWrite + Drop>(
 pub struct Solved<W> {
     pub refuted: Option<Answer>,
     pub satisfied: Option<Answer>,
-    /// It has received the complete proof.
+    /// The target, which has received the complete proof.
     pub target: Option<W>,
 }
 
@@ -70,7 +70,8 @@ fn ask_twice<W: CountedWrite + Drop>(
     })
 }
 
-/// Does the same with a new solver. To write to a file, pass `Counted::new(File::create(rt, path)?)`.
+/// Asks twice, as `ask_twice` does, with a new solver. To write to a file, pass
+/// `Counted::new(File::create(rt, path)?)`.
 pub fn solve<W: CountedWrite + Drop>(alloc: Global, target: W) -> Result<Solved<W>, SolverError> {
     let mut solver = Solver::new(alloc);
     let solved = ask_twice(alloc, &mut solver, target);

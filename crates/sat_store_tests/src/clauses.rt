@@ -1,4 +1,4 @@
-//! Clauses in one buffer.
+//! Tests of clauses in a buffer.
 ghost use Rattle.std.specs.Prelude.{◌≡◌, ◌≢◌, ◌≤◌, ◌<◌, ◌^◌, [], ◌∷◌, length, IfOk};
 ghost use Rattle.sat_store.specs.clause.Buffer.{IsClause, HoldsClauses, lits_at, swapped};
 ghost use Rattle.sat_store_tests.specs.Two.{HasTwo};
@@ -6,7 +6,7 @@ ghost use Rattle.sat_store_tests.specs.Two.{HasTwo};
 use sat_base::Lit;
 use sat_store::{ClauseAlloc, ClauseHeader, ClauseRef, Lits, StoreError, Tier};
 
-/// Stores two clauses in an empty buffer.
+/// Adds two clauses to an empty buffer.
 fn store_two(
     buffer: &mut ClauseAlloc,
     first: &[Lit],
@@ -26,7 +26,7 @@ fn store_two(
     Ok((a, b))
 }
 
-/// Whether the clause has the literals with these numbers.
+/// Whether the clause has the literals with the DIMACS numbers `numbers`.
 fn reads(buffer: &ClauseAlloc, cref: ClauseRef, numbers: &[i64]) -> bool
     requires { IsClause buffer.now cref }
 {
@@ -55,7 +55,7 @@ fn reverse_three(buffer: &mut ClauseAlloc, cref: ClauseRef, other: ClauseRef)
     clause.lits_mut().swap(0, 2);
 }
 
-/// Exchanges two literals of a clause of four. The other one stays.
+/// Exchanges two literals of a clause of four literals. The other clause is unchanged.
 fn exchange(buffer: &mut ClauseAlloc, other: ClauseRef, cref: ClauseRef, i: usize, j: usize)
     requires live { HoldsClauses buffer.old (other ∷ cref ∷ []) }
     requires differ { other ≢ cref }
@@ -68,7 +68,7 @@ fn exchange(buffer: &mut ClauseAlloc, other: ClauseRef, cref: ClauseRef, i: usiz
     buffer.swap_lits(cref, i, j);
 }
 
-/// Keeps the first three literals of a clause of four. The other one stays.
+/// Keeps the first three literals of a clause of four literals. The other clause is unchanged.
 fn cut_to_three(buffer: &mut ClauseAlloc, other: ClauseRef, cref: ClauseRef)
     requires live { HoldsClauses buffer.old (other ∷ cref ∷ []) }
     requires differ { other ≢ cref }
@@ -113,7 +113,7 @@ fn clauses_read_back_and_reversed(rt: HostRuntime) {
     assert!(rt; buffer.buffer_size() == 13);
 }
 
-/// Sets each field of a clause's header, and answers the header.
+/// Sets each field of a clause's header, and returns the header.
 fn set_all(buffer: &mut ClauseAlloc, cref: ClauseRef) -> ClauseHeader
     requires { IsClause buffer.old cref }
     ensures { IsClause buffer.new cref }
@@ -130,7 +130,8 @@ fn set_all(buffer: &mut ClauseAlloc, cref: ClauseRef) -> ClauseHeader
     clause.header()
 }
 
-/// Writes the first literal in both ways, and answers what is read in each way.
+/// Sets the first literal through the buffer, and the second one through the view of the clause. Returns the codes of
+/// the first, the second and the last literal, and the length.
 fn set_first(buffer: &mut ClauseAlloc, cref: ClauseRef) -> [usize; 4]
     requires clause { IsClause buffer.old cref }
     requires some { 3 ≤ length (lits_at buffer.old cref) }
@@ -185,7 +186,7 @@ fn views_and_methods_by_index(rt: HostRuntime) {
     }
 }
 
-/// Copies a clause behind those of another buffer, and answers whether the copy is the same.
+/// Copies a clause to the end of another buffer, and returns whether the copy has its header and literals.
 fn is_copied(from: &ClauseAlloc, cref: ClauseRef, to: &mut ClauseAlloc) -> Result<bool, StoreError>
     requires { IsClause from.now cref }
 {
@@ -215,7 +216,7 @@ fn clause_is_copied(rt: HostRuntime) {
     assert!(rt; (from.buffer_size(), to.buffer_size()) == (6, 12));
 }
 
-/// The sizes of the buffer with two clauses, without the second, and without both.
+/// Returns the sizes of the buffer with two clauses, without the second one, and without both.
 fn sizes(buffer: &mut ClauseAlloc) -> Result<[usize; 3], StoreError> {
     let lits = [
         Lit::from_index(0, true),
@@ -237,7 +238,7 @@ fn last_clauses_are_taken_out(rt: HostRuntime) {
     assert!(rt; sizes(&mut buffer) == Ok([12, 6, 0]));
 }
 
-/// Reads each field of a header through the view of the clause.
+/// Returns each field of a header, read through the view of the clause.
 fn view_fields(buffer: &mut ClauseAlloc, cref: ClauseRef) -> (Tier, [bool; 4], usize, u32)
     requires { IsClause buffer.old cref }
 {
@@ -278,8 +279,8 @@ fn too_much_room_is_refused(rt: HostRuntime) {
     assert!(rt; ClauseAlloc::with_capacity(rt.alloc(), 1 << 62).is_err());
 }
 
-/// The lengths of a view of a clause of three literals, of the view without its first literal, and of none, and the
-/// literal that is then the first.
+/// Returns the lengths of a view of a clause of three literals, of the view without its first literal, and of an empty
+/// view; and the first literal of the shortened view.
 fn views(buffer: &mut ClauseAlloc) -> Result<([usize; 3], Lit), StoreError> {
     let codes = [Lit::from_code(4), Lit::from_code(7), Lit::from_code(8)];
     let cref = buffer.add_clause(ClauseHeader::new(), &codes)?;

@@ -1,4 +1,4 @@
-//! Headers of clauses, and tiers.
+//! Tests of the headers of clauses, and of tiers.
 use sat_store::{ClauseHeader, Tier};
 
 const TIERS: [Tier; 4] = [Tier::Irred, Tier::Core, Tier::Mid, Tier::Local];

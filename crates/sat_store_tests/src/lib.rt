@@ -1,4 +1,4 @@
-//! Tests of the public calls of `sat_store`.
+//! Tests of `sat_store` through its public functions.
 #![tactic(auto)]
 
 #[cfg(test)]

@@ -1,4 +1,4 @@
-//! Maps between variables, and what is kept of them.
+//! Tests of maps between variables, and of data about variables.
 use sat_base::{Lit, Var};
 use sat_store::{SamplingMode, TmpData, TmpFlags, VarBiMap, VarData, VarMap};
 use std::alloc::AllocError;

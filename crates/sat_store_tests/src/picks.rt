@@ -1,4 +1,4 @@
-//! Which variable is picked.
+//! Tests of which variable is picked.
 ghost use Rattle.std.specs.Prelude.{◌≡◌, OnOk, length};
 ghost use Rattle.sat_store.specs.heap.Vsids.{no_variables};
 
@@ -6,10 +6,10 @@ use sat_base::Var;
 use sat_store::Vsids;
 use std::alloc::AllocError;
 
-/// How many variables there are.
+/// The number of variables.
 const COUNT: usize = 8;
 
-/// Bumps each variable: that of index i so many times.
+/// Bumps each variable as many times as `times` has at its index.
 fn bump_each(vsids: &mut Vsids, times: &[usize; 8])
     requires { length vsids.old.available ≡ COUNT }
     ensures { length vsids.new.available ≡ COUNT }
@@ -34,7 +34,7 @@ fn make_each(vsids: &mut Vsids, available: bool)
     }
 }
 
-/// The indices of the next variables, as many as there are places; 9 where there is none.
+/// Fills `picked` with the indices of the next variables, or with 9 if there are no more.
 fn next_indices(vsids: &mut Vsids, picked: &mut [usize])
     requires { length vsids.old.available ≡ COUNT }
     ensures { length vsids.new.available ≡ COUNT }
@@ -47,7 +47,7 @@ fn next_indices(vsids: &mut Vsids, picked: &mut [usize])
     }
 }
 
-/// Eight variables with a decay of one half, bumped while none may be picked.
+/// Adds eight variables with a decay of one half, and bumps each while none is available, as many times as its index.
 fn bumped_by_index(vsids: &mut Vsids) -> Result<(), AllocError>
     requires { vsids.old ≡ no_variables }
     ensures { OnOk result (length vsids.new.available ≡ COUNT) }
@@ -94,7 +94,7 @@ fn decay_times(vsids: &mut Vsids, times: usize)
     }
 }
 
-/// What is picked first once all activities are too small to tell apart.
+/// Tests that variables are picked in the order of their indices once all activities are too small to distinguish.
 #[test]
 fn equal_activities_go_by_index(rt: HostRuntime) {
     let mut vsids = Vsids::new(rt.alloc());
@@ -107,7 +107,7 @@ fn equal_activities_go_by_index(rt: HostRuntime) {
     assert!(rt; picked == [0, 1, 2, 3]);
 }
 
-/// Bumps the last variable until all are brought to a smaller scale.
+/// Bumps the last variable until all activities are rescaled.
 fn bump_past_the_limit(vsids: &mut Vsids)
     requires { length vsids.old.available ≡ COUNT }
     ensures { length vsids.new.available ≡ COUNT }
@@ -129,7 +129,7 @@ fn bumped_variable_goes_first_on_a_smaller_scale(rt: HostRuntime) {
     assert!(rt; picked == [7, 0, 1, 2]);
 }
 
-/// Whether a variable that was reset goes behind one that was bumped less.
+/// Whether a variable that was bumped and then reset is picked after another one that was bumped.
 fn reset_goes_last(vsids: &mut Vsids) -> bool
     requires { vsids.old ≡ no_variables }
 {

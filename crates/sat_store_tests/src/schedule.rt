@@ -1,7 +1,7 @@
-//! Restarts, and levels.
+//! Tests of restarts, and of levels.
 use sat_store::{LevelAbstraction, LubySequence};
 
-/// The first terms, from the sequence's published list.
+/// The first terms, from the published list of the sequence.
 const TERMS: [u64; 15] = [1, 1, 2, 1, 1, 2, 4, 1, 1, 2, 1, 1, 2, 4, 8];
 
 #[test]
