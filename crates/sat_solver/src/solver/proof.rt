@@ -104,7 +104,8 @@ impl<W: CountedWrite + Drop, P: ProofProcessor> Solver<W, P> {
     }
 
     /// Returns the target without flushing it, if a proof is open or its target failed. Pending bytes are lost. The
-    /// target has received a prefix of the text of steps that a checker accepts, even if the solver has failed.
+    /// target has received a prefix of the text of steps that a checker accepts, even if the solver has failed. It can
+    /// have received the `End` step only if `close_proof` returned an error.
     pub fn into_target(self) -> Option<W>
         ensures gives { GivesWriter (target_in W.seen self) (handed_writer W.seen result) }
         ensures front { HandsFront W.seen result self }
@@ -118,8 +119,8 @@ impl<W: CountedWrite + Drop, P: ProofProcessor> Solver<W, P> {
     /// Returns the listeners in the order in which they were added, and the target, even after a failure.
     ///
     /// After two contradictory units, the empty clause that follows from them is announced with the next step or the
-    /// next `solve`. If there was neither, the listeners have not been notified of the empty clause. The target is
-    /// returned without flushing it, if a proof is open or its target failed; its pending bytes are lost.
+    /// next `solve`. If there was neither, the listeners have not been notified of the empty clause. The target is the
+    /// one that `into_target` would return.
     pub fn into_processors(self) -> HandedBack<W, P>
         ensures target { GivesWriter (target_in W.seen self) (handed_writer W.seen result.target) }
         ensures front { HandsFront W.seen result.target self }
