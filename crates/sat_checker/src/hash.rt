@@ -41,7 +41,7 @@ impl ClauseHasher {
         self.bits = bits;
     }
 
-    /// Sets the solver's name of a variable, or removes it if `name` is `None`.
+    /// Sets the solver name of a variable, or removes it if `name` is `None`.
     pub fn set_solver_name(&mut self, var: Var, name: Option<Var>) -> Result<(), AllocError>
         ensures width { width_of self.new ≡ width_of self.old }
         ensures names { OnOk result ((v : ℕ) → solver_name_of self.new v
@@ -50,7 +50,7 @@ impl ClauseHasher {
         self.solver_names.set(var.index(), name, None)
     }
 
-    /// Returns the solver's name of a variable, if it has one.
+    /// Returns the solver name of a variable, if it has one.
     pub(crate) fn solver_name(&self, var: Var) -> Option<Var>
         ensures { result ≡ solver_name_of self.now var }
     {

@@ -214,7 +214,7 @@ impl Store {
         self.stale = true;
     }
 
-    /// Sets the solver's name of a variable, or removes it if `name` is `None`. Takes no looks: `file` later files the
+    /// Sets the solver name of a variable, or removes it if `name` is `None`. Takes no looks: `file` later files the
     /// clauses under their new hashes.
     pub fn set_solver_name(&mut self, var: Var, name: Option<Var>) -> Result<(), AllocError>
         ensures set { OnOk result ((f : Stored) → KeepsClauses (refiled self.old) f

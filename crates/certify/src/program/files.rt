@@ -1,4 +1,4 @@
-//! Does calls that name files. The files are opened in the order of the arguments.
+//! Carries out calls that name files. The files are opened in the order of the arguments.
 ghost use Rattle.std.specs.Prelude.{◌≡◌, ◌⊎◌, IfOk, IfSome};
 ghost use Rattle.certify.specs.Devices.{took};
 ghost use Rattle.certify.specs.program.FileCalls.{ChecksFile, ConfirmsFiles, HintsFiles, IsMade, IsOpened, RunsFiles};

@@ -30,7 +30,7 @@ pub struct Clock {
     pub rounds: u64,
 }
 
-/// Writes the step of a model or a failed core, and stores the answer in `reported`. Returns the state that follows
+/// Writes the step for a model or a failed core, and stores the answer in `reported`. Returns the state that follows
 /// from `outcome`, or `None` if `outcome` is not an answer.
 fn report<W: CountedWrite + Drop, P: ProofProcessor>(
     core: &mut Core<W, P>,
