@@ -1,13 +1,9 @@
-use Rattle.std.proofs.Common.{◌+◌, ◌<◌, ℕ, true, refl, sym, ◌∙◌, ap, subst}
+use Rattle.std.proofs.Common.{◌+◌, ℕ, true, refl, ◌∙◌, ap}
 use Rattle.std.proofs.lemmas.Result.{err_from_is_err_and}
-use Rattle.certify.specs.confirm.Streams.{most_bytes_left}
 use Rattle.certify.specs.confirm.ConfirmStates.{answers_in}
-use Rattle.certify.specs.confirm.ConfirmedScript.{ConfirmsThrough, script_source, confirm_place}
-use Rattle.certify.specs.script.LastPiece.{IsNotAtEnd, source_in}
+use Rattle.certify.specs.confirm.ConfirmedScript.{script_source, confirm_place}
+use Rattle.certify.specs.script.LastPiece.{source_in}
 use Rattle.sat_base.specs.script.Language.{reading}
-use Rattle.certify.specs.script.Streaming.{Arrives}
-use Rattle.certify.specs.declared.script.stream.CommandStream.{CommandStream}
-use Rattle.certify.specs.declared.script.stream.Next.{Next}
 use Rattle.certify.proofs.lemmas.confirm.Streams.{passes_fewer}
 use Rattle.certify.proofs.lemmas.confirm.Joining.{took_open}
 use Rattle.certify.proofs.lemmas.confirm.ConfirmedThrough.{through_none, unread, one_more, stops, ends_so, ends_last}
@@ -24,27 +20,12 @@ loop-next-init g c = record {
 
 pub returns-in-Err-clause-ends : goal.returns-in-Err-clause-ends
 returns-in-Err-clause-ends g c =
-    let S = g.S.CountedRead.seen in
-    let A = g.A.CountedRead.seen in
-    let C = g.C.CountedRead.seen in
-    let l = c.loop-next in
-    let old = confirm_place S A C c.args.script.now c.args.answers.now c.args.steps.now c.args.self.now in
-    let mid = confirm_place S A C l.script l.answers l.steps l.self in
-    rw c.unread_script.ensures (unread reading old mid l.self.script.reader c.next.new.self.reader l.invariant.through c.requires.script_open c.requires.open_yet c.requires.goes_on.open_yet c.in-Err.error (source_in S c.next.new.script c.next.new.self.ahead) c.in-Err.ensures)
+    rw c.unread_script.ensures (unread _ _ _ _ c.next.new.self.reader c.loop-next.invariant.through c.requires.script_open c.requires.open_yet c.requires.goes_on.open_yet c.in-Err.error (source_in g.S.CountedRead.seen c.next.new.script c.next.new.self.ahead) c.in-Err.ensures)
 
 pub returns-in-End-clause-ends : goal.returns-in-End-clause-ends
 returns-in-End-clause-ends g c =
-    let S = g.S.CountedRead.seen in
-    let A = g.A.CountedRead.seen in
-    let C = g.C.CountedRead.seen in
-    let l = c.loop-next in
-    let a = script_source S l.script l.self in
-    let b = source_in S c.next.new.script c.next.new.self.ahead in
-    let old = confirm_place S A C c.args.script.now c.args.answers.now c.args.steps.now c.args.self.now in
-    let mid = confirm_place S A C l.script l.answers l.steps l.self in
-    let new = confirm_place S A C c.next.new.script c.confirm_end.new.answers c.confirm_end.new.steps (record l.self { script = c.next.new.self; session = c.confirm_end.new.self }) in
-    let came = subst (λ (n : Next). Arrives n a b l.self.script.reader c.next.new.self.reader) c.in-End.is c.in-Ok.ensures in
-    ends_so reading old mid l.self.script.reader c.next.new.self.reader l.invariant.through c.requires.script_open c.requires.open_yet c.requires.goes_on.open_yet new c.in-End.end c.confirm_end.result came c.confirm_end.ensures.confirms.joins
+    let new = confirm_place g.S.CountedRead.seen g.A.CountedRead.seen g.C.CountedRead.seen c.next.new.script c.confirm_end.new.answers c.confirm_end.new.steps (record c.loop-next.self { script = c.next.new.self; session = c.confirm_end.new.self }) in
+    ends_so _ _ _ _ c.next.new.self.reader c.loop-next.invariant.through c.requires.script_open c.requires.open_yet c.requires.goes_on.open_yet new c.in-End.end c.confirm_end.result (rw c.in-End.is at c.in-Ok.ensures) c.confirm_end.ensures.confirms.joins
 
 pub returns-in-End-clause-same : goal.returns-in-End-clause-same
 returns-in-End-clause-same g c = c.confirm_end.ensures.confirms.same ∙ c.loop-next.invariant.same
@@ -53,127 +34,67 @@ pub returns-in-End-clause-bound : goal.returns-in-End-clause-bound
 returns-in-End-clause-bound g c = c.confirm_end.ensures.confirms.bound
 
 pub confirm_last-requires-clause-whole : goal.confirm_last-requires-clause-whole
-confirm_last-requires-clause-whole g c =
-    let S = g.S.CountedRead.seen in
-    let l = c.loop-next in
-    let a = script_source S l.script l.self in
-    let b = source_in S c.next.new.script c.next.new.self.ahead in
-    let came = subst (λ (n : Next). Arrives n a b l.self.script.reader c.next.new.self.reader) c.in-Last.is c.in-Ok.ensures in
-    let k = came.2 true l.invariant.through.left l.invariant.through.means in
-    (k.0, k.1)
+confirm_last-requires-clause-whole g c = let k = (rw c.in-Last.is at c.in-Ok.ensures).2 true c.loop-next.invariant.through.left c.loop-next.invariant.through.means in (k.0, k.1)
 
 pub returns-in-Last-clause-ends : goal.returns-in-Last-clause-ends
 returns-in-Last-clause-ends g c =
-    let S = g.S.CountedRead.seen in
-    let A = g.A.CountedRead.seen in
-    let C = g.C.CountedRead.seen in
-    let l = c.loop-next in
-    let a = script_source S l.script l.self in
-    let b = source_in S c.next.new.script c.next.new.self.ahead in
-    let old = confirm_place S A C c.args.script.now c.args.answers.now c.args.steps.now c.args.self.now in
-    let mid = confirm_place S A C l.script l.answers l.steps l.self in
-    let last = c.confirm_last.new.self in
-    let new = confirm_place S A C c.next.new.script c.confirm_last.new.answers c.confirm_last.new.steps (record last { script = c.next.new.self }) in
-    let came = subst (λ (n : Next). Arrives n a b l.self.script.reader c.next.new.self.reader) c.in-Last.is c.in-Ok.ensures in
-    rw c.confirm_last.ensures.script (ends_last reading old mid l.self.script.reader c.next.new.self.reader l.invariant.through c.requires.script_open c.requires.open_yet c.requires.goes_on.open_yet new c.in-Last.end c.confirm_last.result came (λ w is. (c.confirm_last.ensures.confirms w is).joins))
+    let new = confirm_place g.S.CountedRead.seen g.A.CountedRead.seen g.C.CountedRead.seen c.next.new.script c.confirm_last.new.answers c.confirm_last.new.steps (record c.confirm_last.new.self { script = c.next.new.self }) in
+    rw c.confirm_last.ensures.script (ends_last _ _ _ _ c.next.new.self.reader c.loop-next.invariant.through c.requires.script_open c.requires.open_yet c.requires.goes_on.open_yet new c.in-Last.end c.confirm_last.result (rw c.in-Last.is at c.in-Ok.ensures) (λ w is. (c.confirm_last.ensures.confirms w is).joins))
 
 pub returns-in-Last-clause-same : goal.returns-in-Last-clause-same
 returns-in-Last-clause-same g c =
-    let S = g.S.CountedRead.seen in
-    let l = c.loop-next in
-    let a = script_source S l.script l.self in
-    let b = source_in S c.next.new.script c.next.new.self.ahead in
-    let came = subst (λ (n : Next). Arrives n a b l.self.script.reader c.next.new.self.reader) c.in-Last.is c.in-Ok.ensures in
-    let k = came.2 true l.invariant.through.left l.invariant.through.means in
-    (c.confirm_last.ensures.confirms k.0 k.1).same ∙ l.invariant.same
+    let k = (rw c.in-Last.is at c.in-Ok.ensures).2 true c.loop-next.invariant.through.left c.loop-next.invariant.through.means in
+    (c.confirm_last.ensures.confirms k.0 k.1).same ∙ c.loop-next.invariant.same
 
 pub returns-in-Last-clause-bound : goal.returns-in-Last-clause-bound
 returns-in-Last-clause-bound g c =
-    let S = g.S.CountedRead.seen in
-    let l = c.loop-next in
-    let a = script_source S l.script l.self in
-    let b = source_in S c.next.new.script c.next.new.self.ahead in
-    let came = subst (λ (n : Next). Arrives n a b l.self.script.reader c.next.new.self.reader) c.in-Last.is c.in-Ok.ensures in
-    let k = came.2 true l.invariant.through.left l.invariant.through.means in
+    let k = (rw c.in-Last.is at c.in-Ok.ensures).2 true c.loop-next.invariant.through.left c.loop-next.invariant.through.means in
     (c.confirm_last.ensures.confirms k.0 k.1).bound
 
 pub confirm_next-requires-clause-whole : goal.confirm_next-requires-clause-whole
 confirm_next-requires-clause-whole g c =
-    let S = g.S.CountedRead.seen in
-    let l = c.loop-next in
-    let a = script_source S l.script l.self in
-    let b = source_in S c.next.new.script c.next.new.self.ahead in
-    let came = subst (λ (n : Next). Arrives n a b l.self.script.reader c.next.new.self.reader) c.in-Command.is c.in-Ok.ensures in
-    let k = came.3 true l.invariant.through.left l.invariant.through.means in
+    let k = (rw c.in-Command.is at c.in-Ok.ensures).3 true c.loop-next.invariant.through.left c.loop-next.invariant.through.means in
     (k.command, k.whole)
 
 pub returns-in_err-confirm_next-in-Command-clause-ends : goal.returns-in_err-confirm_next-in-Command-clause-ends
 returns-in_err-confirm_next-in-Command-clause-ends g c =
-    let S = g.S.CountedRead.seen in
-    let A = g.A.CountedRead.seen in
-    let C = g.C.CountedRead.seen in
-    let l = c.loop-next in
-    let a = script_source S l.script l.self in
-    let b = source_in S c.next.new.script c.next.new.self.ahead in
-    let old = confirm_place S A C c.args.script.now c.args.answers.now c.args.steps.now c.args.self.now in
-    let mid = confirm_place S A C l.script l.answers l.steps l.self in
-    let last = c.confirm_next.new.self in
-    let new = confirm_place S A C c.next.new.script c.confirm_next.new.answers c.confirm_next.new.steps (record last { script = c.next.new.self }) in
-    let came = subst (λ (n : Next). Arrives n a b l.self.script.reader c.next.new.self.reader) c.in-Command.is c.in-Ok.ensures in
+    let new = confirm_place g.S.CountedRead.seen g.A.CountedRead.seen g.C.CountedRead.seen c.next.new.script c.confirm_next.new.answers c.confirm_next.new.steps (record c.confirm_next.new.self { script = c.next.new.self }) in
     let p = err_from_is_err_and c.from_residual.result c.from_residual.ensures.1 in
-    rw (p.1, p.2, c.in_err-confirm_next-in-Command.ensures.script) (stops reading old mid l.self.script.reader c.next.new.self.reader l.invariant.through c.requires.script_open c.requires.open_yet c.requires.goes_on.open_yet new came c.in_err-confirm_next-in-Command.field-0.0 (λ w is. (c.in_err-confirm_next-in-Command.ensures.confirms w is).joins))
+    rw (p.1, p.2, c.in_err-confirm_next-in-Command.ensures.script) (stops _ _ _ _ c.next.new.self.reader c.loop-next.invariant.through c.requires.script_open c.requires.open_yet c.requires.goes_on.open_yet new (rw c.in-Command.is at c.in-Ok.ensures) c.in_err-confirm_next-in-Command.field-0.0 (λ w is. (c.in_err-confirm_next-in-Command.ensures.confirms w is).joins))
 
 pub returns-in_err-confirm_next-in-Command-clause-same : goal.returns-in_err-confirm_next-in-Command-clause-same
 returns-in_err-confirm_next-in-Command-clause-same g c =
-    let S = g.S.CountedRead.seen in
-    let l = c.loop-next in
-    let a = script_source S l.script l.self in
-    let b = source_in S c.next.new.script c.next.new.self.ahead in
-    let came = subst (λ (n : Next). Arrives n a b l.self.script.reader c.next.new.self.reader) c.in-Command.is c.in-Ok.ensures in
-    let k = came.3 true l.invariant.through.left l.invariant.through.means in
-    (c.in_err-confirm_next-in-Command.ensures.confirms k.command k.whole).same ∙ l.invariant.same
+    let k = (rw c.in-Command.is at c.in-Ok.ensures).3 true c.loop-next.invariant.through.left c.loop-next.invariant.through.means in
+    (c.in_err-confirm_next-in-Command.ensures.confirms k.command k.whole).same ∙ c.loop-next.invariant.same
 
 pub returns-in_err-confirm_next-in-Command-clause-bound : goal.returns-in_err-confirm_next-in-Command-clause-bound
 returns-in_err-confirm_next-in-Command-clause-bound g c =
-    let S = g.S.CountedRead.seen in
-    let l = c.loop-next in
-    let a = script_source S l.script l.self in
-    let b = source_in S c.next.new.script c.next.new.self.ahead in
-    let came = subst (λ (n : Next). Arrives n a b l.self.script.reader c.next.new.self.reader) c.in-Command.is c.in-Ok.ensures in
-    let k = came.3 true l.invariant.through.left l.invariant.through.means in
+    let k = (rw c.in-Command.is at c.in-Ok.ensures).3 true c.loop-next.invariant.through.left c.loop-next.invariant.through.means in
     (c.in_err-confirm_next-in-Command.ensures.confirms k.command k.whole).bound
 
 pub loop-next-preserved : goal.loop-next-preserved
 loop-next-preserved g c =
     let S = g.S.CountedRead.seen in
     let A = g.A.CountedRead.seen in
-    let C = g.C.CountedRead.seen in
     let l = c.loop-next in
-    let a = script_source S l.script l.self in
-    let b = source_in S c.next.new.script c.next.new.self.ahead in
-    let old = confirm_place S A C c.args.script.now c.args.answers.now c.args.steps.now c.args.self.now in
-    let mid = confirm_place S A C l.script l.answers l.steps l.self in
     let last = c.confirm_next.new.self in
-    let new = confirm_place S A C c.next.new.script c.confirm_next.new.answers c.confirm_next.new.steps (record last { script = c.next.new.self }) in
-    let came = subst (λ (n : Next). Arrives n a b l.self.script.reader c.next.new.self.reader) c.in-Command.is c.in-Ok.ensures in
+    let new = confirm_place S A g.C.CountedRead.seen c.next.new.script c.confirm_next.new.answers c.confirm_next.new.steps (record last { script = c.next.new.self }) in
+    let came = rw c.in-Command.is at c.in-Ok.ensures in
     let w = came.3 true l.invariant.through.left l.invariant.through.means in
     let k = c.in_ok-confirm_next-in-Command.ensures.confirms w.command w.whole in
-    let script = sym c.in_ok-confirm_next-in-Command.ensures.script in
+    let script = c.in_ok-confirm_next-in-Command.ensures.script in
     record {
       same = k.same ∙ l.invariant.same;
       goes_on = k.goes_on;
       open_yet = took_open (answers_in A l.answers l.self.session) (answers_in A c.confirm_next.new.answers last.session) l.invariant.open_yet k.joins.0;
-      script_open = subst (λ (x : CommandStream). IsNotAtEnd (source_in S c.next.new.script x.ahead)) script (took_open a b l.invariant.script_open (came.0, came.1));
-      through = subst (λ (x : CommandStream). ConfirmsThrough reading old (confirm_place S A C c.next.new.script c.confirm_next.new.answers c.confirm_next.new.steps (record last { script = x })) x.reader) script
-          (one_more reading old mid l.self.script.reader c.next.new.self.reader l.invariant.through c.requires.script_open c.requires.open_yet c.requires.goes_on.open_yet new came (ap (λ (n : ℕ). n + 1) c.in_ok-confirm_next-in-Command.ensures.number) (λ v is. (c.in_ok-confirm_next-in-Command.ensures.confirms v is).joins));
+      script_open = rw script (took_open (script_source S l.script l.self) (source_in S c.next.new.script c.next.new.self.ahead) l.invariant.script_open (came.0, came.1));
+      through = rw script
+          (one_more _ _ _ _ c.next.new.self.reader l.invariant.through c.requires.script_open c.requires.open_yet c.requires.goes_on.open_yet new came (ap (λ (n : ℕ). n + 1) c.in_ok-confirm_next-in-Command.ensures.number) (λ v is. (c.in_ok-confirm_next-in-Command.ensures.confirms v is).joins));
     }
 
 pub loop-next-smaller : goal.loop-next-smaller
 loop-next-smaller g c =
-    let S = g.S.CountedRead.seen in
-    let l = c.loop-next in
-    let a = script_source S l.script l.self in
-    let b = source_in S c.next.new.script c.next.new.self.ahead in
-    let came = subst (λ (n : Next). Arrives n a b l.self.script.reader c.next.new.self.reader) c.in-Command.is c.in-Ok.ensures in
-    let is = sym c.in_ok-confirm_next-in-Command.ensures.script in
-    subst (λ (x : CommandStream). most_bytes_left (source_in S c.next.new.script x.ahead) < most_bytes_left a) is (passes_fewer a b came.0 c.next.new.self.ahead.bounded came.1 came.2)
+    let a = script_source g.S.CountedRead.seen c.loop-next.script c.loop-next.self in
+    let b = source_in g.S.CountedRead.seen c.next.new.script c.next.new.self.ahead in
+    let came = rw c.in-Command.is at c.in-Ok.ensures in
+    rw c.in_ok-confirm_next-in-Command.ensures.script (passes_fewer a b came.0 c.next.new.self.ahead.bounded came.1 came.2)
