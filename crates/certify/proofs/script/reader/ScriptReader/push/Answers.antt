@@ -1,72 +1,59 @@
-use Rattle.std.proofs.Common.{◌≡◌, ◌-◌, Option, None, Some, take, drop, length, subst, arith}
-use Rattle.sat_base.specs.declared.text.Token.{Token as CodeToken}
-use Rattle.sat_base.specs.text.Text.{Token}
-use Rattle.sat_base.specs.text.Tokenizing.{TakesFront, held_token}
+use Rattle.std.proofs.Common.{◌≡◌, ◌+◌, ◌-◌, ◌≤◌, ℕ, List, take, drop, length, arith}
 use Rattle.certify.specs.declared.script.Reached.{Reached}
 use Rattle.certify.specs.declared.script.Reached.TheVariants as reached
-use Rattle.certify.specs.script.Commands.{TakesToken}
+use Rattle.certify.specs.declared.script.reader.ScriptReader.{ScriptReader}
+use Rattle.certify.specs.script.Commands.{TakesBytes}
 use Rattle.certify.proofs.lemmas.script.Bytes.{reader, bytes_go, bytes_take, bytes_wrong, followed_front, goes_nowhere, no_more}
 use Rattle.certify.proofs.script.reader.ScriptReader.push.Goals as goal
+use Rattle.certify.proofs.script.reader.ScriptReader.push.Goals.{After-take_token-count, In_ok-take}
+
+-- the bytes of this iteration
+module _ (c : After-take_token-count) where
+  abbrev front : List ℕ
+  front = take c.take_token-count.result.0 (take (length c.args.bytes.now - c.loop-at.at) (drop c.loop-at.at c.args.bytes.now))
+
+  within : c.loop-at.at + c.take_token-count.result.0 ≤ length c.args.bytes.now
+  within = no_more c.args.bytes.now c.loop-at.at c.take_token-count.result.0 c.loop-at.invariant.within c.take_token-count.ensures.within
+
+  -- behind those before
+  taken : (r : Reached) (new : ScriptReader) → TakesBytes r c.loop-at.self front new → TakesBytes r c.args.self.now (take (c.loop-at.at + c.take_token-count.result.0) c.args.bytes.now) new
+  taken r new t = followed_front r c.args.self.now c.loop-at.self new c.args.bytes.now c.loop-at.at c.take_token-count.result.0 c.loop-at.invariant.within c.take_token-count.ensures.within c.loop-at.invariant.taken t
+
+-- they end a token
+module _ (c : In_ok-take) where
+  took : (r : Reached) → c.in_ok-take.field-0 ≡ r → TakesBytes r c.args.self.now (take (c.loop-at.at + c.take_token-count.result.0) c.args.bytes.now) (reader c.take_token-count.new.tokenizer c.take.new.self)
+  took r is =
+      let x = (goal.at.In_ok-take c).After-take_token-count in
+      taken x r (reader c.take_token-count.new.tokenizer c.take.new.self)
+      (bytes_take r c.loop-at.self (front x) c.in-Some.token c.take_token-count.new.tokenizer c.take.new.self (rw c.in-Some.is at c.take_token-count.ensures.takes) (λ given e. rw is at (c.in_ok-take.ensures given e)))
 
 pub loop-at-init : goal.loop-at-init
 loop-at-init c = record { within = omega arith; right = λ h. absurd (omega arith); taken = goes_nowhere c.args.self.now }
 
 pub loop-at-preserved-in_default : goal.loop-at-preserved-in_default
 loop-at-preserved-in_default c =
-    let l = c.loop-at in
-    let xs = c.args.bytes.now in
-    let n = c.take_token-count in
-    let front = take n.result.0 (take (length xs - l.at) (drop l.at xs)) in
-    let none : TakesFront l.self.tokenizer front None n.new.tokenizer = subst (λ (t : Option CodeToken). TakesFront l.self.tokenizer front t n.new.tokenizer) c.in_default.is n.ensures.takes in
+    let x = (goal.at.loop-at-preserved-in_default c).After-take_token-count in
     record {
-      within = no_more xs l.at n.result.0 l.invariant.within n.ensures.within;
+      within = within x;
       right = λ h. c.is_wrong.ensures.right c.if-is_wrong.false;
-      taken = followed_front reached.More c.args.self.now l.self (reader n.new.tokenizer l.self.commands) xs l.at n.result.0 l.invariant.within n.ensures.within l.invariant.taken (bytes_go l.self front n.new.tokenizer none);
+      taken = taken x reached.More (reader c.take_token-count.new.tokenizer c.loop-at.self.commands) (bytes_go c.loop-at.self (front x) c.take_token-count.new.tokenizer (rw c.in_default.is at c.take_token-count.ensures.takes));
     }
 
 pub loop-at-preserved : goal.loop-at-preserved
-loop-at-preserved c =
-    let l = c.loop-at in
-    let xs = c.args.bytes.now in
-    let n = c.take_token-count in
-    let front = take n.result.0 (take (length xs - l.at) (drop l.at xs)) in
-    let some : TakesFront l.self.tokenizer front (Some c.in-Some.token) n.new.tokenizer = subst (λ (t : Option CodeToken). TakesFront l.self.tokenizer front t n.new.tokenizer) c.in-Some.is n.ensures.takes in
-    let t : (given : Token) → c.in-Some.token ≡ held_token given → TakesToken reached.More l.self.commands given c.take.new.self = λ given e.
-    subst (λ (r : Reached). TakesToken r l.self.commands given c.take.new.self) c.in-More.is (c.in_ok-take.ensures given e) in
-    record {
-      within = no_more xs l.at n.result.0 l.invariant.within n.ensures.within;
-      right = λ h. n.ensures.right (λ e. let f = c.in-Some.is in cc);
-      taken = followed_front reached.More c.args.self.now l.self (reader n.new.tokenizer c.take.new.self) xs l.at n.result.0 l.invariant.within n.ensures.within l.invariant.taken (bytes_take reached.More l.self front c.in-Some.token n.new.tokenizer c.take.new.self some t);
-    }
+loop-at-preserved c = record {
+  within = within (goal.at.loop-at-preserved c).After-take_token-count;
+  right = λ h. c.take_token-count.ensures.right (λ e. let f = c.in-Some.is in cc);
+  taken = took (goal.at.loop-at-preserved c).In_ok-take reached.More c.in-More.is;
+}
 
 pub returns-then-is_wrong-clause-takes : goal.returns-then-is_wrong-clause-takes
 returns-then-is_wrong-clause-takes c =
-    let l = c.loop-at in
-    let xs = c.args.bytes.now in
-    let n = c.take_token-count in
-    let front = take n.result.0 (take (length xs - l.at) (drop l.at xs)) in
-    let none : TakesFront l.self.tokenizer front None n.new.tokenizer = subst (λ (t : Option CodeToken). TakesFront l.self.tokenizer front t n.new.tokenizer) c.in_default.is n.ensures.takes in
-    let wrong = bytes_wrong l.self front n.new.tokenizer none (c.is_wrong.ensures.wrong c.if-is_wrong.true) in
-    followed_front reached.Malformed c.args.self.now l.self (reader n.new.tokenizer l.self.commands) xs l.at n.result.0 l.invariant.within n.ensures.within l.invariant.taken wrong
+    let x = (goal.at.returns-then-is_wrong-clause-takes c).After-take_token-count in
+    taken x reached.Malformed (reader c.take_token-count.new.tokenizer c.loop-at.self.commands)
+    (bytes_wrong c.loop-at.self (front x) c.take_token-count.new.tokenizer (rw c.in_default.is at c.take_token-count.ensures.takes) (c.is_wrong.ensures.wrong c.if-is_wrong.true))
 
 pub returns-in-Command-clause-takes : goal.returns-in-Command-clause-takes
-returns-in-Command-clause-takes c =
-    let l = c.loop-at in
-    let xs = c.args.bytes.now in
-    let n = c.take_token-count in
-    let front = take n.result.0 (take (length xs - l.at) (drop l.at xs)) in
-    let some : TakesFront l.self.tokenizer front (Some c.in-Some.token) n.new.tokenizer = subst (λ (t : Option CodeToken). TakesFront l.self.tokenizer front t n.new.tokenizer) c.in-Some.is n.ensures.takes in
-    let t : (given : Token) → c.in-Some.token ≡ held_token given → TakesToken reached.Command l.self.commands given c.take.new.self = λ given e.
-    subst (λ (r : Reached). TakesToken r l.self.commands given c.take.new.self) c.in-Command.is (c.in_ok-take.ensures given e) in
-    followed_front reached.Command c.args.self.now l.self (reader n.new.tokenizer c.take.new.self) xs l.at n.result.0 l.invariant.within n.ensures.within l.invariant.taken (bytes_take reached.Command l.self front c.in-Some.token n.new.tokenizer c.take.new.self some t)
+returns-in-Command-clause-takes c = took (goal.at.returns-in-Command-clause-takes c).In_ok-take reached.Command c.in-Command.is
 
 pub returns-in-Malformed-clause-takes : goal.returns-in-Malformed-clause-takes
-returns-in-Malformed-clause-takes c =
-    let l = c.loop-at in
-    let xs = c.args.bytes.now in
-    let n = c.take_token-count in
-    let front = take n.result.0 (take (length xs - l.at) (drop l.at xs)) in
-    let some : TakesFront l.self.tokenizer front (Some c.in-Some.token) n.new.tokenizer = subst (λ (t : Option CodeToken). TakesFront l.self.tokenizer front t n.new.tokenizer) c.in-Some.is n.ensures.takes in
-    let t : (given : Token) → c.in-Some.token ≡ held_token given → TakesToken reached.Malformed l.self.commands given c.take.new.self = λ given e.
-    subst (λ (r : Reached). TakesToken r l.self.commands given c.take.new.self) c.in-Malformed.is (c.in_ok-take.ensures given e) in
-    followed_front reached.Malformed c.args.self.now l.self (reader n.new.tokenizer c.take.new.self) xs l.at n.result.0 l.invariant.within n.ensures.within l.invariant.taken (bytes_take reached.Malformed l.self front c.in-Some.token n.new.tokenizer c.take.new.self some t)
+returns-in-Malformed-clause-takes c = took (goal.at.returns-in-Malformed-clause-takes c).In_ok-take reached.Malformed c.in-Malformed.is

@@ -1,14 +1,16 @@
-use Rattle.std.proofs.Common.{Ok, ◌∙◌, subst}
+use Rattle.std.proofs.Common.{◌<◌, length, ◌∙◌}
 use Rattle.std.proofs.lemmas.Result.{err_from_is_err_and}
-use Rattle.sat_base.specs.declared.device.whole.ReadError.{ReadError}
-use Rattle.certify.specs.declared.script.Reached.{Reached}
 use Rattle.certify.specs.declared.script.ScriptEnd.TheVariants as ends
 use Rattle.certify.specs.script.LastPiece.{waiting_bytes}
-use Rattle.certify.specs.script.Streaming.{TakesWaiting}
 use Rattle.certify.proofs.lemmas.confirm.Compared.{some_list}
 use Rattle.certify.proofs.lemmas.script.Streaming.{brings_none, brings_more, brings_command, brings_malformed, some_bytes, taken_fewer}
 use Rattle.certify.proofs.lemmas.script.Tokens.{end_malformed}
+use Rattle.certify.proofs.script.stream.CommandStream.advance.Given.{Over}
 use Rattle.certify.proofs.script.stream.CommandStream.advance.Goals as goal
+use Rattle.certify.proofs.script.stream.CommandStream.advance.Goals.{After-take}
+
+some : (g : Over) (c : After-take g) → 0 < length (waiting_bytes c.args.self.now.ahead)
+some g c = some_bytes (waiting_bytes c.args.self.now.ahead) (λ e. some_list c.waiting.result.now c.is_empty.result c.is_empty.ensures c.if-is_empty.false (c.waiting.ensures ∙ e))
 
 pub returns-in_err-take-clause-brings : goal.returns-in_err-take-clause-brings
 returns-in_err-take-clause-brings g c =
@@ -17,32 +19,18 @@ returns-in_err-take-clause-brings g c =
 
 pub returns-in-More-clause-brings : goal.returns-in-More-clause-brings
 returns-in-More-clause-brings g c =
-    let S = g.S.CountedRead.seen in
-    let old = c.args.self.now in
-    let new = c.take.new.self in
-    let some = some_bytes (waiting_bytes old.ahead) (λ e. some_list c.waiting.result.now c.is_empty.result c.is_empty.ensures c.if-is_empty.false (c.waiting.ensures ∙ e)) in
-    brings_more S c.args.script.now old new some (subst (λ (r : Reached). TakesWaiting {E = ReadError} (Ok r) old new) c.in-More.is c.in_ok-take.ensures)
+    brings_more g.S.CountedRead.seen c.args.script.now c.args.self.now c.take.new.self (some g (goal.at.returns-in-More-clause-brings g c).After-take) (rw c.in-More.is at c.in_ok-take.ensures)
 
 pub returns-in-More-clause-falls : goal.returns-in-More-clause-falls
 returns-in-More-clause-falls g c =
-    let old = c.args.self.now in
-    let new = c.take.new.self in
     let t = c.in_ok-take.ensures in
-    let some = some_bytes (waiting_bytes old.ahead) (λ e. some_list c.waiting.result.now c.is_empty.result c.is_empty.ensures c.if-is_empty.false (c.waiting.ensures ∙ e)) in
-    taken_fewer old.ahead new.ahead t.0 t.1 t.2 (t.3 some)
+    taken_fewer c.args.self.now.ahead c.take.new.self.ahead t.0 t.1 t.2 (t.3 (some g (goal.at.returns-in-More-clause-falls g c).After-take))
 
 pub returns-in-Command-clause-brings : goal.returns-in-Command-clause-brings
 returns-in-Command-clause-brings g c =
-    let S = g.S.CountedRead.seen in
-    let old = c.args.self.now in
-    let new = c.take.new.self in
-    let some = some_bytes (waiting_bytes old.ahead) (λ e. some_list c.waiting.result.now c.is_empty.result c.is_empty.ensures c.if-is_empty.false (c.waiting.ensures ∙ e)) in
-    brings_command S c.args.script.now old new some (subst (λ (r : Reached). TakesWaiting {E = ReadError} (Ok r) old new) c.in-Command.is c.in_ok-take.ensures)
+    brings_command g.S.CountedRead.seen c.args.script.now c.args.self.now c.take.new.self (some g (goal.at.returns-in-Command-clause-brings g c).After-take) (rw c.in-Command.is at c.in_ok-take.ensures)
 
 pub returns-in-Malformed-clause-brings : goal.returns-in-Malformed-clause-brings
 returns-in-Malformed-clause-brings g c =
-    let S = g.S.CountedRead.seen in
-    let old = c.args.self.now in
-    let new = c.take.new.self in
-    let some = some_bytes (waiting_bytes old.ahead) (λ e. some_list c.waiting.result.now c.is_empty.result c.is_empty.ensures c.if-is_empty.false (c.waiting.ensures ∙ e)) in
-    brings_malformed S c.args.script.now old new some ends.Malformed end_malformed c.requires (subst (λ (r : Reached). TakesWaiting {E = ReadError} (Ok r) old new) c.in-Malformed.is c.in_ok-take.ensures)
+    brings_malformed g.S.CountedRead.seen c.args.script.now c.args.self.now c.take.new.self (some g (goal.at.returns-in-Malformed-clause-brings g c).After-take)
+    ends.Malformed end_malformed c.requires (rw c.in-Malformed.is at c.in_ok-take.ensures)

@@ -1,9 +1,7 @@
-use Rattle.std.proofs.Common.{[], Ok, Option, subst}
+use Rattle.std.proofs.Common.{[]}
 use Rattle.std.proofs.lemmas.Result.{err_from_is_err_and}
 use Rattle.sat_base.proofs.lemmas.device.ReadLemmas.{passes_none}
-use Rattle.certify.specs.declared.script.stream.Next.{Next}
 use Rattle.certify.specs.script.LastPiece.{source_in}
-use Rattle.certify.specs.script.Streaming.{Brings}
 use Rattle.certify.proofs.lemmas.script.Bytes.{goes_nowhere}
 use Rattle.certify.proofs.lemmas.script.Streaming.{arrives_then, brings_then, follows_more}
 use Rattle.certify.proofs.script.stream.CommandStream.next.Goals as goal
@@ -13,33 +11,25 @@ loop-next-init g c = ([], passes_none (source_in g.S.CountedRead.seen c.args.scr
 
 pub returns-in_err-next : goal.returns-in_err-next
 returns-in_err-next g c =
-    let S = g.S.CountedRead.seen in
     let l = c.loop-next in
-    let new = c.advance.new.self in
-    let a = source_in S c.args.script.now c.args.self.now.ahead in
-    let b = source_in S l.script l.self.ahead in
-    let d = source_in S c.advance.new.script new.ahead in
+    let a = source_in g.S.CountedRead.seen c.args.script.now c.args.self.now.ahead in
+    let b = source_in g.S.CountedRead.seen l.script l.self.ahead in
+    let d = source_in g.S.CountedRead.seen c.advance.new.script c.advance.new.self.ahead in
     let p = err_from_is_err_and c.from_residual.result c.from_residual.ensures.1 in
-    rw (p.1, p.2) (brings_then a b d c.args.self.now.reader l.self.reader new.reader l.invariant.0 c.requires l.invariant.1 l.invariant.2 c.in_err-next.field-0.0 c.in_err-next.ensures.brings)
+    rw (p.1, p.2) (brings_then a b d c.args.self.now.reader l.self.reader c.advance.new.self.reader l.invariant.0 c.requires l.invariant.1 l.invariant.2 c.in_err-next.field-0.0 c.in_err-next.ensures.brings)
 
 pub returns-in-Some : goal.returns-in-Some
 returns-in-Some g c =
-    let S = g.S.CountedRead.seen in
     let l = c.loop-next in
-    let new = c.advance.new.self in
-    let a = source_in S c.args.script.now c.args.self.now.ahead in
-    let b = source_in S l.script l.self.ahead in
-    let d = source_in S c.advance.new.script new.ahead in
-    let came = subst (λ (o : Option Next). Brings (Ok o) b d l.self.reader new.reader) c.in-Some.is c.in_ok-next.ensures.brings in
-    arrives_then a b d c.args.self.now.reader l.self.reader new.reader l.invariant.0 c.requires l.invariant.1 l.invariant.2 c.in-Some.next came
+    let a = source_in g.S.CountedRead.seen c.args.script.now c.args.self.now.ahead in
+    let b = source_in g.S.CountedRead.seen l.script l.self.ahead in
+    let d = source_in g.S.CountedRead.seen c.advance.new.script c.advance.new.self.ahead in
+    arrives_then a b d c.args.self.now.reader l.self.reader c.advance.new.self.reader l.invariant.0 c.requires l.invariant.1 l.invariant.2 c.in-Some.next (rw c.in-Some.is at c.in_ok-next.ensures.brings)
 
 pub loop-next-preserved : goal.loop-next-preserved
 loop-next-preserved g c =
-    let S = g.S.CountedRead.seen in
     let l = c.loop-next in
-    let new = c.advance.new.self in
-    let a = source_in S c.args.script.now c.args.self.now.ahead in
-    let b = source_in S l.script l.self.ahead in
-    let d = source_in S c.advance.new.script new.ahead in
-    let came = subst (λ (o : Option Next). Brings (Ok o) b d l.self.reader new.reader) c.in_default.is c.in_ok-next.ensures.brings in
-    follows_more a b d c.args.self.now.reader l.self.reader new.reader l.invariant.0 c.requires l.invariant.1 l.invariant.2 came
+    let a = source_in g.S.CountedRead.seen c.args.script.now c.args.self.now.ahead in
+    let b = source_in g.S.CountedRead.seen l.script l.self.ahead in
+    let d = source_in g.S.CountedRead.seen c.advance.new.script c.advance.new.self.ahead in
+    follows_more a b d c.args.self.now.reader l.self.reader c.advance.new.self.reader l.invariant.0 c.requires l.invariant.1 l.invariant.2 (rw c.in_default.is at c.in_ok-next.ensures.brings)
