@@ -105,5 +105,6 @@ module _ (kind : Kind) (name : ℕ) (names : Names) (count first : ℕ) (told : 
       (λ total y f j s. subst (λ (ns : List ℕ). MeetsAll (map NewName ns ++ hidden_by kind name) before after (seen_in total a) (seen_in total c) y) (sym (told j s)) f)
       (meets_both (news count first) (hidden_by kind name) before mid after r a b c open_yet p q)
 
-  pub name_short : (a c : Stream) → (AtEnd a.source → ⊥) → Confirms (Ok tt) a c (MeetsName kind name names before after) → Confirms {A = Unit {0}} (Err stop.OutOfMemory) a c (MeetsName kind name names before after)
-  name_short a c open_yet p = says_stop {B = ℕ} true stop.OutOfMemory a c (λ u v. MeetsName kind name names before after u v (Ok tt)) (λ y. ⊥) (MeetsName kind name names before after) open_yet (λ total why h n. absurd n) p tt
+  pub name_short : (mid : NamedVars) (a b c : Stream) → (AtEnd a.source → ⊥) → Confirms (Ok tt) a b (MeetsAll (news count first) before mid) → Confirms (Ok tt) b c (MeetsAll (hidden_by kind name) mid after)
+      → Confirms {A = Unit {0}} (Err stop.OutOfMemory) a c (MeetsName kind name names before after)
+  name_short mid a b c open_yet p q = says_stop {B = ℕ} true stop.OutOfMemory a c (λ u v. MeetsName kind name names before after u v (Ok tt)) (λ y. ⊥) (MeetsName kind name names before after) open_yet (λ total why h n. absurd n) (name_goes mid (Ok tt) a b c open_yet p q) tt

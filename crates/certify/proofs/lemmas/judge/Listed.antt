@@ -8,7 +8,10 @@ use Rattle.sat_base.specs.script.Script.{names_of}
 use Rattle.certify.specs.answers.AnswerForms.{named_literals}
 use Rattle.certify.specs.declared.judge.NameState.{NameState}
 use Rattle.certify.specs.declared.judge.NameState.TheVariants as state
-use Rattle.certify.specs.judge.Names.{is_hidden, used_from}
+use Rattle.certify.specs.declared.judge.names.Names.{Names}
+use Rattle.sat_base.specs.values.Tables.{value_at}
+use Rattle.certify.specs.judge.Names.{ListsUsed, is_hidden, states_of, used_from}
+use Rattle.certify.proofs.lemmas.judge.States.{item_at, states_length}
 
 abbrev pub Left : List NameState → List ℕ → ℕ → ℕ → Type 0
 Left states line at index = names_of (named_literals (drop at line)) ≡ used_from (index + 1) (drop index states)
@@ -42,32 +45,38 @@ head_of e = cc
 tail_of : {a b : ℕ} {xs ys : List ℕ} → a ∷ xs ≡ b ∷ ys → xs ≡ ys
 tail_of e = cc
 
-module _ (P : Type 0) (states : List NameState) (line : List ℕ) (at index : ℕ) (s : NameState) (low : index < length states) (is : s ≡ get_or states index s) (so : Same P (Left states line at index)) where
-  pub hidden_left : s ≡ state.Hidden → Same P (Left states line at (index + 1))
+module _ (names : Names) (line : List ℕ) (at index : ℕ) (s : NameState) (inside : index < names.used) (is : s ≡ value_at state.Sampled names.states index) (so : Same (ListsUsed names line) (Left (states_of names) line at index)) where
+  passed : (b : Bool) → is_hidden s ≡ b
+      → used_from (index + 1) (drop index (states_of names)) ≡ cond b (used_from (index + 1 + 1) (drop (index + 1) (states_of names))) ((index + 1) ∷ used_from (index + 1 + 1) (drop (index + 1) (states_of names)))
+  passed b e =
+      let l = states_length names.states names.used in
+      passes (states_of names) index s b (omega arith) (item_at names index s inside is) e
+
+  pub hidden_left : s ≡ state.Hidden → Same (ListsUsed names line) (Left (states_of names) line at (index + 1))
   hidden_left e =
-      let p = passes states index s true low is (ap is_hidden e) in
+      let p = passed true (ap is_hidden e) in
       ((λ h. so.0 h ∙ p), (λ h. so.1 (h ∙ sym p)))
 
   module _ (u : s ≡ state.Hidden → ⊥) where
-    next : used_from (index + 1) (drop index states) ≡ (index + 1) ∷ used_from (index + 1 + 1) (drop (index + 1) states)
-    next = passes states index s false low is (shown s u)
+    next : used_from (index + 1) (drop index (states_of names)) ≡ (index + 1) ∷ used_from (index + 1 + 1) (drop (index + 1) (states_of names))
+    next = passed false (shown s u)
 
-    pub none_left : length line ≤ at → P → ⊥
+    pub none_left : length line ≤ at → ListsUsed names line → ⊥
     none_left over h =
-        let e : [] ≡ (index + 1) ∷ used_from (index + 1 + 1) (drop (index + 1) states) = sym (ap (λ (xs : List ℕ). names_of (named_literals xs)) (drop_all at line over)) ∙ so.0 h ∙ next in
+        let e : [] ≡ (index + 1) ∷ used_from (index + 1 + 1) (drop (index + 1) (states_of names)) = sym (ap (λ (xs : List ℕ). names_of (named_literals xs)) (drop_all at line over)) ∙ so.0 h ∙ next in
         absurd (cc)
 
     module _ (code : ℕ) (within : at < length line) (here : code ≡ get_or line at code) where
       begins : names_of (named_literals (drop at line)) ≡ (variable code + 1) ∷ names_of (named_literals (drop (at + 1) line))
       begins = ap (λ (xs : List ℕ). names_of (named_literals xs)) (cut_line line at code within here)
 
-      pub other_left : (variable code ≡ index → ⊥) → P → ⊥
+      pub other_left : (variable code ≡ index → ⊥) → ListsUsed names line → ⊥
       other_left differ h = let e : variable code + 1 ≡ index + 1 = head_of (sym begins ∙ so.0 h ∙ next) in differ (omega arith)
 
-      pub used_left : variable code ≡ index → Same P (Left states line (at + 1) (index + 1))
+      pub used_left : variable code ≡ index → Same (ListsUsed names line) (Left (states_of names) line (at + 1) (index + 1))
       used_left e = (
         (λ h. tail_of (sym begins ∙ so.0 h ∙ next)),
-        (λ h. so.1 (begins ∙ ap (λ (xs : List ℕ). (variable code + 1) ∷ xs) h ∙ ap (λ (n : ℕ). (n + 1) ∷ used_from (index + 1 + 1) (drop (index + 1) states)) e ∙ sym next)),
+        (λ h. so.1 (begins ∙ ap (λ (xs : List ℕ). (variable code + 1) ∷ xs) h ∙ ap (λ (n : ℕ). (n + 1) ∷ used_from (index + 1 + 1) (drop (index + 1) (states_of names))) e ∙ sym next)),
       )
 
 none_named : (xs : List ℕ) → names_of (named_literals xs) ≡ [] → xs ≡ []
@@ -77,12 +86,13 @@ none_named (x ∷ xs) e = absurd (cc)
 some_left : (line : List ℕ) (at : ℕ) → at < length line → drop at line ≡ [] → ⊥
 some_left line at low e = let f : get_or line at 0 ∷ drop (suc at) line ≡ [] = sym (drop-cons line at 0 low) ∙ e in absurd (cc)
 
-pub end_left : (P : Type 0) (states : List NameState) (line : List ℕ) (at index : ℕ) (answer : Bool) → length states ≤ index → at ≤ length line → Same P (Left states line at index) → answer ≡ eqb at (length line) → MatchBool answer P (P → ⊥)
-end_left P states line at index answer over low so e = go answer (sym e)
+pub end_left : (names : Names) (line : List ℕ) (at index : ℕ) (answer : Bool) → names.used ≤ index → at ≤ length line → Same (ListsUsed names line) (Left (states_of names) line at index) → answer ≡ eqb at (length line)
+    → MatchBool answer (ListsUsed names line) (ListsUsed names line → ⊥)
+end_left names line at index answer over low so e = go answer (sym e)
   where
-    none : used_from (index + 1) (drop index states) ≡ []
-    none = ap (used_from (index + 1)) (drop_all index states over)
+    none : used_from (index + 1) (drop index (states_of names)) ≡ []
+    none = let l = states_length names.states names.used in ap (used_from (index + 1)) (drop_all index (states_of names) (omega arith))
 
-    go : (b : Bool) → eqb at (length line) ≡ b → MatchBool b P (P → ⊥)
+    go : (b : Bool) → eqb at (length line) ≡ b → MatchBool b (ListsUsed names line) (ListsUsed names line → ⊥)
     go true x = so.1 (ap (λ (xs : List ℕ). names_of (named_literals xs)) (drop_all at line (let y = eqb-true at (length line) x in omega arith)) ∙ sym none)
     go false x = λ h. some_left line at (let y = eqb-false at (length line) x in omega arith) (none_named (drop at line) (so.0 h ∙ none))

@@ -1,7 +1,5 @@
-use Rattle.std.proofs.Common.{◌<◌, ◌≤◌, length, eqb, refl, sym, ◌∙◌, arith}
-use Rattle.certify.specs.judge.Names.{ListsUsed, states_of}
+use Rattle.std.proofs.Common.{length, eqb, refl, sym, ◌∙◌, arith}
 use Rattle.certify.proofs.lemmas.judge.Listed.{hidden_left, none_left, other_left, used_left, end_left}
-use Rattle.certify.proofs.lemmas.judge.States.{item_at, states_length}
 use Rattle.certify.proofs.judge.names.Names.are_listed.Goals as goal
 
 pub loop-index-init : goal.loop-index-init
@@ -9,52 +7,25 @@ loop-index-init c = record { within = omega arith; left = ((λ h. h), (λ h. h))
 
 pub loop-index-preserved-in-Hidden : goal.loop-index-preserved-in-Hidden
 loop-index-preserved-in-Hidden c =
-    let names = c.args.self.now in
     let l = c.loop-index in
-    let n = states_length names.states names.used in
-    let low : l.index < length (states_of names) = omega arith in
-    let is = item_at names l.index c.get.result (omega arith) c.get.ensures in
-    record {
-      within = l.invariant.within;
-      left = hidden_left (ListsUsed names c.args.line.now) (states_of names) c.args.line.now l.at l.index c.get.result low is l.invariant.left c.in-Hidden.is;
-    }
+    record { within = l.invariant.within; left = hidden_left c.args.self.now c.args.line.now l.at l.index c.get.result (omega arith) c.get.ensures l.invariant.left c.in-Hidden.is }
 
 pub loop-index-preserved : goal.loop-index-preserved
 loop-index-preserved c =
-    let names = c.args.self.now in
     let l = c.loop-index in
-    let n = states_length names.states names.used in
-    let low : l.index < length (states_of names) = omega arith in
-    let is = item_at names l.index c.get.result (omega arith) c.get.ensures in
     record {
       within = omega arith;
-      left = used_left (ListsUsed names c.args.line.now) (states_of names) c.args.line.now l.at l.index c.get.result low is l.invariant.left c.in_default.not-Hidden
+      left = used_left c.args.self.now c.args.line.now l.at l.index c.get.result (omega arith) c.get.ensures l.invariant.left c.in_default.not-Hidden
           c.index-line-at.result c.if-at-line.false c.index-line-at.is (sym c.index.ensures.value ∙ c.if-index.false);
     }
 
 pub returns-then-at-line : goal.returns-then-at-line
-returns-then-at-line c =
-    let names = c.args.self.now in
-    let l = c.loop-index in
-    let n = states_length names.states names.used in
-    let low : l.index < length (states_of names) = omega arith in
-    let is = item_at names l.index c.get.result (omega arith) c.get.ensures in
-    none_left (ListsUsed names c.args.line.now) (states_of names) c.args.line.now l.at l.index c.get.result low is l.invariant.left c.in_default.not-Hidden c.if-at-line.true
+returns-then-at-line c = let l = c.loop-index in none_left c.args.self.now c.args.line.now l.at l.index c.get.result (omega arith) c.get.ensures l.invariant.left c.in_default.not-Hidden c.if-at-line.true
 
 pub returns-then-index : goal.returns-then-index
 returns-then-index c =
-    let names = c.args.self.now in
     let l = c.loop-index in
-    let n = states_length names.states names.used in
-    let low : l.index < length (states_of names) = omega arith in
-    let is = item_at names l.index c.get.result (omega arith) c.get.ensures in
-    other_left (ListsUsed names c.args.line.now) (states_of names) c.args.line.now l.at l.index c.get.result low is l.invariant.left c.in_default.not-Hidden
-    c.index-line-at.result c.if-at-line.false c.index-line-at.is (λ e. c.if-index.true (c.index.ensures.value ∙ e))
+    other_left c.args.self.now c.args.line.now l.at l.index c.get.result (omega arith) c.get.ensures l.invariant.left c.in_default.not-Hidden c.index-line-at.result c.if-at-line.false c.index-line-at.is (λ e. c.if-index.true (c.index.ensures.value ∙ e))
 
 pub returns : goal.returns
-returns c =
-    let names = c.args.self.now in
-    let l = c.loop-index in
-    let n = states_length names.states names.used in
-    let over : length (states_of names) ≤ l.index = omega arith in
-    end_left (ListsUsed names c.args.line.now) (states_of names) c.args.line.now l.at l.index (eqb l.at (length c.args.line.now)) over l.invariant.within l.invariant.left refl
+returns c = let l = c.loop-index in end_left c.args.self.now c.args.line.now l.at l.index (eqb l.at (length c.args.line.now)) (omega arith) l.invariant.within l.invariant.left refl
