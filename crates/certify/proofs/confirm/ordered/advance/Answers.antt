@@ -1,7 +1,5 @@
-use Rattle.std.proofs.Common.{Ok, Err, refl, subst, true, false}
+use Rattle.std.proofs.Common.{refl, true, false}
 use Rattle.std.proofs.lemmas.Result.{err_from_is_err_and}
-use Rattle.sat_checker.specs.KernelView.{LooksAtMost}
-use Rattle.certify.specs.confirm.Feeding.{FeedsStep}
 use Rattle.sat_checker.specs.CheckerView.{kernel_of}
 use Rattle.certify.specs.confirm.Streams.{stream_of}
 use Rattle.certify.proofs.lemmas.confirm.StepTags.{ordered_by_tag}
@@ -56,8 +54,7 @@ returns-in_err-feed g c =
       takes = rw p.1 tt;
       confirms = λ names. rw (p.1, p.2) (steps_refused names (stream_of S c.args.steps.now old) c.unsat.result c.unsat.ensures (stream_of S c.read_next.new.steps old) c.requires.open_yet c.if-unsat.false
           (c.in_ok-read_next.ensures.reads old) refl c.in_err-feed.field-0.0 (kernel_of c.feed.new.checker) (ordered_by_tag _ c.tag.result c.is_ordered.result false c.tag.ensures c.is_ordered.ensures c.if-is_ordered.false)
-          (subst (λ x. FeedsStep (Err c.in_err-feed.field-0.0) old x (kernel_of c.feed.new.checker)) c.step-step.ensures c.in_err-feed.ensures.feeds)
-          (subst (λ x. LooksAtMost old x (kernel_of c.feed.new.checker)) c.step-step.ensures c.in_err-feed.ensures.looks));
+          (rw c.step-step.ensures at c.in_err-feed.ensures.feeds) (rw c.step-step.ensures at c.in_err-feed.ensures.looks));
     }
 
 pub returns : goal.returns
@@ -71,6 +68,5 @@ returns g c =
       takes = c.in_ok-read_next.ensures.takes;
       confirms = λ names. steps_passed names (stream_of S c.args.steps.now old) c.unsat.result c.unsat.ensures (stream_of S c.read_next.new.steps old) c.requires.open_yet c.if-unsat.false
           (c.in_ok-read_next.ensures.reads old) refl (kernel_of c.feed.new.checker) (ordered_by_tag _ c.tag.result c.is_ordered.result false c.tag.ensures c.is_ordered.ensures c.if-is_ordered.false)
-          (subst (λ x. FeedsStep (Ok tt) old x (kernel_of c.feed.new.checker)) c.step-step.ensures c.in_ok-feed.ensures.feeds)
-          (subst (λ x. LooksAtMost old x (kernel_of c.feed.new.checker)) c.step-step.ensures c.in_ok-feed.ensures.looks);
+          (rw c.step-step.ensures at c.in_ok-feed.ensures.feeds) (rw c.step-step.ensures at c.in_ok-feed.ensures.looks);
     }

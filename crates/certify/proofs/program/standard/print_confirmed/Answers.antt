@@ -1,5 +1,5 @@
 use Rattle.std.proofs.Common.{◌≡◌, ◌+◌, ◌++◌, ◌∙◌, List, ℕ, length, is_some, append-nil, ap, sym, subst, []}
-use Rattle.sat_base.specs.device.Device.{WriterBreaks, WriterTakes}
+use Rattle.sat_base.specs.device.Device.{WriterTakes}
 use Rattle.sat_base.proofs.lemmas.device.Writes.{took_more}
 use Rattle.certify.specs.program.Printing.{IsAnswered, is_malformed, verdict_text}
 use Rattle.sat_base.specs.script.Language.{reading}
@@ -22,7 +22,7 @@ module _ (g : Over) (c : In_ok-write_out g) where
   answered = (c.args.written.now.summary, c.requires.is_answered)
 
   takes : WriterTakes (g.O.CountedWrite.seen c.args.output.now) (g.O.CountedWrite.seen c.write_out.new.output) answers
-  takes = subst (WriterTakes (g.O.CountedWrite.seen c.args.output.now) (g.O.CountedWrite.seen c.write_out.new.output)) c.deref.ensures.value c.in_ok-write_out.ensures.takes
+  takes = rw c.deref.ensures.value at c.in_ok-write_out.ensures.takes
 
 -- they are confirmed, so the last line says so
 module _ (g : Over) (c : In_ok-verdict g) where
@@ -39,64 +39,42 @@ module _ (g : Over) (c : In_ok-verdict g) where
 
 pub returns-in_err-write_out-clause-prefix : goal.returns-in_err-write_out-clause-prefix
 returns-in_err-write_out-clause-prefix g c =
-    let seen = g.O.CountedWrite.seen in
-    let a = seen c.args.output.now in
-    let b = seen c.write_out.new.output in
-    prefix_cut c.args.script.now c.args.written.now.answers.items (c.args.written.now.summary, c.requires.is_answered) a b (subst (WriterBreaks a b) c.deref.ensures.value c.in_err-write_out.ensures.breaks)
+    prefix_cut c.args.script.now c.args.written.now.answers.items (c.args.written.now.summary, c.requires.is_answered) _ _ (rw c.deref.ensures.value at c.in_err-write_out.ensures.breaks)
 
 pub returns-in_err-verdict-clause-prefix : goal.returns-in_err-verdict-clause-prefix
-returns-in_err-verdict-clause-prefix g c =
-    let x = (goal.at.returns-in_err-verdict-clause-prefix g c).In_ok-write_out in
-    prefix_reported c.args.script.now (answers g x) (answered g x) (g.O.CountedWrite.seen c.args.output.now) (g.O.CountedWrite.seen c.write_out.new.output) (takes g x)
+returns-in_err-verdict-clause-prefix g c = let x = (goal.at.returns-in_err-verdict-clause-prefix g c).In_ok-write_out in prefix_reported c.args.script.now (answers g x) (answered g x) _ _ (takes g x)
 
 pub returns-in_err-write_out-2-clause-prefix : goal.returns-in_err-write_out-2-clause-prefix
 returns-in_err-write_out-2-clause-prefix g c =
-    let seen = g.O.CountedWrite.seen in
-    let b = seen c.write_out.new.output in
-    let d = seen c.write_out-2.new.output in
     let x = (goal.at.returns-in_err-write_out-2-clause-prefix g c).In_ok-write_out in
     let y = (goal.at.returns-in_err-write_out-2-clause-prefix g c).In_ok-verdict in
-    prefix_line c.args.script.now (answers g x) (answered g x) (seen c.args.output.now) b d (takes g x)
-    (subst (WriterBreaks b d) (c.deref-4.ensures.value ∙ line_is g y) c.in_err-write_out-2.ensures.breaks)
+    prefix_line c.args.script.now (answers g x) (answered g x) _ _ _ (takes g x) (rw (c.deref-4.ensures.value ∙ line_is g y) at c.in_err-write_out-2.ensures.breaks)
 
 pub returns-in_err-flush_out-clause-prefix : goal.returns-in_err-flush_out-clause-prefix
 returns-in_err-flush_out-clause-prefix g c =
-    let seen = g.O.CountedWrite.seen in
-    let b = seen c.write_out.new.output in
-    let d = seen c.write_out-2.new.output in
     let x = (goal.at.returns-in_err-flush_out-clause-prefix g c).In_ok-write_out in
     let y = (goal.at.returns-in_err-flush_out-clause-prefix g c).In_ok-verdict in
-    prefix_whole c.args.script.now (answers g x) (answered g x) (seen c.args.output.now) b d (seen c.flush_out.new.output) (takes g x)
-    (subst (WriterTakes b d) (c.deref-4.ensures.value ∙ line_is g y) c.in_ok-write_out-2.ensures.takes) c.in_err-flush_out.ensures.kept
+    prefix_whole c.args.script.now (answers g x) (answered g x) _ _ _ _ (takes g x) (rw (c.deref-4.ensures.value ∙ line_is g y) at c.in_ok-write_out-2.ensures.takes) c.in_err-flush_out.ensures.kept
 
 pub returns-clause-prefix : goal.returns-clause-prefix
 returns-clause-prefix g c =
-    let seen = g.O.CountedWrite.seen in
-    let b = seen c.write_out.new.output in
-    let d = seen c.write_out-2.new.output in
-    let f = seen c.flush_out.new.output in
     let x = (goal.at.returns-clause-prefix g c).In_ok-write_out in
     let y = (goal.at.returns-clause-prefix g c).In_ok-verdict in
-    prefix_whole c.args.script.now (answers g x) (answered g x) (seen c.args.output.now) b d f (takes g x)
-    (subst (WriterTakes b d) (c.deref-4.ensures.value ∙ line_is g y) c.in_ok-write_out-2.ensures.takes) (bytes_taken d f [] c.in_ok-flush_out.ensures.took)
+    prefix_whole c.args.script.now (answers g x) (answered g x) _ _ _ _ (takes g x) (rw (c.deref-4.ensures.value ∙ line_is g y) at c.in_ok-write_out-2.ensures.takes) (bytes_taken _ _ [] c.in_ok-flush_out.ensures.took)
 
 pub returns-clause-printed : goal.returns-clause-printed
 returns-clause-printed g c =
     let seen = g.O.CountedWrite.seen in
-    let a = seen c.args.output.now in
-    let b = seen c.write_out.new.output in
-    let d = seen c.write_out-2.new.output in
-    let f = seen c.flush_out.new.output in
     let x = (goal.at.returns-clause-printed g c).In_ok-write_out in
     let y = (goal.at.returns-clause-printed g c).In_ok-verdict in
     let last = verdict_text Yes in
-    let line = took_more b d f last [] (subst (WriterTakes b d) (c.deref-4.ensures.value ∙ line_is g y) c.in_ok-write_out-2.ensures.takes) c.in_ok-flush_out.ensures.took in
+    let line = took_more _ _ _ last [] (rw (c.deref-4.ensures.value ∙ line_is g y) at c.in_ok-write_out-2.ensures.takes) c.in_ok-flush_out.ensures.took in
     let is : c.is_some.result ≡ is_malformed (reading c.args.script.now).1 =
     c.is_some.ensures ∙ ap is_some c.requires.is_answered.malformed ∙ malformed_is (length (reading c.args.script.now).0 + 1) (reading c.args.script.now).1 in
     record {
       answers = answers g x;
       answered = answered g x;
-      printed = took_more a b f (answers g x) last (takes g x) (subst (WriterTakes b f) (append-nil last) line);
+      printed = took_more _ _ _ (answers g x) last (takes g x) (subst (WriterTakes (seen c.write_out.new.output) (seen c.flush_out.new.output)) (append-nil last) line);
       flushed = c.in_ok-flush_out.ensures.flushed;
       done = (λ zero. sym is ∙ (c.status.ensures.done.0 zero).1, λ formed. c.status.ensures.done.1 (is_yes g y, is ∙ formed));
     }

@@ -1,12 +1,9 @@
 use Rattle.std.proofs.lemmas.Result.{err_from_is_err_and}
-use Rattle.std.proofs.Common.{◌≡◌, ◌+◌, ◌-◌, ◌^◌, arith, inl, [], Err, None, Some, refl, sym, ap, subst, rules}
-use Rattle.certify.specs.declared.script.ScriptEnd.{ScriptEnd}
+use Rattle.std.proofs.Common.{◌≡◌, ◌+◌, ◌-◌, ◌^◌, arith, inl, [], Err, refl, ap, subst, rules}
 use Rattle.certify.specs.script.Commands.{end_reading}
 use Rattle.sat_solver.specs.solver.View.{proof_in}
 use Rattle.sat_base.specs.script.Script.{Clean, Malformed}
 use Rattle.certify.specs.run.Unfinished.{TookAnswersFront}
-use Rattle.certify.specs.run.Standing.{CausedOver, StopsOver}
-use Rattle.certify.specs.run.ServedScript.{ServesWhole}
 use Rattle.certify.proofs.lemmas.run.RunStateCalls.{took_none}
 use Rattle.certify.proofs.lemmas.run.ServedThrough.{asked_stops, ends_asked, ends_clean, ends_malformed}
 use Rattle.certify.proofs.lemmas.run.Stopping.{front_none}
@@ -20,18 +17,11 @@ pub returns-in-Clean-clause-written : goal.returns-in-Clean-clause-written
 returns-in-Clean-clause-written g c = ((refl, refl), took_none g.C.CountedWrite.seen (proof_in c.args.session.now.solver))
 
 pub returns-in-Clean-clause-serves : goal.returns-in-Clean-clause-serves
-returns-in-Clean-clause-serves g c j at =
-    let s = c.args.session.now in
-    let a = g.A.CountedWrite.seen c.args.answers.now in
-    subst (λ (e : ScriptEnd). ServesWhole g.C.CountedWrite.seen j (end_reading e) 0 None s s a a) (sym c.in-Clean.is) (ends_clean g.C.CountedWrite.seen j s a)
+returns-in-Clean-clause-serves g c j at = rw c.in-Clean.is (ends_clean g.C.CountedWrite.seen j c.args.session.now (g.A.CountedWrite.seen c.args.answers.now))
 
 pub returns-in_ok-answer_ask-in-Asked-clause-serves : goal.returns-in_ok-answer_ask-in-Asked-clause-serves
 returns-in_ok-answer_ask-in-Asked-clause-serves g c j at =
-    let s = c.args.session.now in
-    let t = c.answer_ask.new.session in
-    let a = g.A.CountedWrite.seen c.args.answers.now in
-    let b = g.A.CountedWrite.seen c.answer_ask.new.answers in
-    subst (λ (e : ScriptEnd). ServesWhole g.C.CountedWrite.seen j (end_reading e) 0 None s t a b) (sym c.in-Asked.is) (ends_asked g.C.CountedWrite.seen j s t a b at c.in_ok-answer_ask-in-Asked.ensures.carried)
+    rw c.in-Asked.is (ends_asked g.C.CountedWrite.seen j c.args.session.now c.answer_ask.new.session (g.A.CountedWrite.seen c.args.answers.now) (g.A.CountedWrite.seen c.answer_ask.new.answers) at c.in_ok-answer_ask-in-Asked.ensures.carried)
 
 pub returns-in_ok-report_malformed-in-Malformed-clause-serves : goal.returns-in_ok-report_malformed-in-Malformed-clause-serves
 returns-in_ok-report_malformed-in-Malformed-clause-serves g c j at =
@@ -41,7 +31,7 @@ returns-in_ok-report_malformed-in-Malformed-clause-serves g c j at =
     let b = g.A.CountedWrite.seen c.report_malformed.new.answers in
     let same = c.in_ok-report_malformed-in-Malformed.ensures.same in
     let number : c.in-Some.number ≡ s.commands + 1 = search rules in
-    subst (λ (e : ScriptEnd). ServesWhole g.C.CountedWrite.seen j (end_reading e) 0 (Some c.in-Some.number) s t a b) (sym c.in-Malformed.is)
+    rw c.in-Malformed.is
     (ends_malformed g.C.CountedWrite.seen j s t a b c.in-Some.number number (ap (λ (x : _). x.solver) same) (ap (λ (x : _). x.commands) same) (ap (λ (x : _). x.refused) same) (ap (λ (x : _). x.asks) same) c.in_ok-report_malformed-in-Malformed.ensures.takes)
 
 pub returns-in_default-clause-stops : goal.returns-in_default-clause-stops
@@ -50,23 +40,18 @@ returns-in_default-clause-stops g c = λ j at. front_none c.args.session.now.bud
 pub returns-in_err-answer_ask-in-Asked-clause-stops : goal.returns-in_err-answer_ask-in-Asked-clause-stops
 returns-in_err-answer_ask-in-Asked-clause-stops g c =
     let p = err_from_is_err_and c.from_residual.result c.from_residual.ensures.1 in
-    let s = c.args.session.now in
-    let e = c.in_err-answer_ask-in-Asked.field-0.0 in
     let u = g.A.CountedWrite.seen c.args.answers.now in
     let v = g.A.CountedWrite.seen c.answer_ask.new.answers in
-    rw p.1 (subst (λ (x : ScriptEnd). StopsOver {T = Unit {0}} (Err e) s (end_reading x) u v) (sym c.in-Asked.is)
-    (asked_stops g.C.CountedWrite.seen {T = Unit {0}} (Err e) s u v (c.in_err-answer_ask-in-Asked.ensures.stops ([], Clean))))
+    rw (p.1, c.in-Asked.is) (asked_stops g.C.CountedWrite.seen {T = Unit {0}} (Err c.in_err-answer_ask-in-Asked.field-0.0) c.args.session.now u v (c.in_err-answer_ask-in-Asked.ensures.stops ([], Clean)))
 
 pub returns-in_err-report_malformed-in-Malformed-clause-stops : goal.returns-in_err-report_malformed-in-Malformed-clause-stops
 returns-in_err-report_malformed-in-Malformed-clause-stops g c =
     let p = err_from_is_err_and c.from_residual-in_err-report_malformed-in-Malformed.result c.from_residual-in_err-report_malformed-in-Malformed.ensures.1 in
     let s = c.args.session.now in
-    let e = c.in_err-report_malformed-in-Malformed.field-0.0 in
     let u = g.A.CountedWrite.seen c.args.answers.now in
     let v = g.A.CountedWrite.seen c.report_malformed.new.answers in
     let number : c.in-Some.number ≡ s.commands + 1 = search rules in
-    rw p.1 (subst (λ (x : ScriptEnd). StopsOver {T = Unit {0}} (Err e) s (end_reading x) u v) (sym c.in-Malformed.is)
-    (λ j at. subst (λ n. TookAnswersFront s.budget s.solver.clock.rounds n j ([], Malformed) u v) number (c.in_err-report_malformed-in-Malformed.ensures.stops j)))
+    rw (p.1, c.in-Malformed.is) (λ j at. subst (λ n. TookAnswersFront s.budget s.solver.clock.rounds n j ([], Malformed) u v) number (c.in_err-report_malformed-in-Malformed.ensures.stops j))
 
 pub returns-in_default-clause-cause : goal.returns-in_default-clause-cause
 returns-in_default-clause-cause g c = λ j at. inl (let full : c.args.session.now.commands ≡ 2 ^ 64 - 1 = search rules in omega arith)
@@ -74,10 +59,7 @@ returns-in_default-clause-cause g c = λ j at. inl (let full : c.args.session.no
 pub returns-in_err-answer_ask-in-Asked-clause-cause : goal.returns-in_err-answer_ask-in-Asked-clause-cause
 returns-in_err-answer_ask-in-Asked-clause-cause g c =
     let p = err_from_is_err_and c.from_residual.result c.from_residual.ensures.1 in
-    let s = c.args.session.now in
-    let t = c.answer_ask.new.session in
-    let e = c.in_err-answer_ask-in-Asked.field-0.0 in
-    rw (p.1, p.2) (subst (λ (x : ScriptEnd). CausedOver {T = Unit {0}} (Err e) s t (end_reading x)) (sym c.in-Asked.is) (asked_caused {T = Unit {0}} s t (Err e) c.in_err-answer_ask-in-Asked.ensures.cause))
+    rw (p.1, p.2, c.in-Asked.is) (asked_caused {T = Unit {0}} c.args.session.now c.answer_ask.new.session (Err c.in_err-answer_ask-in-Asked.field-0.0) c.in_err-answer_ask-in-Asked.ensures.cause)
 
 pub returns-in_err-report_malformed-in-Malformed-clause-cause : goal.returns-in_err-report_malformed-in-Malformed-clause-cause
 returns-in_err-report_malformed-in-Malformed-clause-cause g c =

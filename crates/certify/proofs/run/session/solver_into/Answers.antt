@@ -1,68 +1,44 @@
-use Rattle.std.proofs.Common.{◌≡◌, ◌∙◌, List, [], Ok, Result, ap, is_some, subst, sym}
-use Rattle.sat_solver.specs.declared.config.SolverConfigUpdate.{SolverConfigUpdate}
-use Rattle.sat_solver.specs.declared.error.SolverError.{SolverError}
-use Rattle.sat_solver.specs.declared.proof.format.ProofFormat.TheVariants.{Varisat}
+use Rattle.std.proofs.Common.{◌∙◌, [], ap, is_some, subst, sym}
 use Rattle.sat_base.specs.script.ScriptState.{start}
 use Rattle.sat_solver.specs.proof.ProofView.{is_checked, is_drat, steps_of}
 use Rattle.sat_solver.specs.variables.Calls.{NamesAgree}
-use Rattle.sat_solver.specs.solver.Configuring.{Configured, Configures}
-use Rattle.sat_solver.specs.solver.Proving.{Opened, OpensProof}
 use Rattle.sat_solver.specs.solver.View.{proof_in}
-use Rattle.certify.specs.run.Quiet.{Solver}
 use Rattle.certify.proofs.lemmas.run.NoLines.{none_yet}
 use Rattle.certify.proofs.run.session.solver_into.Goals as goal
 
-configured : {C : Type 0} (u : SolverConfigUpdate) (r : Result (Unit {0}) SolverError) (x : Unit {0}) (old new : Solver C) → r ≡ Ok x → Configures r u old new → Configured u old new
-configured u r x old new e h = subst (λ (q : Result (Unit {0}) SolverError). Configures q u old new) e h
-
 pub returns-clause-ready : goal.returns-clause-ready
 returns-clause-ready g c =
-    let mid = c.config.new.self in
-    let end = c.write_proof.new.self in
-    let seen = g.C.CountedWrite.seen in
-    let opened : Opened seen Varisat c.args.certificate mid end = subst (λ r. OpensProof seen r Varisat c.args.certificate mid end) c.unwrap-2.ensures c.write_proof.ensures.opens in
-    let k = configured _ c.config.result c.unwrap.result c.new-solver.result mid c.unwrap.ensures c.config.ensures.configures in
+    let opened = rw c.unwrap-2.ensures at c.write_proof.ensures.opens in
+    let k = rw c.unwrap.ensures at c.config.ensures.configures in
     record {
       solver = c.write_proof.ensures.solver;
       going = ap (λ s. s.failed) opened.same ∙ opened.going;
-      no_lines = none_yet seen (proof_in end) (ap is_drat opened.target_is);
+      no_lines = none_yet g.C.CountedWrite.seen (proof_in c.write_proof.new.self) (ap is_drat opened.target_is);
       unchecked = ap is_some opened.checker.listening ∙ ap is_checked k.same.proof ∙ ap (λ v. is_some v.listeners) c.new-solver.ensures.view;
     }
 
 pub returns-clause-agree : goal.returns-clause-agree
 returns-clause-agree g c =
-    let mid = c.config.new.self in
-    let end = c.write_proof.new.self in
-    let seen = g.C.CountedWrite.seen in
-    let opened : Opened seen Varisat c.args.certificate mid end = subst (λ r. OpensProof seen r Varisat c.args.certificate mid end) c.unwrap-2.ensures c.write_proof.ensures.opens in
-    let k = configured _ c.config.result c.unwrap.result c.new-solver.result mid c.unwrap.ensures c.config.ensures.configures in
+    let opened = rw c.unwrap-2.ensures at c.write_proof.ensures.opens in
+    let k = rw c.unwrap.ensures at c.config.ensures.configures in
     let names = ap (λ s. s.names) opened.same ∙ k.same.names in
     subst (λ n. NamesAgree n [] start []) (sym names)
     (subst (λ ss. NamesAgree c.new-solver.result.names ss start []) (ap (λ v. v.steps) c.new-solver.ensures.view) c.new-solver.ensures.state)
 
 pub returns-clause-steps : goal.returns-clause-steps
 returns-clause-steps g c =
-    let mid = c.config.new.self in
-    let end = c.write_proof.new.self in
-    let seen = g.C.CountedWrite.seen in
-    let opened : Opened seen Varisat c.args.certificate mid end = subst (λ r. OpensProof seen r Varisat c.args.certificate mid end) c.unwrap-2.ensures c.write_proof.ensures.opens in
-    let k = configured _ c.config.result c.unwrap.result c.new-solver.result mid c.unwrap.ensures c.config.ensures.configures in
+    let opened = rw c.unwrap-2.ensures at c.write_proof.ensures.opens in
+    let k = rw c.unwrap.ensures at c.config.ensures.configures in
     opened.steps ∙ ap steps_of k.same.proof ∙ ap (λ v. v.steps) c.new-solver.ensures.view
 
 pub returns-clause-rounds : goal.returns-clause-rounds
 returns-clause-rounds g c =
-    let mid = c.config.new.self in
-    let end = c.write_proof.new.self in
-    let seen = g.C.CountedWrite.seen in
-    let opened : Opened seen Varisat c.args.certificate mid end = subst (λ r. OpensProof seen r Varisat c.args.certificate mid end) c.unwrap-2.ensures c.write_proof.ensures.opens in
-    let k = configured _ c.config.result c.unwrap.result c.new-solver.result mid c.unwrap.ensures c.config.ensures.configures in
+    let opened = rw c.unwrap-2.ensures at c.write_proof.ensures.opens in
+    let k = rw c.unwrap.ensures at c.config.ensures.configures in
     ap (λ s. s.clock.rounds) opened.same ∙ ap (λ (t : _). t.rounds) k.clock ∙ ap (λ v. v.rounds) c.new-solver.ensures.view
 
 pub returns-clause-free : goal.returns-clause-free
 returns-clause-free g c =
-    let mid = c.config.new.self in
-    let end = c.write_proof.new.self in
-    let seen = g.C.CountedWrite.seen in
-    let opened : Opened seen Varisat c.args.certificate mid end = subst (λ r. OpensProof seen r Varisat c.args.certificate mid end) c.unwrap-2.ensures c.write_proof.ensures.opens in
-    let k = configured _ c.config.result c.unwrap.result c.new-solver.result mid c.unwrap.ensures c.config.ensures.configures in
+    let opened = rw c.unwrap-2.ensures at c.write_proof.ensures.opens in
+    let k = rw c.unwrap.ensures at c.config.ensures.configures in
     ap (λ s. s.assumed.items) opened.same ∙ ap (λ (v : _). v.items) k.same.assumed ∙ ap (λ v. v.assumptions) c.new-solver.ensures.view

@@ -8,31 +8,20 @@ use Rattle.certify.proofs.confirm.answers.Answers.read_first.Goals as goal
 
 pub returns-in_err-next_line : goal.returns-in_err-next_line
 returns-in_err-next_line g c =
-    let A = g.A.CountedRead.seen in
-    let old = c.args.self.now in
-    let mid = c.next_line.new.self in
-    let a = answers_source A c.args.answers.now old in
-    let b = answers_source A c.next_line.new.answers mid in
-    let line = mid.lines.line.items in
+    let a = answers_source g.A.CountedRead.seen c.args.answers.now c.args.self.now in
+    let b = answers_source g.A.CountedRead.seen c.next_line.new.answers c.next_line.new.self in
     let p = err_from_is_err_and c.from_residual.result c.from_residual.ensures.1 in
-    rw (p.1, p.2) (line_stops (IsWantedLine wanted.First old.due.items) true c.in_err-next_line.field-0.0 a b line ReadsFirst c.in_err-next_line.ensures.line)
+    rw (p.1, p.2) (line_stops (IsWantedLine wanted.First c.args.self.now.due.items) true c.in_err-next_line.field-0.0 a b c.next_line.new.self.lines.line.items ReadsFirst c.in_err-next_line.ensures.line)
 
 pub returns-in-Ok : goal.returns-in-Ok
 returns-in-Ok g c =
-    let A = g.A.CountedRead.seen in
-    let old = c.args.self.now in
-    let mid = c.next_line.new.self in
-    let a = answers_source A c.args.answers.now old in
-    let b = answers_source A c.next_line.new.answers mid in
-    let line = mid.lines.line.items in
-    kind_read (IsWantedLine wanted.First old.due.items) a b line c.requires.open_yet c.in-Ok.kind c.in-Ok.field-0-1.now (sym c.deref.ensures.value ∙ c.in-Ok.ensures) c.in_ok-next_line.ensures.line
+    let a = answers_source g.A.CountedRead.seen c.args.answers.now c.args.self.now in
+    let b = answers_source g.A.CountedRead.seen c.next_line.new.answers c.next_line.new.self in
+    kind_read (IsWantedLine wanted.First c.args.self.now.due.items) a b c.next_line.new.self.lines.line.items c.requires.open_yet c.in-Ok.kind c.in-Ok.field-0-1.now (sym c.deref.ensures.value ∙ c.in-Ok.ensures) c.in_ok-next_line.ensures.line
 
 pub returns-in-Err : goal.returns-in-Err
 returns-in-Err g c =
-    let A = g.A.CountedRead.seen in
-    let old = c.args.self.now in
-    let mid = c.next_line.new.self in
-    let a = answers_source A c.args.answers.now old in
-    let b = answers_source A c.next_line.new.answers mid in
-    let line = mid.lines.line.items in
-    rw c.unanswered.ensures (kind_differs (IsWantedLine wanted.First old.due.items) a b line c.requires.open_yet (λ k. (k, refl)) c.in-Err.fault (subst (λ (xs : List ℕ). NoKind xs c.in-Err.fault) c.deref.ensures.value c.in-Err.ensures) c.in_ok-next_line.ensures.line)
+    let a = answers_source g.A.CountedRead.seen c.args.answers.now c.args.self.now in
+    let b = answers_source g.A.CountedRead.seen c.next_line.new.answers c.next_line.new.self in
+    rw c.unanswered.ensures
+    (kind_differs (IsWantedLine wanted.First c.args.self.now.due.items) a b c.next_line.new.self.lines.line.items c.requires.open_yet (λ k. (k, refl)) c.in-Err.fault (subst (λ (xs : List ℕ). NoKind xs c.in-Err.fault) c.deref.ensures.value c.in-Err.ensures) c.in_ok-next_line.ensures.line)

@@ -12,31 +12,23 @@ returns-in-Unknown g c = second_unknown c.args.kind (answers_source g.A.CountedR
 
 pub returns-in_err-next_line : goal.returns-in_err-next_line
 returns-in_err-next_line g c =
-    let A = g.A.CountedRead.seen in
-    let old = c.args.self.now in
-    let mid = c.next_line.new.self in
-    let a = answers_source A c.args.answers.now old in
-    let b = answers_source A c.next_line.new.answers mid in
-    let line = mid.lines.line.items in
+    let a = answers_source g.A.CountedRead.seen c.args.answers.now c.args.self.now in
+    let b = answers_source g.A.CountedRead.seen c.next_line.new.answers c.next_line.new.self in
     let p = err_from_is_err_and c.from_residual.result c.from_residual.ensures.1 in
-    rw (p.1, p.2) (line_stops (IsWantedLine (wanted.Second c.args.kind) old.due.items) true c.in_err-next_line.field-0.0 a b line (ReadsSecond c.args.kind (named_literals mid.reply.lits.items)) c.in_err-next_line.ensures.line)
+    rw (p.1, p.2)
+    (line_stops (IsWantedLine (wanted.Second c.args.kind) c.args.self.now.due.items) true c.in_err-next_line.field-0.0 a b c.next_line.new.self.lines.line.items (ReadsSecond c.args.kind (named_literals c.next_line.new.self.reply.lits.items)) c.in_err-next_line.ensures.line)
 
 pub returns-in-Ok : goal.returns-in-Ok
 returns-in-Ok g c =
-    let A = g.A.CountedRead.seen in
-    let old = c.args.self.now in
-    let mid = c.next_line.new.self in
-    let a = answers_source A c.args.answers.now old in
-    let b = answers_source A c.next_line.new.answers mid in
-    let line = mid.lines.line.items in
-    second_read (IsWantedLine (wanted.Second c.args.kind) old.due.items) a b line c.requires.open_yet c.args.kind (named_literals c.read_line.new.line.items) c.in-Ok.field-0.now (has_line c.args.kind c.in_default.not-Unknown) c.in-Ok.ensures.0 (sym c.deref.ensures.value ∙ c.in-Ok.ensures.1) c.in_ok-next_line.ensures.line
+    let a = answers_source g.A.CountedRead.seen c.args.answers.now c.args.self.now in
+    let b = answers_source g.A.CountedRead.seen c.next_line.new.answers c.next_line.new.self in
+    second_read (IsWantedLine (wanted.Second c.args.kind) c.args.self.now.due.items) a b c.next_line.new.self.lines.line.items c.requires.open_yet
+    c.args.kind (named_literals c.read_line.new.line.items) c.in-Ok.field-0.now (has_line c.args.kind c.in_default.not-Unknown) c.in-Ok.ensures.0 (sym c.deref.ensures.value ∙ c.in-Ok.ensures.1) c.in_ok-next_line.ensures.line
 
 pub returns-in-Err : goal.returns-in-Err
 returns-in-Err g c =
-    let A = g.A.CountedRead.seen in
-    let old = c.args.self.now in
-    let mid = c.next_line.new.self in
-    let a = answers_source A c.args.answers.now old in
-    let b = answers_source A c.next_line.new.answers mid in
-    let line = mid.lines.line.items in
-    rw c.unanswered.ensures (second_differs (IsWantedLine (wanted.Second c.args.kind) old.due.items) a b line c.requires.open_yet c.args.kind (named_literals c.read_line.new.line.items) (λ ks f. (ks, (f, refl))) c.in-Err.fault (has_line c.args.kind c.in_default.not-Unknown) (subst (λ (xs : List ℕ). NoLine c.args.kind xs c.in-Err.fault) c.deref.ensures.value c.in-Err.ensures) c.in_ok-next_line.ensures.line)
+    let a = answers_source g.A.CountedRead.seen c.args.answers.now c.args.self.now in
+    let b = answers_source g.A.CountedRead.seen c.next_line.new.answers c.next_line.new.self in
+    rw c.unanswered.ensures
+    (second_differs (IsWantedLine (wanted.Second c.args.kind) c.args.self.now.due.items) a b c.next_line.new.self.lines.line.items c.requires.open_yet c.args.kind (named_literals c.read_line.new.line.items) (λ ks f. (ks, (f, refl)))
+    c.in-Err.fault (has_line c.args.kind c.in_default.not-Unknown) (subst (λ (xs : List ℕ). NoLine c.args.kind xs c.in-Err.fault) c.deref.ensures.value c.in-Err.ensures) c.in_ok-next_line.ensures.line)

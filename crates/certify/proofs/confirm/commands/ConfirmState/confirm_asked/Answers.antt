@@ -14,15 +14,13 @@ use Rattle.certify.proofs.confirm.commands.ConfirmState.confirm_asked.Goals as g
 pub returns-in_err-confirm_command : goal.returns-in_err-confirm_command
 returns-in_err-confirm_command g c = record {
   confirms =
-      let A = g.A.CountedRead.seen in
-      let C = g.C.CountedRead.seen in
       let old = c.args.self.now in
       let new = c.confirm_command.new.self in
       let k = c.in_err-confirm_command.ensures.confirms (Ask []) ([], record { within = tt; behind = []; whole = refl; limit = refl }, refl) in
-      let a = answers_in A c.args.answers.now old in
-      let b = answers_in A c.confirm_command.new.answers new in
-      let s = stream_in C c.args.steps.now old.matching in
-      let u = stream_in C c.confirm_command.new.steps new.matching in
+      let a = answers_in g.A.CountedRead.seen c.args.answers.now old in
+      let b = answers_in g.A.CountedRead.seen c.confirm_command.new.answers new in
+      let s = stream_in g.C.CountedRead.seen c.args.steps.now old.matching in
+      let u = stream_in g.C.CountedRead.seen c.confirm_command.new.steps new.matching in
       let p = err_from_is_err_and c.from_residual.result c.from_residual.ensures.1 in
       rw (p.1, p.2) (record {
         same = k.same;
@@ -38,45 +36,40 @@ confirm_over-requires-clause-goes_on g c = (c.in_ok-confirm_command.ensures.conf
 
 pub confirm_over-requires-clause-open_yet : goal.confirm_over-requires-clause-open_yet
 confirm_over-requires-clause-open_yet g c =
-    let A = g.A.CountedRead.seen in
     let k = c.in_ok-confirm_command.ensures.confirms (Ask []) ([], record { within = tt; behind = []; whole = refl; limit = refl }, refl) in
-    took_open (answers_in A c.args.answers.now c.args.self.now) (answers_in A c.confirm_command.new.answers c.confirm_command.new.self) c.requires.open_yet k.joins.0
+    took_open (answers_in g.A.CountedRead.seen c.args.answers.now c.args.self.now) (answers_in g.A.CountedRead.seen c.confirm_command.new.answers c.confirm_command.new.self) c.requires.open_yet k.joins.0
 
 pub returns : goal.returns
 returns g c = record {
   confirms =
-      let A = g.A.CountedRead.seen in
-      let C = g.C.CountedRead.seen in
       let old = c.args.self.now in
       let mid = c.confirm_command.new.self in
       let new = c.confirm_over.new.self in
       let k = c.in_ok-confirm_command.ensures.confirms (Ask []) ([], record { within = tt; behind = []; whole = refl; limit = refl }, refl) in
       let over = c.confirm_over.ensures.confirms (old.number + 1 + 1) in
-      let a = answers_in A c.args.answers.now old in
-      let d = answers_in A c.confirm_over.new.answers new in
-      let s = stream_in C c.args.steps.now old.matching in
-      let v = stream_in C c.confirm_over.new.steps new.matching in
+      let a = answers_in g.A.CountedRead.seen c.args.answers.now old in
+      let d = answers_in g.A.CountedRead.seen c.confirm_over.new.answers new in
+      let s = stream_in g.C.CountedRead.seen c.args.steps.now old.matching in
+      let v = stream_in g.C.CountedRead.seen c.confirm_over.new.steps new.matching in
       record {
         same = over.same ∙ k.same;
         bound = over.bound;
         goes_on = over.goes_on;
         joins = joins_many (2 ^ 64 < old.number + 1 + numbers (end_reading Asked)) false c.confirm_over.result a d s v (λ before behind x y. ConfirmsLast (old.number + 1) (end_reading Asked) (table_of old.matching) before x)
-            (command_end (old.number + 1) (old.number + 1 + 1) (table_of old.matching) (table_of mid.matching) a (answers_in A c.confirm_command.new.answers mid) d
-            s (stream_in C c.confirm_command.new.steps mid.matching) v c.requires.open_yet c.requires.goes_on.open_yet ⊥ (Ask []) ([], Clean) c.confirm_over.result refl k.joins over.joins);
+            (command_end (old.number + 1) (old.number + 1 + 1) (table_of old.matching) (table_of mid.matching) a (answers_in g.A.CountedRead.seen c.confirm_command.new.answers mid) d
+            s (stream_in g.C.CountedRead.seen c.confirm_command.new.steps mid.matching) v c.requires.open_yet c.requires.goes_on.open_yet ⊥ (Ask []) ([], Clean) c.confirm_over.result refl k.joins over.joins);
       };
 }
 
 pub returns-then-self : goal.returns-then-self
 returns-then-self g c = record {
   confirms =
-      let A = g.A.CountedRead.seen in
-      let C = g.C.CountedRead.seen in
       let old = c.args.self.now in
       let many : 2 ^ 64 < old.number + 1 + 1 = first_of (search rules, grind (arith, nat_tests)) in
       record {
         same = refl;
         bound = c.requires.goes_on.bound;
         goes_on = tt;
-        joins = too_many (2 ^ 64 < old.number + 1 + numbers (end_reading Asked)) false (answers_in A c.args.answers.now old) (stream_in C c.args.steps.now old.matching) (λ before behind x y. ConfirmsLast (old.number + 1) (end_reading Asked) (table_of old.matching) before x) c.requires.goes_on.open_yet many;
+        joins = too_many (2 ^ 64 < old.number + 1 + numbers (end_reading Asked)) false (answers_in g.A.CountedRead.seen c.args.answers.now old) (stream_in g.C.CountedRead.seen c.args.steps.now old.matching) (λ before behind x y. ConfirmsLast (old.number + 1) (end_reading Asked) (table_of old.matching) before x) c.requires.goes_on.open_yet many;
       };
 }

@@ -1,43 +1,36 @@
-use Rattle.std.proofs.Common.{Option, refl, ◌∙◌, subst}
+use Rattle.std.proofs.Common.{refl, ◌∙◌}
 use Rattle.std.proofs.lemmas.Result.{err_from_is_err_and}
 use Rattle.certify.specs.answers.AnswerForms.{named_literals}
 use Rattle.certify.specs.confirm.Confirming.{table_of}
 use Rattle.certify.specs.confirm.Lines.{answers_source}
 use Rattle.certify.specs.confirm.ConfirmStates.{answers_in, stream_in}
 use Rattle.certify.specs.script.Commands.{kind_of}
-use Rattle.certify.specs.declared.judge.Refusal.{Refusal}
-use Rattle.certify.specs.judge.Names.{ReportsRefusal}
 use Rattle.sat_base.specs.script.Language.{command_of}
 use Rattle.certify.proofs.lemmas.confirm.ConfirmStateMet.{allowed_by, if_ok, lent_whole, names_go, names_stop, refused}
 use Rattle.certify.proofs.confirm.commands.ConfirmState.confirm_command.Goals as goal
 
 pub returns-in-Some-clause-confirms : goal.returns-in-Some-clause-confirms
 returns-in-Some-clause-confirms g c w is =
-    let A = g.A.CountedRead.seen in
-    let C = g.C.CountedRead.seen in
     let old = c.args.self.now in
     record {
       same = refl;
       bound = c.requires.goes_on.bound;
       goes_on = if_ok c.refuse.result c.requires.goes_on;
-      joins = refused old.number c.args.command w is (table_of old.matching) (table_of old.matching) (answers_in A c.args.answers.now old) (answers_source A c.refuse.new.answers c.refuse.new.self) (stream_in C c.args.steps.now old.matching) c.in-Some.refusal c.refuse.result c.requires.goes_on.open_yet
-          (subst (λ (o : Option Refusal). ReportsRefusal o old.matching.names c.args.command) c.in-Some.is c.refusal.ensures.judges) refl c.refuse.ensures;
+      joins = refused old.number c.args.command w is (table_of old.matching) (table_of old.matching) (answers_in g.A.CountedRead.seen c.args.answers.now old) (answers_source g.A.CountedRead.seen c.refuse.new.answers c.refuse.new.self) (stream_in g.C.CountedRead.seen c.args.steps.now old.matching) c.in-Some.refusal c.refuse.result c.requires.goes_on.open_yet
+          (rw c.in-Some.is at c.refusal.ensures.judges) refl c.refuse.ensures;
     }
 
 pub returns-in_err-take_names-clause-confirms : goal.returns-in_err-take_names-clause-confirms
 returns-in_err-take_names-clause-confirms g c w is =
-    let A = g.A.CountedRead.seen in
-    let C = g.C.CountedRead.seen in
     let old = c.args.self.now in
     let new = c.take_names.new.self in
     let kind = kind_of c.args.command.kind in
     let ls = named_literals c.args.command.literals.now in
     let whole = lent_whole c.args.command w (c.refusal.ensures.within c.in_default.is) is in
-    let judges = subst (λ (o : Option Refusal). ReportsRefusal o old.matching.names c.args.command) c.in_default.is c.refusal.ensures.judges in
-    let allowed = allowed_by old.matching.names c.args.command w (command_of kind ls) whole is judges in
-    let a = answers_in A c.args.answers.now old in
-    let s = stream_in C c.args.steps.now old.matching in
-    let t = stream_in C c.take_names.new.steps new in
+    let allowed = allowed_by old.matching.names c.args.command w (command_of kind ls) whole is (rw c.in_default.is at c.refusal.ensures.judges) in
+    let a = answers_in g.A.CountedRead.seen c.args.answers.now old in
+    let s = stream_in g.C.CountedRead.seen c.args.steps.now old.matching in
+    let t = stream_in g.C.CountedRead.seen c.take_names.new.steps new in
     let p = err_from_is_err_and c.from_residual.result c.from_residual.ensures.1 in
     rw (p.1, p.2) (record {
       same = c.in_err-take_names.ensures.same;
@@ -48,21 +41,18 @@ returns-in_err-take_names-clause-confirms g c w is =
 
 pub returns-clause-confirms : goal.returns-clause-confirms
 returns-clause-confirms g c w is =
-    let A = g.A.CountedRead.seen in
-    let C = g.C.CountedRead.seen in
     let old = c.args.self.now in
     let mid = c.take_names.new.self in
     let new = c.confirm_content.new.self in
     let kind = kind_of c.args.command.kind in
     let ls = named_literals c.args.command.literals.now in
     let whole = lent_whole c.args.command w (c.refusal.ensures.within c.in_default.is) is in
-    let judges = subst (λ (o : Option Refusal). ReportsRefusal o old.matching.names c.args.command) c.in_default.is c.refusal.ensures.judges in
-    let allowed = allowed_by old.matching.names c.args.command w (command_of kind ls) whole is judges in
+    let allowed = allowed_by old.matching.names c.args.command w (command_of kind ls) whole is (rw c.in_default.is at c.refusal.ensures.judges) in
     let k = c.confirm_content.ensures.confirms in
     record {
       same = k.same ∙ c.in_ok-take_names.ensures.same;
       bound = k.bound;
       goes_on = k.goes_on;
-      joins = rw whole (names_go old.number kind ls (table_of old.matching) (table_of new.matching) (answers_in A c.args.answers.now old) (stream_in C c.args.steps.now old.matching) (stream_in C c.take_names.new.steps mid) c.requires.open_yet allowed
-          (table_of mid) (answers_in A c.confirm_content.new.answers new) (stream_in C c.confirm_content.new.steps new.matching) c.confirm_content.result c.requires.goes_on.open_yet c.in_ok-take_names.ensures.changes c.in_ok-take_names.ensures.confirms k.joins);
+      joins = rw whole (names_go old.number kind ls (table_of old.matching) (table_of new.matching) (answers_in g.A.CountedRead.seen c.args.answers.now old) (stream_in g.C.CountedRead.seen c.args.steps.now old.matching) (stream_in g.C.CountedRead.seen c.take_names.new.steps mid) c.requires.open_yet allowed
+          (table_of mid) (answers_in g.A.CountedRead.seen c.confirm_content.new.answers new) (stream_in g.C.CountedRead.seen c.confirm_content.new.steps new.matching) c.confirm_content.result c.requires.goes_on.open_yet c.in_ok-take_names.ensures.changes c.in_ok-take_names.ensures.confirms k.joins);
     }
