@@ -89,7 +89,7 @@ pub fn texts_determine_outcomes()
     ensures { TextsDetermineOutcomes }
 {}
 
-/// States examples of scripts and their answers, also of scripts with refused commands and of a malformed script.
+/// Gives examples of scripts and their answers, including scripts with refused commands and a malformed script.
 pub fn rows_of_text()
     ensures empty { EmptyText }
     ensures ask_alone { AskAloneText }
@@ -100,7 +100,7 @@ pub fn rows_of_text()
     ensures malformed { MalformedText }
 {}
 
-/// States examples about names: their identities, and the expected steps.
+/// Gives examples of the identities of names, and of the expected steps.
 pub fn rows_of_names()
     ensures hidden { HiddenAtOnceState }
     ensures back { HiddenAndBackState }
@@ -108,7 +108,7 @@ pub fn rows_of_names()
     ensures expected { ClauseAndAskExpected }
 {}
 
-/// States examples of scripts, answers and certificates that match, as steps and as bytes, with correct answers.
+/// Gives examples of scripts, answers and certificates that match, as steps and as bytes, with correct answers.
 pub fn rows_that_match()
     ensures empty { EmptyMatches }
     ensures model_bytes { ClauseAndAskMatches }
@@ -119,7 +119,7 @@ pub fn rows_that_match()
     ensures core_steps { TwoUnitsSteps }
 {}
 
-/// States examples that don't match: a name that gets its old variable again, a certificate with only `End`, missing
+/// Gives examples that don't match: a name that gets its old variable again, a certificate with only `End`, missing
 /// answers, and answers written twice.
 pub fn rows_that_fail()
     ensures old_variable { NameOnOldVariable }
@@ -128,7 +128,7 @@ pub fn rows_that_fail()
     ensures extra { AnswersTwice }
 {}
 
-/// States examples of certificates: steps that a run can write, and steps that it can't, since some step is missing or
+/// Gives examples of certificates: steps that a run can write, and steps that it can't, since some step is missing or
 /// follows `End`.
 pub fn rows_of_certificates()
     ensures model { ClauseAndAskCertified }

@@ -1,4 +1,4 @@
-//! Appends the lines of answers to a buffer. If memory runs out, a part of a line may have been appended. A name is
+//! Appends the lines of answers to a buffer. If memory runs out, part of a line may have been appended. A name is
 //! written as a number that is one more than the name's index.
 ghost use Rattle.std.specs.Prelude.{◌≡◌, ◌++◌, OnOk};
 ghost use Rattle.certify.specs.answers.Answers.{literals_text, malformed_line, outcome_text, refused_line, word_of};
