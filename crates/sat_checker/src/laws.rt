@@ -40,7 +40,7 @@ pub fn answers_are_sound()
     ensures assumed { CoresAssumed }
 {}
 
-/// States which variables are known, have names, and were deleted.
+/// States which variables are known, which have names, and which were deleted.
 pub fn variables_are_kept()
     ensures named { NamedIsKnown }
     ensures stays { KnownStays }

@@ -59,7 +59,7 @@ fn unless(holds: bool, why: Why) -> Option<Why>
     Some(why)
 }
 
-/// Checks that the step gives `name` a variable that the checker does not know yet. Returns why not, or `None`.
+/// Checks that the step gives `name` a variable that the checker does not know yet. Returns the reason if not, or `None`.
 fn compare_new_name(known: Known<'_>, step: &ProofStep<'_>, name: Var) -> Option<Why>
     ensures { Compares (λ o ask. NewName (name + 1)) known.entry (step_of step.now) result }
 {
@@ -79,7 +79,7 @@ fn compare_new_name(known: Known<'_>, step: &ProofStep<'_>, name: Var) -> Option
     None
 }
 
-/// Checks that the step removes `name` from its variable. Returns why not, or `None`.
+/// Checks that the step removes `name` from its variable. Returns the reason if not, or `None`.
 fn compare_no_name(known: Known<'_>, step: &ProofStep<'_>, name: Var) -> Option<Why>
     ensures { Compares (λ o ask. NoName (name + 1)) known.entry (step_of step.now) result }
 {
@@ -99,7 +99,7 @@ fn compare_no_name(known: Known<'_>, step: &ProofStep<'_>, name: Var) -> Option<
 }
 
 /// Checks that the step adds a clause with the literals of the script's clause, in any order and with any repeats.
-/// Returns why not, or `None`.
+/// Returns the reason if not, or `None`.
 fn compare_clause(
     known: Known<'_>,
     step: &ProofStep<'_>,
@@ -115,7 +115,7 @@ fn compare_clause(
     Ok(unless(same, Why::ClauseDiffers))
 }
 
-/// Checks that the step assumes the literals of the ask, in any order and with any repeats. Returns why not, or `None`.
+/// Checks that the step assumes the literals of the ask, in any order and with any repeats. Returns the reason if not, or `None`.
 fn compare_ask(
     known: Known<'_>,
     step: &ProofStep<'_>,
@@ -131,7 +131,7 @@ fn compare_ask(
     Ok(unless(same, Why::AskDiffers))
 }
 
-/// Checks that the step has the core of the answer. Returns why not, or `None`. The checker will check the
+/// Checks that the step has the core of the answer. Returns the reason if not, or `None`. The checker will check the
 /// step's hashes.
 fn compare_core(
     known: Known<'_>,
@@ -167,7 +167,7 @@ fn is_line(
     Ok(false)
 }
 
-/// Checks that the step is a model with the values of `line`. Returns why not, or `None`.
+/// Checks that the step is a model with the values of `line`. Returns the reason if not, or `None`.
 fn compare_line(
     known: Known<'_>,
     step: &ProofStep<'_>,
@@ -183,7 +183,7 @@ fn compare_line(
     Ok(unless(shown, Why::AnswerDiffers))
 }
 
-/// Checks that the step assumes no literals, which ends an ask. Returns why not, or `None`.
+/// Checks that the step assumes no literals, which ends an ask. Returns the reason if not, or `None`.
 fn compare_close(known: Known<'_>, step: &ProofStep<'_>) -> Option<Why>
     ensures { Compares (λ o ask. Closes) known.entry (step_of step.now) result }
 {
@@ -196,7 +196,7 @@ fn compare_close(known: Known<'_>, step: &ProofStep<'_>) -> Option<Why>
     Some(Why::AskDiffers)
 }
 
-/// Checks that the step is the end of the certificate. Returns why not, or `None`. Bytes after that step don't matter.
+/// Checks that the step is the end of the certificate. Returns the reason if not, or `None`. Bytes after that step don't matter.
 fn compare_end(known: Known<'_>, step: &ProofStep<'_>) -> Option<Why>
     ensures { Compares (λ o ask. Finish) known.entry (step_of step.now) result }
 {

@@ -39,7 +39,7 @@ impl Model for Passed {
 }
 
 impl Passed {
-    /// Creates notes without reasons.
+    /// Creates notes that contain no reasons.
     pub fn new(alloc: Global) -> Passed
         ensures { result ≡ record { reasons = []; conflict = None; lost = false } }
     {

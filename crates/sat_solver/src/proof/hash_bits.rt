@@ -155,7 +155,7 @@ fn fit(solving: bool, clauses: u64, from: HashBits) -> HashBits
 }
 
 impl Counting {
-    /// Creates counts without clauses, with complete hashes.
+    /// Creates counts of no clauses, with hashes of full width.
     pub fn new() -> Counting
         ensures { result ≡ nothing_counted }
     {

@@ -41,7 +41,7 @@ fn new_name<W: StepLog>(
 }
 
 #[tactic(auto, using(crate::proofs::lemmas::variables::NamingSteps::none_yet, crate::proofs::lemmas::variables::NamingSteps::last_named))]
-/// Introduces all names from the lowest name never used up to `user`. Returns the variable of `user`.
+/// Introduces all names up to `user`, beginning with the lowest one never used. Returns the variable of `user`.
 fn bring_new<W: StepLog>(
     variables: &mut Variables,
     writer: &mut W,
