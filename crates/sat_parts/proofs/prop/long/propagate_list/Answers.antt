@@ -1,5 +1,4 @@
 use Rattle.std.proofs.Common.{◌≡◌, ℕ, ◌<◌, length, sym, ◌∙◌, subst, arith, rules, length-set}
-use Rattle.std.specs.List.{Contains}
 use Rattle.sat_base.specs.values.Literals.{variable}
 use Rattle.sat_parts.specs.prop.Values.{IsOpenLit}
 use Rattle.sat_parts.specs.prop.WatchLists.{watch_on}
@@ -23,35 +22,24 @@ loop-at-init g c = record {
 }
 
 pub lit_is_true-requires : goal.lit_is_true-requires
-lit_is_true-requires g c =
-    blocking_below c.loop-at.clauses g.live (state_of c.loop-at.assignment c.loop-at.graph c.loop-at.trail) c.loop-at.watchlists.lists c.loop-at.list c.args.lit c.loop-at.kept c.loop-at.at c.blocking-blocking.result
-    c.loop-at.invariant.walking.half (omega arith) c.blocking-blocking.ensures
+lit_is_true-requires g c = blocking_below _ _ _ _ _ _ _ _ _ c.loop-at.invariant.walking.half (omega arith) c.blocking-blocking.ensures
 
 pub visit_clause-requires-clause-clause : goal.visit_clause-requires-clause-clause
 visit_clause-requires-clause-clause g c =
-    c.loop-at.invariant.walking.half.clauses.laid.clauses c.cref-cref.result
-    (place_live c.loop-at.clauses g.live (state_of c.loop-at.assignment c.loop-at.graph c.loop-at.trail) c.loop-at.watchlists.lists c.loop-at.list c.args.lit c.loop-at.kept c.loop-at.at c.cref-cref.result
-    c.loop-at.invariant.walking.half (omega arith) c.cref-cref.ensures)
+    c.loop-at.invariant.walking.half.clauses.laid.clauses c.cref-cref.result (place_live _ _ _ _ _ _ _ _ _ c.loop-at.invariant.walking.half (omega arith) c.cref-cref.ensures)
 
 pub visit_clause-requires-clause-long : goal.visit_clause-requires-clause-long
 visit_clause-requires-clause-long g c =
-    let hp : Contains g.live c.cref-cref.result =
-    place_live c.loop-at.clauses g.live (state_of c.loop-at.assignment c.loop-at.graph c.loop-at.trail) c.loop-at.watchlists.lists c.loop-at.list c.args.lit c.loop-at.kept c.loop-at.at c.cref-cref.result
-    c.loop-at.invariant.walking.half (omega arith) c.cref-cref.ensures in
-    omega (arith, c.loop-at.invariant.walking.half.clauses.long c.cref-cref.result hp)
+    omega (arith, c.loop-at.invariant.walking.half.clauses.long c.cref-cref.result (place_live _ _ _ _ _ _ _ _ _ c.loop-at.invariant.walking.half (omega arith) c.cref-cref.ensures))
 
 pub visit_clause-requires-clause-below : goal.visit_clause-requires-clause-below
-visit_clause-requires-clause-below g c =
-    let hp : Contains g.live c.cref-cref.result =
-    place_live c.loop-at.clauses g.live (state_of c.loop-at.assignment c.loop-at.graph c.loop-at.trail) c.loop-at.watchlists.lists c.loop-at.list c.args.lit c.loop-at.kept c.loop-at.at c.cref-cref.result
-    c.loop-at.invariant.walking.half (omega arith) c.cref-cref.ensures in
-    λ k b. c.loop-at.invariant.walking.half.clauses.below c.cref-cref.result k hp b
+visit_clause-requires-clause-below g c = λ k b.
+    c.loop-at.invariant.walking.half.clauses.below c.cref-cref.result k (place_live _ _ _ _ _ _ _ _ _ c.loop-at.invariant.walking.half (omega arith) c.cref-cref.ensures) b
 
 pub enqueue_assignment-requires-clause-value : goal.enqueue_assignment-requires-clause-value
 enqueue_assignment-requires-clause-value g c =
-    let v = rw c.in-Propagates.is at c.in_ok-visit_clause.ensures.visited in
-    visited_below c.loop-at.clauses c.visit_clause.new.clauses g.live (state_of c.loop-at.assignment c.loop-at.graph c.loop-at.trail) c.loop-at.watchlists.lists c.loop-at.list c.args.lit c.loop-at.kept c.loop-at.at c.cref-cref.result c.in-Propagates.first
-    c.loop-at.invariant.walking.half (omega arith) c.cref-cref.ensures c.in_ok-visit_clause.ensures.shuffles v.1
+    visited_below _ c.visit_clause.new.clauses _ _ _ _ _ _ _ c.cref-cref.result c.in-Propagates.first
+    c.loop-at.invariant.walking.half (omega arith) c.cref-cref.ensures c.in_ok-visit_clause.ensures.shuffles (rw c.in-Propagates.is at c.in_ok-visit_clause.ensures.visited).1
 
 pub enqueue_assignment-requires-clause-node : goal.enqueue_assignment-requires-clause-node
 enqueue_assignment-requires-clause-node g c =
@@ -62,10 +50,9 @@ pub returns-in-Falsified-clause-walked : goal.returns-in-Falsified-clause-walked
 returns-in-Falsified-clause-walked g c =
     let v = rw c.in-Falsified.is at c.in_ok-visit_clause.ensures.visited in
     rw (c.cut.ensures, c.set-in-Falsified.ensures, v.2)
-    (walk_falsified g.live c.args.clauses.now (state_of c.args.assignment.now c.args.graph.now c.args.trail.now) c.loop-at.clauses c.visit_clause.new.clauses (state_of c.loop-at.assignment c.loop-at.graph c.loop-at.trail)
-    c.loop-at.watchlists.lists c.loop-at.list c.args.lit c.loop-at.kept c.loop-at.at c.cref-cref.result c.in-Falsified.first c.loop-at.invariant.walking (omega arith) c.cref-cref.ensures
+    (walk_falsified _ _ _ _ c.visit_clause.new.clauses _ _ _ _ _ _ c.cref-cref.result c.in-Falsified.first c.loop-at.invariant.walking (omega arith) c.cref-cref.ensures
     c.in_ok-visit_clause.ensures.shuffles (rw c.not-false_lit.ensures at v.0) v.1 v.3
-    (walk_small c.loop-at.clauses g.live (state_of c.loop-at.assignment c.loop-at.graph c.loop-at.trail) c.loop-at.watchlists.lists c.loop-at.list c.args.lit c.loop-at.kept c.loop-at.at c.loop-at.invariant.walking.half))
+    (walk_small _ _ _ _ _ _ _ _ c.loop-at.invariant.walking.half))
 
 pub loop-at-preserved : goal.loop-at-preserved
 loop-at-preserved g c =
@@ -73,8 +60,7 @@ loop-at-preserved g c =
     elim c.if-lit_is_true.branch [
       | then-lit_is_true w ↦ record {
         walking = rw (w.clauses-is, w.assignment-is, w.graph-is, w.trail-is, w.watchlists-is, w.list-is, w.kept-is, w.set.ensures)
-            (step_blocked g.live c.args.clauses.now (state_of c.args.assignment.now c.args.graph.now c.args.trail.now) c.loop-at.clauses (state_of c.loop-at.assignment c.loop-at.graph c.loop-at.trail)
-            c.loop-at.watchlists.lists c.loop-at.list c.args.lit c.loop-at.kept c.loop-at.at c.cref-cref.result c.blocking-blocking.result c.loop-at.invariant.walking lt c.cref-cref.ensures c.blocking-blocking.ensures
+            (step_blocked _ _ _ _ _ _ _ _ _ _ c.cref-cref.result c.blocking-blocking.result c.loop-at.invariant.walking lt c.cref-cref.ensures c.blocking-blocking.ensures
             (c.lit_is_true.ensures.0 w.if-lit_is_true.true));
         end = rw (w.list-is, w.set.ensures) (c.loop-at.invariant.end ∙ sym (length-set c.loop-at.list c.loop-at.kept (watch_on c.cref-cref.result c.blocking-blocking.result)));
         last = rw w.assignment-is c.loop-at.invariant.last;
@@ -84,8 +70,7 @@ loop-at-preserved g c =
           let v = rw w.in-Stale.is at w.in_ok-visit_clause.ensures.visited in
           record {
             walking = rw (w.clauses-is, w.assignment-is, w.graph-is, w.trail-is, w.watchlists-is, w.list-is, w.kept-is, v.2, v.3)
-                (step_stale g.live c.args.clauses.now (state_of c.args.assignment.now c.args.graph.now c.args.trail.now) c.loop-at.clauses (state_of c.loop-at.assignment c.loop-at.graph c.loop-at.trail)
-                c.loop-at.watchlists.lists c.loop-at.list c.args.lit c.loop-at.kept c.loop-at.at c.cref-cref.result c.loop-at.invariant.walking lt c.cref-cref.ensures
+                (step_stale _ _ _ _ _ _ _ _ _ _ c.cref-cref.result c.loop-at.invariant.walking lt c.cref-cref.ensures
                 (rw (← c.not-false_lit.ensures) v.0) (rw (← c.not-false_lit.ensures) v.1));
             end = rw w.list-is c.loop-at.invariant.end;
             last = rw w.assignment-is c.loop-at.invariant.last;
@@ -95,8 +80,7 @@ loop-at-preserved g c =
           let v = rw w.in-Moved.is at w.in_ok-visit_clause.ensures.visited in
           record {
             walking = rw (w.clauses-is, w.assignment-is, w.graph-is, w.trail-is, w.watchlists-is, w.list-is, w.kept-is, v.2)
-                (step_moved g.live c.args.clauses.now (state_of c.args.assignment.now c.args.graph.now c.args.trail.now) c.loop-at.clauses w.visit_clause.new.clauses (state_of c.loop-at.assignment c.loop-at.graph c.loop-at.trail)
-                c.loop-at.watchlists.lists c.loop-at.list c.args.lit c.loop-at.kept c.loop-at.at c.cref-cref.result c.loop-at.invariant.walking lt c.cref-cref.ensures
+                (step_moved _ _ _ _ w.visit_clause.new.clauses _ _ _ _ _ _ c.cref-cref.result c.loop-at.invariant.walking lt c.cref-cref.ensures
                 w.in_ok-visit_clause.ensures.shuffles (rw c.not-false_lit.ensures at v.0) v.1);
             end = rw w.list-is c.loop-at.invariant.end;
             last = rw w.assignment-is c.loop-at.invariant.last;
@@ -106,8 +90,7 @@ loop-at-preserved g c =
           let v = rw w.in-Keep.is at w.in_ok-visit_clause.ensures.visited in
           record {
             walking = rw (w.clauses-is, w.assignment-is, w.graph-is, w.trail-is, w.watchlists-is, w.list-is, w.kept-is, w.set-in-Keep.ensures, v.2)
-                (step_kept g.live c.args.clauses.now (state_of c.args.assignment.now c.args.graph.now c.args.trail.now) c.loop-at.clauses w.visit_clause.new.clauses (state_of c.loop-at.assignment c.loop-at.graph c.loop-at.trail)
-                c.loop-at.watchlists.lists c.loop-at.list c.args.lit c.loop-at.kept c.loop-at.at c.cref-cref.result w.in-Keep.first c.loop-at.invariant.walking lt c.cref-cref.ensures
+                (step_kept _ _ _ _ w.visit_clause.new.clauses _ _ _ _ _ _ c.cref-cref.result w.in-Keep.first c.loop-at.invariant.walking lt c.cref-cref.ensures
                 w.in_ok-visit_clause.ensures.shuffles (rw c.not-false_lit.ensures at v.0) v.1 v.3);
             end = rw (w.list-is, w.set-in-Keep.ensures) (c.loop-at.invariant.end ∙ sym (length-set c.loop-at.list c.loop-at.kept (watch_on c.cref-cref.result w.in-Keep.first)));
             last = rw w.assignment-is c.loop-at.invariant.last;
@@ -117,8 +100,7 @@ loop-at-preserved g c =
           let v = rw w.in-Propagates.is at w.in_ok-visit_clause.ensures.visited in
           record {
             walking = rw (w.clauses-is, w.assignment-is, w.graph-is, w.trail-is, w.watchlists-is, w.list-is, w.kept-is, w.set-in-Propagates.ensures, w.enqueue_assignment.ensures.value, w.enqueue_assignment.ensures.node, w.enqueue_assignment.ensures.trail, v.2)
-                (step_propagates g.live c.args.clauses.now (state_of c.args.assignment.now c.args.graph.now c.args.trail.now) c.loop-at.clauses w.visit_clause.new.clauses (state_of c.loop-at.assignment c.loop-at.graph c.loop-at.trail)
-                c.loop-at.watchlists.lists c.loop-at.list c.args.lit c.loop-at.kept c.loop-at.at c.cref-cref.result w.in-Propagates.first c.loop-at.invariant.walking lt c.cref-cref.ensures
+                (step_propagates _ _ _ _ w.visit_clause.new.clauses _ _ _ _ _ _ c.cref-cref.result w.in-Propagates.first c.loop-at.invariant.walking lt c.cref-cref.ensures
                 w.in_ok-visit_clause.ensures.shuffles (rw c.not-false_lit.ensures at v.0) v.1 v.3 (subst (λ (z : ℕ). IsOpenLit c.loop-at.assignment.current z) (sym v.1) v.4));
             end = rw (w.list-is, w.set-in-Propagates.ensures) (c.loop-at.invariant.end ∙ sym (length-set c.loop-at.list c.loop-at.kept (watch_on c.cref-cref.result w.in-Propagates.first)));
             last = rw (w.assignment-is, w.enqueue_assignment.ensures.value) c.loop-at.invariant.last;
@@ -131,6 +113,5 @@ returns-clause-walked g c =
     let e : c.loop-at.at ≡ length c.loop-at.list = omega arith in
     let f : c.len-end.result ≡ c.loop-at.at = omega arith in
     rw (c.cut-2.ensures, f)
-    (walk_done g.live c.args.clauses.now (state_of c.args.assignment.now c.args.graph.now c.args.trail.now) c.loop-at.clauses (state_of c.loop-at.assignment c.loop-at.graph c.loop-at.trail)
-    c.loop-at.watchlists.lists c.loop-at.list c.args.lit c.loop-at.kept c.loop-at.at c.loop-at.invariant.walking e
-    (walk_small c.loop-at.clauses g.live (state_of c.loop-at.assignment c.loop-at.graph c.loop-at.trail) c.loop-at.watchlists.lists c.loop-at.list c.args.lit c.loop-at.kept c.loop-at.at c.loop-at.invariant.walking.half))
+    (walk_done _ _ _ _ _ _ _ _ _ _ c.loop-at.invariant.walking e
+    (walk_small _ _ _ _ _ _ _ _ c.loop-at.invariant.walking.half))
