@@ -68,16 +68,10 @@ file_before-requires-clause-inside c = omega (arith, c.loop-done-test.true, c.le
 
 pub file_before-requires-clause-above : goal.file_before-requires-clause-above
 file_before-requires-clause-above c =
-    let ss = c.args.slots.now in
     let names = solver_name_of c.args.hasher.now in
-    let width = width_of c.args.hasher.now in
     let i : ℕ = c.len-count.result - 1 - c.loop-done.done in
-    let inside : i < length ss = omega (arith, c.loop-done-test.true, c.len-count.ensures.count) in
-    let next : c.len-count.result - c.loop-done.done ≡ suc i = omega (arith, c.loop-done-test.true) in
     let from : i + 1 ≡ c.len-count.result - c.loop-done.done = omega (arith, c.loop-done-test.true) in
-    let to : c.len-count.result - (c.loop-done.done + 1) ≡ i = omega (arith, c.loop-done-test.true) in
-    let same = slot_same names width ss c.loop-done.slots (c.len-count.result - c.loop-done.done) i inside next c.loop-done.invariant.hashed in
-    subst (AllByRecursion (λ q. i < q.place)) (sym (c.loop-done.invariant.filed ∙ ap (λ k. filed_from names width k ss) (sym from))) (filed_above i (i + 1) (all_hashed_by names width (drop (i + 1) ss)) (omega arith))
+    subst (AllByRecursion (λ q. i < q.place)) (sym (c.loop-done.invariant.filed ∙ ap (λ k. filed_from names (width_of c.args.hasher.now) k c.args.slots.now) (sym from))) (filed_above i (i + 1) (all_hashed_by names (width_of c.args.hasher.now) (drop (i + 1) c.args.slots.now)) (omega arith))
 
 pub file_before-requires-clause-room : goal.file_before-requires-clause-room
 file_before-requires-clause-room c = omega (arith, c.loop-done-test.true, c.loop-done.invariant.room)

@@ -6,37 +6,42 @@ use Rattle.sat_checker.proofs.lemmas.announcements.Marking.{back_next, read_next
 use Rattle.std.proofs.lemmas.Result.{IfOk-from_err}
 use Rattle.std.proofs.lemmas.Grind.{common_steps}
 use Rattle.sat_checker.proofs.rup.needed.Needed.follow_all.Goals as goal
+use Rattle.sat_checker.proofs.rup.needed.Needed.follow_all.Goals.{After-index-reasons-count}
+
+-- the note of this iteration
+module _ (c : After-index-reasons-count) where
+  abbrev n : ℕ
+  n = length c.reasons-reasons.result.now - c.loop-done.done
+
+  abbrev k : ℕ
+  k = length c.reasons-reasons.result.now - (c.loop-done.done + 1)
+
+  inside : k < length c.args.passed.now.reasons
+  inside = omega (arith, ap length c.reasons-reasons.ensures)
+
+  there : get_or c.args.passed.now.reasons k c.index-reasons-count.result ≡ c.index-reasons-count.result
+  there =
+      let same : length c.reasons-reasons.result.now - 1 - c.loop-done.done ≡ k = omega arith in
+      ap (λ xs. get_or xs k c.index-reasons-count.result) (sym c.reasons-reasons.ensures) ∙ ap (λ i. get_or c.reasons-reasons.result.now i c.index-reasons-count.result) (sym same) ∙ sym c.index-reasons-count.is
 
 pub returns-in_err-follow-clause-looks : goal.returns-in_err-follow-clause-looks
 returns-in_err-follow-clause-looks c = record {
   rise = grind (arith, common_steps);
   most =
-      let rs = c.args.passed.now.reasons in
-      let r = c.index-reasons-count.result in
-      let n : ℕ = length c.reasons-reasons.result.now - c.loop-done.done in
-      let k : ℕ = length c.reasons-reasons.result.now - (c.loop-done.done + 1) in
-      let next : k + 1 ≡ n = omega arith in
-      let inside : k < length rs = omega (arith, ap length c.reasons-reasons.ensures) in
-      let same : length c.reasons-reasons.result.now - 1 - c.loop-done.done ≡ k = omega arith in
-      let there : get_or rs k r ≡ r = ap (λ xs. get_or xs k r) (sym c.reasons-reasons.ensures) ∙ ap (λ i. get_or c.reasons-reasons.result.now i r) (sym same) ∙ sym c.index-reasons-count.is in
-      within_notes c.args.clauses.now c.args.passed.now c.in-Some.place k c.args.looks.now c.follow.new.looks (sym c.conflict.ensures ∙ c.in-Some.is)
-      (read_next c.args.clauses.now rs k n r next inside there c.args.looks.now c.loop-done.looks c.follow.new.looks (length (literals_at c.args.clauses.now c.in-Some.place)) c.loop-done.invariant.looks c.follow.ensures.looks.most);
+      let x = (goal.at.returns-in_err-follow-clause-looks c).After-index-reasons-count in
+      within_notes c.args.clauses.now c.args.passed.now c.in-Some.place (k x) c.args.looks.now c.follow.new.looks (sym c.conflict.ensures ∙ c.in-Some.is)
+      (read_next c.args.clauses.now c.args.passed.now.reasons (k x) (n x) c.index-reasons-count.result (omega arith) (inside x) (there x) c.args.looks.now c.loop-done.looks c.follow.new.looks (length (literals_at c.args.clauses.now c.in-Some.place)) c.loop-done.invariant.looks c.follow.ensures.looks.most);
 }
 
 pub loop-done-preserved : goal.loop-done-preserved
 loop-done-preserved c =
+    let x = (goal.at.loop-done-preserved c).After-index-reasons-count in
     let rs = c.args.passed.now.reasons in
     let r = c.index-reasons-count.result in
-    let n : ℕ = length c.reasons-reasons.result.now - c.loop-done.done in
-    let k : ℕ = length c.reasons-reasons.result.now - (c.loop-done.done + 1) in
-    let next : k + 1 ≡ n = omega arith in
-    let inside : k < length rs = omega (arith, ap length c.reasons-reasons.ensures) in
-    let same : length c.reasons-reasons.result.now - 1 - c.loop-done.done ≡ k = omega arith in
-    let there : get_or rs k r ≡ r = ap (λ xs. get_or xs k r) (sym c.reasons-reasons.ensures) ∙ ap (λ i. get_or c.reasons-reasons.result.now i r) (sym same) ∙ sym c.index-reasons-count.is in
     record {
-      followed = back_next c.args.clauses.now rs k n r next inside there c.follow.new.self (conflict_at c.args.clauses.now (Some c.in-Some.place))
-          (c.in_ok-follow.ensures.followed (followed_back (map (reason_in c.args.clauses.now) (drop n rs)) (conflict_at c.args.clauses.now (Some c.in-Some.place))) c.loop-done.invariant.followed);
-      looks = read_next c.args.clauses.now rs k n r next inside there c.args.looks.now c.loop-done.looks c.follow.new.looks (length (literals_at c.args.clauses.now c.in-Some.place)) c.loop-done.invariant.looks c.follow.ensures.looks.most;
+      followed = back_next c.args.clauses.now rs (k x) (n x) r (omega arith) (inside x) (there x) c.follow.new.self (conflict_at c.args.clauses.now (Some c.in-Some.place))
+          (c.in_ok-follow.ensures.followed (followed_back (map (reason_in c.args.clauses.now) (drop (n x) rs)) (conflict_at c.args.clauses.now (Some c.in-Some.place))) c.loop-done.invariant.followed);
+      looks = read_next c.args.clauses.now rs (k x) (n x) r (omega arith) (inside x) (there x) c.args.looks.now c.loop-done.looks c.follow.new.looks (length (literals_at c.args.clauses.now c.in-Some.place)) c.loop-done.invariant.looks c.follow.ensures.looks.most;
       rise = omega (arith, c.loop-done.invariant.rise, c.follow.ensures.looks.rise);
     }
 
@@ -51,15 +56,8 @@ returns-in_err-follow-clause-followed c = IfOk-from_err c.from_residual-in_err-f
 
 pub follow-requires : goal.follow-requires
 follow-requires c =
-    let rs = c.args.passed.now.reasons in
-    let r = c.index-reasons-count.result in
-    let n : ℕ = length c.reasons-reasons.result.now - c.loop-done.done in
-    let k : ℕ = length c.reasons-reasons.result.now - (c.loop-done.done + 1) in
-    let next : k + 1 ≡ n = omega arith in
-    let inside : k < length rs = omega (arith, ap length c.reasons-reasons.ensures) in
-    let same : length c.reasons-reasons.result.now - 1 - c.loop-done.done ≡ k = omega arith in
-    let there : get_or rs k r ≡ r = ap (λ xs. get_or xs k r) (sym c.reasons-reasons.ensures) ∙ ap (λ i. get_or c.reasons-reasons.result.now i r) (sym same) ∙ sym c.index-reasons-count.is in
-    there_at c.args.clauses.now rs k n r next inside there c.requires.there
+    let x = (goal.at.follow-requires c).After-index-reasons-count in
+    there_at c.args.clauses.now c.args.passed.now.reasons (k x) (n x) c.index-reasons-count.result (omega arith) (inside x) (there x) c.requires.there
 
 pub returns-clause-looks : goal.returns-clause-looks
 returns-clause-looks c = record {
