@@ -4,7 +4,6 @@ use Rattle.sat_parts.specs.parts.Full.{IsFull}
 use Rattle.sat_solver.specs.proof.ProofView.{steps_of, session_of}
 use Rattle.sat_solver.specs.declared.schedule.Outcome.TheVariants as outcomes
 use Rattle.sat_solver.specs.declared.cdcl.find_conflict.FoundConflict.TheVariants.{Falsified, Complete, Failed}
-use Rattle.sat_solver.specs.declared.context.Search.{Search}
 use Rattle.sat_solver.specs.cdcl.Turns.{StopsSearch}
 use Rattle.sat_solver.specs.cdcl.Rounds.{RoundSays}
 use Rattle.sat_solver.proofs.lemmas.cdcl.EndingLemmas.{ends_refuted, ends_on}
@@ -25,55 +24,40 @@ returns-in-Some g c =
 
 pub returns-in_err-stop : goal.returns-in_err-stop
 returns-in_err-stop g c =
-    let p = c.begin_round.new.proof in
-    let z = c.find_conflict.new.proof in
-    let d = c.begin_round.new.search in
-    let e = c.find_conflict.new.search in
     let r = err_from_is_err_and c.from_residual-in_err-stop.result c.from_residual-in_err-stop.ensures.1 in
-    rw (r.1, r.2) (ends_on g.W.CountedWrite.seen c.args.names.now c.begin_round.new.names c.args.proof.now p c.args.search.now d (rw c.in-None.is at c.in_ok-begun.ensures)
-    (Err c.in_err-stop.field-0.0) z e
-    (goes_or g.W.CountedWrite.seen (Err c.in_err-stop.field-0.0) p z _
-    (goes_failing g.W.CountedWrite.seen c.in_err-stop.field-0.0 p z _ (λ outcome steps. RoundSays outcome (steps_of p) steps (session_of z) d e) c.in_err-stop.ensures)))
+    rw (r.1, r.2) (ends_on g.W.CountedWrite.seen _ _ _ _ _ _ (rw c.in-None.is at c.in_ok-begun.ensures) (Err c.in_err-stop.field-0.0) c.find_conflict.new.proof c.find_conflict.new.search
+    (goes_or g.W.CountedWrite.seen (Err c.in_err-stop.field-0.0) _ _ _ (goes_failing g.W.CountedWrite.seen c.in_err-stop.field-0.0 _ _ _ _ c.in_err-stop.ensures)))
 
 pub returns-in-Complete : goal.returns-in-Complete
 returns-in-Complete g c =
-    let p = c.begin_round.new.proof in
     let z = c.find_conflict.new.proof in
     let d = c.begin_round.new.search in
     let e = c.find_conflict.new.search in
-    ends_on g.W.CountedWrite.seen c.args.names.now c.begin_round.new.names c.args.proof.now p c.args.search.now d (rw c.in-None.is at c.in_ok-begun.ensures)
-    (Ok outcomes.Model) z e
-    (goes_quietly g.W.CountedWrite.seen _ outcomes.Model p z _ (λ outcome steps. RoundSays outcome (steps_of p) steps (session_of z) d e)
-    (λ steps quiet stopped.
+    ends_on g.W.CountedWrite.seen _ _ _ _ _ _ (rw c.in-None.is at c.in_ok-begun.ensures) (Ok outcomes.Model) z e
+    (goes_quietly g.W.CountedWrite.seen _ outcomes.Model _ _ _ _ (λ steps quiet stopped.
     let x : StopsSearch Complete (session_of z) d e = subst (λ stop. StopsSearch stop (session_of z) d e) c.in-Complete.is stopped in
     (record { search = x.says.0; moved = x.moved; complete = x.says.1 }, quiet)) c.in_ok-stop.ensures)
 
 pub returns-in-Failed : goal.returns-in-Failed
 returns-in-Failed g c =
-    let p = c.begin_round.new.proof in
     let z = c.find_conflict.new.proof in
     let d = c.begin_round.new.search in
     let f = c.find_conflict.new.search in
-    let e : Search = record f { failed = c.in-Failed.lit } in
-    ends_on g.W.CountedWrite.seen c.args.names.now c.begin_round.new.names c.args.proof.now p c.args.search.now d (rw c.in-None.is at c.in_ok-begun.ensures)
-    (Ok outcomes.Failed) z e
-    (goes_quietly g.W.CountedWrite.seen _ outcomes.Failed p z _ (λ outcome steps. RoundSays outcome (steps_of p) steps (session_of z) d e)
-    (λ steps quiet stopped.
+    ends_on g.W.CountedWrite.seen _ _ _ _ _ _ (rw c.in-None.is at c.in_ok-begun.ensures) (Ok outcomes.Failed) z (record f { failed = c.in-Failed.lit })
+    (goes_quietly g.W.CountedWrite.seen _ outcomes.Failed _ _ _ _ (λ steps quiet stopped.
     let x : StopsSearch (Failed c.in-Failed.lit) (session_of z) d f = subst (λ stop. StopsSearch stop (session_of z) d f) c.in-Failed.is stopped in
     (record { search = search_failed (session_of z) f c.in-Failed.lit x.says.0; moved = record { globals = x.moved.globals; lits = x.moved.lits; size = x.moved.size }; failing = x.says.1 }, quiet)) c.in_ok-stop.ensures)
 
 pub returns-in-Falsified : goal.returns-in-Falsified
 returns-in-Falsified g c =
-    let p = c.begin_round.new.proof in
     let q = c.find_conflict.new.proof in
     let z = c.resolve-in-Falsified.new.proof in
     let d = c.begin_round.new.search in
     let f = c.find_conflict.new.search in
     let e = c.resolve-in-Falsified.new.search in
-    ends_on g.W.CountedWrite.seen c.args.names.now c.begin_round.new.names c.args.proof.now p c.args.search.now d (rw c.in-None.is at c.in_ok-begun.ensures)
-    c.resolve-in-Falsified.result z e
-    (goes_behind g.W.CountedWrite.seen _ c.resolve-in-Falsified.result p q z _ _ _ c.in_ok-stop.ensures c.resolve-in-Falsified.ensures
+    ends_on g.W.CountedWrite.seen _ _ _ _ _ _ (rw c.in-None.is at c.in_ok-begun.ensures) c.resolve-in-Falsified.result z e
+    (goes_behind g.W.CountedWrite.seen _ c.resolve-in-Falsified.result _ q z _ _ _ c.in_ok-stop.ensures c.resolve-in-Falsified.ensures
     (λ xs ys outcome added quiet stopped says.
     let x : StopsSearch (Falsified c.in-Falsified.conflict) (session_of q) d f = subst (λ stop. StopsSearch stop (session_of q) d f) c.in-Falsified.is stopped in
-    round_from outcome (steps_of p) xs ys (session_of z) d f e x.moved x.word quiet
+    round_from outcome (steps_of c.begin_round.new.proof) xs ys (session_of z) d f e x.moved x.word quiet
     (subst (λ zs. RoundSays outcome zs ys (session_of z) f e) added says)))

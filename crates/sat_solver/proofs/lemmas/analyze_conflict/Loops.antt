@@ -185,8 +185,9 @@ minimal_among words s conflict first low rest w w' h c u f v e = elim (h.only v 
   | inr x ↦ inr (subst (λ (xs : List ℕ). HasVariable xs v) (sym u) (x.place, (x.within, x.there)))
 ]
 
-pub cut_rest : (kept at : ℕ) (clause : List ℕ) → length clause ≤ at → take kept clause ++ drop at clause ≡ take kept clause
-cut_rest kept at clause le = ap (λ (ys : List ℕ). take kept clause ++ ys) (drop_all at clause le) ∙ append-nil (take kept clause)
+pub minimal_cut : (words : List ℕ) (s : State) (conflict : List ℕ) (first low kept at : ℕ) (clause : List ℕ) (w : Work) → length clause ≤ at → Minimal words s conflict first low (take kept clause ++ drop at clause) w → Minimal words s conflict first low (take kept clause) w
+minimal_cut words s conflict first low kept at clause w le m =
+    subst (λ (xs : List ℕ). Minimal words s conflict first low xs w) (ap (λ (ys : List ℕ). take kept clause ++ ys) (drop_all at clause le) ∙ append-nil (take kept clause)) m
 
 -- the literals that were used behind the resolved ones are of lower levels
 pub lower_rest : (words : List ℕ) (s : State) (conflict : List ℕ) (first low : ℕ) (rest : List ℕ) (w : Work) → Minimal words s conflict first low rest w → (k : ℕ) → low ≤ k → k < length w.used → level s (get_or w.used k 0) < current_level s

@@ -8,223 +8,122 @@ use Rattle.sat_parts.specs.prop.Ready.{state_of}
 use Rattle.sat_parts.specs.prop.State.{State, node}
 use Rattle.sat_solver.specs.analyze_conflict.Work.{Work}
 use Rattle.sat_solver.specs.analyze_conflict.Marks.{causes_at, IsReasoned}
-use Rattle.sat_solver.specs.analyze_conflict.Minimal.{AreMarked, MinimizationInvariant, MarksMore, Undoes, used_up, Followed, followed}
+use Rattle.sat_solver.specs.analyze_conflict.Minimal.{AreMarked, Undoes, used_up, Followed, followed}
 use Rattle.sat_solver.proofs.lemmas.analyze_conflict.Minimizing.{Follows, front_at, more_refl, more_trans, searching_start, searching_next, search_step}
 use Rattle.sat_solver.proofs.lemmas.analyze_conflict.Sums.{total, followed_total}
 use Rattle.sat_solver.proofs.lemmas.analyze_conflict.Undoing.{undone}
 use Rattle.sat_solver.proofs.lemmas.analyze_conflict.Codes.{reasoned_stands, reasoned_nodes, reasoned_variable}
 use Rattle.sat_solver.proofs.minimize.is_implied.Goals as goal
+use Rattle.sat_solver.proofs.minimize.is_implied.Goals.{After-var, After-reason-reason, In_ok-follow}
+
+-- the used literal of this iteration
+module _ (c : After-var) where
+  abbrev s : State
+  s = state_of c.args.assignment.now c.args.graph.now c.args.trail.now
+
+  abbrev next : ℕ
+  next = get_or c.loop-at.analysis.used c.loop-at.at 0
+
+  within : c.loop-at.at < length c.loop-at.analysis.used
+  within = omega (arith, c.loop-at-test.true, ap (λ (xs : List ℕ). length xs) c.used.ensures)
+
+  reasoned : IsReasoned s 0 next
+  reasoned = c.loop-at.invariant.searching.reasons c.loop-at.at within
+
+  var_is : c.var.result ≡ variable next
+  var_is =
+      c.var.ensures ∙ ap (λ l. variable l) (get_or_read c.used-in-loop-at.result.now c.loop-at.at c.index-used-at.result (omega (arith, within, ap (λ (xs : List ℕ). length xs) c.used-in-loop-at.ensures)) c.index-used-at.is 0
+      ∙ ap (λ (xs : List ℕ). get_or xs c.loop-at.at 0) c.used-in-loop-at.ensures)
+
+-- its reason
+module _ (c : After-reason-reason) where
+  abbrev x : After-var
+  x = (goal.at.After-reason-reason c).After-var
+
+  abbrev ls : List ℕ
+  ls = causes_at c.args.clauses.now (s x) (next x)
+
+  reason_is : c.reason-reason.result ≡ (node (s x) (next x)).reason
+  reason_is = c.reason-reason.ensures ∙ ap (λ v. (node_of c.args.graph.now v).reason) (var_is x)
+
+  causes_are : causes c.args.clauses.now c.reason-reason.result ≡ ls
+  causes_are = ap (λ (r : Reason). causes c.args.clauses.now r) reason_is
+
+-- what following its causes gave
+module _ (c : In_ok-follow) where
+  abbrev r : After-reason-reason
+  r = (goal.at.In_ok-follow c).After-reason-reason
+
+  abbrev f : Followed
+  f = record { work = c.follow.new.analysis; whole = c.in_ok-follow.field-0 }
+
+  f_is : followed c.args.graph.now c.args.levels.now (ls r) c.loop-at.analysis ≡ f
+  f_is = ap (λ (xs : List ℕ). followed c.args.graph.now c.args.levels.now xs c.loop-at.analysis) (sym (c.lits.ensures ∙ causes_are r)) ∙ c.in_ok-follow.ensures
+
+  gave : Follows c.args.clauses.now (s (x r)) (falsified c.args.clauses.now c.args.conflict.now) (get_or c.args.analysis.now.clause 0 0) c.args.low c.loop-at.at c.loop-at.analysis (ls r) f
+  gave = subst (Follows _ _ _ _ _ _ _ (ls r)) f_is (search_step _ _ _ _ _ _ c.args.levels.now c.loop-at.analysis c.requires.can c.loop-at.invariant.searching (within (x r)))
 
 pub loop-at-init : goal.loop-at-init
 loop-at-init c =
-    let words : List ℕ = c.args.clauses.now in
-    let s : State = state_of c.args.assignment.now c.args.graph.now c.args.trail.now in
-    let conflict : List ℕ = falsified words c.args.conflict.now in
-    let first : ℕ = get_or c.args.analysis.now.clause 0 0 in
-    let w : Work = c.args.analysis.now in
-    let n_is : length c.used-top.result.now ≡ length w.used = ap (λ (xs : List ℕ). length xs) c.used-top.ensures in
-    let e : c.use_up.new.self ≡ used_up (negated c.args.lit) w = c.in_ok-use_up.ensures ∙ ap (λ l. used_up l w) c.not.ensures in
+    let n_is = ap (λ (xs : List ℕ). length xs) c.used-top.ensures in
+    let e = c.in_ok-use_up.ensures ∙ ap (λ l. used_up l c.args.analysis.now) c.not.ensures in
     record {
-      searching = subst (λ n. MinimizationInvariant words s conflict first c.args.low c.use_up.new.self n) (sym n_is)
-          (subst (λ (x : Work). MinimizationInvariant words s conflict first c.args.low x (length w.used)) (sym e) (searching_start words s conflict first c.args.low w c.args.lit c.requires.searching c.requires.may));
-      more = subst (λ (x : Work). MarksMore (used_up (negated c.args.lit) w) x) (sym e) (more_refl (used_up (negated c.args.lit) w));
+      searching = rw (n_is, e) (searching_start _ _ _ _ _ c.args.analysis.now c.args.lit c.requires.searching c.requires.may);
+      more = rw e (more_refl (used_up (negated c.args.lit) c.args.analysis.now));
       top = n_is;
     }
 
 pub reason-reason-requires : goal.reason-reason-requires
 reason-reason-requires c =
-    let words : List ℕ = c.args.clauses.now in
-    let s : State = state_of c.args.assignment.now c.args.graph.now c.args.trail.now in
-    let conflict : List ℕ = falsified words c.args.conflict.now in
-    let first : ℕ = get_or c.args.analysis.now.clause 0 0 in
-    let w : Work = c.loop-at.analysis in
-    let at : ℕ = c.loop-at.at in
-    let h : MinimizationInvariant words s conflict first c.args.low w at = c.loop-at.invariant.searching in
-    let lt : at < length w.used = omega (arith, c.loop-at-test.true, ap (λ (xs : List ℕ). length xs) c.used.ensures) in
-    let x : IsReasoned s 0 (get_or w.used at 0) = h.reasons at lt in
-    let next_is : c.index-used-at.result ≡ get_or w.used at 0 =
-    get_or_read c.used-in-loop-at.result.now at c.index-used-at.result (omega (arith, lt, ap (λ (xs : List ℕ). length xs) c.used-in-loop-at.ensures)) c.index-used-at.is 0
-    ∙ ap (λ (xs : List ℕ). get_or xs at 0) c.used-in-loop-at.ensures in
-    omega (arith, reasoned_variable s (get_or w.used at 0) c.requires.can.agrees x, c.requires.can.agrees.nodes, c.var.ensures, ap (λ l. variable l) next_is)
+    let x = (goal.at.reason-reason-requires c).After-var in
+    omega (arith, reasoned_variable (s x) (next x) c.requires.can.agrees (reasoned x), c.requires.can.agrees.nodes, var_is x)
 
 pub lits-requires-clause-clause : goal.lits-requires-clause-clause
 lits-requires-clause-clause c = λ o is.
-    let words : List ℕ = c.args.clauses.now in
-    let s : State = state_of c.args.assignment.now c.args.graph.now c.args.trail.now in
-    let conflict : List ℕ = falsified words c.args.conflict.now in
-    let first : ℕ = get_or c.args.analysis.now.clause 0 0 in
-    let w : Work = c.loop-at.analysis in
-    let at : ℕ = c.loop-at.at in
-    let h : MinimizationInvariant words s conflict first c.args.low w at = c.loop-at.invariant.searching in
-    let lt : at < length w.used = omega (arith, c.loop-at-test.true, ap (λ (xs : List ℕ). length xs) c.used.ensures) in
-    let x : IsReasoned s 0 (get_or w.used at 0) = h.reasons at lt in
-    let next_is : c.index-used-at.result ≡ get_or w.used at 0 =
-    get_or_read c.used-in-loop-at.result.now at c.index-used-at.result (omega (arith, lt, ap (λ (xs : List ℕ). length xs) c.used-in-loop-at.ensures)) c.index-used-at.is 0
-    ∙ ap (λ (xs : List ℕ). get_or xs at 0) c.used-in-loop-at.ensures in
-    let r_is : c.reason-reason.result ≡ (node s (get_or w.used at 0)).reason = c.reason-reason.ensures ∙ ap (λ v. (node_of c.args.graph.now v).reason) (c.var.ensures ∙ ap (λ l. variable l) next_is) in
-    (reasoned_stands words s (get_or w.used at 0) o c.reason-reason.result c.requires.can x r_is is).0
+    let r = (goal.at.lits-requires-clause-clause c).After-reason-reason in
+    (reasoned_stands _ _ _ o _ c.requires.can (reasoned (x r)) (reason_is r) is).0
 
 pub lits-requires-clause-some : goal.lits-requires-clause-some
 lits-requires-clause-some c = λ o is.
-    let words : List ℕ = c.args.clauses.now in
-    let s : State = state_of c.args.assignment.now c.args.graph.now c.args.trail.now in
-    let conflict : List ℕ = falsified words c.args.conflict.now in
-    let first : ℕ = get_or c.args.analysis.now.clause 0 0 in
-    let w : Work = c.loop-at.analysis in
-    let at : ℕ = c.loop-at.at in
-    let h : MinimizationInvariant words s conflict first c.args.low w at = c.loop-at.invariant.searching in
-    let lt : at < length w.used = omega (arith, c.loop-at-test.true, ap (λ (xs : List ℕ). length xs) c.used.ensures) in
-    let x : IsReasoned s 0 (get_or w.used at 0) = h.reasons at lt in
-    let next_is : c.index-used-at.result ≡ get_or w.used at 0 =
-    get_or_read c.used-in-loop-at.result.now at c.index-used-at.result (omega (arith, lt, ap (λ (xs : List ℕ). length xs) c.used-in-loop-at.ensures)) c.index-used-at.is 0
-    ∙ ap (λ (xs : List ℕ). get_or xs at 0) c.used-in-loop-at.ensures in
-    let r_is : c.reason-reason.result ≡ (node s (get_or w.used at 0)).reason = c.reason-reason.ensures ∙ ap (λ v. (node_of c.args.graph.now v).reason) (c.var.ensures ∙ ap (λ l. variable l) next_is) in
-    (reasoned_stands words s (get_or w.used at 0) o c.reason-reason.result c.requires.can x r_is is).1
+    let r = (goal.at.lits-requires-clause-some c).After-reason-reason in
+    (reasoned_stands _ _ _ o _ c.requires.can (reasoned (x r)) (reason_is r) is).1
 
 pub follow-requires-clause-nodes : goal.follow-requires-clause-nodes
 follow-requires-clause-nodes c = λ k b.
-    let words : List ℕ = c.args.clauses.now in
-    let s : State = state_of c.args.assignment.now c.args.graph.now c.args.trail.now in
-    let conflict : List ℕ = falsified words c.args.conflict.now in
-    let first : ℕ = get_or c.args.analysis.now.clause 0 0 in
-    let w : Work = c.loop-at.analysis in
-    let at : ℕ = c.loop-at.at in
-    let h : MinimizationInvariant words s conflict first c.args.low w at = c.loop-at.invariant.searching in
-    let lt : at < length w.used = omega (arith, c.loop-at-test.true, ap (λ (xs : List ℕ). length xs) c.used.ensures) in
-    let x : IsReasoned s 0 (get_or w.used at 0) = h.reasons at lt in
-    let next_is : c.index-used-at.result ≡ get_or w.used at 0 =
-    get_or_read c.used-in-loop-at.result.now at c.index-used-at.result (omega (arith, lt, ap (λ (xs : List ℕ). length xs) c.used-in-loop-at.ensures)) c.index-used-at.is 0
-    ∙ ap (λ (xs : List ℕ). get_or xs at 0) c.used-in-loop-at.ensures in
-    let r_is : c.reason-reason.result ≡ (node s (get_or w.used at 0)).reason = c.reason-reason.ensures ∙ ap (λ v. (node_of c.args.graph.now v).reason) (c.var.ensures ∙ ap (λ l. variable l) next_is) in
-    let ls : List ℕ = causes_at words s (get_or w.used at 0) in
-    let ls_is : c.lits.result ≡ ls = c.lits.ensures ∙ ap (λ (r : Reason). causes words r) r_is in
-    reasoned_nodes words s (get_or w.used at 0) k c.lits.result c.requires.can x ls_is b
+    let r = (goal.at.follow-requires-clause-nodes c).After-reason-reason in
+    reasoned_nodes _ _ _ k c.lits.result c.requires.can (reasoned (x r)) (c.lits.ensures ∙ causes_are r) b
 
 pub undo-requires-clause-top : goal.undo-requires-clause-top
 undo-requires-clause-top c =
-    let words : List ℕ = c.args.clauses.now in
-    let s : State = state_of c.args.assignment.now c.args.graph.now c.args.trail.now in
-    let conflict : List ℕ = falsified words c.args.conflict.now in
-    let first : ℕ = get_or c.args.analysis.now.clause 0 0 in
-    let w : Work = c.loop-at.analysis in
-    let at : ℕ = c.loop-at.at in
-    let h : MinimizationInvariant words s conflict first c.args.low w at = c.loop-at.invariant.searching in
-    let lt : at < length w.used = omega (arith, c.loop-at-test.true, ap (λ (xs : List ℕ). length xs) c.used.ensures) in
-    let x : IsReasoned s 0 (get_or w.used at 0) = h.reasons at lt in
-    let next_is : c.index-used-at.result ≡ get_or w.used at 0 =
-    get_or_read c.used-in-loop-at.result.now at c.index-used-at.result (omega (arith, lt, ap (λ (xs : List ℕ). length xs) c.used-in-loop-at.ensures)) c.index-used-at.is 0
-    ∙ ap (λ (xs : List ℕ). get_or xs at 0) c.used-in-loop-at.ensures in
-    let r_is : c.reason-reason.result ≡ (node s (get_or w.used at 0)).reason = c.reason-reason.ensures ∙ ap (λ v. (node_of c.args.graph.now v).reason) (c.var.ensures ∙ ap (λ l. variable l) next_is) in
-    let ls : List ℕ = causes_at words s (get_or w.used at 0) in
-    let ls_is : c.lits.result ≡ ls = c.lits.ensures ∙ ap (λ (r : Reason). causes words r) r_is in
-    let new : Work = c.follow.new.analysis in
-    let f : Followed = record { work = new; whole = c.in_ok-follow.field-0 } in
-    let f_is : followed c.args.graph.now c.args.levels.now ls w ≡ f = ap (λ (xs : List ℕ). followed c.args.graph.now c.args.levels.now xs w) (sym ls_is) ∙ c.in_ok-follow.ensures in
-    let y : Follows words s conflict first c.args.low at w ls f =
-    subst (λ (g : Followed). Follows words s conflict first c.args.low at w ls g) f_is (search_step words s conflict first c.args.low at c.args.levels.now w c.requires.can h lt) in
-    omega (arith, c.loop-at.invariant.top, c.loop-at.invariant.more.longer, y.more.longer, length_push c.args.analysis.now.used (negated c.args.lit))
+    omega (arith, c.loop-at.invariant.top, c.loop-at.invariant.more.longer, (gave (goal.at.undo-requires-clause-top c).In_ok-follow).more.longer, length_push c.args.analysis.now.used (negated c.args.lit))
 
 pub undo-requires-clause-flags : goal.undo-requires-clause-flags
 undo-requires-clause-flags c = λ k b.
-    let words : List ℕ = c.args.clauses.now in
-    let s : State = state_of c.args.assignment.now c.args.graph.now c.args.trail.now in
-    let conflict : List ℕ = falsified words c.args.conflict.now in
-    let first : ℕ = get_or c.args.analysis.now.clause 0 0 in
-    let w : Work = c.loop-at.analysis in
-    let at : ℕ = c.loop-at.at in
-    let h : MinimizationInvariant words s conflict first c.args.low w at = c.loop-at.invariant.searching in
-    let lt : at < length w.used = omega (arith, c.loop-at-test.true, ap (λ (xs : List ℕ). length xs) c.used.ensures) in
-    let x : IsReasoned s 0 (get_or w.used at 0) = h.reasons at lt in
-    let next_is : c.index-used-at.result ≡ get_or w.used at 0 =
-    get_or_read c.used-in-loop-at.result.now at c.index-used-at.result (omega (arith, lt, ap (λ (xs : List ℕ). length xs) c.used-in-loop-at.ensures)) c.index-used-at.is 0
-    ∙ ap (λ (xs : List ℕ). get_or xs at 0) c.used-in-loop-at.ensures in
-    let r_is : c.reason-reason.result ≡ (node s (get_or w.used at 0)).reason = c.reason-reason.ensures ∙ ap (λ v. (node_of c.args.graph.now v).reason) (c.var.ensures ∙ ap (λ l. variable l) next_is) in
-    let ls : List ℕ = causes_at words s (get_or w.used at 0) in
-    let ls_is : c.lits.result ≡ ls = c.lits.ensures ∙ ap (λ (r : Reason). causes words r) r_is in
-    let new : Work = c.follow.new.analysis in
-    let f : Followed = record { work = new; whole = c.in_ok-follow.field-0 } in
-    let f_is : followed c.args.graph.now c.args.levels.now ls w ≡ f = ap (λ (xs : List ℕ). followed c.args.graph.now c.args.levels.now xs w) (sym ls_is) ∙ c.in_ok-follow.ensures in
-    let y : Follows words s conflict first c.args.low at w ls f =
-    subst (λ (g : Followed). Follows words s conflict first c.args.low at w ls g) f_is (search_step words s conflict first c.args.low at c.args.levels.now w c.requires.can h lt) in
-    omega (arith, reasoned_variable s (get_or new.used k 0) c.requires.can.agrees (y.searching.reasons k b), y.searching.size)
+    let y = (gave (goal.at.undo-requires-clause-flags c).In_ok-follow).searching in
+    omega (arith, reasoned_variable _ (get_or c.follow.new.analysis.used k 0) c.requires.can.agrees (y.reasons k b), y.size)
 
 pub returns-then-not-branch : goal.returns-then-not-branch
 returns-then-not-branch c =
-    let words : List ℕ = c.args.clauses.now in
-    let s : State = state_of c.args.assignment.now c.args.graph.now c.args.trail.now in
-    let conflict : List ℕ = falsified words c.args.conflict.now in
-    let first : ℕ = get_or c.args.analysis.now.clause 0 0 in
-    let w : Work = c.loop-at.analysis in
-    let at : ℕ = c.loop-at.at in
-    let h : MinimizationInvariant words s conflict first c.args.low w at = c.loop-at.invariant.searching in
-    let lt : at < length w.used = omega (arith, c.loop-at-test.true, ap (λ (xs : List ℕ). length xs) c.used.ensures) in
-    let x : IsReasoned s 0 (get_or w.used at 0) = h.reasons at lt in
-    let next_is : c.index-used-at.result ≡ get_or w.used at 0 =
-    get_or_read c.used-in-loop-at.result.now at c.index-used-at.result (omega (arith, lt, ap (λ (xs : List ℕ). length xs) c.used-in-loop-at.ensures)) c.index-used-at.is 0
-    ∙ ap (λ (xs : List ℕ). get_or xs at 0) c.used-in-loop-at.ensures in
-    let r_is : c.reason-reason.result ≡ (node s (get_or w.used at 0)).reason = c.reason-reason.ensures ∙ ap (λ v. (node_of c.args.graph.now v).reason) (c.var.ensures ∙ ap (λ l. variable l) next_is) in
-    let ls : List ℕ = causes_at words s (get_or w.used at 0) in
-    let ls_is : c.lits.result ≡ ls = c.lits.ensures ∙ ap (λ (r : Reason). causes words r) r_is in
-    let new : Work = c.follow.new.analysis in
-    let f : Followed = record { work = new; whole = c.in_ok-follow.field-0 } in
-    let f_is : followed c.args.graph.now c.args.levels.now ls w ≡ f = ap (λ (xs : List ℕ). followed c.args.graph.now c.args.levels.now xs w) (sym ls_is) ∙ c.in_ok-follow.ensures in
-    let y : Follows words s conflict first c.args.low at w ls f =
-    subst (λ (g : Followed). Follows words s conflict first c.args.low at w ls g) f_is (search_step words s conflict first c.args.low at c.args.levels.now w c.requires.can h lt) in
-    undone (negated c.args.lit) c.args.analysis.now new c.undo.new.self (more_trans (used_up (negated c.args.lit) c.args.analysis.now) w new c.loop-at.invariant.more y.more)
-    (subst (λ n. Undoes n new c.undo.new.self) c.loop-at.invariant.top c.undo.ensures)
+    let more = more_trans (used_up (negated c.args.lit) c.args.analysis.now) c.loop-at.analysis c.follow.new.analysis c.loop-at.invariant.more (gave (goal.at.returns-then-not-branch c).In_ok-follow).more in
+    undone (negated c.args.lit) c.args.analysis.now c.follow.new.analysis c.undo.new.self more (subst (λ n. Undoes n c.follow.new.analysis c.undo.new.self) c.loop-at.invariant.top c.undo.ensures)
 
 pub loop-at-smaller : goal.loop-at-smaller
 loop-at-smaller c =
-    let words : List ℕ = c.args.clauses.now in
-    let s : State = state_of c.args.assignment.now c.args.graph.now c.args.trail.now in
-    let conflict : List ℕ = falsified words c.args.conflict.now in
-    let first : ℕ = get_or c.args.analysis.now.clause 0 0 in
-    let w : Work = c.loop-at.analysis in
-    let at : ℕ = c.loop-at.at in
-    let h : MinimizationInvariant words s conflict first c.args.low w at = c.loop-at.invariant.searching in
-    let lt : at < length w.used = omega (arith, c.loop-at-test.true, ap (λ (xs : List ℕ). length xs) c.used.ensures) in
-    let x : IsReasoned s 0 (get_or w.used at 0) = h.reasons at lt in
-    let next_is : c.index-used-at.result ≡ get_or w.used at 0 =
-    get_or_read c.used-in-loop-at.result.now at c.index-used-at.result (omega (arith, lt, ap (λ (xs : List ℕ). length xs) c.used-in-loop-at.ensures)) c.index-used-at.is 0
-    ∙ ap (λ (xs : List ℕ). get_or xs at 0) c.used-in-loop-at.ensures in
-    let r_is : c.reason-reason.result ≡ (node s (get_or w.used at 0)).reason = c.reason-reason.ensures ∙ ap (λ v. (node_of c.args.graph.now v).reason) (c.var.ensures ∙ ap (λ l. variable l) next_is) in
-    let ls : List ℕ = causes_at words s (get_or w.used at 0) in
-    let ls_is : c.lits.result ≡ ls = c.lits.ensures ∙ ap (λ (r : Reason). causes words r) r_is in
-    let new : Work = c.follow.new.analysis in
-    let f : Followed = record { work = new; whole = c.in_ok-follow.field-0 } in
-    let f_is : followed c.args.graph.now c.args.levels.now ls w ≡ f = ap (λ (xs : List ℕ). followed c.args.graph.now c.args.levels.now xs w) (sym ls_is) ∙ c.in_ok-follow.ensures in
-    let y : Follows words s conflict first c.args.low at w ls f =
-    subst (λ (g : Followed). Follows words s conflict first c.args.low at w ls g) f_is (search_step words s conflict first c.args.low at c.args.levels.now w c.requires.can h lt) in
-    let same : total new ≡ total w = ap (λ (g : Followed). total g.work) (sym f_is)
-    ∙ followed_total c.args.graph.now c.args.levels.now ls w (λ k b. omega (arith, reasoned_nodes words s (get_or w.used at 0) k ls c.requires.can x refl b, h.size, c.requires.can.agrees.nodes)) in
-    omega arith
+    let y = (goal.at.loop-at-smaller c).In_ok-follow in
+    let z = x (r y) in
+    let same : total c.follow.new.analysis ≡ total c.loop-at.analysis = ap (λ (g : Followed). total g.work) (sym (f_is y))
+    ∙ followed_total c.args.graph.now c.args.levels.now (ls (r y)) c.loop-at.analysis (λ k b. omega (arith, reasoned_nodes c.args.clauses.now (s z) (next z) k (ls (r y)) c.requires.can (reasoned z) refl b, c.loop-at.invariant.searching.size, c.requires.can.agrees.nodes)) in
+    omega (arith, same, within z)
 
 pub loop-at-preserved : goal.loop-at-preserved
 loop-at-preserved c =
-    let words : List ℕ = c.args.clauses.now in
-    let s : State = state_of c.args.assignment.now c.args.graph.now c.args.trail.now in
-    let conflict : List ℕ = falsified words c.args.conflict.now in
-    let first : ℕ = get_or c.args.analysis.now.clause 0 0 in
-    let w : Work = c.loop-at.analysis in
-    let at : ℕ = c.loop-at.at in
-    let h : MinimizationInvariant words s conflict first c.args.low w at = c.loop-at.invariant.searching in
-    let lt : at < length w.used = omega (arith, c.loop-at-test.true, ap (λ (xs : List ℕ). length xs) c.used.ensures) in
-    let x : IsReasoned s 0 (get_or w.used at 0) = h.reasons at lt in
-    let next_is : c.index-used-at.result ≡ get_or w.used at 0 =
-    get_or_read c.used-in-loop-at.result.now at c.index-used-at.result (omega (arith, lt, ap (λ (xs : List ℕ). length xs) c.used-in-loop-at.ensures)) c.index-used-at.is 0
-    ∙ ap (λ (xs : List ℕ). get_or xs at 0) c.used-in-loop-at.ensures in
-    let r_is : c.reason-reason.result ≡ (node s (get_or w.used at 0)).reason = c.reason-reason.ensures ∙ ap (λ v. (node_of c.args.graph.now v).reason) (c.var.ensures ∙ ap (λ l. variable l) next_is) in
-    let ls : List ℕ = causes_at words s (get_or w.used at 0) in
-    let ls_is : c.lits.result ≡ ls = c.lits.ensures ∙ ap (λ (r : Reason). causes words r) r_is in
+    let o = (goal.at.loop-at-preserved c).In_ok-follow in
+    let y = gave o in
+    let lt = within (x (r o)) in
     let new : Work = c.follow.new.analysis in
-    let f : Followed = record { work = new; whole = c.in_ok-follow.field-0 } in
-    let f_is : followed c.args.graph.now c.args.levels.now ls w ≡ f = ap (λ (xs : List ℕ). followed c.args.graph.now c.args.levels.now xs w) (sym ls_is) ∙ c.in_ok-follow.ensures in
-    let y : Follows words s conflict first c.args.low at w ls f =
-    subst (λ (g : Followed). Follows words s conflict first c.args.low at w ls g) f_is (search_step words s conflict first c.args.low at c.args.levels.now w c.requires.can h lt) in
-    let there : get_or new.used at 0 ≡ get_or w.used at 0 = front_at w new at 0 y.more lt in
+    let there = front_at c.loop-at.analysis new c.loop-at.at 0 y.more lt in
     record {
-      searching = searching_next words s conflict first c.args.low new at y.searching (omega (arith, lt, y.more.longer))
-          (subst (λ l. AreMarked s first new (causes_at words s l)) (sym there) (y.whole c.if-not-branch.false));
-      more = more_trans (used_up (negated c.args.lit) c.args.analysis.now) w new c.loop-at.invariant.more y.more;
+      searching = searching_next _ _ _ _ _ new c.loop-at.at y.searching (omega (arith, lt, y.more.longer)) (subst (λ l. AreMarked (s (x (r o))) (get_or c.args.analysis.now.clause 0 0) new (causes_at c.args.clauses.now (s (x (r o))) l)) (sym there) (y.whole c.if-not-branch.false));
+      more = more_trans (used_up (negated c.args.lit) c.args.analysis.now) c.loop-at.analysis new c.loop-at.invariant.more y.more;
       top = c.loop-at.invariant.top;
     }

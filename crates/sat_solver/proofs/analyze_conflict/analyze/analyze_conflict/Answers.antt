@@ -2,12 +2,11 @@ use Rattle.std.proofs.Common.{ℕ, ◌≡◌, ◌<◌, List, Bool, length, get_o
 use Rattle.std.specs.List.Sorted.{IsPermutation}
 use Rattle.sat_base.specs.values.Literals.{variable}
 use Rattle.sat_parts.specs.clause.Glue.{AreClear}
-use Rattle.sat_parts.specs.prop.Causes.{falsified}
 use Rattle.sat_parts.specs.prop.Ready.{state_of}
 use Rattle.sat_parts.specs.prop.State.{State}
 use Rattle.sat_parts.proofs.lemmas.clause.ListLemmas.{place_in}
 use Rattle.sat_solver.specs.analyze_conflict.Work.{Work}
-use Rattle.sat_solver.specs.analyze_conflict.Derivation.{IsUnorderedDerivation, IsAsserting, IsDerivation, PutsSecond}
+use Rattle.sat_solver.specs.analyze_conflict.Derivation.{PutsSecond}
 use Rattle.sat_solver.specs.analyze_conflict.Minimal.{FallsBefore}
 use Rattle.sat_solver.proofs.lemmas.analyze_conflict.Codes.{reasoned_variable}
 use Rattle.sat_solver.proofs.lemmas.analyze_conflict.Minimized.{false_variable}
@@ -19,46 +18,35 @@ use Rattle.sat_solver.proofs.analyze_conflict.analyze.analyze_conflict.Goals as 
 
 pub returns-clause-learns : goal.returns-clause-learns
 returns-clause-learns c =
-    let words : List ℕ = c.args.clauses.now in
-    let s : State = state_of c.args.assignment.now c.args.graph.now c.args.trail.now in
-    let conflict : List ℕ = falsified words c.args.conflict.now in
     let w : Work = c.minimize_clause.new.analysis in
     let w' : Work = c.put_second.new.self in
-    let asserting : IsAsserting s w.clause = c.in_ok-minimize_clause.ensures.asserting in
-    let grounds : IsUnorderedDerivation words s conflict w.clause w.used = c.in_ok-minimize_clause.ensures.grounds in
-    let before : c.clear_flags.new.self.used ≡ w.used = ap (λ (x : Work). x.used) c.clear_flags.ensures.same in
-    let order : IsPermutation w.used c.order_used.new.self.used = subst (λ (us : List ℕ). IsPermutation us c.order_used.new.self.used) before c.in_ok-order_used.ensures.permutation in
-    let derivation : IsDerivation words s conflict w.clause c.order_used.new.self.used =
-    ordered words s conflict w.clause w.used c.order_used.new.self.used c.requires.can.agrees grounds order c.in_ok-order_used.ensures.rising in
-    let used : w'.used ≡ c.order_used.new.self.used = ap (λ (x : Work). x.used) c.put_second.ensures.same in
-    let clause : c.order_used.new.self.clause ≡ w.clause = ap (λ (x : Work). x.clause) c.order_used.ensures.same ∙ ap (λ (x : Work). x.clause) c.clear_flags.ensures.same in
-    let flags : w'.flags ≡ c.clear_flags.new.self.flags = ap (λ (x : Work). x.flags) c.put_second.ensures.same ∙ ap (λ (x : Work). x.flags) c.order_used.ensures.same in
-    learned words s conflict w w' c.put_second.result c.requires.can c.requires.fails asserting
-    (subst (λ (xs : List ℕ). IsDerivation words s conflict w.clause xs) (sym used) derivation)
+    let before = ap (λ (x : Work). x.used) c.clear_flags.ensures.same in
+    let order = subst (λ (us : List ℕ). IsPermutation us c.order_used.new.self.used) before c.in_ok-order_used.ensures.permutation in
+    let derivation = ordered _ _ _ w.clause w.used c.order_used.new.self.used c.requires.can.agrees c.in_ok-minimize_clause.ensures.grounds order c.in_ok-order_used.ensures.rising in
+    let used = ap (λ (x : Work). x.used) c.put_second.ensures.same in
+    let clause = ap (λ (x : Work). x.clause) c.order_used.ensures.same ∙ ap (λ (x : Work). x.clause) c.clear_flags.ensures.same in
+    let flags = ap (λ (x : Work). x.flags) c.put_second.ensures.same ∙ ap (λ (x : Work). x.flags) c.order_used.ensures.same in
+    learned _ _ _ w w' c.put_second.result c.requires.can c.requires.fails c.in_ok-minimize_clause.ensures.asserting (rw used derivation)
     (subst (λ (xs : List ℕ). PutsSecond c.args.graph.now xs w'.clause c.put_second.result) clause c.put_second.ensures.second)
     (subst (λ (fs : List Bool). AreClear fs) (sym flags) c.clear_flags.ensures.clear)
 
 pub returns-clause-resolution : goal.returns-clause-resolution
 returns-clause-resolution c =
-    let words : List ℕ = c.args.clauses.now in
-    let s : State = state_of c.args.assignment.now c.args.graph.now c.args.trail.now in
     let w : Work = c.minimize_clause.new.analysis in
     let w' : Work = c.put_second.new.self in
-    let before : c.clear_flags.new.self.used ≡ w.used = ap (λ (x : Work). x.used) c.clear_flags.ensures.same in
-    let used : w'.used ≡ c.order_used.new.self.used = ap (λ (x : Work). x.used) c.put_second.ensures.same in
-    let order : IsPermutation w.used w'.used = subst (λ (vs : List ℕ). IsPermutation w.used vs) (sym used) (subst (λ (us : List ℕ). IsPermutation us c.order_used.new.self.used) before c.in_ok-order_used.ensures.permutation) in
-    let met : w'.met ≡ w.met = ap (λ (x : Work). x.met) c.put_second.ensures.same ∙ ap (λ (x : Work). x.met) c.order_used.ensures.same ∙ ap (λ (x : Work). x.met) c.clear_flags.ensures.same in
-    let involved : w'.involved ≡ w.involved = ap (λ (x : Work). x.involved) c.put_second.ensures.same ∙ ap (λ (x : Work). x.involved) c.order_used.ensures.same ∙ ap (λ (x : Work). x.involved) c.clear_flags.ensures.same in
-    is_resolution words s c.args.conflict.now c.finish_conflict.new.analysis w w' c.in_ok-finish_conflict.ensures.resolved c.in_ok-finish_conflict.ensures.collected c.in_ok-minimize_clause.ensures.kept order met involved
+    let before = ap (λ (x : Work). x.used) c.clear_flags.ensures.same in
+    let used = ap (λ (x : Work). x.used) c.put_second.ensures.same in
+    let order = subst (IsPermutation w.used) (sym used) (subst (λ (us : List ℕ). IsPermutation us c.order_used.new.self.used) before c.in_ok-order_used.ensures.permutation) in
+    let met = ap (λ (x : Work). x.met) c.put_second.ensures.same ∙ ap (λ (x : Work). x.met) c.order_used.ensures.same ∙ ap (λ (x : Work). x.met) c.clear_flags.ensures.same in
+    let involved = ap (λ (x : Work). x.involved) c.put_second.ensures.same ∙ ap (λ (x : Work). x.involved) c.order_used.ensures.same ∙ ap (λ (x : Work). x.involved) c.clear_flags.ensures.same in
+    is_resolution _ _ _ c.finish_conflict.new.analysis w w' c.in_ok-finish_conflict.ensures.resolved c.in_ok-finish_conflict.ensures.collected c.in_ok-minimize_clause.ensures.kept order met involved
 
 pub order_used-requires : goal.order_used-requires
 order_used-requires c =
-    let words : List ℕ = c.args.clauses.now in
-    let s : State = state_of c.args.assignment.now c.args.graph.now c.args.trail.now in
     let w : Work = c.minimize_clause.new.analysis in
-    let before : c.clear_flags.new.self.used ≡ w.used = ap (λ (x : Work). x.used) c.clear_flags.ensures.same in
-    let falls : FallsBefore s.nodes w.used (length c.finish_conflict.new.analysis.used) =
-    falls_before words s (falsified words c.args.conflict.now) c.finish_conflict.new.analysis w c.requires.can.agrees c.in_ok-finish_conflict.ensures.resolved c.in_ok-minimize_clause.ensures.kept
+    let before = ap (λ (x : Work). x.used) c.clear_flags.ensures.same in
+    let falls =
+    falls_before _ _ _ c.finish_conflict.new.analysis w c.requires.can.agrees c.in_ok-finish_conflict.ensures.resolved c.in_ok-minimize_clause.ensures.kept
     (λ k lt. c.in_ok-minimize_clause.ensures.grounds.reasons (get_or w.used k 0) (place_in w.used k lt)) in
     subst (λ (us : List ℕ). FallsBefore c.args.graph.now us (length c.used-resolved.result.now)) (sym before)
     (subst (λ n. FallsBefore c.args.graph.now w.used n) (sym (ap (λ (us : List ℕ). length us) c.used-resolved.ensures)) falls)

@@ -1,4 +1,4 @@
-use Rattle.std.proofs.Common.{ℕ, ◌≡◌, ◌<◌, true, false, List, length, get_or, sym, ap, ◌∙◌, subst, arith}
+use Rattle.std.proofs.Common.{ℕ, ◌≡◌, ◌<◌, List, length, get_or, refl, sym, ap, ◌∙◌, subst, arith}
 use Rattle.std.proofs.lemmas.List.{get_or_read}
 use Rattle.sat_base.specs.values.Literals.{variable}
 use Rattle.sat_parts.specs.declared.prop.graph.Reason.{Reason}
@@ -13,6 +13,32 @@ use Rattle.sat_solver.proofs.lemmas.analyze_conflict.Codes.{some_flagged, last_p
 use Rattle.sat_solver.proofs.lemmas.analyze_conflict.Resolution.{IsLastFlagged}
 use Rattle.sat_solver.proofs.lemmas.analyze_conflict.Tracing.{Reached, reached, traced_used, traced_chosen}
 use Rattle.sat_solver.proofs.assumptions.analyze.trace_next.Goals as goal
+use Rattle.sat_solver.proofs.assumptions.analyze.trace_next.Goals.{After-reason-reason}
+
+-- the last flagged literal, and its reason
+module _ (c : After-reason-reason) where
+  abbrev s : State
+  s = state_of c.args.assignment.now c.args.graph.now c.args.trail.now
+
+  abbrev p : ℕ
+  p = c.last_flagged-place.result
+
+  last : IsLastFlagged s c.args.analysis.now.flags p c.args.before
+  last = last_place s c.args.analysis.now.flags p c.args.before c.trail-lits.result.now c.trail-lits.ensures.lits c.last_flagged-place.ensures.within c.last_flagged-place.ensures.flagged c.last_flagged-place.ensures.others
+
+  here : variable (lit_at s p) < length c.args.analysis.now.flags
+  here = place_variable s 1 c.args.analysis.now c.args.before p c.requires.can.agrees c.requires.tracing.marks last.before
+
+  found : Reached c.args.clauses.now s c.args.analysis.now p c.args.before
+  found = reached c.args.clauses.now s c.args.analysis.now p c.args.before c.requires.can c.requires.tracing.marks c.requires.some last here
+
+  lit_is : c.index-lits-place.result ≡ lit_at s p
+  lit_is =
+      get_or_read c.trail-lits.result.now p c.index-lits-place.result (omega (arith, found.within, ap (λ (xs : List ℕ). length xs) c.trail-lits.ensures.lits)) c.index-lits-place.is 0
+      ∙ ap (λ (xs : List ℕ). get_or xs p 0) c.trail-lits.ensures.lits
+
+  reason_is : c.reason-reason.result ≡ (node s (lit_at s p)).reason
+  reason_is = c.reason-reason.ensures ∙ ap (λ v. (node_of c.args.graph.now v).reason) (c.var.ensures ∙ ap (λ l. variable l) lit_is)
 
 pub last_flagged-place-requires-clause-some : goal.last_flagged-place-requires-clause-some
 last_flagged-place-requires-clause-some c =
@@ -20,91 +46,31 @@ last_flagged-place-requires-clause-some c =
 
 pub returns-then-is_unit : goal.returns-then-is_unit
 returns-then-is_unit c =
-    let words : List ℕ = c.args.clauses.now in
-    let s : State = state_of c.args.assignment.now c.args.graph.now c.args.trail.now in
-    let w : Work = c.args.analysis.now in
-    let p : ℕ = c.last_flagged-place.result in
-    let last : IsLastFlagged s c.args.analysis.now.flags p c.args.before =
-    last_place s c.args.analysis.now.flags p c.args.before c.trail-lits.result.now c.trail-lits.ensures.lits c.last_flagged-place.ensures.within c.last_flagged-place.ensures.flagged c.last_flagged-place.ensures.others in
-    let here : variable (lit_at s p) < length c.args.analysis.now.flags = place_variable s 1 c.args.analysis.now c.args.before p c.requires.can.agrees c.requires.tracing.marks last.before in
-    let t : Reached words s w p c.args.before = reached words s w p c.args.before c.requires.can c.requires.tracing.marks c.requires.some last here in
-    let l_is : c.index-lits-place.result ≡ lit_at s p =
-    get_or_read c.trail-lits.result.now p c.index-lits-place.result (omega (arith, t.within, ap (λ (xs : List ℕ). length xs) c.trail-lits.ensures.lits)) c.index-lits-place.is 0
-    ∙ ap (λ (xs : List ℕ). get_or xs p 0) c.trail-lits.ensures.lits in
-    let r_is : c.reason-reason.result ≡ (node s (lit_at s p)).reason = c.reason-reason.ensures ∙ ap (λ v. (node_of c.args.graph.now v).reason) (c.var.ensures ∙ ap (λ l. variable l) l_is) in
-    let free : is_unit_reason (node s (lit_at s p)).reason ≡ true = ap (λ (r : Reason). is_unit_reason r) (sym r_is) ∙ sym c.is_unit.ensures ∙ c.if-is_unit.true in
-    let e : c.choose.new.self ≡ with_chosen (lit_at s p) w = c.in_ok-choose.ensures ∙ ap (λ l. with_chosen l w) l_is in
-    (last.before, subst (λ (v : Work). TraceInvariant words s c.args.failed v p) (sym e) (traced_chosen words s c.args.failed w p c.args.before c.requires.can c.requires.tracing c.requires.some last here free))
+    let x = (goal.at.returns-then-is_unit c).After-reason-reason in
+    let free = ap (λ (r : Reason). is_unit_reason r) (sym (reason_is x)) ∙ sym c.is_unit.ensures ∙ c.if-is_unit.true in
+    let e = c.in_ok-choose.ensures ∙ ap (λ l. with_chosen l c.args.analysis.now) (lit_is x) in
+    ((last x).before, subst (λ (v : Work). TraceInvariant c.args.clauses.now (s x) c.args.failed v (p x)) (sym e) (traced_chosen _ _ _ _ _ _ c.requires.can c.requires.tracing c.requires.some (last x) (here x) free))
 
 pub lits-requires-clause-clause : goal.lits-requires-clause-clause
 lits-requires-clause-clause c = λ o is.
-    let words : List ℕ = c.args.clauses.now in
-    let s : State = state_of c.args.assignment.now c.args.graph.now c.args.trail.now in
-    let w : Work = c.args.analysis.now in
-    let p : ℕ = c.last_flagged-place.result in
-    let last : IsLastFlagged s c.args.analysis.now.flags p c.args.before =
-    last_place s c.args.analysis.now.flags p c.args.before c.trail-lits.result.now c.trail-lits.ensures.lits c.last_flagged-place.ensures.within c.last_flagged-place.ensures.flagged c.last_flagged-place.ensures.others in
-    let here : variable (lit_at s p) < length c.args.analysis.now.flags = place_variable s 1 c.args.analysis.now c.args.before p c.requires.can.agrees c.requires.tracing.marks last.before in
-    let t : Reached words s w p c.args.before = reached words s w p c.args.before c.requires.can c.requires.tracing.marks c.requires.some last here in
-    let l_is : c.index-lits-place.result ≡ lit_at s p =
-    get_or_read c.trail-lits.result.now p c.index-lits-place.result (omega (arith, t.within, ap (λ (xs : List ℕ). length xs) c.trail-lits.ensures.lits)) c.index-lits-place.is 0
-    ∙ ap (λ (xs : List ℕ). get_or xs p 0) c.trail-lits.ensures.lits in
-    let r_is : c.reason-reason.result ≡ (node s (lit_at s p)).reason = c.reason-reason.ensures ∙ ap (λ v. (node_of c.args.graph.now v).reason) (c.var.ensures ∙ ap (λ l. variable l) l_is) in
-    (taken_stands words s p o c.reason-reason.result c.requires.can t.first t.within r_is is).0
+    let x = (goal.at.lits-requires-clause-clause c).After-reason-reason in
+    (taken_stands _ _ _ o _ c.requires.can (found x).first (found x).within (reason_is x) is).0
 
 pub lits-requires-clause-some : goal.lits-requires-clause-some
 lits-requires-clause-some c = λ o is.
-    let words : List ℕ = c.args.clauses.now in
-    let s : State = state_of c.args.assignment.now c.args.graph.now c.args.trail.now in
-    let w : Work = c.args.analysis.now in
-    let p : ℕ = c.last_flagged-place.result in
-    let last : IsLastFlagged s c.args.analysis.now.flags p c.args.before =
-    last_place s c.args.analysis.now.flags p c.args.before c.trail-lits.result.now c.trail-lits.ensures.lits c.last_flagged-place.ensures.within c.last_flagged-place.ensures.flagged c.last_flagged-place.ensures.others in
-    let here : variable (lit_at s p) < length c.args.analysis.now.flags = place_variable s 1 c.args.analysis.now c.args.before p c.requires.can.agrees c.requires.tracing.marks last.before in
-    let t : Reached words s w p c.args.before = reached words s w p c.args.before c.requires.can c.requires.tracing.marks c.requires.some last here in
-    let l_is : c.index-lits-place.result ≡ lit_at s p =
-    get_or_read c.trail-lits.result.now p c.index-lits-place.result (omega (arith, t.within, ap (λ (xs : List ℕ). length xs) c.trail-lits.ensures.lits)) c.index-lits-place.is 0
-    ∙ ap (λ (xs : List ℕ). get_or xs p 0) c.trail-lits.ensures.lits in
-    let r_is : c.reason-reason.result ≡ (node s (lit_at s p)).reason = c.reason-reason.ensures ∙ ap (λ v. (node_of c.args.graph.now v).reason) (c.var.ensures ∙ ap (λ l. variable l) l_is) in
-    (taken_stands words s p o c.reason-reason.result c.requires.can t.first t.within r_is is).1
+    let x = (goal.at.lits-requires-clause-some c).After-reason-reason in
+    (taken_stands _ _ _ o _ c.requires.can (found x).first (found x).within (reason_is x) is).1
 
 pub add_all-requires-clause-nodes : goal.add_all-requires-clause-nodes
 add_all-requires-clause-nodes c = λ k lt.
-    let words : List ℕ = c.args.clauses.now in
-    let s : State = state_of c.args.assignment.now c.args.graph.now c.args.trail.now in
-    let w : Work = c.args.analysis.now in
-    let p : ℕ = c.last_flagged-place.result in
-    let last : IsLastFlagged s c.args.analysis.now.flags p c.args.before =
-    last_place s c.args.analysis.now.flags p c.args.before c.trail-lits.result.now c.trail-lits.ensures.lits c.last_flagged-place.ensures.within c.last_flagged-place.ensures.flagged c.last_flagged-place.ensures.others in
-    let here : variable (lit_at s p) < length c.args.analysis.now.flags = place_variable s 1 c.args.analysis.now c.args.before p c.requires.can.agrees c.requires.tracing.marks last.before in
-    let t : Reached words s w p c.args.before = reached words s w p c.args.before c.requires.can c.requires.tracing.marks c.requires.some last here in
-    let l_is : c.index-lits-place.result ≡ lit_at s p =
-    get_or_read c.trail-lits.result.now p c.index-lits-place.result (omega (arith, t.within, ap (λ (xs : List ℕ). length xs) c.trail-lits.ensures.lits)) c.index-lits-place.is 0
-    ∙ ap (λ (xs : List ℕ). get_or xs p 0) c.trail-lits.ensures.lits in
-    let r_is : c.reason-reason.result ≡ (node s (lit_at s p)).reason = c.reason-reason.ensures ∙ ap (λ v. (node_of c.args.graph.now v).reason) (c.var.ensures ∙ ap (λ l. variable l) l_is) in
-    let ls_is : c.lits.result ≡ causes_at words s (lit_at s p) = c.lits.ensures ∙ ap (λ (r : Reason). causes words r) r_is in
-    before_nodes words s p k c.lits.result c.requires.can t.first t.within ls_is lt
+    let x = (goal.at.add_all-requires-clause-nodes c).After-reason-reason in
+    before_nodes _ _ _ k c.lits.result c.requires.can (found x).first (found x).within (c.lits.ensures ∙ ap (λ (r : Reason). causes c.args.clauses.now r) (reason_is x)) lt
 
 pub returns : goal.returns
 returns c =
-    let words : List ℕ = c.args.clauses.now in
-    let s : State = state_of c.args.assignment.now c.args.graph.now c.args.trail.now in
-    let w : Work = c.args.analysis.now in
-    let p : ℕ = c.last_flagged-place.result in
-    let last : IsLastFlagged s c.args.analysis.now.flags p c.args.before =
-    last_place s c.args.analysis.now.flags p c.args.before c.trail-lits.result.now c.trail-lits.ensures.lits c.last_flagged-place.ensures.within c.last_flagged-place.ensures.flagged c.last_flagged-place.ensures.others in
-    let here : variable (lit_at s p) < length c.args.analysis.now.flags = place_variable s 1 c.args.analysis.now c.args.before p c.requires.can.agrees c.requires.tracing.marks last.before in
-    let t : Reached words s w p c.args.before = reached words s w p c.args.before c.requires.can c.requires.tracing.marks c.requires.some last here in
-    let l_is : c.index-lits-place.result ≡ lit_at s p =
-    get_or_read c.trail-lits.result.now p c.index-lits-place.result (omega (arith, t.within, ap (λ (xs : List ℕ). length xs) c.trail-lits.ensures.lits)) c.index-lits-place.is 0
-    ∙ ap (λ (xs : List ℕ). get_or xs p 0) c.trail-lits.ensures.lits in
-    let r_is : c.reason-reason.result ≡ (node s (lit_at s p)).reason = c.reason-reason.ensures ∙ ap (λ v. (node_of c.args.graph.now v).reason) (c.var.ensures ∙ ap (λ l. variable l) l_is) in
-    let ls_is : c.lits.result ≡ causes_at words s (lit_at s p) = c.lits.ensures ∙ ap (λ (r : Reason). causes words r) r_is in
-    let caused : is_unit_reason (node s (lit_at s p)).reason ≡ false = ap (λ (r : Reason). is_unit_reason r) (sym r_is) ∙ sym c.is_unit.ensures ∙ c.if-is_unit.false in
-    let up : c.take_up.new.self ≡ taken_up (node s (lit_at s p)).reason (lit_at s p) w =
-    c.in_ok-take_up.ensures ∙ ap (λ m. taken_up c.reason-reason.result m w) l_is ∙ ap (λ (r : Reason). taken_up r (lit_at s p) w) r_is in
-    let e : c.add_all.new.analysis ≡ with_met_literals c.args.graph.now 1 (causes_at words s (lit_at s p)) (taken_up (node s (lit_at s p)).reason (lit_at s p) w) =
-    c.in_ok-add_all.ensures
-    ∙ ap (λ (xs : List ℕ). with_met_literals c.args.graph.now 1 xs c.take_up.new.self) ls_is
-    ∙ ap (λ (v : Work). with_met_literals c.args.graph.now 1 (causes_at words s (lit_at s p)) v) up in
-    (last.before, subst (λ (v : Work). TraceInvariant words s c.args.failed v p) (sym e) (traced_used words s c.args.failed w p c.args.before c.requires.can c.requires.tracing c.requires.some last here caused))
+    let x = (goal.at.returns c).After-reason-reason in
+    let l = lit_at (s x) (p x) in
+    let caused = ap (λ (r : Reason). is_unit_reason r) (sym (reason_is x)) ∙ sym c.is_unit.ensures ∙ c.if-is_unit.false in
+    let e : c.add_all.new.analysis ≡ with_met_literals c.args.graph.now 1 (causes_at c.args.clauses.now (s x) l) (taken_up (node (s x) l).reason l c.args.analysis.now) =
+    rw (c.in_ok-add_all.ensures, c.lits.ensures, c.in_ok-take_up.ensures, lit_is x, reason_is x) refl in
+    ((last x).before, subst (λ (v : Work). TraceInvariant c.args.clauses.now (s x) c.args.failed v (p x)) (sym e) (traced_used _ _ _ _ _ _ c.requires.can c.requires.tracing c.requires.some (last x) (here x) caused))

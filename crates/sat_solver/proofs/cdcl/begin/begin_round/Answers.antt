@@ -1,4 +1,4 @@
-use Rattle.std.proofs.Common.{ℕ, ◌+◌, ◌≡◌, ◌≤◌, List, [], ◌∷◌, length, Ok, Err, refl, subst, arith}
+use Rattle.std.proofs.Common.{ℕ, ◌+◌, ◌≡◌, ◌≤◌, List, [], ◌∷◌, length, Ok, Err, refl, arith}
 use Rattle.std.proofs.lemmas.Result.{err_from_is_err_and}
 use Rattle.sat_parts.specs.clause.Db.{live_refs}
 use Rattle.sat_parts.specs.prop.Ready.{IsConflict}
@@ -13,48 +13,61 @@ use Rattle.sat_solver.specs.declared.context.Search.{Search}
 use Rattle.sat_solver.proofs.lemmas.cdcl.TurnLemmas.{Propagation, propagation, propagated_moved, falsified_whole, ready_names}
 use Rattle.sat_solver.proofs.lemmas.unit_simplify.BeginLemmas.{may_settle, settled_passes, settled_flat, settled_simplified}
 use Rattle.sat_solver.proofs.lemmas.unit_simplify.PassesLemmas.{passes_behind, passes_refl, falls_goes, falls_starved}
+use Rattle.sat_solver.proofs.cdcl.begin.begin_round.Given.{Over}
 use Rattle.sat_solver.proofs.cdcl.begin.begin_round.Goals as goal
-
-pub returns-then-current_level-gt0 : goal.returns-then-current_level-gt0
-returns-then-current_level-gt0 g c = passes_refl g.W.CountedWrite.seen c.args.names.now c.args.proof.now c.args.search.now c.requires.together
+use Rattle.sat_solver.proofs.cdcl.begin.begin_round.Goals.{After-deref, In_ok-settle}
 
 none_open : (xs : List ℕ) → length xs ≤ 0 → xs ≡ []
 none_open [] le = refl
 none_open (x ∷ xs) le = let none : ⊥ = omega arith in absurd none
 
+-- behind a propagation that met no conflict
+module _ (g : Over) (c : After-deref g) where
+  abbrev d : Search
+  d = record c.args.search.now { parts = c.propagate_all.new.parts }
+
+  went : Propagation (session_of c.args.proof.now) c.args.search.now d
+  went =
+      let x = c.in_ok-propagated.ensures in
+      let holds : HoldsBelow (length d.parts.trail.starts + 1) d.parts = rw c.in-Ok.is at x.holds in
+      propagation (session_of c.args.proof.now) c.args.search.now d c.requires.together.search refl refl refl refl x.starts x.moved x.carries x.word x.keeps holds (rw c.in-Ok.is at x.done) x.units x.base
+
+-- behind the settling
+module _ (g : Over) (c : In_ok-settle g) where
+  abbrev x : After-deref g
+  x = (goal.at.In_ok-settle g c).After-deref
+
+  abbrev e : Search
+  e = record (d g x) { parts = c.settle.new.parts; scratch = record (d g x).scratch { units = c.settle.new.units } }
+
+  may : MaySettle c.args.names.now c.args.proof.now (d g x)
+  may = may_settle c.args.names.now c.args.proof.now c.args.search.now (d g x) c.requires.together (none_open c.args.search.now.parts.trail.starts (omega (arith, c.if-current_level-gt0.false, c.current_level.ensures.level))) (went g x)
+
+  settles : EmitsSteps {A = Unit {0}} g.W.CountedWrite.seen (Ok tt) c.args.proof.now c.settle.new.proof (λ _ _. TakesUnitsOff (d g x).parts c.settle.new.parts (session_of c.settle.new.proof) (global_of_index (d g x).globals.items))
+  settles = rw c.deref.ensures.value at c.in_ok-settle.ensures
+
+pub returns-then-current_level-gt0 : goal.returns-then-current_level-gt0
+returns-then-current_level-gt0 g c = passes_refl g.W.CountedWrite.seen c.args.names.now c.args.proof.now c.args.search.now c.requires.together
+
 pub settle-requires : goal.settle-requires
 settle-requires g c =
-    let x = c.in_ok-propagated.ensures in
-    let s = session_of c.args.proof.now in
-    let search = c.requires.together.search in
-    let d : Search = record c.args.search.now { parts = c.propagate_all.new.parts } in
-    let holds : HoldsBelow (length d.parts.trail.starts + 1) d.parts = rw c.in-Ok.is at x.holds in
-    let went : Propagation s c.args.search.now d = propagation s c.args.search.now d search refl refl refl refl x.starts x.moved x.carries x.word x.keeps holds (rw c.in-Ok.is at x.done) x.units x.base in
+    let p = (went g (goal.at.settle-requires g c).After-deref).whole in
     record {
       keeps = c.requires.together.keeps;
-      holds = went.whole.holds;
-      done = went.whole.done;
-      units = went.whole.units;
-      fits = rw c.deref.ensures.value went.whole.fits;
-      named = rw c.deref.ensures.value (ready_names s d went.whole.ready);
-      names = rw c.deref.ensures.value went.whole.ready.free.names;
+      holds = p.holds;
+      done = p.done;
+      units = p.units;
+      fits = rw c.deref.ensures.value p.fits;
+      named = rw c.deref.ensures.value (ready_names (session_of c.args.proof.now) _ p.ready);
+      names = rw c.deref.ensures.value p.ready.free.names;
     }
 
 pub unit_simplify-requires : goal.unit_simplify-requires
 unit_simplify-requires g c =
-    let x = c.in_ok-propagated.ensures in
-    let s = session_of c.args.proof.now in
-    let search = c.requires.together.search in
-    let d : Search = record c.args.search.now { parts = c.propagate_all.new.parts } in
-    let holds : HoldsBelow (length d.parts.trail.starts + 1) d.parts = rw c.in-Ok.is at x.holds in
-    let went : Propagation s c.args.search.now d = propagation s c.args.search.now d search refl refl refl refl x.starts x.moved x.carries x.word x.keeps holds (rw c.in-Ok.is at x.done) x.units x.base in
-    let may : MaySettle c.args.names.now c.args.proof.now d = may_settle c.args.names.now c.args.proof.now c.args.search.now d c.requires.together (none_open c.args.search.now.parts.trail.starts (omega (arith, c.if-current_level-gt0.false, c.current_level.ensures.level))) went in
-    let settles : EmitsSteps {A = Unit {0}} g.W.CountedWrite.seen (Ok tt) c.args.proof.now c.settle.new.proof (λ _ _. TakesUnitsOff d.parts c.settle.new.parts (session_of c.settle.new.proof) (global_of_index d.globals.items)) =
-    subst (λ gs. EmitsSteps {A = Unit {0}} g.W.CountedWrite.seen (Ok tt) c.args.proof.now c.settle.new.proof (λ _ _. TakesUnitsOff d.parts c.settle.new.parts (session_of c.settle.new.proof) (global_of_index gs))) c.deref.ensures.value c.in_ok-settle.ensures in
-    let e : Search = record d { parts = c.settle.new.parts; scratch = record d.scratch { units = c.settle.new.units } } in
+    let y = (goal.at.unit_simplify-requires g c).In_ok-settle in
     record {
-      together = (settled_passes g.W.CountedWrite.seen c.args.names.now c.args.proof.now c.settle.new.proof d e may settles refl refl refl refl).together;
-      flat = settled_flat g.W.CountedWrite.seen c.args.names.now c.args.proof.now c.settle.new.proof d e may settles refl refl refl refl;
+      together = (settled_passes g.W.CountedWrite.seen c.args.names.now c.args.proof.now c.settle.new.proof (d g (x g y)) (e g y) (may g y) (settles g y) refl refl refl refl).together;
+      flat = settled_flat g.W.CountedWrite.seen c.args.names.now c.args.proof.now c.settle.new.proof (d g (x g y)) (e g y) (may g y) (settles g y) refl refl refl refl;
     }
 
 pub returns-in_err-propagated : goal.returns-in_err-propagated
@@ -84,33 +97,15 @@ returns-in_err-settle g c =
 
 pub returns-in_err-unit_simplify : goal.returns-in_err-unit_simplify
 returns-in_err-unit_simplify g c =
-    let x = c.in_ok-propagated.ensures in
-    let s = session_of c.args.proof.now in
-    let search = c.requires.together.search in
-    let d : Search = record c.args.search.now { parts = c.propagate_all.new.parts } in
-    let holds : HoldsBelow (length d.parts.trail.starts + 1) d.parts = rw c.in-Ok.is at x.holds in
-    let went : Propagation s c.args.search.now d = propagation s c.args.search.now d search refl refl refl refl x.starts x.moved x.carries x.word x.keeps holds (rw c.in-Ok.is at x.done) x.units x.base in
-    let may : MaySettle c.args.names.now c.args.proof.now d = may_settle c.args.names.now c.args.proof.now c.args.search.now d c.requires.together (none_open c.args.search.now.parts.trail.starts (omega (arith, c.if-current_level-gt0.false, c.current_level.ensures.level))) went in
-    let settles : EmitsSteps {A = Unit {0}} g.W.CountedWrite.seen (Ok tt) c.args.proof.now c.settle.new.proof (λ _ _. TakesUnitsOff d.parts c.settle.new.parts (session_of c.settle.new.proof) (global_of_index d.globals.items)) =
-    subst (λ gs. EmitsSteps {A = Unit {0}} g.W.CountedWrite.seen (Ok tt) c.args.proof.now c.settle.new.proof (λ _ _. TakesUnitsOff d.parts c.settle.new.parts (session_of c.settle.new.proof) (global_of_index gs))) c.deref.ensures.value c.in_ok-settle.ensures in
-    let e : Search = record d { parts = c.settle.new.parts; scratch = record d.scratch { units = c.settle.new.units } } in
+    let y = (goal.at.returns-in_err-unit_simplify g c).In_ok-settle in
     let p = err_from_is_err_and c.from_residual-in_err-unit_simplify.result c.from_residual-in_err-unit_simplify.ensures.1 in
-    rw (p.1, p.2) (settled_simplified g.W.CountedWrite.seen c.args.names.now c.args.proof.now c.settle.new.proof d e may settles refl refl refl refl
+    rw (p.1, p.2) (settled_simplified g.W.CountedWrite.seen c.args.names.now c.args.proof.now c.settle.new.proof (d g (x g y)) (e g y) (may g y) (settles g y) refl refl refl refl
     (Err _) c.unit_simplify.new.names c.unit_simplify.new.proof c.unit_simplify.new.search c.in_err-unit_simplify.ensures)
 
 pub returns : goal.returns
 returns g c =
-    let x = c.in_ok-propagated.ensures in
-    let s = session_of c.args.proof.now in
-    let search = c.requires.together.search in
-    let d : Search = record c.args.search.now { parts = c.propagate_all.new.parts } in
-    let holds : HoldsBelow (length d.parts.trail.starts + 1) d.parts = rw c.in-Ok.is at x.holds in
-    let went : Propagation s c.args.search.now d = propagation s c.args.search.now d search refl refl refl refl x.starts x.moved x.carries x.word x.keeps holds (rw c.in-Ok.is at x.done) x.units x.base in
-    let may : MaySettle c.args.names.now c.args.proof.now d = may_settle c.args.names.now c.args.proof.now c.args.search.now d c.requires.together (none_open c.args.search.now.parts.trail.starts (omega (arith, c.if-current_level-gt0.false, c.current_level.ensures.level))) went in
-    let settles : EmitsSteps {A = Unit {0}} g.W.CountedWrite.seen (Ok tt) c.args.proof.now c.settle.new.proof (λ _ _. TakesUnitsOff d.parts c.settle.new.parts (session_of c.settle.new.proof) (global_of_index d.globals.items)) =
-    subst (λ gs. EmitsSteps {A = Unit {0}} g.W.CountedWrite.seen (Ok tt) c.args.proof.now c.settle.new.proof (λ _ _. TakesUnitsOff d.parts c.settle.new.parts (session_of c.settle.new.proof) (global_of_index gs))) c.deref.ensures.value c.in_ok-settle.ensures in
-    let e : Search = record d { parts = c.settle.new.parts; scratch = record d.scratch { units = c.settle.new.units } } in
-    let simplified : IsSimplifiedPass g.W.CountedWrite.seen c.args.names.now c.unit_simplify.new.names c.args.proof.now c.unit_simplify.new.proof d c.unit_simplify.new.search =
-    settled_simplified g.W.CountedWrite.seen c.args.names.now c.args.proof.now c.settle.new.proof d e may settles refl refl refl refl
+    let y = (goal.at.returns g c).In_ok-settle in
+    let simplified : IsSimplifiedPass g.W.CountedWrite.seen c.args.names.now c.unit_simplify.new.names c.args.proof.now c.unit_simplify.new.proof (d g (x g y)) c.unit_simplify.new.search =
+    settled_simplified g.W.CountedWrite.seen c.args.names.now c.args.proof.now c.settle.new.proof (d g (x g y)) (e g y) (may g y) (settles g y) refl refl refl refl
     (Ok tt) c.unit_simplify.new.names c.unit_simplify.new.proof c.unit_simplify.new.search c.in_ok-unit_simplify.ensures in
-    passes_behind g.W.CountedWrite.seen c.args.names.now c.unit_simplify.new.names c.args.proof.now c.unit_simplify.new.proof c.args.search.now d c.unit_simplify.new.search went.moved went.word simplified.passes
+    passes_behind g.W.CountedWrite.seen c.args.names.now c.unit_simplify.new.names c.args.proof.now c.unit_simplify.new.proof c.args.search.now (d g (x g y)) c.unit_simplify.new.search (went g (x g y)).moved (went g (x g y)).word simplified.passes

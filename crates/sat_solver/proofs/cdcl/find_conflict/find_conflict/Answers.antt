@@ -1,4 +1,4 @@
-use Rattle.std.proofs.Common.{◌+◌, length, None, Some, Ok, refl, arith}
+use Rattle.std.proofs.Common.{◌+◌, length, Ok, refl, arith}
 use Rattle.std.proofs.lemmas.Result.{err_from_is_err_and}
 use Rattle.sat_parts.specs.clause.Db.{live_refs}
 use Rattle.sat_parts.specs.prop.Ready.{IsConflict}
@@ -14,7 +14,30 @@ use Rattle.sat_solver.specs.declared.error.SolverError.TheVariants as errors
 use Rattle.sat_solver.proofs.lemmas.clause.GlueLemmas.{starts_few}
 use Rattle.sat_solver.proofs.lemmas.cdcl.GoingLemmas.{goes_none, goes_starved, goes_then, goes_then_fails, goes_on}
 use Rattle.sat_solver.proofs.lemmas.cdcl.TurnLemmas.{moved_refl, moved_trans, ready_names, Propagation, propagation, falsified_whole, stopped_from, turned}
+use Rattle.sat_solver.proofs.cdcl.find_conflict.find_conflict.Given.{Over}
 use Rattle.sat_solver.proofs.cdcl.find_conflict.find_conflict.Goals as goal
+use Rattle.sat_solver.proofs.cdcl.find_conflict.find_conflict.Goals.{After-deref, In_ok-found}
+
+-- behind a propagation that met no conflict
+module _ (g : Over) (c : After-deref g) where
+  abbrev d : Search
+  d = record c.turns.search { parts = c.propagate_all.new.parts }
+
+  went : Propagation (session_of c.turns.proof) c.turns.search d
+  went =
+      let x = c.in_ok-propagated.ensures in
+      let holds : HoldsBelow (length d.parts.trail.starts + 1) d.parts = rw c.in-Ok.is at x.holds in
+      propagation (session_of c.turns.proof) c.turns.search d c.turns.invariant.search refl refl refl refl x.starts x.moved x.carries x.word x.keeps holds (rw c.in-Ok.is at x.done) x.units x.base
+
+-- behind the next decision
+module _ (g : Over) (c : In_ok-found g) where
+  abbrev e : Search
+  e = record c.turns.search { parts = c.assume_or_decide.new.parts; assumptions = c.assume_or_decide.new.assumptions; scratch = record c.turns.search.scratch { units = c.settle.new.units } }
+
+  turn : TakesTurn c.in_ok-found.found (session_of c.settle.new.proof) c.turns.search e
+  turn =
+      let x = (goal.at.In_ok-found g c).After-deref in
+      turned g.W.CountedWrite.seen c.turns.proof c.settle.new.proof c.turns.search (d g x) e c.settle.new.parts (went g x) c.deref.result.now c.deref.ensures.value c.in_ok-settle.ensures refl refl refl c.in_ok-found.found c.in_ok-found.ensures
 
 pub turns-init : goal.turns-init
 turns-init g c = record {
@@ -26,35 +49,26 @@ turns-init g c = record {
 
 pub settle-requires : goal.settle-requires
 settle-requires g c =
-    let x = c.in_ok-propagated.ensures in
-    let s = session_of c.turns.proof in
-    let d : Search = record c.turns.search { parts = c.propagate_all.new.parts } in
-    let holds : HoldsBelow (length d.parts.trail.starts + 1) d.parts = rw c.in-Ok.is at x.holds in
-    let went : Propagation s c.turns.search d = propagation s c.turns.search d c.turns.invariant.search refl refl refl refl x.starts x.moved x.carries x.word x.keeps holds (rw c.in-Ok.is at x.done) x.units x.base in
-    let p = went.whole in
+    let p = (went g (goal.at.settle-requires g c).After-deref).whole in
     record {
       keeps = c.turns.invariant.came.keeps;
       holds = p.holds;
       done = p.done;
       units = p.units;
       fits = rw c.deref.ensures.value p.fits;
-      named = rw c.deref.ensures.value (ready_names s d p.ready);
+      named = rw c.deref.ensures.value (ready_names (session_of c.turns.proof) _ p.ready);
       names = rw c.deref.ensures.value p.ready.free.names;
     }
 
 pub assume_or_decide-requires : goal.assume_or_decide-requires
 assume_or_decide-requires g c =
-    let x = c.in_ok-propagated.ensures in
-    let s = session_of c.turns.proof in
-    let d : Search = record c.turns.search { parts = c.propagate_all.new.parts } in
-    let holds : HoldsBelow (length d.parts.trail.starts + 1) d.parts = rw c.in-Ok.is at x.holds in
-    let went : Propagation s c.turns.search d = propagation s c.turns.search d c.turns.invariant.search refl refl refl refl x.starts x.moved x.carries x.word x.keeps holds (rw c.in-Ok.is at x.done) x.units x.base in
+    let ready = (went g (goal.at.assume_or_decide-requires g c).After-deref).whole.ready in
     let settled = c.in_ok-settle.ensures.ends in
     record {
       holds = settled.stands.holds;
       done = settled.done;
-      there = rw settled.size went.whole.ready.there;
-      placed = settled.placed c.turns.search.assumptions went.whole.ready.placed;
+      there = rw settled.size ready.there;
+      placed = settled.placed c.turns.search.assumptions ready.placed;
     }
 
 pub returns-in_err-propagated : goal.returns-in_err-propagated
@@ -90,42 +104,27 @@ returns-in_err-found g c =
 pub turns-preserved : goal.turns-preserved
 turns-preserved g c =
     let i = c.turns.invariant in
-    let x = c.in_ok-propagated.ensures in
-    let s = session_of c.turns.proof in
-    let d : Search = record c.turns.search { parts = c.propagate_all.new.parts } in
-    let holds : HoldsBelow (length d.parts.trail.starts + 1) d.parts = rw c.in-Ok.is at x.holds in
-    let went : Propagation s c.turns.search d = propagation s c.turns.search d c.turns.invariant.search refl refl refl refl x.starts x.moved x.carries x.word x.keeps holds (rw c.in-Ok.is at x.done) x.units x.base in
-    let e : Search = record d { parts = c.assume_or_decide.new.parts; assumptions = c.assume_or_decide.new.assumptions; scratch = record d.scratch { units = c.settle.new.units } } in
-    let t : TakesTurn None (session_of c.settle.new.proof) c.turns.search e = turned g.W.CountedWrite.seen c.turns.proof c.settle.new.proof c.turns.search d e c.settle.new.parts went c.deref.result.now c.deref.ensures.value c.in_ok-settle.ensures refl refl refl None (rw c.in-None.is at c.in_ok-found.ensures) in
+    let x = (goal.at.turns-preserved g c).In_ok-found in
+    let t = rw c.in-None.is at (turn g x) in
     record {
       came = goes_then g.W.CountedWrite.seen tt (Ok tt) c.args.proof.now c.turns.proof c.settle.new.proof _ _ _ i.came c.in_ok-settle.ensures (λ xs ys y a b. tt);
       search = t.says.0;
-      moved = moved_trans c.args.search.now c.turns.search e i.moved t.moved;
-      word = extends_after (assumed_indices c.args.search.now) c.args.search.now.parts c.turns.search.parts e.parts i.word (rw i.moved.lits at t.word);
+      moved = moved_trans c.args.search.now c.turns.search (e g x) i.moved t.moved;
+      word = extends_after (assumed_indices c.args.search.now) c.args.search.now.parts c.turns.search.parts (e g x).parts i.word (rw i.moved.lits at t.word);
     }
 
 pub turns-smaller : goal.turns-smaller
 turns-smaller g c =
-    let x = c.in_ok-propagated.ensures in
-    let s = session_of c.turns.proof in
-    let d : Search = record c.turns.search { parts = c.propagate_all.new.parts } in
-    let holds : HoldsBelow (length d.parts.trail.starts + 1) d.parts = rw c.in-Ok.is at x.holds in
-    let went : Propagation s c.turns.search d = propagation s c.turns.search d c.turns.invariant.search refl refl refl refl x.starts x.moved x.carries x.word x.keeps holds (rw c.in-Ok.is at x.done) x.units x.base in
-    let e : Search = record d { parts = c.assume_or_decide.new.parts; assumptions = c.assume_or_decide.new.assumptions; scratch = record d.scratch { units = c.settle.new.units } } in
-    let t : TakesTurn None (session_of c.settle.new.proof) c.turns.search e = turned g.W.CountedWrite.seen c.turns.proof c.settle.new.proof c.turns.search d e c.settle.new.parts went c.deref.result.now c.deref.ensures.value c.in_ok-settle.ensures refl refl refl None (rw c.in-None.is at c.in_ok-found.ensures) in
-    omega (arith, t.says.1, t.moved.size, starts_few e.parts t.says.0.stands.holds)
+    let x = (goal.at.turns-smaller g c).In_ok-found in
+    let t = rw c.in-None.is at (turn g x) in
+    omega (arith, t.says.1, t.moved.size, starts_few (e g x).parts t.says.0.stands.holds)
 
 pub returns-in-Some : goal.returns-in-Some
 returns-in-Some g c =
     let i = c.turns.invariant in
-    let x = c.in_ok-propagated.ensures in
-    let s = session_of c.turns.proof in
-    let d : Search = record c.turns.search { parts = c.propagate_all.new.parts } in
-    let holds : HoldsBelow (length d.parts.trail.starts + 1) d.parts = rw c.in-Ok.is at x.holds in
-    let went : Propagation s c.turns.search d = propagation s c.turns.search d c.turns.invariant.search refl refl refl refl x.starts x.moved x.carries x.word x.keeps holds (rw c.in-Ok.is at x.done) x.units x.base in
-    let e : Search = record d { parts = c.assume_or_decide.new.parts; assumptions = c.assume_or_decide.new.assumptions; scratch = record d.scratch { units = c.settle.new.units } } in
-    let t : TakesTurn (Some c.in-Some.stop) (session_of c.settle.new.proof) c.turns.search e = turned g.W.CountedWrite.seen c.turns.proof c.settle.new.proof c.turns.search d e c.settle.new.parts went c.deref.result.now c.deref.ensures.value c.in_ok-settle.ensures refl refl refl (Some c.in-Some.stop) (rw c.in-Some.is at c.in_ok-found.ensures) in
+    let x = (goal.at.returns-in-Some g c).In_ok-found in
+    let t = rw c.in-Some.is at (turn g x) in
     goes_then g.W.CountedWrite.seen tt (Ok c.in-Some.stop) c.args.proof.now c.turns.proof c.settle.new.proof _ _ _ i.came
-    (goes_on g.W.CountedWrite.seen tt c.in-Some.stop c.turns.proof c.settle.new.proof _ (λ stop _. StopsSearch stop (session_of c.settle.new.proof) c.args.search.now e)
-    (λ steps _. stopped_from c.in-Some.stop (session_of c.settle.new.proof) c.args.search.now c.turns.search e i.moved i.word t) c.in_ok-settle.ensures)
+    (goes_on g.W.CountedWrite.seen tt c.in-Some.stop c.turns.proof c.settle.new.proof _ (λ stop _. StopsSearch stop (session_of c.settle.new.proof) c.args.search.now (e g x))
+    (λ steps _. stopped_from c.in-Some.stop (session_of c.settle.new.proof) c.args.search.now c.turns.search (e g x) i.moved i.word t) c.in_ok-settle.ensures)
     (λ xs ys stop a b. b)

@@ -14,63 +14,49 @@ use Rattle.sat_solver.proofs.lemmas.fits.CodeLemmas.{units_push}
 use Rattle.sat_solver.proofs.lemmas.fits.UsableLemmas.{reason_clauses}
 use Rattle.sat_solver.proofs.lemmas.fits.StepLemmas.{orderly_there, orderly_clause, orderly_some, orderly_below}
 use Rattle.sat_solver.proofs.proof.map_step.collect_units.Goals as goal
+use Rattle.sat_solver.proofs.proof.map_step.collect_units.Goals.{After-lit-item}
+
+-- the literal of this iteration
+module _ (c : After-lit-item) where
+  within : c.loop-lit.lit-index < length c.args.parts.now.trail.lits
+  within = subst (λ (xs : List ℕ). c.loop-lit.lit-index < length xs) c.trail-lit-items.ensures.lits (omega arith)
+
+  at : c.lit-item.result ≡ get_or c.args.parts.now.trail.lits c.loop-lit.lit-index 0
+  at = get_or_read c.trail-lit-items.result.now c.loop-lit.lit-index c.lit-item.result (omega arith) c.lit-item.is 0 ∙ ap (λ (xs : List ℕ). get_or xs c.loop-lit.lit-index 0) c.trail-lit-items.ensures.lits
 
 pub reason-requires : goal.reason-requires
 reason-requires c =
-    let i = c.loop-lit.lit-index in
-    let same = c.trail-lit-items.ensures.lits in
-    let first : c.loop-lit.lit-index < length c.trail-lit-items.result.now = omega arith in
-    let lt : c.loop-lit.lit-index < length c.args.parts.now.trail.lits = subst (λ (xs : List ℕ). c.loop-lit.lit-index < length xs) same first in
-    let at : c.lit-item.result ≡ get_or c.args.parts.now.trail.lits c.loop-lit.lit-index 0 = get_or_read c.trail-lit-items.result.now c.loop-lit.lit-index c.lit-item.result first c.lit-item.is 0 ∙ ap (λ (xs : List ℕ). get_or xs c.loop-lit.lit-index 0) same in
-    subst (λ v. v < length c.args.parts.now.graph) (sym c.var.ensures) (subst (λ l. variable l < length c.args.parts.now.graph) (sym at) (orderly_there c.args.parts.now c.requires.orderly i lt))
+    let x = (goal.at.reason-requires c).After-lit-item in
+    subst (λ v. v < length c.args.parts.now.graph) (sym c.var.ensures) (subst (λ l. variable l < length c.args.parts.now.graph) (sym (at x)) (orderly_there c.args.parts.now c.requires.orderly c.loop-lit.lit-index (within x)))
 
 pub unit_of-requires-clause-clause : goal.unit_of-requires-clause-clause
 unit_of-requires-clause-clause c = λ o e.
-    let i = c.loop-lit.lit-index in
-    let same = c.trail-lit-items.ensures.lits in
-    let first : c.loop-lit.lit-index < length c.trail-lit-items.result.now = omega arith in
-    let lt : c.loop-lit.lit-index < length c.args.parts.now.trail.lits = subst (λ (xs : List ℕ). c.loop-lit.lit-index < length xs) same first in
-    let at : c.lit-item.result ≡ get_or c.args.parts.now.trail.lits c.loop-lit.lit-index 0 = get_or_read c.trail-lit-items.result.now c.loop-lit.lit-index c.lit-item.result first c.lit-item.is 0 ∙ ap (λ (xs : List ℕ). get_or xs c.loop-lit.lit-index 0) same in
-    orderly_clause c.args.parts.now c.requires.orderly i lt o (ap (λ l. (node (state c.args.parts.now) l).reason) (sym at) ∙ e)
+    let x = (goal.at.unit_of-requires-clause-clause c).After-lit-item in
+    orderly_clause c.args.parts.now c.requires.orderly c.loop-lit.lit-index (within x) o (ap (λ l. (node (state c.args.parts.now) l).reason) (sym (at x)) ∙ e)
 
 pub unit_of-requires-clause-some : goal.unit_of-requires-clause-some
 unit_of-requires-clause-some c = λ o e.
-    let i = c.loop-lit.lit-index in
-    let same = c.trail-lit-items.ensures.lits in
-    let first : c.loop-lit.lit-index < length c.trail-lit-items.result.now = omega arith in
-    let lt : c.loop-lit.lit-index < length c.args.parts.now.trail.lits = subst (λ (xs : List ℕ). c.loop-lit.lit-index < length xs) same first in
-    let at : c.lit-item.result ≡ get_or c.args.parts.now.trail.lits c.loop-lit.lit-index 0 = get_or_read c.trail-lit-items.result.now c.loop-lit.lit-index c.lit-item.result first c.lit-item.is 0 ∙ ap (λ (xs : List ℕ). get_or xs c.loop-lit.lit-index 0) same in
-    orderly_some c.args.parts.now c.requires.orderly i lt o (ap (λ l. (node (state c.args.parts.now) l).reason) (sym at) ∙ e)
+    let x = (goal.at.unit_of-requires-clause-some c).After-lit-item in
+    orderly_some c.args.parts.now c.requires.orderly c.loop-lit.lit-index (within x) o (ap (λ l. (node (state c.args.parts.now) l).reason) (sym (at x)) ∙ e)
 
 pub unit_of-requires-clause-there : goal.unit_of-requires-clause-there
 unit_of-requires-clause-there c =
-    let i = c.loop-lit.lit-index in
-    let same = c.trail-lit-items.ensures.lits in
-    let first : c.loop-lit.lit-index < length c.trail-lit-items.result.now = omega arith in
-    let lt : c.loop-lit.lit-index < length c.args.parts.now.trail.lits = subst (λ (xs : List ℕ). c.loop-lit.lit-index < length xs) same first in
-    let at : c.lit-item.result ≡ get_or c.args.parts.now.trail.lits c.loop-lit.lit-index 0 = get_or_read c.trail-lit-items.result.now c.loop-lit.lit-index c.lit-item.result first c.lit-item.is 0 ∙ ap (λ (xs : List ℕ). get_or xs c.loop-lit.lit-index 0) same in
-    subst (λ l. variable l < length c.args.parts.now.graph) (sym at) (orderly_there c.args.parts.now c.requires.orderly i lt)
+    let x = (goal.at.unit_of-requires-clause-there c).After-lit-item in
+    subst (λ l. variable l < length c.args.parts.now.graph) (sym (at x)) (orderly_there c.args.parts.now c.requires.orderly c.loop-lit.lit-index (within x))
 
 pub unit_of-requires-clause-name : goal.unit_of-requires-clause-name
 unit_of-requires-clause-name c =
-    let i = c.loop-lit.lit-index in
-    let same = c.trail-lit-items.ensures.lits in
-    let first : c.loop-lit.lit-index < length c.trail-lit-items.result.now = omega arith in
-    let lt : c.loop-lit.lit-index < length c.args.parts.now.trail.lits = subst (λ (xs : List ℕ). c.loop-lit.lit-index < length xs) same first in
-    let at : c.lit-item.result ≡ get_or c.args.parts.now.trail.lits c.loop-lit.lit-index 0 = get_or_read c.trail-lit-items.result.now c.loop-lit.lit-index c.lit-item.result first c.lit-item.is 0 ∙ ap (λ (xs : List ℕ). get_or xs c.loop-lit.lit-index 0) same in
-    subst (λ l. variable l < length c.args.globals.now) (sym at) (orderly_below c.args.parts.now c.requires.orderly (length c.args.globals.now) c.requires.names i lt)
+    let x = (goal.at.unit_of-requires-clause-name c).After-lit-item in
+    subst (λ l. variable l < length c.args.globals.now) (sym (at x)) (orderly_below c.args.parts.now c.requires.orderly (length c.args.globals.now) c.requires.names c.loop-lit.lit-index (within x))
 
 pub loop-lit-preserved : goal.loop-lit-preserved
 loop-lit-preserved c =
     let i = c.loop-lit.lit-index in
     let p = c.args.parts.now in
-    let same = c.trail-lit-items.ensures.lits in
-    let first : c.loop-lit.lit-index < length c.trail-lit-items.result.now = omega arith in
-    let lt : c.loop-lit.lit-index < length c.args.parts.now.trail.lits = subst (λ (xs : List ℕ). c.loop-lit.lit-index < length xs) same first in
-    let at : c.lit-item.result ≡ get_or c.args.parts.now.trail.lits c.loop-lit.lit-index 0 = get_or_read c.trail-lit-items.result.now c.loop-lit.lit-index c.lit-item.result first c.lit-item.is 0 ∙ ap (λ (xs : List ℕ). get_or xs c.loop-lit.lit-index 0) same in
+    let x = (goal.at.loop-lit-preserved c).After-lit-item in
     let caused : is_unit_reason (node (state c.args.parts.now) (get_or c.args.parts.now.trail.lits c.loop-lit.lit-index 0)).reason ≡ false =
-    ap (λ l. is_unit_reason (node (state c.args.parts.now) l).reason) (sym at) ∙ ap (λ v. is_unit_reason (node_of c.args.parts.now.graph v).reason) (sym c.var.ensures) ∙ ap (λ (r : Reason). is_unit_reason r) (sym c.reason.ensures) ∙ sym c.is_unit.ensures ∙ c.if-is_unit.false in
+    ap (λ l. is_unit_reason (node (state c.args.parts.now) l).reason) (sym (at x)) ∙ ap (λ v. is_unit_reason (node_of c.args.parts.now.graph v).reason) (sym c.var.ensures) ∙ ap (λ (r : Reason). is_unit_reason r) (sym c.reason.ensures) ∙ sym c.is_unit.ensures ∙ c.if-is_unit.false in
     let hash : hash_of (clause_of p.clauses (state p) (get_or c.args.parts.now.trail.lits c.loop-lit.lit-index 0)) ≡ hash_of (reason_clause p.clauses (get_or c.args.parts.now.trail.lits c.loop-lit.lit-index 0) (node (state p) (get_or c.args.parts.now.trail.lits c.loop-lit.lit-index 0)).reason) =
-    ap (λ (xs : List ℕ). hash_of xs) (reason_clauses p.clauses (live_refs p.clauses p.db.refs) p.binary.implied (state p) i (length p.assignment.current) (node (state p) (lit_at (state p) i)).reason c.requires.orderly.clauses caused (c.requires.orderly.turns i (omega arith) lt)) in
-    rw (c.in_ok-push.ensures.items, c.unit_of.ensures, at)
-    (units_push p.clauses (state p) (global_of_index c.args.globals.now) i (hash_of (clause_of p.clauses (state p) (get_or c.args.parts.now.trail.lits c.loop-lit.lit-index 0))) c.loop-lit.units.items p.trail.lits lt caused hash ∙ c.loop-lit.invariant)
+    ap (λ (xs : List ℕ). hash_of xs) (reason_clauses p.clauses (live_refs p.clauses p.db.refs) p.binary.implied (state p) i (length p.assignment.current) (node (state p) (lit_at (state p) i)).reason c.requires.orderly.clauses caused (c.requires.orderly.turns i (omega arith) (within x))) in
+    rw (c.in_ok-push.ensures.items, c.unit_of.ensures, at x)
+    (units_push p.clauses (state p) (global_of_index c.args.globals.now) i (hash_of (clause_of p.clauses (state p) (get_or c.args.parts.now.trail.lits c.loop-lit.lit-index 0))) c.loop-lit.units.items p.trail.lits (within x) caused hash ∙ c.loop-lit.invariant)

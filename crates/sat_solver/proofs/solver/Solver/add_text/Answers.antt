@@ -23,7 +23,6 @@ loop-init g c = record {
 
 pub loop-preserved : goal.loop-preserved
 loop-preserved g c =
-    let S = g.R.CountedRead.seen in
     let b = c.loop.invariant.bytes in
     let piece = take c.in-Ok.count c.read_counted.new.buf in
     let once = c.in-Ok.ensures.once in
@@ -33,9 +32,9 @@ loop-preserved g c =
       was = c.loop.invariant.was;
       going = adds_going g.W.CountedWrite.seen c.args.self.now c.add_read-in-Ok.new.self c.add_read-in-Ok.new.parser.taken c.loop.invariant.was more.2;
       solver = c.in_ok-add_read-in-Ok.ensures.solver;
-      bytes = (b.0 ++ piece, more.0, gave_more (S c.args.reader.now) (S c.loop.reader) (S c.read_counted.new.self) b.0 c.in-Ok.count c.read_counted.new.buf b.2 once, omega (arith, b.3, length-append b.0 piece, piece_given c.in-Ok.count c.read_counted.new.buf (search rules) (search rules)), more.1);
+      bytes = (b.0 ++ piece, more.0, gave_more _ _ _ b.0 _ _ b.2 once, omega (arith, b.3, length-append b.0 piece, piece_given c.in-Ok.count c.read_counted.new.buf (search rules) (search rules)), more.1);
       sound = sound_after c.feed-answer.result c.feed-answer.new.self c.add_read-in-Ok.new.parser a.2.0 c.feed-answer.ensures.sound c.in_ok-add_read-in-Ok.ensures.taken;
-      open_yet = λ h. not_ended (S c.loop.reader) (S c.read_counted.new.self) c.in-Ok.count c.read_counted.new.buf once (search rules);
+      open_yet = λ h. not_ended _ _ _ _ once (search rules);
       failures = once.failures.0 ∙ c.loop.invariant.failures;
       calls = omega (arith, once.calls, c.loop.invariant.calls);
       added = more.2;
@@ -43,41 +42,37 @@ loop-preserved g c =
 
 pub returns-in-Ok-eq0-clause-adds : goal.returns-in-Ok-eq0-clause-adds
 returns-in-Ok-eq0-clause-adds g c =
-    let S = g.R.CountedRead.seen in
     let b = c.loop.invariant.bytes in
     let once = c.in-Ok-eq0.ensures.once in
-    let all = gave_to_end (S c.args.reader.now) (S c.loop.reader) (S c.read_counted.new.self) b.0 c.in-Ok-eq0.field-0 c.read_counted.new.buf b.2 once (search rules) (search rules) (omega (arith, c.loop.invariant.calls)) (omega (arith, c.loop.invariant.calls, b.3)) in
-    end_answers g.W.CountedWrite.seen c.add_read.result c.finish-answer.result c.args.self.now c.loop.self c.add_read.new.self (S c.args.reader.now) (S c.read_counted.new.self) b.0 c.loop.parser c.finish-answer.new.self c.loop.invariant.was b.1 c.finish-answer.ensures
+    let all = gave_to_end _ _ _ b.0 _ _ b.2 once (search rules) (search rules) (omega (arith, c.loop.invariant.calls)) (omega (arith, c.loop.invariant.calls, b.3)) in
+    end_answers g.W.CountedWrite.seen c.add_read.result c.finish-answer.result c.args.self.now c.loop.self c.add_read.new.self _ _ b.0 c.loop.parser c.finish-answer.new.self c.loop.invariant.was b.1 c.finish-answer.ensures
     (once.failures.0 ∙ c.loop.invariant.failures) all c.loop.invariant.added c.add_read.ensures.adds
 
 pub returns-in_err-add_read-in-Ok-clause-adds : goal.returns-in_err-add_read-in-Ok-clause-adds
 returns-in_err-add_read-in-Ok-clause-adds g c =
-    let S = g.R.CountedRead.seen in
     let p = err_from_is_err_and c.from_residual.result c.from_residual.ensures.1 in
     let b = c.loop.invariant.bytes in
     let piece = take c.in-Ok.count c.read_counted.new.buf in
     let once = c.in-Ok.ensures.once in
-    rw (p.1, p.2) (piece_answers g.W.CountedWrite.seen c.in_err-add_read-in-Ok.field-0.0 c.feed-answer.result c.args.self.now c.loop.self c.add_read-in-Ok.new.self (S c.args.reader.now) (S c.read_counted.new.self) b.0 piece c.loop.parser c.feed-answer.new.self c.loop.invariant.was b.1 c.feed-answer.ensures.answer
+    rw (p.1, p.2) (piece_answers g.W.CountedWrite.seen c.in_err-add_read-in-Ok.field-0.0 c.feed-answer.result c.args.self.now c.loop.self c.add_read-in-Ok.new.self _ _ b.0 piece c.loop.parser c.feed-answer.new.self c.loop.invariant.was b.1 c.feed-answer.ensures.answer
     (once.failures.0 ∙ c.loop.invariant.failures)
-    (gave_more (S c.args.reader.now) (S c.loop.reader) (S c.read_counted.new.self) b.0 c.in-Ok.count c.read_counted.new.buf b.2 once)
-    (not_ended (S c.loop.reader) (S c.read_counted.new.self) c.in-Ok.count c.read_counted.new.buf once (search rules))
+    (gave_more _ _ _ b.0 _ _ b.2 once)
+    (not_ended _ _ _ _ once (search rules))
     (omega (arith, once.calls, c.loop.invariant.calls, b.3, length-append b.0 piece))
     c.loop.invariant.added c.in_err-add_read-in-Ok.ensures.adds)
 
 pub returns-in-Err-clause-adds : goal.returns-in-Err-clause-adds
 returns-in-Err-clause-adds g c =
-    let S = g.R.CountedRead.seen in
     let b = c.loop.invariant.bytes in
     let once = c.in-Err.ensures.once in
-    let front = gave_still _ (S c.args.reader.now) (S c.loop.reader) (S c.read_counted.new.self) b.0 c.read_counted.new.buf b.2 once in
-    read_answers g.W.CountedWrite.seen c.args.self.now c.loop.self (S c.args.reader.now) (S c.read_counted.new.self) b.0 c.loop.parser c.loop.invariant.was b.1
+    let front = gave_still _ _ _ _ b.0 _ b.2 once in
+    read_answers g.W.CountedWrite.seen c.args.self.now c.loop.self _ _ b.0 c.loop.parser c.loop.invariant.was b.1
     (inl (once.failures.0 ∙ ap (λ (n : ℕ). n + 1) c.loop.invariant.failures, once.failures.1), few_front _ _ b.0 front (omega (arith, once.calls, c.loop.invariant.calls, b.3)))
     front c.loop.invariant.sound b.4 c.loop.invariant.added
 
 pub returns-clause-adds : goal.returns-clause-adds
 returns-clause-adds g c =
-    let S = g.R.CountedRead.seen in
     let b = c.loop.invariant.bytes in
-    read_answers g.W.CountedWrite.seen c.args.self.now c.loop.self (S c.args.reader.now) (S c.loop.reader) b.0 c.loop.parser c.loop.invariant.was b.1
+    read_answers g.W.CountedWrite.seen c.args.self.now c.loop.self _ _ b.0 c.loop.parser c.loop.invariant.was b.1
     (inr (c.loop.invariant.failures, omega (arith, c.loop.invariant.calls)), few_front _ _ b.0 b.2 (omega (arith, c.loop.invariant.calls, b.3)))
     b.2 c.loop.invariant.sound b.4 c.loop.invariant.added

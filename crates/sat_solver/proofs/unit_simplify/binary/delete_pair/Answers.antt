@@ -6,52 +6,46 @@ use Rattle.sat_solver.specs.session.LiveClauses.{with_var}
 use Rattle.sat_solver.specs.proof.ProofView.{session_of, steps_of}
 use Rattle.sat_solver.specs.session.Session.{session_after, May}
 use Rattle.sat_solver.specs.session.Naming.{global_of_index}
-use Rattle.sat_solver.specs.cdcl.Joint.{global_in}
 use Rattle.sat_solver.specs.unit_simplify.Flat.{LeavesPairs}
 use Rattle.sat_solver.proofs.lemmas.cdcl.GoingLemmas.{goes_none, goes_map}
 use Rattle.sat_solver.proofs.lemmas.unit_simplify.LighterLemmas.{pair_passes, pair_deletes, pair_there, second_there, PairAt}
+use Rattle.sat_solver.proofs.unit_simplify.binary.delete_pair.Given.{Over}
 use Rattle.sat_solver.proofs.unit_simplify.binary.delete_pair.Goals as goal
+use Rattle.sat_solver.proofs.unit_simplify.binary.delete_pair.Goals.{After-index-implied-at}
+
+-- the pair that the list has there
+pair : (g : Over) (c : After-index-implied-at g) → PairAt c.args.search.now c.args.lit c.args.at c.not-first.result c.index-implied-at.result
+pair g c =
+    let read = get_or_default_zero c.implied.result.now c.args.at c.index-implied-at.result (subst (λ (ms : List ℕ). c.args.at < length ms) (sym c.implied.ensures) c.requires.within) in
+    record { first = c.not-first.ensures; second = c.index-implied-at.is ∙ read ∙ ap (λ ms. get_or ms c.args.at 0) c.implied.ensures }
 
 pub returns-then-code-clause-left : goal.returns-then-code-clause-left
 returns-then-code-clause-left g c =
-    let at : PairAt c.args.search.now c.args.lit c.args.at c.not-first.result c.index-implied-at.result =
-    record { first = c.not-first.ensures; second = c.index-implied-at.is ∙ get_or_default_zero c.implied.result.now c.args.at c.index-implied-at.result (subst (λ (ms : List ℕ). c.args.at < length ms) (sym c.implied.ensures) c.requires.within) ∙ ap (λ ms. get_or ms c.args.at 0) c.implied.ensures } in
     goes_none g.W.CountedWrite.seen tt c.args.proof.now _ c.requires.keeps
-    (pair_passes (session_of c.args.proof.now) c.args.search.now c.requires.may c.args.lit c.args.at c.requires.within c.requires.left c.not-first.result c.index-implied-at.result at
+    (pair_passes (session_of c.args.proof.now) _ c.requires.may _ _ c.requires.within c.requires.left _ _ (pair g (goal.at.returns-then-code-clause-left g c).After-index-implied-at)
     (inl (le-ltb c.not-first.result c.index-implied-at.result (omega (arith, c.if-code.true, c.code-2.ensures.value, c.code.ensures.value)))))
 
 pub are_open-requires-clause-second : goal.are_open-requires-clause-second
 are_open-requires-clause-second g c =
-    let at : PairAt c.args.search.now c.args.lit c.args.at c.not-first.result c.index-implied-at.result =
-    record { first = c.not-first.ensures; second = c.index-implied-at.is ∙ get_or_default_zero c.implied.result.now c.args.at c.index-implied-at.result (subst (λ (ms : List ℕ). c.args.at < length ms) (sym c.implied.ensures) c.requires.within) ∙ ap (λ ms. get_or ms c.args.at 0) c.implied.ensures } in
-    second_there (session_of c.args.proof.now) c.args.search.now c.requires.may c.args.lit c.args.at c.requires.within c.requires.left c.not-first.result c.index-implied-at.result at
+    second_there (session_of c.args.proof.now) _ c.requires.may _ _ c.requires.within c.requires.left _ _ (pair g (goal.at.are_open-requires-clause-second g c).After-index-implied-at)
 
 pub returns-then-are_open-clause-left : goal.returns-then-are_open-clause-left
 returns-then-are_open-clause-left g c =
-    let at : PairAt c.args.search.now c.args.lit c.args.at c.not-first.result c.index-implied-at.result =
-    record { first = c.not-first.ensures; second = c.index-implied-at.is ∙ get_or_default_zero c.implied.result.now c.args.at c.index-implied-at.result (subst (λ (ms : List ℕ). c.args.at < length ms) (sym c.implied.ensures) c.requires.within) ∙ ap (λ ms. get_or ms c.args.at 0) c.implied.ensures } in
     goes_none g.W.CountedWrite.seen tt c.args.proof.now _ c.requires.keeps
-    (pair_passes (session_of c.args.proof.now) c.args.search.now c.requires.may c.args.lit c.args.at c.requires.within c.requires.left c.not-first.result c.index-implied-at.result at (inr (sym c.are_open.ensures ∙ c.if-are_open.true)))
+    (pair_passes (session_of c.args.proof.now) _ c.requires.may _ _ c.requires.within c.requires.left _ _ (pair g (goal.at.returns-then-are_open-clause-left g c).After-index-implied-at) (inr (sym c.are_open.ensures ∙ c.if-are_open.true)))
 
 pub delete_satisfied-requires-clause-names : goal.delete_satisfied-requires-clause-names
 delete_satisfied-requires-clause-names g c =
-    let at : PairAt c.args.search.now c.args.lit c.args.at c.not-first.result c.index-implied-at.result =
-    record { first = c.not-first.ensures; second = c.index-implied-at.is ∙ get_or_default_zero c.implied.result.now c.args.at c.index-implied-at.result (subst (λ (ms : List ℕ). c.args.at < length ms) (sym c.implied.ensures) c.requires.within) ∙ ap (λ ms. get_or ms c.args.at 0) c.implied.ensures } in
-    rw c.deref.ensures.value (pair_there (session_of c.args.proof.now) c.args.search.now c.requires.may c.args.lit c.args.at c.requires.within c.requires.left c.not-first.result c.index-implied-at.result at c.requires.there)
+    rw c.deref.ensures.value (pair_there (session_of c.args.proof.now) _ c.requires.may _ _ c.requires.within c.requires.left _ _ (pair g (goal.at.delete_satisfied-requires-clause-names g c).After-index-implied-at) c.requires.there)
 
 pub delete_satisfied-requires-clause-may : goal.delete_satisfied-requires-clause-may
 delete_satisfied-requires-clause-may g c =
-    let at : PairAt c.args.search.now c.args.lit c.args.at c.not-first.result c.index-implied-at.result =
-    record { first = c.not-first.ensures; second = c.index-implied-at.is ∙ get_or_default_zero c.implied.result.now c.args.at c.index-implied-at.result (subst (λ (ms : List ℕ). c.args.at < length ms) (sym c.implied.ensures) c.requires.within) ∙ ap (λ ms. get_or ms c.args.at 0) c.implied.ensures } in
     subst (λ (gs : List ℕ). May (session_of c.args.proof.now) (DeleteClause (map (with_var (global_of_index gs)) (c.not-first.result ∷ c.index-implied-at.result ∷ [])) Satisfied)) (sym c.deref.ensures.value)
-    (pair_deletes (session_of c.args.proof.now) c.args.search.now c.requires.may c.args.lit c.args.at c.requires.within c.requires.left c.not-first.result c.index-implied-at.result at (omega (arith, c.if-code.false, c.code-2.ensures.value, c.code.ensures.value)) (sym c.are_open.ensures ∙ c.if-are_open.false)).0
+    (pair_deletes (session_of c.args.proof.now) _ c.requires.may _ _ c.requires.within c.requires.left _ _ (pair g (goal.at.delete_satisfied-requires-clause-may g c).After-index-implied-at) (omega (arith, c.if-code.false, c.code-2.ensures.value, c.code.ensures.value)) (sym c.are_open.ensures ∙ c.if-are_open.false)).0
 
 pub returns-clause-left : goal.returns-clause-left
 returns-clause-left g c =
-    let at : PairAt c.args.search.now c.args.lit c.args.at c.not-first.result c.index-implied-at.result =
-    record { first = c.not-first.ensures; second = c.index-implied-at.is ∙ get_or_default_zero c.implied.result.now c.args.at c.index-implied-at.result (subst (λ (ms : List ℕ). c.args.at < length ms) (sym c.implied.ensures) c.requires.within) ∙ ap (λ ms. get_or ms c.args.at 0) c.implied.ensures } in
-    let x = (pair_deletes (session_of c.args.proof.now) c.args.search.now c.requires.may c.args.lit c.args.at c.requires.within c.requires.left c.not-first.result c.index-implied-at.result at (omega (arith, c.if-code.false, c.code-2.ensures.value, c.code.ensures.value)) (sym c.are_open.ensures ∙ c.if-are_open.false)).1 in
-    let step = DeleteClause (map (with_var (global_in c.args.search.now)) (c.not-first.result ∷ c.index-implied-at.result ∷ [])) Satisfied in
+    let x = (pair_deletes (session_of c.args.proof.now) _ c.requires.may _ _ c.requires.within c.requires.left _ _ (pair g (goal.at.returns-clause-left g c).After-index-implied-at) (omega (arith, c.if-code.false, c.code-2.ensures.value, c.code.ensures.value)) (sym c.are_open.ensures ∙ c.if-are_open.false)).1 in
     goes_map g.W.CountedWrite.seen c.delete_satisfied.result c.args.proof.now c.delete_satisfied.new.proof _ (λ _ _. LeavesPairs (session_of c.delete_satisfied.new.proof) c.args.search.now c.args.lit (c.args.at + 1))
     (λ u steps e. subst (λ ss. LeavesPairs (session_after ss) c.args.search.now c.args.lit (c.args.at + 1))
     (sym (e ∙ ap (λ (gs : List ℕ). DeleteClause (map (with_var (global_of_index gs)) (c.not-first.result ∷ c.index-implied-at.result ∷ [])) Satisfied ∷ steps_of c.args.proof.now) c.deref.ensures.value)) x)
